@@ -1,0 +1,6 @@
+pub mod Lists
+pub mod Has
+pub mod Numbers
+mod Writing
+mod Comparing
+mod Reading
