@@ -1,0 +1,15 @@
+-- How the code's structs stand for the definitions' records: the same fields.
+-- Assumes nothing: these are definitions.
+use Prim.Native.Nat.{ℕ}
+use Rattle.walk.specs.declared.Walk.{Walk}
+use Rattle.walk.specs.declared.Number.{Number}
+use Rattle.walk.specs.Walk.{Reading, Step}
+
+abbrev pub asWalk : Reading → Walk
+asWalk w = record { at = w .at; refusal = w .refusal }
+
+abbrev pub ofWalk : Walk → Reading
+ofWalk w = record { at = w .at; refusal = w .refusal }
+
+abbrev pub asNumber : Step ℕ → Number
+asNumber n = record { walk = asWalk (n .walk); value = n .value }

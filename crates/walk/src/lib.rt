@@ -1,0 +1,173 @@
+// A reading's place and refusal, and the steps that make every refusal of reading.
+//
+// A `Walk` goes by value through every step; a refused one passes through unchanged, so the code above is straight-line. Two
+// steps test octets (`octets` and `read_number`: 12, then 6, then 10), one tests a value (`check`). `Settings` is what both sides
+// agreed on. The number behind lengths, counts and priority is `read_number`, and nothing else knows how it is written.
+ghost use mathlib.Core.Path.{_≡_};
+ghost use Prim.Native.Nat.{min};
+ghost use lib.Dec.{leb};
+ghost use Rattle.octets.specs.Octets.{pick};
+ghost use lib.ListN.{length};
+ghost use Rattle.walk.specs.Walk.{goes as goesAt, refused as refusedBy, octets as octetsOf, octetsIf, check as checkOf, number, begun, headerEnd};
+ghost use Rattle.walk.specs.Inner.{asWalk, ofWalk, asNumber};
+use varint::Found;
+
+// Where the secondary header ends at the latest: six octets of primary header and 256.
+pub const HEADER_END: usize = 262;
+
+pub const TIMESTAMP_LEAST: usize = 1;
+
+pub const TIMESTAMP_MOST: usize = 16;
+
+// What both sides agreed on: T, the octets of a timestamp.
+pub struct Settings {
+    pub t: usize,
+}
+
+// The number of a refusal of document 01; 0 where there is none.
+pub struct Refusal {
+    pub number: u8,
+}
+
+// A reading: the next place, or a refusal.
+pub struct Walk {
+    pub at: u16,
+    pub refusal: Refusal,
+}
+
+// A number that was read, and the reading behind it.
+pub struct Number {
+    pub walk: Walk,
+    pub value: u32,
+}
+
+pub fn goes(at: u16) -> Walk
+    ensures { λ r. ⌜ r ≡ asWalk (goesAt at) ⌝ }
+{
+    let none = Refusal { number: 0 };
+    Walk {
+        at: at,
+        refusal: none,
+    }
+}
+
+// The one place where a reading is refused.
+pub fn refused(k: u8) -> Walk
+    ensures { λ r. ⌜ r ≡ asWalk (refusedBy k) ⌝ }
+{
+    let refusal = Refusal { number: k };
+    Walk {
+        at: 0,
+        refusal: refusal,
+    }
+}
+
+impl Walk {
+    // n octets at the place, refused by 12 or 6.
+    pub fn octets(self, p: &[u8], n: usize) -> Walk
+        ensures { λ r. ⌜ r ≡ asWalk (octetsOf (now (p .entry)) n (ofWalk self)) ⌝ }
+    {
+        let at = self.at as usize;
+        if self.refusal.number != 0 {
+            return self;
+        }
+        if HEADER_END < at {
+            return refused(12);
+        }
+        if HEADER_END - at < n {
+            return refused(12);
+        }
+        if p.len() < at + n {
+            return refused(6);
+        }
+        goes((at + n) as u16)
+    }
+
+    // Refused by k unless the test holds.
+    pub fn check(self, ok: bool, k: u8) -> Walk
+        ensures { λ r. ⌜ r ≡ asWalk (checkOf ok k (ofWalk self)) ⌝ }
+    {
+        if self.refusal.number != 0 {
+            return self;
+        }
+        if ok {
+            return self;
+        }
+        refused(k)
+    }
+
+    // n octets at the place if they are there.
+    pub fn octets_if(self, there: bool, p: &[u8], n: usize) -> Walk
+        ensures { λ r. ⌜ r ≡ asWalk (octetsIf there (now (p .entry)) n (ofWalk self)) ⌝ }
+    {
+        if there {
+            return self.octets(p, n);
+        }
+        self
+    }
+}
+
+// The octets up to the header's limit.
+fn before_limit(p: &[u8]) -> usize
+    ensures limit { λ r. ⌜ r ≡ min headerEnd (length (now (p .entry))) ⌝ }
+{
+    if p.len() < HEADER_END {
+        return p.len();
+    }
+    HEADER_END
+}
+
+// Which refusal an end inside a number is: 12 at the header's limit, else 6.
+fn end_refusal(p: &[u8]) -> u8
+    ensures { λ r. ⌜ r ≡ pick (leb headerEnd (length (now (p .entry)))) 12 6 ⌝ }
+{
+    if HEADER_END <= p.len() {
+        return 12;
+    }
+    6
+}
+
+// An unsigned number of at most 32 bits at the place, refused by 12, 6 or 10.
+pub fn read_number(s: Settings, p: &[u8], w: Walk) -> Number
+    ensures { λ r. ⌜ r ≡ asNumber (number s (now (p .entry)) (ofWalk w)) ⌝ }
+{
+    if w.refusal.number != 0 {
+        return Number { walk: w, value: 0 };
+    }
+    let at = w.at as usize;
+    let end = before_limit(p);
+    let ended = end_refusal(p);
+    let head = &p[0..end];
+    match varint::read32(head, at) {
+        Found::Value(v, next) => {
+            let walk = goes(next as u16);
+            Number {
+                walk: walk,
+                value: v as u32,
+            }
+        }
+        Found::Ends => {
+            let walk = refused(ended);
+            Number {
+                walk: walk,
+                value: 0,
+            }
+        }
+        Found::Bad => {
+            let walk = refused(10);
+            Number {
+                walk: walk,
+                value: 0,
+            }
+        }
+    }
+}
+
+// Where reading begins, refused by 15.
+pub fn begin(s: Settings) -> Walk
+    ensures { λ r. ⌜ r ≡ asWalk (begun s) ⌝ }
+{
+    let w = goes(6);
+    w.check(TIMESTAMP_LEAST <= s.t, 15)
+        .check(s.t <= TIMESTAMP_MOST, 15)
+}
