@@ -1,0 +1,22 @@
+-- `fields::block_if` meets its contract: the test of the branch is the definition's.
+-- Assumes nothing.
+use borrow.Author.Needs.{needs}
+use Rattle.fields.proofs.block_if.Statement.{statement}
+use Rattle.fields.proofs.block_if.Tie as tie
+use Rattle.fields.specs.Fields.{block}
+
+octets-requires : tie.Need-octets-requires
+octets-requires c κs = search needs
+
+cast-t9 : tie.Need-cast-t9
+cast-t9 c = search needs
+
+returns : tie.Need-returns
+unfolding block
+returns c = simp (c .before .before .if1 .taken, c .before .octets .ensures)
+
+returns-2 : tie.Need-returns-2
+returns-2 c = simp (c .if1 .left)
+
+pub block-if-spec : {M : Type 1} → statement M
+block-if-spec = tie.close (tie.spec octets-requires cast-t9 returns returns-2)

@@ -1,0 +1,30 @@
+-- `fields::read_part` meets its contract: its steps are the definition's.
+-- Assumes nothing.
+use borrow.Author.Needs.{needs}
+use Rattle.fields.proofs.read_part.Statement.{statement}
+use Rattle.fields.proofs.read_part.Tie as tie
+use Rattle.fields.specs.Fields.{part}
+
+cast-octet : tie.Need-cast-octet
+cast-octet c = search needs
+
+octet-requires : tie.Need-octet-requires
+octet-requires c κs = search needs
+
+octets-requires : tie.Need-octets-requires
+octets-requires c κs = search needs
+
+check-requires : tie.Need-check-requires
+check-requires c κs = search needs
+
+read-text-requires : tie.Need-read-text-requires
+read-text-requires c κs = search needs
+
+returns : tie.Need-returns
+unfolding part
+returns c = simp (c .read-text .ensures, c .before .check .ensures, c .before .before .octets .ensures, c .before .before .before .octet .ensures)
+
+pub read-part-spec : {M : Type 1} → statement M
+read-part-spec =
+    tie.close
+    (tie.spec cast-octet octet-requires octets-requires check-requires read-text-requires returns)

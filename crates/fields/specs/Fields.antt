@@ -1,0 +1,76 @@
+-- The optional fields that have a length: texts, the authentication id, the domain; and fields that may be absent.
+-- Document 01: "Zone, session name and authentication id are a Varint length and that many octets. The domain is a Varint count of
+-- parts, each a presence octet of 1 and a length with octets. Text is taken as octets of any value."
+-- Assumes nothing: these are definitions.
+use Prim.Native.Nat.{ℕ, zero, suc}
+use mathlib.Core.List.{List}
+use mathlib.Core.Bool.{Bool, true, false}
+use lib.ListN.{set, replicate}
+use lib.Dec.{leb, eqb}
+use Rattle.octets.specs.Octets.{pick, octetAt}
+use Rattle.walk.specs.declared.Settings.{Settings}
+use Rattle.walk.specs.Walk.{Reading, Step, octets, check, number}
+use Rattle.fields.specs.declared.Place.{Place}
+
+-- a place and a length; absent, both are 0
+abbrev pub place : ℕ → ℕ → Place
+place at n = record { at = at; length = n }
+
+abbrev pub nowhere : Place
+nowhere = place 0 0
+
+-- a field that is there only if `there`, and else is answered by `none`
+abbrev pub opt : {A : Type 0} → Bool → A → (Reading → Step A) → Reading → Step A
+opt there none step w = pick there (step w) (record { walk = w; value = none })
+
+-- n octets, as they are: the timestamp
+unfoldable pub block : ℕ → List ℕ → Reading → Step Place
+block n p w = record { walk = octets p n w; value = place (w .at) n }
+
+-- a length and as many octets of any value: the authentication id
+unfoldable pub blob : Settings → List ℕ → Reading → Step Place
+blob s p w =
+    record {
+      walk = octets p (number s p w .value) (number s p w .walk);
+      value = place (number s p w .walk .at) (number s p w .value);
+    }
+
+-- a text: zone, session name, domain part. Its octets are not looked at
+unfoldable pub text : Settings → List ℕ → Reading → Step Place
+text s p w = blob s p w
+
+-- a domain part: an octet of 1, else 11, and a text
+unfoldable pub part : Settings → List ℕ → Reading → Step Place
+part s p w = text s p (check (eqb (octetAt p (w .at)) 1) 11 (octets p 1 w))
+
+-- a domain holds at most sixteen parts, each with its own place
+abbrev pub partsMost : ℕ
+partsMost = 16
+
+-- how many parts there are, and where
+pub record Parts : Type 0 where
+  pub count : ℕ
+  pub places : List Place
+
+abbrev pub noParts : ℕ → Parts
+noParts n = record { count = n; places = replicate 16 nowhere }
+
+-- one part more, as part number k
+unfoldable pub partAt : Settings → List ℕ → ℕ → Step Parts → Step Parts
+partAt s p k d =
+    record {
+      walk = part s p (d .walk) .walk;
+      value = record { count = d .value .count; places = set (d .value .places) k (part s p (d .walk) .value) };
+    }
+
+-- the first n parts
+unfoldable pub partsTo : Settings → List ℕ → ℕ → Step Parts → Step Parts
+partsTo s p zero d = d
+partsTo s p (suc k) d = partAt s p k (partsTo s p k d)
+
+-- a count, above sixteen refused by 13, and as many parts
+unfoldable pub domain : Settings → List ℕ → Reading → Step Parts
+domain s p w =
+    pick (leb (number s p w .value) partsMost)
+    (partsTo s p (number s p w .value) (record { walk = number s p w .walk; value = noParts (number s p w .value) }))
+    (record { walk = check false 13 (number s p w .walk); value = noParts 0 })

@@ -1,0 +1,192 @@
+// The optional fields that have a length, as steps of a reading: texts, the authentication id, the domain.
+//
+//   text, authentication id:  length (Varint) | octets
+//   domain:                   count (Varint)  | 1 | length | octets | 1 | length | octets ..
+//
+// Each step takes any slice and any walk, and answers the walk behind the field and where its content stands. `read_text` and
+// `read_blob` are two names for what is the same today: text is taken as octets of any value.
+ghost use mathlib.Core.Path.{_≡_};
+ghost use Prim.Native.Nat.{_<_, _≤_};
+ghost use Rattle.walk.specs.Inner.{ofWalk, asNumber};
+ghost use Rattle.walk.specs.Walk.{number};
+ghost use Rattle.fields.specs.Fields.{nowhere, opt, block, blob, text, part, noParts, partAt, partsTo, domain};
+ghost use Rattle.fields.specs.Inner.{asText, asDomain, ofDomain};
+use walk::Number;
+use walk::Settings;
+use walk::Walk;
+
+// The most parts that a domain holds.
+pub const PARTS: usize = 16;
+
+// Where a content stands and how long it is; zeros where there is none.
+pub struct Place {
+    pub at: usize,
+    pub length: usize,
+}
+
+pub struct Text {
+    pub walk: Walk,
+    pub place: Place,
+}
+
+pub struct Domain {
+    pub walk: Walk,
+    pub count: usize,
+    pub parts: [Place; 16],
+}
+
+// A number if it is there, else 0.
+pub fn number_if(there: bool, s: Settings, p: &[u8], w: Walk) -> Number
+    ensures { λ r. ⌜ r ≡ asNumber (opt there 0 (number s (now (p .entry))) (ofWalk w)) ⌝ }
+{
+    if there {
+        return walk::read_number(s, p, w);
+    }
+    Number { walk: w, value: 0 }
+}
+
+// n octets if they are there.
+pub fn block_if(there: bool, n: usize, p: &[u8], w: Walk) -> Text
+    ensures { λ r. ⌜ r ≡ asText (opt there nowhere (block n (now (p .entry))) (ofWalk w)) ⌝ }
+{
+    if there {
+        let end = w.octets(p, n);
+        let place = Place {
+            at: w.at as usize,
+            length: n,
+        };
+        return Text {
+            walk: end,
+            place: place,
+        };
+    }
+    let place = Place { at: 0, length: 0 };
+    Text {
+        walk: w,
+        place: place,
+    }
+}
+
+pub fn read_blob(s: Settings, p: &[u8], w: Walk) -> Text
+    ensures { λ r. ⌜ r ≡ asText (blob s (now (p .entry)) (ofWalk w)) ⌝ }
+{
+    let n = walk::read_number(s, p, w);
+    let v = n.walk;
+    let length = n.value as usize;
+    let end = v.octets(p, length);
+    let place = Place {
+        at: v.at as usize,
+        length: length,
+    };
+    Text {
+        walk: end,
+        place: place,
+    }
+}
+
+pub fn read_text(s: Settings, p: &[u8], w: Walk) -> Text
+    ensures { λ r. ⌜ r ≡ asText (text s (now (p .entry)) (ofWalk w)) ⌝ }
+{
+    read_blob(s, p, w)
+}
+
+// An authentication id if it is there.
+pub fn blob_if(there: bool, s: Settings, p: &[u8], w: Walk) -> Text
+    ensures { λ r. ⌜ r ≡ asText (opt there nowhere (blob s (now (p .entry))) (ofWalk w)) ⌝ }
+{
+    if there {
+        return read_blob(s, p, w);
+    }
+    let place = Place { at: 0, length: 0 };
+    Text {
+        walk: w,
+        place: place,
+    }
+}
+
+// A text if it is there.
+pub fn text_if(there: bool, s: Settings, p: &[u8], w: Walk) -> Text
+    ensures { λ r. ⌜ r ≡ asText (opt there nowhere (text s (now (p .entry))) (ofWalk w)) ⌝ }
+{
+    if there {
+        return read_text(s, p, w);
+    }
+    let place = Place { at: 0, length: 0 };
+    Text {
+        walk: w,
+        place: place,
+    }
+}
+
+// A domain part: an octet of 1, else 11, and a text.
+fn read_part(s: Settings, p: &[u8], w: Walk) -> Text
+    ensures { λ r. ⌜ r ≡ asText (part s (now (p .entry)) (ofWalk w)) ⌝ }
+{
+    let b = octets::octet(p, w.at as usize);
+    read_text(s, p, w.octets(p, 1).check(b == 1, 11))
+}
+
+// One part more, as part number k: there are sixteen places.
+fn part_at(s: Settings, p: &[u8], k: usize, d: Domain) -> Domain
+    requires { ⌜ k < 16 ⌝ }
+    ensures { λ r. ⌜ r ≡ asDomain (partAt s (now (p .entry)) k (ofDomain d)) ⌝ }
+{
+    let w = d.walk;
+    let t = read_part(s, p, w);
+    let end = t.walk;
+    let place = t.place;
+    let mut next = d;
+    next.parts[k] = place;
+    next.walk = end;
+    next
+}
+
+// The first n parts.
+fn parts_to(s: Settings, p: &[u8], n: usize, d: Domain) -> Domain
+    requires { ⌜ n ≤ 16 ⌝ }
+    ensures { λ r. ⌜ r ≡ asDomain (partsTo s (now (p .entry)) n (ofDomain d)) ⌝ }
+{
+    let mut next = d;
+    let mut k = 0;
+    while k < n {
+        next = part_at(s, p, k, next);
+        k += 1;
+    }
+    next
+}
+
+// A domain with no place yet.
+fn no_parts(w: Walk, count: usize) -> Domain
+    ensures { λ r. ⌜ r ≡ asDomain (record { walk = ofWalk w; value = noParts count }) ⌝ }
+{
+    let none = Place { at: 0, length: 0 };
+    let parts = [none; 16];
+    Domain {
+        walk: w,
+        count: count,
+        parts: parts,
+    }
+}
+
+// A count, above sixteen refused by 13, and as many parts.
+pub fn read_domain(s: Settings, p: &[u8], w: Walk) -> Domain
+    ensures { λ r. ⌜ r ≡ asDomain (domain s (now (p .entry)) (ofWalk w)) ⌝ }
+{
+    let n = walk::read_number(s, p, w);
+    let v = n.walk;
+    let count = n.value as usize;
+    if count <= PARTS {
+        return parts_to(s, p, count, no_parts(v, count));
+    }
+    no_parts(v.check(false, 13), 0)
+}
+
+// A domain if it is there.
+pub fn domain_if(there: bool, s: Settings, p: &[u8], w: Walk) -> Domain
+    ensures { λ r. ⌜ r ≡ asDomain (opt there (noParts 0) (domain s (now (p .entry))) (ofWalk w)) ⌝ }
+{
+    if there {
+        return read_domain(s, p, w);
+    }
+    no_parts(w, 0)
+}
