@@ -10,6 +10,9 @@ use Rattle.fields.specs.Fields.{Parts}
 abbrev pub asText : Step Place → Text
 asText t = record { walk = asWalk (t .walk); place = t .value }
 
+abbrev pub ofText : Text → Step Place
+ofText t = record { walk = ofWalk (t .walk); value = t .place }
+
 abbrev pub asDomain : Step Parts → Domain
 asDomain d = record { walk = asWalk (d .walk); count = d .value .count; parts = d .value .places }
 

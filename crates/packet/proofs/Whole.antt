@@ -1,0 +1,111 @@
+-- From the answers of the steps to the answer of reading, on plain values.
+-- Assumes nothing.
+use Prim.Native.Nat.{ℕ, _-_}
+use mathlib.Core.Path.{_≡_, refl, ap, ap₂, sym, _∙_}
+use mathlib.Core.Bool.{true}
+use mathlib.Core.List.{List}
+use lib.ListN.{length}
+use borrow.Author.Tests.{eq-eqb, ne-eqb}
+use Rattle.walk.specs.declared.Settings.{Settings}
+use Rattle.walk.specs.declared.Refusal.{Refusal}
+use Rattle.walk.specs.declared.Walk.{Walk}
+use Rattle.walk.specs.Walk.{Reading, Step, noRefusal, going, begun}
+use Rattle.walk.specs.Inner.{asWalk, ofWalk}
+use Rattle.fields.specs.Fields.{place}
+use Rattle.packet.specs.declared.Primary.{Primary}
+use Rattle.packet.specs.declared.Present.{Present}
+use Rattle.packet.specs.declared.FixedStep.{FixedStep}
+use Rattle.packet.specs.declared.Ids.{Ids}
+use Rattle.packet.specs.declared.IdsStep.{IdsStep}
+use Rattle.packet.specs.declared.Texts.{Texts}
+use Rattle.packet.specs.declared.TextsStep.{TextsStep}
+use Rattle.packet.specs.declared.Header.{Header}
+use Rattle.packet.specs.Reading.{primaryTests, primaryOf, fixedOf, fixedEnd, presentOf, idsOf, textsOf, bodyTest, startAt, hasAt, idsAt, textsAt, ended, counterSize, refusedHeader, acceptedHeader, readPacket}
+use Rattle.packet.specs.Inner.{fixedStep, asIds, asTexts}
+
+abbrev ofIds : IdsStep → Step Ids
+ofIds x = record { walk = ofWalk (x .walk); value = x .ids }
+
+abbrev ofTexts : TextsStep → Step Texts
+ofTexts x = record { walk = ofWalk (x .walk); value = x .texts }
+
+-- where the reading goes on to its end, the answer is the header
+pub accepts : (s : Settings) (p : List ℕ) → going (ended s p) ≡ true → readPacket s p ≡ acceptedHeader s p
+unfolding readPacket
+accepts s p h = rw h
+
+module _
+    (s : Settings)
+    (p : List ℕ)
+    {b start : Walk}
+    {f : FixedStep}
+    {i : IdsStep}
+    {t : TextsStep}
+    {w : Walk}
+    (e0 : b ≡ asWalk (begun s))
+    (e1 : start ≡ asWalk (primaryTests p (ofWalk b)))
+    (e2 : f ≡ fixedStep p (ofWalk start))
+    (e3 : i ≡ asIds (idsOf s (f .has) p (ofWalk (f .walk))))
+    (e4 : t ≡ asTexts (textsOf s (f .has) p (ofWalk (i .walk))))
+    (e5 : w ≡ asWalk (bodyTest p (ofWalk (t .walk)))) where
+  start-is : startAt s p ≡ ofWalk start
+  start-is = ap (primaryTests p) (ap ofWalk (sym e0)) ∙ ap ofWalk (sym e1)
+
+  fixed-is : fixedOf p (startAt s p) ≡ f .fixed
+  unfolding fixedStep
+  fixed-is = ap (fixedOf p) start-is ∙ ap (λ (x : FixedStep). x .fixed) (sym e2)
+
+  has-is : hasAt s p ≡ f .has
+  unfolding fixedStep
+  has-is = ap (presentOf p) start-is ∙ ap (λ (x : FixedStep). x .has) (sym e2)
+
+  end-is : fixedEnd p (startAt s p) ≡ ofWalk (f .walk)
+  unfolding fixedStep
+  end-is = ap (fixedEnd p) start-is ∙ ap (λ (x : FixedStep). ofWalk (x .walk)) (sym e2)
+
+  ids-is : idsAt s p ≡ ofIds i
+  ids-is = ap₂ (λ (h : Present) (v : Reading). idsOf s h p v) has-is end-is ∙ ap ofIds (sym e3)
+
+  texts-is : textsAt s p ≡ ofTexts t
+  texts-is =
+      ap₂ (λ (h : Present) (v : Reading). textsOf s h p v) has-is (ap (λ (x : Step Ids). x .walk) ids-is) ∙ ap ofTexts (sym e4)
+
+  ended-is : ended s p ≡ ofWalk w
+  ended-is = ap (bodyTest p) (ap (λ (x : Step Texts). x .walk) texts-is) ∙ ap ofWalk (sym e5)
+
+  pub refused-whole : (w .refusal .number ≡ 0 → ⊥) → refusedHeader (w .refusal) ≡ readPacket s p
+  unfolding readPacket
+  refused-whole h = rw (ended-is, ne-eqb (w .refusal .number) 0 h)
+
+  pub accepted-whole :
+      {m : Primary} {n : ℕ} {l : ℕ} → w .refusal .number ≡ 0 → m ≡ primaryOf p → n ≡ w .at - 6 - counterSize p → l ≡ length p - w .at →
+      record {
+        refusal = w .refusal;
+        primary = m;
+        fixed = f .fixed;
+        has = f .has;
+        ids = i .ids;
+        texts = t .texts;
+        h = n;
+        body = place (w .at) l;
+      }
+      ≡ readPacket s p
+  unfolding acceptedHeader
+  accepted-whole {m} {n} {l} h em en el =
+      let z : w .refusal ≡ noRefusal = ap (λ (k : ℕ). record { number = k }) h in
+      let at-is : w .at ≡ ended s p .at = ap (λ (v : Reading). v .at) (sym ended-is) in
+      let h-is : n ≡ ended s p .at - 6 - counterSize p = en ∙ ap (λ (k : ℕ). k - 6 - counterSize p) at-is in
+      let l-is : l ≡ length p - ended s p .at = el ∙ ap (λ (k : ℕ). length p - k) at-is in
+      let same : _ ≡ acceptedHeader s p =
+      λ j.
+      record {
+        refusal = z j;
+        primary = em j;
+        fixed = sym fixed-is j;
+        has = sym has-is j;
+        ids = ap (λ (x : Step Ids). x .value) (sym ids-is) j;
+        texts = ap (λ (x : Step Texts). x .value) (sym texts-is) j;
+        h = h-is j;
+        body = record { at = at-is j; length = l-is j };
+      } in
+      same ∙ sym (accepts s p (rw ended-is (eq-eqb (w .refusal .number) 0 h)))

@@ -1,0 +1,72 @@
+-- `packet::read` meets its contract: its steps are the definition's, and a slice holds octets.
+-- Assumes nothing.
+use borrow.Author.Needs.{needs}
+use mathlib.Core.Path.{_∙_}
+use Rattle.packet.proofs.Whole.{refused-whole, accepted-whole}
+use Rattle.packet.proofs.read.Statement.{statement}
+use Rattle.packet.proofs.read.Tie as tie
+
+begin-requires : tie.Need-begin-requires
+begin-requires c κs = search needs
+
+primary-walk-requires : tie.Need-primary-walk-requires
+primary-walk-requires c κs = search needs
+
+read-fixed-requires : tie.Need-read-fixed-requires
+read-fixed-requires c κs = search needs
+
+read-ids-requires : tie.Need-read-ids-requires
+read-ids-requires c κs = search needs
+
+read-texts-requires : tie.Need-read-texts-requires
+read-texts-requires c κs = search needs
+
+body-walk-requires : tie.Need-body-walk-requires
+body-walk-requires c κs = search needs
+
+refused-header-requires : tie.Need-refused-header-requires
+refused-header-requires c κs = search needs
+
+returns : tie.Need-returns
+returns c = (c .refused-header .ensures ∙ refused-whole _ _ (c .before .before .before .before .before .before .before .before .before .before .before .before .before .begin .ensures) (c .before .before .before .before .before .before .before .before .before .before .before .before .primary-walk .ensures) (c .before .before .before .before .before .before .before .before .before .before .before .read-fixed .ensures) (c .before .before .before .before .before .before .before .before .read-ids .ensures) (c .before .before .before .before .before .before .read-texts .ensures) (c .before .before .before .before .body-walk .ensures) (c .before .if1 .taken), λ i. c .before .before .before .before .before .before .before .before .before .before .before .before .before .before .shared-slice-known .given i .fits)
+
+cast-end : tie.Need-cast-end
+cast-end c = search needs
+
+read-primary-requires : tie.Need-read-primary-requires
+read-primary-requires c κs = search needs
+
+less-requires : tie.Need-less-requires
+less-requires c κs = search needs
+
+counter-size-requires : tie.Need-counter-size-requires
+counter-size-requires c κs = search needs
+
+less-requires-2 : tie.Need-less-requires-2
+less-requires-2 c κs = search needs
+
+less-requires-3 : tie.Need-less-requires-3
+less-requires-3 c κs = search needs
+
+returns-2 : tie.Need-returns-2
+returns-2 c = (accepted-whole _ _ (c .before .before .before .before .before .before .before .before .before .before .before .before .before .before .before .before .before .before .before .before .before .begin .ensures) (c .before .before .before .before .before .before .before .before .before .before .before .before .before .before .before .before .before .before .before .before .primary-walk .ensures) (c .before .before .before .before .before .before .before .before .before .before .before .before .before .before .before .before .before .before .before .read-fixed .ensures) (c .before .before .before .before .before .before .before .before .before .before .before .before .before .before .before .before .read-ids .ensures) (c .before .before .before .before .before .before .before .before .before .before .before .before .before .before .read-texts .ensures) (c .before .before .before .before .before .before .before .before .before .before .before .before .body-walk .ensures) (c .before .before .before .before .before .before .before .before .before .if1 .left) (c .before .before .before .before .before .before .before .read-primary .ensures) (simp (c .before .less2 .ensures, c .before .before .before .less .ensures, c .before .before .counter-size .ensures)) (c .less3 .ensures), λ i. c .before .before .before .before .before .before .before .before .before .before .before .before .before .before .before .before .before .before .before .before .before .before .shared-slice-known .given i .fits)
+
+pub read-spec : {M : Type 1} → statement M
+read-spec =
+    tie.close
+    (tie.spec
+    begin-requires
+    primary-walk-requires
+    read-fixed-requires
+    read-ids-requires
+    read-texts-requires
+    body-walk-requires
+    refused-header-requires
+    returns
+    cast-end
+    read-primary-requires
+    less-requires
+    counter-size-requires
+    less-requires-2
+    less-requires-3
+    returns-2)

@@ -1,0 +1,53 @@
+-- `packet::read_fixed` meets its contract: its steps are the definition's.
+-- Assumes nothing.
+use borrow.Author.Needs.{needs}
+use Rattle.packet.proofs.read_fixed.Statement.{statement}
+use Rattle.packet.proofs.read_fixed.Tie as tie
+use Rattle.packet.specs.Inner.{fixedStep, namesOf, routingOf}
+use Rattle.packet.specs.Reading.{fixedOf, presentOf, afterPresence, afterTransaction}
+
+read-names-requires : tie.Need-read-names-requires
+read-names-requires c κs = search needs
+
+read-routing-requires : tie.Need-read-routing-requires
+read-routing-requires c κs = search needs
+
+cast-be64 : tie.Need-cast-be64
+cast-be64 c = search needs
+
+be64-requires : tie.Need-be64-requires
+be64-requires c κs = search needs
+
+octets-requires : tie.Need-octets-requires
+octets-requires c κs = search needs
+
+cast-octet : tie.Need-cast-octet
+cast-octet c = search needs
+
+octet-requires : tie.Need-octet-requires
+octet-requires c κs = search needs
+
+flags-of-requires : tie.Need-flags-of-requires
+flags-of-requires c κs = search needs
+
+octets-requires-2 : tie.Need-octets-requires-2
+octets-requires-2 c κs = search needs
+
+returns : tie.Need-returns
+unfolding fixedStep fixedOf presentOf namesOf routingOf afterPresence afterTransaction
+returns c = simp (c .before .octets2 .ensures, c .before .before .flags-of .ensures, c .before .before .before .octet .ensures, c .before .before .before .before .before .octets .ensures, c .before .before .before .before .before .before .be64 .ensures, c .before .before .before .before .before .before .before .before .before .read-routing .ensures, c .before .before .before .before .before .before .before .before .before .before .before .read-names .ensures)
+
+pub read-fixed-spec : {M : Type 1} → statement M
+read-fixed-spec =
+    tie.close
+    (tie.spec
+    read-names-requires
+    read-routing-requires
+    cast-be64
+    be64-requires
+    octets-requires
+    cast-octet
+    octet-requires
+    flags-of-requires
+    octets-requires-2
+    returns)

@@ -1,0 +1,53 @@
+-- `packet::read_routing` meets its contract: its steps are the definition's.
+-- Assumes nothing.
+use borrow.Author.Needs.{needs}
+use mathlib.Core.Path.{ap, sym}
+use Rattle.packet.proofs.read_routing.Statement.{statement}
+use Rattle.packet.proofs.read_routing.Tie as tie
+use Rattle.packet.specs.Inner.{routingOf}
+use Rattle.packet.specs.Reading.{octetField, wideField, afterQualifier, afterSecondary, afterSession}
+use Rattle.packet.specs.declared.Octet.{Octet}
+use Rattle.packet.specs.declared.Word.{Word}
+use Rattle.walk.specs.Inner.{ofWalk}
+
+read-octet-requires : tie.Need-read-octet-requires
+read-octet-requires c κs = search needs
+
+check-requires : tie.Need-check-requires
+check-requires c κs = search needs
+
+read-octet-requires-2 : tie.Need-read-octet-requires-2
+read-octet-requires-2 c κs = search needs
+
+read-word-requires : tie.Need-read-word-requires
+read-word-requires c κs = search needs
+
+cast-t15 : tie.Need-cast-t15
+cast-t15 c = search needs
+
+mul-t16 : tie.Need-mul-t16
+mul-t16 c = search needs
+
+cast-t17 : tie.Need-cast-t17
+cast-t17 c = search needs
+
+add-t18 : tie.Need-add-t18
+add-t18 c = search needs
+
+returns : tie.Need-returns
+unfolding routingOf octetField wideField afterQualifier afterSecondary afterSession
+returns c = simp (c .before .before .read-word .ensures, c .before .before .before .before .read-octet2 .ensures, c .before .before .before .before .before .check .ensures, c .before .before .before .before .before .before .before .read-octet .ensures)
+
+pub read-routing-spec : {M : Type 1} → statement M
+read-routing-spec =
+    tie.close
+    (tie.spec
+    read-octet-requires
+    check-requires
+    read-octet-requires-2
+    read-word-requires
+    cast-t15
+    mul-t16
+    cast-t17
+    add-t18
+    returns)

@@ -1,0 +1,5 @@
+pub mod Numbers
+pub mod Format
+pub mod Reading
+pub mod Key
+pub mod Inner

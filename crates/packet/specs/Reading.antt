@@ -1,0 +1,254 @@
+-- What reading a packet answers, with its order of refusals.
+-- Document 01: "Reading: 15, then 1 to 5, then fields left to right, then 14."
+-- Assumes nothing: these are definitions.
+use Prim.Native.Nat.{ℕ, _+_, _-_, _*_, _/_, _%_}
+use mathlib.Core.List.{List}
+use mathlib.Core.Bool.{Bool, true, false, not}
+use lib.ListN.{length, replicate}
+use lib.Dec.{ltb, leb, eqb}
+use Rattle.octets.specs.Octets.{pick, octetAt, number}
+use Rattle.walk.specs.declared.Settings.{Settings}
+use Rattle.walk.specs.declared.Refusal.{Refusal}
+use Rattle.walk.specs.Walk.{Reading, Step, noRefusal, going, octets, check, begun, number as numberStep}
+use Rattle.fields.specs.declared.Place.{Place}
+use Rattle.fields.specs.Fields.{place, nowhere, opt, block, blob, text, domain, noParts, Parts}
+use Rattle.packet.specs.declared.Primary.{Primary}
+use Rattle.packet.specs.declared.Fixed.{Fixed}
+use Rattle.packet.specs.declared.Present.{Present}
+use Rattle.packet.specs.declared.Ids.{Ids}
+use Rattle.packet.specs.declared.Texts.{Texts}
+use Rattle.packet.specs.declared.Header.{Header}
+
+-- ---- the primary header, at its own places
+
+-- 1 fewer than six octets; 2 version not 000; 3 secondary header flag 0; 4 APID 2047; 5 the slice's length is not length field + 7
+unfoldable pub primaryTests : List ℕ → Reading → Reading
+primaryTests p w =
+    check (eqb (length p) (number 2 p 4 + 7)) 5
+    (check (not (eqb (number 2 p 0 % 2048) 2047)) 4
+    (check (eqb (octetAt p 0 / 8 % 2) 1) 3 (check (ltb (octetAt p 0) 32) 2 (check (leb 6 (length p)) 1 w))))
+
+unfoldable pub primaryOf : List ℕ → Primary
+primaryOf p =
+    record {
+      kind = octetAt p 0 / 16 % 2;
+      apid = record { 0 = number 2 p 0 % 2048 };
+      flags = octetAt p 2 / 64;
+      count = record { 0 = number 2 p 2 % 16384 };
+    }
+
+-- the sequence flags aren't 11
+abbrev pub segmented : List ℕ → Bool
+segmented p = not (eqb (octetAt p 2 / 64) 3)
+
+-- ---- the fixed part, each field at the reading's place
+
+-- an octet, and a number of n octets
+unfoldable pub octetField : List ℕ → Reading → Step ℕ
+octetField p w = record { walk = octets p 1 w; value = octetAt p (w .at) }
+
+unfoldable pub wideField : ℕ → List ℕ → Reading → Step ℕ
+wideField n p w = record { walk = octets p n w; value = number n p (w .at) }
+
+-- binding version and SDU type, an octet: 7, then 8
+unfoldable pub afterSdu : List ℕ → Reading → Reading
+afterSdu p w = check (ltb (octetAt p (w .at) % 32) 22) 8 (check (ltb (octetAt p (w .at)) 32) 7 (octets p 1 w))
+
+unfoldable pub sduField : List ℕ → Reading → Step ℕ
+sduField p w = record { walk = afterSdu p w; value = octetAt p (w .at) % 32 }
+
+unfoldable pub afterArea : List ℕ → Reading → Reading
+afterArea p w = octets p 2 (afterSdu p w)
+
+unfoldable pub afterService : List ℕ → Reading → Reading
+afterService p w = octets p 2 (afterArea p w)
+
+unfoldable pub afterOperation : List ℕ → Reading → Reading
+afterOperation p w = octets p 2 (afterService p w)
+
+unfoldable pub afterVersion : List ℕ → Reading → Reading
+afterVersion p w = octets p 1 (afterOperation p w)
+
+-- from here: error, QoS level, session and the high bits of the secondary APID, an octet: 9
+unfoldable pub afterSession : List ℕ → Reading → Reading
+afterSession p w = check (ltb (octetAt p (w .at) / 8 % 4) 3) 9 (octets p 1 w)
+
+-- its low bits
+unfoldable pub afterSecondary : List ℕ → Reading → Reading
+afterSecondary p w = octets p 1 (afterSession p w)
+
+unfoldable pub afterQualifier : List ℕ → Reading → Reading
+afterQualifier p w = octets p 2 (afterSecondary p w)
+
+-- from here: transaction id and presence flags
+unfoldable pub afterTransaction : List ℕ → Reading → Reading
+afterTransaction p w = octets p 8 w
+
+unfoldable pub afterPresence : List ℕ → Reading → Reading
+afterPresence p w = octets p 1 (afterTransaction p w)
+
+-- the readings behind the area version, the qualifier, and the whole fixed part
+abbrev pub namesEnd : List ℕ → Reading → Reading
+namesEnd p w = afterVersion p w
+
+abbrev pub routingEnd : List ℕ → Reading → Reading
+routingEnd p w = afterQualifier p (namesEnd p w)
+
+abbrev pub fixedEnd : List ℕ → Reading → Reading
+fixedEnd p w = afterPresence p (routingEnd p w)
+
+unfoldable pub fixedOf : List ℕ → Reading → Fixed
+fixedOf p w =
+    record {
+      sdu = octetAt p (w .at) % 32;
+      area = number 2 p (afterSdu p w .at);
+      service = number 2 p (afterArea p w .at);
+      operation = number 2 p (afterService p w .at);
+      version = octetAt p (afterOperation p w .at);
+      error = octetAt p (namesEnd p w .at) / 128;
+      qos = octetAt p (namesEnd p w .at) / 32 % 4;
+      session = octetAt p (namesEnd p w .at) / 8 % 4;
+      apid = record { 0 = octetAt p (namesEnd p w .at) % 8 * 256 + octetAt p (afterSession p (namesEnd p w) .at) };
+      qualifier = number 2 p (afterSecondary p (namesEnd p w) .at);
+      transaction = number 8 p (routingEnd p w .at);
+    }
+
+-- eight presence flags from the high bit down
+unfoldable pub flagsOf : ℕ → Present
+flagsOf f =
+    record {
+      source = eqb (f / 128 % 2) 1;
+      destination = eqb (f / 64 % 2) 1;
+      priority = eqb (f / 32 % 2) 1;
+      timestamp = eqb (f / 16 % 2) 1;
+      zone = eqb (f / 8 % 2) 1;
+      session = eqb (f / 4 % 2) 1;
+      domain = eqb (f / 2 % 2) 1;
+      authentication = eqb (f % 2) 1;
+    }
+
+unfoldable pub presentOf : List ℕ → Reading → Present
+presentOf p w = flagsOf (octetAt p (afterTransaction p (routingEnd p w) .at))
+
+-- ---- the optional fields
+
+-- source id, destination id, segment counter, priority
+unfoldable pub idsOf : Settings → Present → List ℕ → Reading → Step Ids
+idsOf s has p w =
+    let a = opt (has .source) 0 (octetField p) w in
+    let b = opt (has .destination) 0 (octetField p) (a .walk) in
+    let c = opt (segmented p) 0 (wideField 4 p) (b .walk) in
+    let d = opt (has .priority) 0 (numberStep s p) (c .walk) in
+    record {
+      walk = d .walk;
+      value = record { source = a .value; destination = b .value; counter = record { 0 = c .value }; priority = d .value };
+    }
+
+-- timestamp, network zone, session name, domain, authentication id
+unfoldable pub textsOf : Settings → Present → List ℕ → Reading → Step Texts
+textsOf s has p w =
+    let a = opt (has .timestamp) nowhere (block (s .t) p) w in
+    let b = opt (has .zone) nowhere (text s p) (a .walk) in
+    let c = opt (has .session) nowhere (text s p) (b .walk) in
+    let d = opt (has .domain) (noParts 0) (domain s p) (c .walk) in
+    let e = opt (has .authentication) nowhere (blob s p) (d .walk) in
+    record {
+      walk = e .walk;
+      value =
+          record {
+            timestamp = a .value;
+            zone = b .value;
+            session = c .value;
+            count = d .value .count;
+            parts = d .value .places;
+            authentication = e .value;
+          };
+    }
+
+-- 14: a segmented packet with an empty body
+unfoldable pub bodyTest : List ℕ → Reading → Reading
+bodyTest p w = pick (segmented p) (check (ltb (w .at) (length p)) 14 w) w
+
+-- ---- the answer
+
+-- the stages
+abbrev pub startAt : Settings → List ℕ → Reading
+startAt s p = primaryTests p (begun s)
+
+abbrev pub hasAt : Settings → List ℕ → Present
+hasAt s p = presentOf p (startAt s p)
+
+abbrev pub idsAt : Settings → List ℕ → Step Ids
+idsAt s p = idsOf s (hasAt s p) p (fixedEnd p (startAt s p))
+
+abbrev pub textsAt : Settings → List ℕ → Step Texts
+textsAt s p = textsOf s (hasAt s p) p (idsAt s p .walk)
+
+abbrev pub ended : Settings → List ℕ → Reading
+ended s p = bodyTest p (textsAt s p .walk)
+
+-- what a refusal answers: its number, every other answer zero
+unfoldable pub refusedHeader : Refusal → Header
+refusedHeader r =
+    record {
+      refusal = r;
+      primary = record { kind = 0; apid = record { 0 = 0 }; flags = 0; count = record { 0 = 0 } };
+      fixed =
+          record {
+            sdu = 0;
+            area = 0;
+            service = 0;
+            operation = 0;
+            version = 0;
+            error = 0;
+            qos = 0;
+            session = 0;
+            apid = record { 0 = 0 };
+            qualifier = 0;
+            transaction = 0;
+          };
+      has =
+          record {
+            source = false;
+            destination = false;
+            priority = false;
+            timestamp = false;
+            zone = false;
+            session = false;
+            domain = false;
+            authentication = false;
+          };
+      ids = record { source = 0; destination = 0; counter = record { 0 = 0 }; priority = 0 };
+      texts =
+          record {
+            timestamp = nowhere;
+            zone = nowhere;
+            session = nowhere;
+            count = 0;
+            parts = replicate 16 nowhere;
+            authentication = nowhere;
+          };
+      h = 0;
+      body = nowhere;
+    }
+
+-- the octets of a segment counter in the header: 4, or 0 where there is none
+abbrev pub counterSize : List ℕ → ℕ
+counterSize p = pick (segmented p) 4 0
+
+-- the body stands from the header's end to the packet's; H never counts the counter
+unfoldable pub acceptedHeader : Settings → List ℕ → Header
+acceptedHeader s p =
+    record {
+      refusal = noRefusal;
+      primary = primaryOf p;
+      fixed = fixedOf p (startAt s p);
+      has = hasAt s p;
+      ids = idsAt s p .value;
+      texts = textsAt s p .value;
+      h = ended s p .at - 6 - counterSize p;
+      body = place (ended s p .at) (length p - ended s p .at);
+    }
+
+unfoldable pub readPacket : Settings → List ℕ → Header
+readPacket s p = pick (going (ended s p)) (acceptedHeader s p) (refusedHeader (ended s p .refusal))

@@ -1,0 +1,545 @@
+// Reading a packet: the four kinds of number, the decoded header, `read` and `next_sequence_count`.
+//
+//   octets  0 1   version 3 | packet type 1 | secondary header flag 1 | APID 11
+//           2 3   sequence flags 2 | sequence count 14
+//           4 5   length field: the octets behind it, less one
+//           6     binding version 3 | SDU type 5
+//           7 8   area        9 10   service        11 12   operation        13   area version
+//          14 15  error 1 | QoS level 2 | session 2 | secondary APID 11
+//          16 17  secondary APID qualifier
+//          18 25  transaction id
+//          26     presence: source id, destination id, priority, timestamp, zone, session name, domain, authentication id
+//          27 ..  source id | destination id | segment counter | priority | timestamp | zone | session name | domain |
+//                 authentication id | body
+//
+// `read` takes any settings and any slice. It answers every value and where every content stands, or one refusal and zeros.
+// Every field of the secondary header is one step of a walk, at the walk's own place (crate `walk`).
+ghost use mathlib.Core.Path.{_≡_};
+ghost use Prim.Native.Nat.{_-_};
+ghost use lib.ListN.{length};
+ghost use Rattle.octets.specs.Octets.{Octets};
+ghost use Rattle.walk.specs.Inner.{asWalk, ofWalk};
+ghost use Rattle.fields.specs.Fields.{opt};
+ghost use Rattle.packet.specs.Numbers.{nextSequenceCount};
+ghost use Rattle.packet.specs.Reading.{primaryTests, primaryOf, flagsOf, octetField, wideField, sduField, idsOf, textsOf, bodyTest, segmented as segmentedOf, counterSize, refusedHeader, readPacket};
+ghost use Rattle.packet.specs.Inner.{namesOf, routingOf, fixedStep, asOctet, asWord, asCounter, asIds, asTexts};
+use fields::Place;
+use walk::Refusal;
+use walk::Settings;
+use walk::Walk;
+
+// The largest sequence count.
+pub const COUNT_MOST: u16 = 16383;
+
+pub struct Apid(pub u16);
+
+pub struct SecondaryApid(pub u16);
+
+pub struct SequenceCount(pub u16);
+
+pub struct SegmentCounter(pub u32);
+
+// The primary header: packet type, APID, sequence flags, sequence count.
+pub struct Primary {
+    pub kind: u8,
+    pub apid: Apid,
+    pub flags: u8,
+    pub count: SequenceCount,
+}
+
+// The fixed part of the secondary header, but for its presence flags.
+pub struct Fixed {
+    pub sdu: u8,
+    pub area: u16,
+    pub service: u16,
+    pub operation: u16,
+    pub version: u8,
+    pub error: u8,
+    pub qos: u8,
+    pub session: u8,
+    pub apid: SecondaryApid,
+    pub qualifier: u16,
+    pub transaction: u64,
+}
+
+// The eight presence flags.
+pub struct Present {
+    pub source: bool,
+    pub destination: bool,
+    pub priority: bool,
+    pub timestamp: bool,
+    pub zone: bool,
+    pub session: bool,
+    pub domain: bool,
+    pub authentication: bool,
+}
+
+// The optional numbers; 0 where absent.
+pub struct Ids {
+    pub source: u8,
+    pub destination: u8,
+    pub counter: SegmentCounter,
+    pub priority: u32,
+}
+
+// Where the optional contents stand; a domain's parts each with its own place.
+pub struct Texts {
+    pub timestamp: Place,
+    pub zone: Place,
+    pub session: Place,
+    pub count: usize,
+    pub parts: [Place; 16],
+    pub authentication: Place,
+}
+
+// What reading answers. h is H, the octets of the secondary header without its counter.
+pub struct Header {
+    pub refusal: Refusal,
+    pub primary: Primary,
+    pub fixed: Fixed,
+    pub has: Present,
+    pub ids: Ids,
+    pub texts: Texts,
+    pub h: usize,
+    pub body: Place,
+}
+
+// Steps of a reading with what they found.
+struct Names {
+    walk: Walk,
+    sdu: u8,
+    area: u16,
+    service: u16,
+    operation: u16,
+    version: u8,
+}
+
+struct Routing {
+    walk: Walk,
+    error: u8,
+    qos: u8,
+    session: u8,
+    apid: SecondaryApid,
+    qualifier: u16,
+}
+
+struct FixedStep {
+    walk: Walk,
+    fixed: Fixed,
+    has: Present,
+}
+
+struct Octet {
+    walk: Walk,
+    value: u8,
+}
+
+struct Word {
+    walk: Walk,
+    value: u16,
+}
+
+struct Counter {
+    walk: Walk,
+    value: SegmentCounter,
+}
+
+struct IdsStep {
+    walk: Walk,
+    ids: Ids,
+}
+
+struct TextsStep {
+    walk: Walk,
+    texts: Texts,
+}
+
+// The next sequence count: 0 follows 16,383.
+pub fn next_sequence_count(c: SequenceCount) -> SequenceCount
+    ensures { λ r. ⌜ r ≡ nextSequenceCount c ⌝ }
+{
+    let x = c.0;
+    if COUNT_MOST <= x {
+        return SequenceCount(0);
+    }
+    SequenceCount(x + 1)
+}
+
+// 1 to 5.
+fn primary_walk(p: &[u8], w: Walk) -> Walk
+    ensures { λ r. ⌜ r ≡ asWalk (primaryTests (now (p .entry)) (ofWalk w)) ⌝ }
+{
+    let first = octets::octet(p, 0);
+    let id = octets::be16(p, 0);
+    let want = octets::be16(p, 4) as usize + 7;
+    let a = w.check(6 <= p.len(), 1).check(first < 32, 2);
+    let b = a.check(first / 8 % 2 == 1, 3).check(id % 2048 != 2047, 4);
+    b.check(p.len() == want, 5)
+}
+
+fn read_primary(p: &[u8]) -> Primary
+    ensures { λ r. ⌜ r ≡ primaryOf (now (p .entry)) ⌝ }
+{
+    let first = octets::octet(p, 0);
+    let third = octets::octet(p, 2);
+    let apid = Apid(octets::be16(p, 0) % 2048);
+    let count = SequenceCount(octets::be16(p, 2) % 16384);
+    Primary {
+        kind: first / 16 % 2,
+        apid: apid,
+        flags: third / 64,
+        count: count,
+    }
+}
+
+// An octet at the walk's place.
+fn read_octet(p: &[u8], w: Walk) -> Octet
+    ensures { λ r. ⌜ r ≡ asOctet (octetField (now (p .entry)) (ofWalk w)) ⌝ }
+{
+    let x = octets::octet(p, w.at as usize);
+    let end = w.octets(p, 1);
+    Octet {
+        walk: end,
+        value: x,
+    }
+}
+
+// A number of two octets at the walk's place.
+fn read_word(p: &[u8], w: Walk) -> Word
+    ensures { λ r. ⌜ r ≡ asWord (wideField 2 (now (p .entry)) (ofWalk w)) ⌝ }
+{
+    let x = octets::be16(p, w.at as usize);
+    let end = w.octets(p, 2);
+    Word {
+        walk: end,
+        value: x,
+    }
+}
+
+// Binding version (7) and SDU type (8).
+fn read_sdu(p: &[u8], w: Walk) -> Octet
+    ensures { λ r. ⌜ r ≡ asOctet (sduField (now (p .entry)) (ofWalk w)) ⌝ }
+{
+    let a = read_octet(p, w);
+    let aw = a.walk;
+    let first = a.value;
+    let end = aw.check(first < 32, 7).check(first % 32 < 22, 8);
+    Octet {
+        walk: end,
+        value: first % 32,
+    }
+}
+
+// SDU type, area, service, operation, area version.
+fn read_names(p: &[u8], w: Walk) -> Names
+    ensures { λ r. ⌜ r ≡ namesOf (now (p .entry)) (ofWalk w) ⌝ }
+{
+    let a = read_sdu(p, w);
+    let aw = a.walk;
+    let b = read_word(p, aw);
+    let bw = b.walk;
+    let c = read_word(p, bw);
+    let cw = c.walk;
+    let d = read_word(p, cw);
+    let dw = d.walk;
+    let e = read_octet(p, dw);
+    let ew = e.walk;
+    Names {
+        walk: ew,
+        sdu: a.value,
+        area: b.value,
+        service: c.value,
+        operation: d.value,
+        version: e.value,
+    }
+}
+
+// Error, QoS level, session (9), secondary APID, qualifier.
+fn read_routing(p: &[u8], w: Walk) -> Routing
+    ensures { λ r. ⌜ r ≡ routingOf (now (p .entry)) (ofWalk w) ⌝ }
+{
+    let a = read_octet(p, w);
+    let aw = a.walk;
+    let high = a.value;
+    let b = read_octet(p, aw.check(high / 8 % 4 < 3, 9));
+    let bw = b.walk;
+    let c = read_word(p, bw);
+    let cw = c.walk;
+    let apid = SecondaryApid((high % 8) as u16 * 256 + b.value as u16);
+    Routing {
+        walk: cw,
+        error: high / 128,
+        qos: high / 32 % 4,
+        session: high / 8 % 4,
+        apid: apid,
+        qualifier: c.value,
+    }
+}
+
+fn flags_of(f: u8) -> Present
+    ensures { λ r. ⌜ r ≡ flagsOf f ⌝ }
+{
+    Present {
+        source: f / 128 % 2 == 1,
+        destination: f / 64 % 2 == 1,
+        priority: f / 32 % 2 == 1,
+        timestamp: f / 16 % 2 == 1,
+        zone: f / 8 % 2 == 1,
+        session: f / 4 % 2 == 1,
+        domain: f / 2 % 2 == 1,
+        authentication: f % 2 == 1,
+    }
+}
+
+// The whole fixed part.
+fn read_fixed(p: &[u8], w: Walk) -> FixedStep
+    ensures { λ r. ⌜ r ≡ fixedStep (now (p .entry)) (ofWalk w) ⌝ }
+{
+    let n = read_names(p, w);
+    let nw = n.walk;
+    let r = read_routing(p, nw);
+    let rw = r.walk;
+    let transaction = octets::be64(p, rw.at as usize);
+    let t = rw.octets(p, 8);
+    let has = flags_of(octets::octet(p, t.at as usize));
+    let end = t.octets(p, 1);
+    let apid = r.apid;
+    let fixed = Fixed {
+        sdu: n.sdu,
+        area: n.area,
+        service: n.service,
+        operation: n.operation,
+        version: n.version,
+        error: r.error,
+        qos: r.qos,
+        session: r.session,
+        apid: apid,
+        qualifier: r.qualifier,
+        transaction: transaction,
+    };
+    FixedStep {
+        walk: end,
+        fixed: fixed,
+        has: has,
+    }
+}
+
+// An octet if it is there, else 0.
+fn octet_if(there: bool, p: &[u8], w: Walk) -> Octet
+    ensures { λ r. ⌜ r ≡ asOctet (opt there 0 (octetField (now (p .entry))) (ofWalk w)) ⌝ }
+{
+    if there {
+        return read_octet(p, w);
+    }
+    Octet { walk: w, value: 0 }
+}
+
+// A segment counter if it is there, else 0.
+fn counter_if(there: bool, p: &[u8], w: Walk) -> Counter
+    ensures { λ r. ⌜ r ≡ asCounter (opt there 0 (wideField 4 (now (p .entry))) (ofWalk w)) ⌝ }
+{
+    if there {
+        let v = w.octets(p, 4);
+        let x = SegmentCounter(octets::be32(p, w.at as usize));
+        return Counter { walk: v, value: x };
+    }
+    let x = SegmentCounter(0);
+    Counter { walk: w, value: x }
+}
+
+// Whether the sequence flags aren't 11.
+fn segmented(p: &[u8]) -> bool
+    ensures { λ r. ⌜ r ≡ segmentedOf (now (p .entry)) ⌝ }
+{
+    octets::octet(p, 2) / 64 != 3
+}
+
+// Source id, destination id, segment counter, priority.
+fn read_ids(s: Settings, has: Present, p: &[u8], w: Walk) -> IdsStep
+    ensures { λ r. ⌜ r ≡ asIds (idsOf s has (now (p .entry)) (ofWalk w)) ⌝ }
+{
+    let a = octet_if(has.source, p, w);
+    let aw = a.walk;
+    let b = octet_if(has.destination, p, aw);
+    let bw = b.walk;
+    let c = counter_if(segmented(p), p, bw);
+    let cw = c.walk;
+    let d = fields::number_if(has.priority, s, p, cw);
+    let dw = d.walk;
+    let counter = c.value;
+    let ids = Ids {
+        source: a.value,
+        destination: b.value,
+        counter: counter,
+        priority: d.value,
+    };
+    IdsStep { walk: dw, ids: ids }
+}
+
+// Timestamp, network zone, session name, domain, authentication id.
+fn read_texts(s: Settings, has: Present, p: &[u8], w: Walk) -> TextsStep
+    ensures { λ r. ⌜ r ≡ asTexts (textsOf s has (now (p .entry)) (ofWalk w)) ⌝ }
+{
+    let a = fields::block_if(has.timestamp, s.t, p, w);
+    let aw = a.walk;
+    let b = fields::text_if(has.zone, s, p, aw);
+    let bw = b.walk;
+    let c = fields::text_if(has.session, s, p, bw);
+    let cw = c.walk;
+    let d = fields::domain_if(has.domain, s, p, cw);
+    let dw = d.walk;
+    let e = fields::blob_if(has.authentication, s, p, dw);
+    let ew = e.walk;
+    let timestamp = a.place;
+    let zone = b.place;
+    let session = c.place;
+    let parts = d.parts;
+    let authentication = e.place;
+    let texts = Texts {
+        timestamp: timestamp,
+        zone: zone,
+        session: session,
+        count: d.count,
+        parts: parts,
+        authentication: authentication,
+    };
+    TextsStep {
+        walk: ew,
+        texts: texts,
+    }
+}
+
+// 14: a segment has a body.
+fn body_walk(p: &[u8], w: Walk) -> Walk
+    ensures { λ r. ⌜ r ≡ asWalk (bodyTest (now (p .entry)) (ofWalk w)) ⌝ }
+{
+    if segmented(p) {
+        return w.check((w.at as usize) < p.len(), 14);
+    }
+    w
+}
+
+// What a refusal answers: its number, and zeros.
+fn refused_header(refusal: Refusal) -> Header
+    ensures { λ r. ⌜ r ≡ refusedHeader refusal ⌝ }
+{
+    let none = Place { at: 0, length: 0 };
+    let apid = Apid(0);
+    let count = SequenceCount(0);
+    let second = SecondaryApid(0);
+    let counter = SegmentCounter(0);
+    let primary = Primary {
+        kind: 0,
+        apid: apid,
+        flags: 0,
+        count: count,
+    };
+    let fixed = Fixed {
+        sdu: 0,
+        area: 0,
+        service: 0,
+        operation: 0,
+        version: 0,
+        error: 0,
+        qos: 0,
+        session: 0,
+        apid: second,
+        qualifier: 0,
+        transaction: 0,
+    };
+    let has = Present {
+        source: false,
+        destination: false,
+        priority: false,
+        timestamp: false,
+        zone: false,
+        session: false,
+        domain: false,
+        authentication: false,
+    };
+    let ids = Ids {
+        source: 0,
+        destination: 0,
+        counter: counter,
+        priority: 0,
+    };
+    let parts = [none; 16];
+    let texts = Texts {
+        timestamp: none,
+        zone: none,
+        session: none,
+        count: 0,
+        parts: parts,
+        authentication: none,
+    };
+    Header {
+        refusal: refusal,
+        primary: primary,
+        fixed: fixed,
+        has: has,
+        ids: ids,
+        texts: texts,
+        h: 0,
+        body: none,
+    }
+}
+
+// What is left of a number, 0 where it is the smaller one.
+fn less(a: usize, b: usize) -> usize
+    ensures { λ r. ⌜ r ≡ a - b ⌝ }
+{
+    if b <= a {
+        return a - b;
+    }
+    0
+}
+
+// The octets of a segment counter in the header.
+fn counter_size(p: &[u8]) -> usize
+    ensures { λ r. ⌜ r ≡ counterSize (now (p .entry)) ⌝ }
+{
+    if segmented(p) {
+        return 4;
+    }
+    0
+}
+
+// The packet's header, or the number of its refusal and zeros.
+pub fn read(s: Settings, p: &[u8]) -> Header
+    ensures answer { λ r. ⌜ r ≡ readPacket s (now (p .entry)) ⌝ }
+    ensures octets { λ r. ⌜ Octets (now (p .entry)) ⌝ }
+{
+    let start = primary_walk(p, walk::begin(s));
+    let f = read_fixed(p, start);
+    let has = f.has;
+    let fw = f.walk;
+    let i = read_ids(s, has, p, fw);
+    let iw = i.walk;
+    let t = read_texts(s, has, p, iw);
+    let tw = t.walk;
+    let w = body_walk(p, tw);
+    let refusal = w.refusal;
+    if refusal.number != 0 {
+        return refused_header(refusal);
+    }
+    let end = w.at as usize;
+    let primary = read_primary(p);
+    let fixed = f.fixed;
+    let ids = i.ids;
+    let texts = t.texts;
+    let h = less(less(end, 6), counter_size(p));
+    let body = Place {
+        at: end,
+        length: less(p.len(), end),
+    };
+    Header {
+        refusal: refusal,
+        primary: primary,
+        fixed: fixed,
+        has: has,
+        ids: ids,
+        texts: texts,
+        h: h,
+        body: body,
+    }
+}
