@@ -1,11 +1,17 @@
--- How the code's structs stand for the definitions' records: the same fields.
+-- How the code's structs stand for the definitions' records: the same fields. And the pieces in which a field is written: laid one
+-- after another they are its octets.
 -- Assumes nothing: these are definitions.
+use mathlib.Core.List.{List, [], _∷_, _++_}
+use Prim.Native.Nat.{ℕ}
+use lib.ListN.{length, take, drop}
+use Rattle.walk.specs.declared.Settings.{Settings}
 use Rattle.walk.specs.Walk.{Step}
 use Rattle.walk.specs.Inner.{asWalk, ofWalk}
 use Rattle.fields.specs.declared.Place.{Place}
 use Rattle.fields.specs.declared.Text.{Text}
 use Rattle.fields.specs.declared.Domain.{Domain}
 use Rattle.fields.specs.Fields.{Parts}
+use Rattle.fields.specs.Form.{numberOctets, split}
 
 abbrev pub asText : Step Place → Text
 asText t = record { walk = asWalk (t .walk); place = t .value }
@@ -18,3 +24,19 @@ asDomain d = record { walk = asWalk (d .walk); count = d .value .count; parts = 
 
 abbrev pub ofDomain : Domain → Step Parts
 ofDomain d = record { walk = ofWalk (d .walk); value = record { count = d .count; places = d .parts } }
+
+unfoldable pub blobPieces : Settings → List ℕ → List (List ℕ)
+blobPieces s x = numberOctets s (length x) ∷ x ∷ []
+
+unfoldable pub textPieces : Settings → List ℕ → List (List ℕ)
+textPieces s x = blobPieces s x
+
+unfoldable pub partPieces : Settings → List ℕ → List (List ℕ)
+partPieces s x = (1 ∷ []) ∷ textPieces s x
+
+unfoldable pub partsPieces : Settings → List (List ℕ) → List (List ℕ)
+partsPieces s [] = []
+partsPieces s (t ∷ ts) = partPieces s t ++ partsPieces s ts
+
+unfoldable pub domainPieces : Settings → List (List ℕ) → List (List ℕ)
+domainPieces s ts = numberOctets s (length ts) ∷ partsPieces s ts

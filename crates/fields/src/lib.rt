@@ -1,16 +1,21 @@
-// The optional fields that have a length, as steps of a reading: texts, the authentication id, the domain.
+// The optional fields that have a length, read and written: texts, the authentication id, the domain.
 //
 //   text, authentication id:  length (Varint) | octets
 //   domain:                   count (Varint)  | 1 | length | octets | 1 | length | octets ..
 //
-// Each step takes any slice and any walk, and answers the walk behind the field and where its content stands. `read_text` and
-// `read_blob` are two names for what is the same today: text is taken as octets of any value.
+// A step of reading takes any slice and any walk, and answers the walk behind the field and where its content stands. A writing
+// takes any buffer and any place: piece by piece, each whole or not at all, and answers the place behind. `text` and `blob` are two
+// names for what is the same today: text is taken as octets of any value.
 ghost use mathlib.Core.Path.{_≡_};
 ghost use Prim.Native.Nat.{_<_, _≤_};
+ghost use mathlib.Core.List.{[], _∷_};
+ghost use Rattle.octets.specs.Laying.{laid, Lays};
 ghost use Rattle.walk.specs.Inner.{ofWalk, asNumber};
 ghost use Rattle.walk.specs.Walk.{number};
 ghost use Rattle.fields.specs.Fields.{nowhere, opt, block, blob, text, part, noParts, partAt, partsTo, domain};
-ghost use Rattle.fields.specs.Inner.{asText, asDomain, ofDomain};
+ghost use Rattle.fields.specs.Form.{numberOctets, split};
+ghost use Rattle.fields.specs.Inner.{asText, asDomain, ofDomain, blobPieces, textPieces, partPieces, partsPieces, domainPieces};
+use varint::Wrote;
 use walk::Number;
 use walk::Settings;
 use walk::Walk;
@@ -189,4 +194,60 @@ pub fn domain_if(there: bool, s: Settings, p: &[u8], w: Walk) -> Domain
         return read_domain(s, p, w);
     }
     no_parts(w, 0)
+}
+
+// ---- writing: each field at a place of a lent buffer, and the place behind it
+
+pub fn put_number(s: Settings, out: &mut [u8], at: usize, n: u64) -> usize
+    ensures { λ r. ⌜ Lays (laid (now (out .entry)) at) (numberOctets s n ∷ []) (now (out .exit)) r ⌝ }
+{
+    match varint::put(out, at, n) {
+        Wrote::Done(next) => next,
+        Wrote::Full => at,
+    }
+}
+
+pub fn put_blob(s: Settings, out: &mut [u8], at: usize, x: &[u8]) -> usize
+    ensures { λ r. ⌜ Lays (laid (now (out .entry)) at) (blobPieces s (now (x .entry))) (now (out .exit)) r ⌝ }
+{
+    let start = put_number(s, out, at, x.len() as u64);
+    octets::lay(out, start, x)
+}
+
+pub fn put_text(s: Settings, out: &mut [u8], at: usize, x: &[u8]) -> usize
+    ensures { λ r. ⌜ Lays (laid (now (out .entry)) at) (textPieces s (now (x .entry))) (now (out .exit)) r ⌝ }
+{
+    put_blob(s, out, at, x)
+}
+
+// A domain part: an octet of 1 and a text.
+fn put_part(s: Settings, out: &mut [u8], at: usize, x: &[u8]) -> usize
+    ensures { λ r. ⌜ Lays (laid (now (out .entry)) at) (partPieces s (now (x .entry))) (now (out .exit)) r ⌝ }
+{
+    let start = octets::lay_number(out, at, 1, 1);
+    put_text(s, out, start, x)
+}
+
+// The parts of a text, each as long as its length says, as far as the text goes.
+fn put_parts(s: Settings, out: &mut [u8], at: usize, x: &[u8], lengths: &[u64]) -> usize
+    ensures { λ r. ⌜ Lays (laid (now (out .entry)) at) (partsPieces s (split (now (lengths .entry)) (now (x .entry)))) (now (out .exit)) r ⌝ }
+{
+    let mut next = at;
+    let mut from: usize = 0;
+    let mut k: usize = 0;
+    while k < lengths.len() {
+        let end = octets::within(x.len(), from, lengths[k] as usize);
+        next = put_part(s, out, next, &x[from..end]);
+        from = end;
+        k += 1;
+    }
+    next
+}
+
+// A count and as many parts.
+pub fn put_domain(s: Settings, out: &mut [u8], at: usize, x: &[u8], lengths: &[u64]) -> usize
+    ensures { λ r. ⌜ Lays (laid (now (out .entry)) at) (domainPieces s (split (now (lengths .entry)) (now (x .entry)))) (now (out .exit)) r ⌝ }
+{
+    let start = put_number(s, out, at, lengths.len() as u64);
+    put_parts(s, out, start, x, lengths)
 }

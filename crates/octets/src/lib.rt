@@ -8,7 +8,9 @@ ghost use Prim.Native.Nat.{_+_, _≤_};
 ghost use lib.ListN.{set};
 ghost use lib.Seq.{sets};
 ghost use Rattle.octets.specs.Octets.{pick, octetAt, number as numberOf, wide, alike, blank, roomOf};
-ghost use lib.Dec.{eqb};
+ghost use Rattle.octets.specs.Laying.{laid, Lays};
+ghost use mathlib.Core.List.{[], _∷_};
+ghost use lib.Dec.{eqb, leb};
 ghost use mathlib.Core.Bool.{false};
 
 // The octet at a place, 0 past the end.
@@ -181,4 +183,46 @@ pub fn copy(out: &mut [u8], at: usize, from: &[u8])
         out[at + i] = from[i];
         i += 1;
     }
+}
+
+// The place behind n octets, or the place itself where they do not fit.
+fn behind(len: usize, at: usize, n: usize) -> usize
+    ensures { λ r. ⌜ r ≡ pick (leb (at + n) len) (at + n) at ⌝ }
+{
+    if len < at {
+        return at;
+    }
+    if len - at < n {
+        return at;
+    }
+    at + n
+}
+
+// A slice at a place, whole or not at all; the place behind it.
+pub fn lay(out: &mut [u8], at: usize, from: &[u8]) -> usize
+    ensures { λ r. ⌜ Lays (laid (now (out .entry)) at) (now (from .entry) ∷ []) (now (out .exit)) r ⌝ }
+{
+    let end = behind(out.len(), at, from.len());
+    if at < end {
+        copy(out, at, from);
+    }
+    end
+}
+
+// The n octets of a number at a place, whole or not at all; the place behind them.
+pub fn lay_number(out: &mut [u8], at: usize, n: usize, v: u64) -> usize
+    ensures { λ r. ⌜ Lays (laid (now (out .entry)) at) (wide n v ∷ []) (now (out .exit)) r ⌝ }
+{
+    let end = behind(out.len(), at, n);
+    if at < end {
+        put_number(out, at, n, v);
+    }
+    end
+}
+
+// The place n octets on, or the end where it comes first; no place before the first.
+pub fn within(len: usize, at: usize, n: usize) -> usize
+    ensures { λ r. ⌜ r ≡ at + roomOf len at n ⌝ }
+{
+    at + room(len, at, n)
 }

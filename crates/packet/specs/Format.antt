@@ -7,10 +7,10 @@ use mathlib.Core.Bool.{Bool, true, false, not}
 use lib.ListN.{length}
 use lib.Dec.{eqb}
 use Rattle.octets.specs.Octets.{pick, Octets, wide}
-use Rattle.varint.specs.Varint.{write}
 use Rattle.walk.specs.declared.Settings.{Settings}
 use Rattle.walk.specs.Walk.{timestampLeast, timestampMost}
 use Rattle.fields.specs.Fields.{partsMost}
+use Rattle.fields.specs.Form.{numberOctets, blobOctets, textOctets, domainOctets}
 
 -- what all packets of a message share. Absent fields are 0 or empty
 pub record Head : Type 0 where
@@ -89,30 +89,6 @@ fixedOctets h =
     ++ (wide 2 (h .qualifier)
     ++ (wide 8 (h .transaction)
     ++ wide 1 (presence h))))))))
-
--- an unsigned number under the settings: a Varint
-unfoldable pub numberOctets : Settings → ℕ → List ℕ
-numberOctets s n = write n
-
--- a length and as many octets
-unfoldable pub blobOctets : Settings → List ℕ → List ℕ
-blobOctets s x = numberOctets s (length x) ++ x
-
--- a text: the same today
-unfoldable pub textOctets : Settings → List ℕ → List ℕ
-textOctets s x = blobOctets s x
-
--- a domain part: a presence octet of 1 and a text
-unfoldable pub partOctets : Settings → List ℕ → List ℕ
-partOctets s x = (1 ∷ []) ++ textOctets s x
-
-unfoldable pub joined : {A : Type 0} → (A → List ℕ) → List A → List ℕ
-joined W [] = []
-joined W (t ∷ ts) = W t ++ joined W ts
-
--- a count of parts, and the parts
-unfoldable pub domainOctets : Settings → List (List ℕ) → List ℕ
-domainOctets s ts = numberOctets s (length ts) ++ joined (partOctets s) ts
 
 -- the optional fields before the segment counter: source id 8 bits, destination id 8
 unfoldable pub frontOctets : Head → List ℕ

@@ -29,6 +29,10 @@ noRefusal = record { number = 0 }
 abbrev pub refusal : ℕ → Refusal
 refusal k = record { number = k }
 
+-- the refusal k unless the test holds; one that is there stays
+unfoldable pub unless : Bool → ℕ → Refusal → Refusal
+unless ok k r = pick (eqb (r .number) 0) (pick ok r (refusal k)) r
+
 -- a reading that goes on at a place
 abbrev pub goes : ℕ → Reading
 goes at = record { at = at; refusal = noRefusal }

@@ -8,7 +8,7 @@ ghost use Prim.Native.Nat.{min};
 ghost use lib.Dec.{leb};
 ghost use Rattle.octets.specs.Octets.{pick};
 ghost use lib.ListN.{length};
-ghost use Rattle.walk.specs.Walk.{goes as goesAt, refused as refusedBy, octets as octetsOf, octetsIf, check as checkOf, number, begun, headerEnd};
+ghost use Rattle.walk.specs.Walk.{goes as goesAt, refused as refusedBy, octets as octetsOf, octetsIf, check as checkOf, number, begun, unless as unlessOf, headerEnd};
 ghost use Rattle.walk.specs.Inner.{asWalk, ofWalk, asNumber};
 use varint::Found;
 
@@ -39,6 +39,19 @@ pub struct Walk {
 pub struct Number {
     pub walk: Walk,
     pub value: u32,
+}
+
+// The refusal k unless the test holds; one that is there stays.
+pub fn unless(r: Refusal, ok: bool, k: u8) -> Refusal
+    ensures { λ q. ⌜ q ≡ unlessOf ok k r ⌝ }
+{
+    if r.number != 0 {
+        return r;
+    }
+    if ok {
+        return r;
+    }
+    Refusal { number: k }
 }
 
 pub fn goes(at: u16) -> Walk

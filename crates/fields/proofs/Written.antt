@@ -1,0 +1,150 @@
+-- The writing of fields, on plain values: a number whole or not at all, and the invariant of the loop that writes a domain's parts.
+-- Assumes nothing.
+use Prim.Native.Nat.{ℕ, suc, _+_, _-_, _≤_, _<_, min}
+use mathlib.Core.Path.{_≡_, refl, ap, ap₂, sym, _∙_}
+use mathlib.Core.Logic.{⊎-elim}
+use mathlib.Core.List.{List, [], _∷_, _++_, append-assoc, append-nil}
+use native.Mathlib.Numerals.{add-one}
+use native.Mathlib.Omega.{arith}
+use lib.ListN.{length, getD, take, drop, length-drop, drop-of-length-le}
+use lib.Seq.{drop-cons, take-all, drop-drop, sets}
+use lib.Dec.{leb}
+use borrow.Author.Tests.{leb-true, leb-false, le-leb, lt-leb}
+use Rattle.octets.specs.Octets.{roomOf}
+use Rattle.octets.specs.Laying.{Laid, laid, lay, layAll, Lays}
+use Rattle.octets.proofs.Lists.{bool, below-or}
+use Rattle.octets.proofs.Laying.{lays-both, lays-none, lay-fits, lay-not}
+use Rattle.varint.specs.declared.Wrote.{Wrote}
+use Rattle.varint.specs.declared.Wrote.the-variants.{Done, Full}
+use Rattle.varint.specs.Varint.{write, written}
+use Rattle.varint.specs.Answer.{putOf}
+use Rattle.walk.specs.declared.Settings.{Settings}
+use Rattle.fields.specs.Form.{numberOctets, split}
+use Rattle.fields.specs.Inner.{partPieces, partsPieces}
+
+-- ---- a number
+
+module _ (s : Settings) (l k : List ℕ) (at n : ℕ) {r : Wrote} (e : r ≡ putOf l at n) (f : k ≡ written l at n) where
+  fits-done : at + length (write n) ≤ length l → (r ≡ Done (at + length (write n))) × (k ≡ sets l at (write n))
+  unfolding putOf written
+  fits-done h =
+      let t = le-leb (at + length (write n)) (length l) h in
+      (e ∙ rw (t, putOf), f ∙ rw (t, written))
+
+  not-full : length l < at + length (write n) → (r ≡ Full) × (k ≡ l)
+  unfolding putOf written
+  not-full h =
+      let t = lt-leb (at + length (write n)) (length l) h in
+      (e ∙ rw (t, putOf), f ∙ rw (t, written))
+
+  pub number-done : {next : ℕ} → r ≡ Done next → Lays (laid l at) (numberOctets s n ∷ []) k next
+  unfolding numberOctets layAll
+  number-done {next} d =
+      ⊎-elim
+      (λ h. let g = not-full h in let z : _≡_ {A = ℕ} 0 1 = cc in absurd (omega arith))
+      (λ h.
+      let g = fits-done h in
+      let y : next ≡ at + length (write n) = cc in
+      let m = lay-fits (write n) (laid l at) h in
+      record { place = y ∙ ap (λ (x : Laid). x .at) (sym m); octets = g .1 ∙ ap (λ (x : Laid). x .list) (sym m) })
+      (below-or (length l) (at + length (write n)))
+
+  pub number-full : r ≡ Full → Lays (laid l at) (numberOctets s n ∷ []) k at
+  unfolding numberOctets layAll
+  number-full d =
+      ⊎-elim
+      (λ h.
+      let g = not-full h in
+      let m = lay-not (write n) (laid l at) h in
+      record { place = ap (λ (x : Laid). x .at) (sym m); octets = g .1 ∙ ap (λ (x : Laid). x .list) (sym m) })
+      (λ h. let g = fits-done h in let z : _≡_ {A = ℕ} 0 1 = cc in absurd (omega arith))
+      (below-or (length l) (at + length (write n)))
+
+-- ---- the parts of a domain
+
+-- the next part, as far as the text goes
+next-part : (x : List ℕ) (from n : ℕ) → from ≤ length x → take (from + roomOf (length x) from n - from) (drop from x) ≡ take n (drop from x)
+next-part x from n h = ⊎-elim short long (below-or (length x - from) n)
+  where
+    short : length x - from < n → take (from + roomOf (length x) from n - from) (drop from x) ≡ take n (drop from x)
+    short k =
+        let a : length (drop from x) ≤ from + roomOf (length x) from n - from = omega (arith, length-drop from x) in
+        let b : length (drop from x) ≤ n = omega (arith, length-drop from x) in
+        take-all (from + roomOf (length x) from n - from) (drop from x) a ∙ sym (take-all n (drop from x) b)
+
+    long : n ≤ length x - from → take (from + roomOf (length x) from n - from) (drop from x) ≡ take n (drop from x)
+    long k = let a : from + roomOf (length x) from n - from ≡ n = omega arith in ap (λ (j : ℕ). take j (drop from x)) a
+
+rest-part : (x : List ℕ) (from n : ℕ) → from ≤ length x → drop (from + roomOf (length x) from n) x ≡ drop n (drop from x)
+rest-part x from n h = ⊎-elim short long (below-or (length x - from) n) ∙ sym (drop-drop n from x)
+  where
+    short : length x - from < n → drop (from + roomOf (length x) from n) x ≡ drop (from + n) x
+    short k =
+        let a : length x ≤ from + roomOf (length x) from n = omega arith in
+        let b : length x ≤ from + n = omega arith in
+        drop-of-length-le x a ∙ sym (drop-of-length-le x b)
+
+    long : n ≤ length x - from → drop (from + roomOf (length x) from n) x ≡ drop (from + n) x
+    long k = let a : roomOf (length x) from n ≡ n = omega arith in ap (λ (j : ℕ). drop (from + j) x) a
+
+-- k parts are written, up to `from` of the text: what is done and what is left are all the pieces
+pub record Parting (s : Settings) (l : List ℕ) (at : ℕ) (x ns : List ℕ) (m : List ℕ) (next from k : ℕ) : Type 0 where
+  pub inside : from ≤ length x
+  pub most : k ≤ length ns
+  pub long : length m ≡ length l
+  pub done : List (List ℕ)
+  pub lays : Lays (laid l at) done m next
+  pub all : partsPieces s (split ns x) ≡ done ++ partsPieces s (split (drop k ns) (drop from x))
+
+pub parting-first : (s : Settings) (l : List ℕ) (at : ℕ) (x ns : List ℕ) → Parting s l at x ns l at 0 0
+parting-first s l at x ns =
+    record { inside = omega arith; most = omega arith; long = refl; done = []; lays = lays-none l at; all = refl }
+
+module _ {s : Settings} {l : List ℕ} {at : ℕ} {x ns m : List ℕ} {next from k : ℕ} (p : Parting s l at x ns m next from k) where
+  pub parting-inside : (n : ℕ) → from + roomOf (length x) from n ≤ length x
+  parting-inside n = omega (arith, p .inside)
+
+  one-more :
+      k < length ns →
+      split (drop k ns) (drop from x)
+      ≡ take (getD ns k 0) (drop from x) ∷ split (drop (suc k) ns) (drop (getD ns k 0) (drop from x))
+  unfolding split
+  one-more h = ap (λ (y : List ℕ). split y (drop from x)) (drop-cons ns k 0 h)
+
+  pub parting-turn :
+      k < length ns → {m′ : List ℕ} {next′ end : ℕ} → end ≡ from + roomOf (length x) from (getD ns k 0) → length m′ ≡ length m →
+      Lays (laid m next) (partPieces s (take (end - from) (drop from x))) m′ next′ → Parting s l at x ns m′ next′ end (k + 1)
+  unfolding partsPieces
+  parting-turn h {m′} {next′} {end} e ln b =
+      let t : take (end - from) (drop from x) ≡ take (getD ns k 0) (drop from x) =
+      ap (λ (j : ℕ). take (j - from) (drop from x)) e ∙ next-part x from (getD ns k 0) (p .inside) in
+      let d : drop end x ≡ drop (getD ns k 0) (drop from x) =
+      ap (λ (j : ℕ). drop j x) e ∙ rest-part x from (getD ns k 0) (p .inside) in
+      let sp : split (drop k ns) (drop from x) ≡ take (end - from) (drop from x) ∷ split (drop (suc k) ns) (drop end x) =
+      one-more h ∙ ap₂ (λ (a b : List ℕ). a ∷ split (drop (suc k) ns) b) (sym t) (sym d) in
+      record {
+        inside = omega (arith, e, parting-inside (getD ns k 0));
+        most = omega arith;
+        long = ln ∙ p .long;
+        done = p .done ++ partPieces s (take (end - from) (drop from x));
+        lays = lays-both (p .lays) b;
+        all =
+            rw (add-one k)
+            (p .all
+            ∙ ap (λ (y : List (List ℕ)). p .done ++ partsPieces s y) sp
+            ∙ sym
+            (append-assoc (p .done) (partPieces s (take (end - from) (drop from x)))
+            (partsPieces s (split (drop (suc k) ns) (drop end x)))));
+      }
+
+  pub parting-done : length ns ≤ k → Lays (laid l at) (partsPieces s (split ns x)) m next
+  unfolding split partsPieces
+  parting-done h =
+      let e : partsPieces s (split ns x) ≡ p .done =
+      p .all ∙ ap (λ (y : List ℕ). p .done ++ partsPieces s (split y (drop from x))) (drop-of-length-le ns h) ∙ append-nil (p .done) in
+      rw e (p .lays)
+
+pub length-split : (ns x : List ℕ) → length (split ns x) ≡ length ns
+unfolding split
+length-split [] x = refl
+length-split (n ∷ ns) x = ap suc (length-split ns (drop n x))

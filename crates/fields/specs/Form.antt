@@ -1,0 +1,36 @@
+-- The format of the fields that have a length: the octets of their values. No reader and no walk in it.
+-- Assumes nothing: these are definitions.
+use Prim.Native.Nat.{ℕ}
+use mathlib.Core.List.{List, [], _∷_, _++_}
+use lib.ListN.{length, take, drop}
+use Rattle.varint.specs.Varint.{write}
+use Rattle.walk.specs.declared.Settings.{Settings}
+
+-- an unsigned number under the settings: a Varint
+unfoldable pub numberOctets : Settings → ℕ → List ℕ
+numberOctets s n = write n
+
+-- a length and as many octets
+unfoldable pub blobOctets : Settings → List ℕ → List ℕ
+blobOctets s x = numberOctets s (length x) ++ x
+
+-- a text: the same today
+unfoldable pub textOctets : Settings → List ℕ → List ℕ
+textOctets s x = blobOctets s x
+
+-- a domain part: a presence octet of 1 and a text
+unfoldable pub partOctets : Settings → List ℕ → List ℕ
+partOctets s x = (1 ∷ []) ++ textOctets s x
+
+unfoldable pub joined : {A : Type 0} → (A → List ℕ) → List A → List ℕ
+joined W [] = []
+joined W (t ∷ ts) = W t ++ joined W ts
+
+-- a count of parts, and the parts
+unfoldable pub domainOctets : Settings → List (List ℕ) → List ℕ
+domainOctets s ts = numberOctets s (length ts) ++ joined (partOctets s) ts
+
+-- a lent text cut into parts of the lengths given
+unfoldable pub split : List ℕ → List ℕ → List (List ℕ)
+split [] x = []
+split (n ∷ ns) x = take n x ∷ split ns (drop n x)

@@ -1,0 +1,50 @@
+-- `vectors::turns` is safe and ends. The loop's invariant says nothing; its measure is the turns that are left.
+-- Assumes nothing.
+use borrow.Author.Needs.{needs}
+use Rattle.vectors.proofs.turns.Statement.{statement}
+use Rattle.vectors.proofs.turns.Tie as tie
+
+abbrev Inv-loop : tie.InvT-loop
+Inv-loop buf₀ numbers₀ strings₀ ends₀ store₀ out₀ answer₀ text₀ left₀ t₀ buf numbers strings ends store out answer text left t = Unit {0}
+
+abbrev μ-loop : tie.MeasureT-loop
+μ-loop buf₀ numbers₀ strings₀ ends₀ store₀ out₀ answer₀ text₀ left₀ t₀ buf numbers strings ends store out answer text left t = left
+
+start-requires : tie.Need-start-requires Inv-loop μ-loop
+start-requires c κs = search needs
+
+loop-holds : tie.Need-loop-holds Inv-loop μ-loop
+loop-holds c = search needs
+
+turn-requires : tie.Need-turn-requires Inv-loop μ-loop
+turn-requires c κs = search needs
+
+sub-left : tie.Need-sub-left Inv-loop μ-loop
+sub-left c = search needs
+
+loop-less : tie.Need-loop-less Inv-loop μ-loop
+loop-less c = search needs
+
+loop-again : tie.Need-loop-again Inv-loop μ-loop
+loop-again c = search needs
+
+flush-requires : tie.Need-flush-requires Inv-loop μ-loop
+flush-requires c κs = search needs
+
+returns : tie.Need-returns Inv-loop μ-loop
+returns c = search needs
+
+pub turns-spec : {M : Type 1} → statement M
+turns-spec =
+    tie.close
+    (tie.spec
+    Inv-loop
+    μ-loop
+    start-requires
+    loop-holds
+    turn-requires
+    sub-left
+    loop-less
+    loop-again
+    flush-requires
+    returns)

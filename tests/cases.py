@@ -1,0 +1,218 @@
+#!/usr/bin/env python3
+"""cases.py VECTORS_DIR [--read]: writes what the crate vectors reads, and what it must print, beside its src/.
+
+VECTORS_DIR holds a file CALL.jsonl for each call, a case a line: the call's inputs and, under `expect`, its answer and the lent
+buffers after it. The lines that must be printed are made from `expect`, never from the program. The form of a case and of a line
+is told in crates/vectors/src/main.rt; a call is added by a row of CALLS.
+
+With --read the cases of reading are among them, and those of damaged(): figure 14 with each octet changed, cut and lengthened,
+whose answers tests/model.py gives.
+"""
+
+import itertools
+import json
+import pathlib
+import sys
+
+sys.dont_write_bytecode = True
+import model
+
+CRATE = pathlib.Path(__file__).resolve().parent.parent / "crates" / "vectors"
+READABLE, STORE, OUTPUT = 0, 1, 2
+RUN = 16
+MOST_IN_PIECE = 65535
+FIGURE_14 = bytes.fromhex("18 05 C0 00 00 14 00 00 01 00 02 00 03 01 20 06 00 07 00 00 00 00 00 00 00 09 00")
+
+
+# Octets in the cases' files: hex, `xx*n` for a run, commas between.
+
+
+def octets(text):
+    """The octets that a text of the cases' files stands for."""
+    made = bytearray()
+    for piece in text.split(","):
+        value, star, times = piece.partition("*")
+        made += bytes.fromhex(value) * (int(times) if star else 1)
+    return bytes(made)
+
+
+def pieces(s):
+    """The octets cut into runs of RUN or more equal ones, and what stands between: (is it a run, its octets)."""
+    between = bytearray()
+    for _, group in itertools.groupby(s):
+        equal = bytes(group)
+        if len(equal) < RUN:
+            between += equal
+            continue
+        if between:
+            yield False, bytes(between)
+            between = bytearray()
+        yield True, equal
+    if between:
+        yield False, bytes(between)
+
+
+# What the program reads.
+
+
+def big(value, width):
+    return value.to_bytes(width, "big")
+
+
+def string(kind, s):
+    """A string of a case: its kind, its length and its pieces."""
+    made = bytearray([kind]) + big(len(s), 4)
+    for is_run, octets_of in pieces(s):
+        for at in range(0, len(octets_of), MOST_IN_PIECE):
+            part = octets_of[at : at + MOST_IN_PIECE]
+            made += big(len(part), 2) + (bytes([1, part[0]]) if is_run else bytes([0]) + part)
+    return bytes(made)
+
+
+def case(tag, numbers, strings):
+    """A whole case."""
+    made = bytes([tag]) + big(len(numbers), 2) + b"".join(big(n, 8) for n in numbers)
+    return made + bytes([len(strings)]) + b"".join(string(kind, s) for kind, s in strings)
+
+
+# What the program prints.
+
+
+def shown(s):
+    """The octets of a lent buffer as the program prints them."""
+    if not s:
+        return "-"
+    return ",".join(f"{p[0]:02x}*{len(p)}" if is_run else p.hex() for is_run, p in pieces(s))
+
+
+def line(numbers, *buffers):
+    """A line: the answer's numbers, then the lent buffers."""
+    return " ".join([*map(str, numbers), *map(shown, buffers)]) + "\n"
+
+
+# The calls: how the inputs of a case are given to the program, and which line it must print.
+
+
+def part(p):
+    return [p["place"], p["length"]]
+
+
+READ_NUMBERS = (
+    "refusal packet_type apid flags seq sdu area service operation area_version error qos session secondary_apid qualifier "
+    "transaction has_source has_destination has_priority has_timestamp has_zone has_session_name has_domain has_authentication "
+    "source destination counter priority timestamp"
+).split()
+
+
+def read_line(a):
+    """The line of an answer of reading."""
+    numbers = [a[name] for name in READ_NUMBERS] + part(a["zone"]) + part(a["session_name"]) + [a["domain_count"]]
+    for p in a["domain"]:
+        numbers += part(p)
+    return line(numbers + part(a["authentication"]) + [a["H"]] + part(a["body"]))
+
+
+def answer(row):
+    return row["expect"]["answer"]
+
+
+class Call:
+    """A call: its tag, the numbers and the strings of a case, and the line that it must print."""
+
+    def __init__(self, tag, numbers, strings, expected):
+        self.tag, self.numbers, self.strings, self.expected = tag, numbers, strings, expected
+
+    def encoded(self, row):
+        return case(self.tag, self.numbers(row), self.strings(row))
+
+
+CALLS = {
+    "varint_read": Call(
+        1,
+        lambda row: [row["at"]],
+        lambda row: [(READABLE, octets(row["octets"]))],
+        lambda row: line([answer(row)["refusal"], answer(row)["value"], answer(row)["next"]]),
+    ),
+    "varint_write": Call(
+        2,
+        lambda row: [row["value"]],
+        lambda row: [(OUTPUT, octets(row["out"]))],
+        lambda row: line([answer(row)["refusal"], answer(row)["length"]], octets(row["expect"]["out"])),
+    ),
+}
+
+READING = {
+    "read": Call(
+        3,
+        lambda row: [row["T"]],
+        lambda row: [(READABLE, octets(row["packet"]))],
+        lambda row: read_line(answer(row)),
+    ),
+}
+
+
+# Cases beyond those of the files.
+
+
+def damaged():
+    """Figure 14 with each octet changed to every other value, cut by one octet, and lengthened by one."""
+    for at, octet in enumerate(FIGURE_14):
+        for other in range(256):
+            if other != octet:
+                yield FIGURE_14[:at] + bytes([other]) + FIGURE_14[at + 1 :]
+    yield FIGURE_14[:-1]
+    yield FIGURE_14 + b"\x00"
+    yield FIGURE_14 + b"\xff"
+
+
+def read_rows():
+    """The damaged packets as cases of reading, T 8, with the model's answers."""
+    for packet in damaged():
+        yield {"call": "read", "T": 8, "packet": packet.hex(), "expect": {"answer": model.read(8, packet)}}
+
+
+def rows(vectors, call):
+    """The cases of a call in its file."""
+    with open(vectors / f"{call}.jsonl", encoding="ascii") as file:
+        for text in file:
+            yield json.loads(text)
+
+
+def check_model(row):
+    """The model agrees with the file."""
+    got = model.read(row["T"], octets(row["packet"]))
+    if got != answer(row):
+        sys.exit(f"cases.py: tests/model.py disagrees on T {row['T']}, packet {row['packet']}")
+
+
+def main(arguments):
+    with_reading = "--read" in arguments
+    directories = [a for a in arguments if a != "--read"]
+    if len(directories) != 1:
+        sys.exit(__doc__)
+    vectors = pathlib.Path(directories[0])
+    stdin, stdout, counts = bytearray(), [], {}
+
+    def add(call, name, row):
+        stdin.extend(call.encoded(row))
+        stdout.append(call.expected(row))
+        counts[name] = counts.get(name, 0) + 1
+
+    for name, call in CALLS.items():
+        for row in rows(vectors, name):
+            add(call, name, row)
+    for row in rows(vectors, "read"):
+        check_model(row)
+        if with_reading:
+            add(READING["read"], "read", row)
+    if with_reading:
+        for row in read_rows():
+            add(READING["read"], "figure 14 damaged", row)
+    (CRATE / "stdin").write_bytes(stdin)
+    (CRATE / "stdout").write_text("".join(stdout), encoding="ascii")
+    for name, count in counts.items():
+        print(f"{name}: {count}")
+
+
+if __name__ == "__main__":
+    main(sys.argv[1:])

@@ -1,0 +1,176 @@
+"""A model of reading a packet, written word by word from document 01 and independent of the code: see read()."""
+
+PRESENCE = ("source", "destination", "priority", "timestamp", "zone", "session_name", "domain", "authentication")
+HEADER_LIMIT = 256
+PARTS = 16
+
+
+class Refused(Exception):
+    """Reading stops here, with this number."""
+
+
+class Data:
+    """The data field, walked from left to right. Places count from the packet's first octet."""
+
+    def __init__(self, packet):
+        self.packet = packet
+        self.at = 6
+
+    def content(self, length):
+        """The whole content of a known length: tested for 12, then for 6. Its place."""
+        place = self.at
+        if place + length - 6 > HEADER_LIMIT:
+            raise Refused(12)
+        if place + length > len(self.packet):
+            raise Refused(6)
+        self.at = place + length
+        return place
+
+    def octet(self):
+        """An octet, a content of length 1."""
+        return self.packet[self.content(1)]
+
+    def number(self, octets):
+        """A number, most significant octet first. Each octet is tested singly."""
+        value = 0
+        for _ in range(octets):
+            value = value * 256 + self.octet()
+        return value
+
+    def varint(self):
+        """An unsigned Varint of at most 32 bits: seven bits an octet, lowest group first. 10 as soon as an octet shows it."""
+        value = 0
+        for k in range(5):
+            octet = self.octet()
+            if k == 4 and octet > 15:
+                raise Refused(10)
+            if k > 0 and octet == 0:
+                raise Refused(10)
+            value += (octet % 128) * 128**k
+            if octet < 128:
+                return value
+        raise AssertionError("a fifth octet of at most 15 is the last one")
+
+    def text(self):
+        """A Varint length and that many octets."""
+        length = self.varint()
+        return {"place": self.content(length), "length": length}
+
+
+def nowhere():
+    return {"place": 0, "length": 0}
+
+
+def nothing():
+    """Every answer zero."""
+    answer = dict.fromkeys(
+        ("refusal", "packet_type", "apid", "flags", "seq", "sdu", "area", "service", "operation", "area_version", "error",
+         "qos", "session", "secondary_apid", "qualifier", "transaction"), 0)
+    answer.update({"has_" + name: 0 for name in PRESENCE})
+    answer.update(dict.fromkeys(("source", "destination", "counter", "priority", "timestamp"), 0))
+    answer.update(zone=nowhere(), session_name=nowhere(), domain_count=0, domain=[nowhere() for _ in range(PARTS)],
+                  authentication=nowhere(), H=0, body=nowhere())
+    return answer
+
+
+def primary(a, packet):
+    """The primary header: refusals 1 to 5."""
+    if len(packet) < 6:
+        raise Refused(1)
+    first = packet[0] * 256 + packet[1]
+    second = packet[2] * 256 + packet[3]
+    length_field = packet[4] * 256 + packet[5]
+    if first >> 13 != 0:
+        raise Refused(2)
+    if first >> 11 & 1 == 0:
+        raise Refused(3)
+    if first & 0x7FF == 2047:
+        raise Refused(4)
+    if len(packet) != length_field + 7:
+        raise Refused(5)
+    a["packet_type"] = first >> 12 & 1
+    a["apid"] = first & 0x7FF
+    a["flags"] = second >> 14
+    a["seq"] = second & 0x3FFF
+
+
+def fixed(a, data):
+    """The fixed part of the secondary header, an octet at a time: 7, 8 and 9 as soon as their octet is there."""
+    octet = data.octet()
+    if octet >> 5 != 0:
+        raise Refused(7)
+    a["sdu"] = octet & 31
+    if a["sdu"] > 21:
+        raise Refused(8)
+    a["area"] = data.number(2)
+    a["service"] = data.number(2)
+    a["operation"] = data.number(2)
+    a["area_version"] = data.number(1)
+    octet = data.octet()
+    a["error"] = octet >> 7
+    a["qos"] = octet >> 5 & 3
+    a["session"] = octet >> 3 & 3
+    if a["session"] == 3:
+        raise Refused(9)
+    a["secondary_apid"] = (octet & 7) * 256 + data.octet()
+    a["qualifier"] = data.number(2)
+    a["transaction"] = data.number(8)
+    octet = data.octet()
+    for k, name in enumerate(PRESENCE):
+        a["has_" + name] = octet >> (7 - k) & 1
+
+
+def domain(a, data):
+    """The count, which may be too many as soon as it is known, then the parts: a presence octet of 1 and a text each."""
+    count = data.varint()
+    if count > PARTS:
+        raise Refused(13)
+    a["domain_count"] = count
+    for k in range(count):
+        if data.octet() != 1:
+            raise Refused(11)
+        a["domain"][k] = data.text()
+
+
+def optional(a, data, t):
+    """The fields that are there only if present, in their order."""
+    if a["has_source"]:
+        a["source"] = data.number(1)
+    if a["has_destination"]:
+        a["destination"] = data.number(1)
+    if a["flags"] != 3:
+        a["counter"] = data.number(4)
+    if a["has_priority"]:
+        a["priority"] = data.varint()
+    if a["has_timestamp"]:
+        a["timestamp"] = data.content(t)
+    if a["has_zone"]:
+        a["zone"] = data.text()
+    if a["has_session_name"]:
+        a["session_name"] = data.text()
+    if a["has_domain"]:
+        domain(a, data)
+    if a["has_authentication"]:
+        a["authentication"] = data.text()
+
+
+def read(t, packet):
+    """The whole answer of reading these octets with a timestamp of t octets. A refusal is its number and zeros."""
+    a = nothing()
+    try:
+        if not 1 <= t <= 16:
+            raise Refused(15)
+        primary(a, packet)
+        data = Data(packet)
+        fixed(a, data)
+        optional(a, data, t)
+        body = len(packet) - data.at
+        if a["flags"] != 3 and body == 0:
+            raise Refused(14)
+    except Refused as refused:
+        a = nothing()
+        a["refusal"] = refused.args[0]
+        return a
+    a["H"] = data.at - 6 - (4 if a["flags"] != 3 else 0)
+    a["body"] = {"place": data.at, "length": body}
+    return a
