@@ -63,7 +63,7 @@ module _ (s : Settings) (l k : List ℕ) (at n : ℕ) {r : Wrote} (e : r ≡ put
 -- ---- the parts of a domain
 
 -- the next part, as far as the text goes
-next-part : (x : List ℕ) (from n : ℕ) → from ≤ length x → take (from + roomOf (length x) from n - from) (drop from x) ≡ take n (drop from x)
+pub next-part : (x : List ℕ) (from n : ℕ) → from ≤ length x → take (from + roomOf (length x) from n - from) (drop from x) ≡ take n (drop from x)
 next-part x from n h = ⊎-elim short long (below-or (length x - from) n)
   where
     short : length x - from < n → take (from + roomOf (length x) from n - from) (drop from x) ≡ take n (drop from x)
@@ -75,7 +75,7 @@ next-part x from n h = ⊎-elim short long (below-or (length x - from) n)
     long : n ≤ length x - from → take (from + roomOf (length x) from n - from) (drop from x) ≡ take n (drop from x)
     long k = let a : from + roomOf (length x) from n - from ≡ n = omega arith in ap (λ (j : ℕ). take j (drop from x)) a
 
-rest-part : (x : List ℕ) (from n : ℕ) → from ≤ length x → drop (from + roomOf (length x) from n) x ≡ drop n (drop from x)
+pub rest-part : (x : List ℕ) (from n : ℕ) → from ≤ length x → drop (from + roomOf (length x) from n) x ≡ drop n (drop from x)
 rest-part x from n h = ⊎-elim short long (below-or (length x - from) n) ∙ sym (drop-drop n from x)
   where
     short : length x - from < n → drop (from + roomOf (length x) from n) x ≡ drop (from + n) x
@@ -86,6 +86,18 @@ rest-part x from n h = ⊎-elim short long (below-or (length x - from) n) ∙ sy
 
     long : n ≤ length x - from → drop (from + roomOf (length x) from n) x ≡ drop (from + n) x
     long k = let a : roomOf (length x) from n ≡ n = omega arith in ap (λ (j : ℕ). drop (from + j) x) a
+
+-- the next part and the rest
+pub split-more :
+    (x ns : List ℕ) (from k : ℕ) → from ≤ length x → k < length ns → {end : ℕ} → end ≡ from + roomOf (length x) from (getD ns k 0) →
+    split (drop k ns) (drop from x) ≡ take (end - from) (drop from x) ∷ split (drop (suc k) ns) (drop end x)
+unfolding split
+split-more x ns from k i h {end} e =
+    let t : take (end - from) (drop from x) ≡ take (getD ns k 0) (drop from x) =
+    ap (λ (j : ℕ). take (j - from) (drop from x)) e ∙ next-part x from (getD ns k 0) i in
+    let d : drop end x ≡ drop (getD ns k 0) (drop from x) = ap (λ (j : ℕ). drop j x) e ∙ rest-part x from (getD ns k 0) i in
+    ap (λ (y : List ℕ). split y (drop from x)) (drop-cons ns k 0 h)
+    ∙ ap₂ (λ (a b : List ℕ). a ∷ split (drop (suc k) ns) b) (sym t) (sym d)
 
 -- k parts are written, up to `from` of the text: what is done and what is left are all the pieces
 pub record Parting (s : Settings) (l : List ℕ) (at : ℕ) (x ns : List ℕ) (m : List ℕ) (next from k : ℕ) : Type 0 where
@@ -104,24 +116,12 @@ module _ {s : Settings} {l : List ℕ} {at : ℕ} {x ns m : List ℕ} {next from
   pub parting-inside : (n : ℕ) → from + roomOf (length x) from n ≤ length x
   parting-inside n = omega (arith, p .inside)
 
-  one-more :
-      k < length ns →
-      split (drop k ns) (drop from x)
-      ≡ take (getD ns k 0) (drop from x) ∷ split (drop (suc k) ns) (drop (getD ns k 0) (drop from x))
-  unfolding split
-  one-more h = ap (λ (y : List ℕ). split y (drop from x)) (drop-cons ns k 0 h)
-
   pub parting-turn :
       k < length ns → {m′ : List ℕ} {next′ end : ℕ} → end ≡ from + roomOf (length x) from (getD ns k 0) → length m′ ≡ length m →
       Lays (laid m next) (partPieces s (take (end - from) (drop from x))) m′ next′ → Parting s l at x ns m′ next′ end (k + 1)
   unfolding partsPieces
   parting-turn h {m′} {next′} {end} e ln b =
-      let t : take (end - from) (drop from x) ≡ take (getD ns k 0) (drop from x) =
-      ap (λ (j : ℕ). take (j - from) (drop from x)) e ∙ next-part x from (getD ns k 0) (p .inside) in
-      let d : drop end x ≡ drop (getD ns k 0) (drop from x) =
-      ap (λ (j : ℕ). drop j x) e ∙ rest-part x from (getD ns k 0) (p .inside) in
-      let sp : split (drop k ns) (drop from x) ≡ take (end - from) (drop from x) ∷ split (drop (suc k) ns) (drop end x) =
-      one-more h ∙ ap₂ (λ (a b : List ℕ). a ∷ split (drop (suc k) ns) b) (sym t) (sym d) in
+      let sp = split-more x ns from k (p .inside) h e in
       record {
         inside = omega (arith, e, parting-inside (getD ns k 0));
         most = omega arith;

@@ -2,7 +2,7 @@
 -- after another they are its octets.
 -- Assumes nothing: these are definitions.
 use mathlib.Core.List.{List, [], _∷_, _++_}
-use Prim.Native.Nat.{ℕ}
+use Prim.Native.Nat.{ℕ, min}
 use lib.ListN.{length, take, drop}
 use Rattle.walk.specs.declared.Settings.{Settings}
 use Rattle.walk.specs.Walk.{Step}
@@ -40,3 +40,10 @@ partsPieces s (t ∷ ts) = partPieces s t ++ partsPieces s ts
 
 unfoldable pub domainPieces : Settings → List (List ℕ) → List (List ℕ)
 domainPieces s ts = numberOctets s (length ts) ∷ partsPieces s ts
+
+-- a size as the code tells it: one above the largest packet stands for all that are larger
+abbrev pub sizeMost : ℕ
+sizeMost = 65543
+
+abbrev pub capped : ℕ → ℕ
+capped n = min sizeMost n

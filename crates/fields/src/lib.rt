@@ -7,14 +7,15 @@
 // takes any buffer and any place: piece by piece, each whole or not at all, and answers the place behind. `text` and `blob` are two
 // names for what is the same today: text is taken as octets of any value.
 ghost use mathlib.Core.Path.{_≡_};
-ghost use Prim.Native.Nat.{_<_, _≤_};
+ghost use Prim.Native.Nat.{_+_, _<_, _≤_};
+ghost use lib.ListN.{length};
 ghost use mathlib.Core.List.{[], _∷_};
 ghost use Rattle.octets.specs.Laying.{laid, Lays};
 ghost use Rattle.walk.specs.Inner.{ofWalk, asNumber};
 ghost use Rattle.walk.specs.Walk.{number};
 ghost use Rattle.fields.specs.Fields.{nowhere, opt, block, blob, text, part, noParts, partAt, partsTo, domain};
-ghost use Rattle.fields.specs.Form.{numberOctets, split};
-ghost use Rattle.fields.specs.Inner.{asText, asDomain, ofDomain, blobPieces, textPieces, partPieces, partsPieces, domainPieces};
+ghost use Rattle.fields.specs.Form.{numberOctets, domainOctets, split};
+ghost use Rattle.fields.specs.Inner.{asText, asDomain, ofDomain, blobPieces, textPieces, partPieces, partsPieces, domainPieces, capped};
 use varint::Wrote;
 use walk::Number;
 use walk::Settings;
@@ -22,6 +23,9 @@ use walk::Walk;
 
 // The most parts that a domain holds.
 pub const PARTS: usize = 16;
+
+// The size that stands for all above the largest packet.
+pub const SIZE_MOST: usize = 65543;
 
 // Where a content stands and how long it is; zeros where there is none.
 pub struct Place {
@@ -250,4 +254,46 @@ pub fn put_domain(s: Settings, out: &mut [u8], at: usize, x: &[u8], lengths: &[u
 {
     let start = put_number(s, out, at, lengths.len() as u64);
     put_parts(s, out, start, x, lengths)
+}
+
+// ---- sizes: exact up to 65,542, and 65,543 for all that are larger, so that no sum overflows
+
+pub fn plus(a: usize, b: usize) -> usize
+    ensures { λ r. ⌜ r ≡ capped (a + b) ⌝ }
+{
+    if SIZE_MOST <= a {
+        return SIZE_MOST;
+    }
+    if SIZE_MOST - a <= b {
+        return SIZE_MOST;
+    }
+    a + b
+}
+
+pub fn number_size(s: Settings, n: u64) -> usize
+    ensures { λ r. ⌜ r ≡ length (numberOctets s n) ⌝ }
+{
+    varint::size(n)
+}
+
+// The size of a text of n octets with its length.
+pub fn text_size(s: Settings, n: usize) -> usize
+    ensures { λ r. ⌜ r ≡ capped (length (numberOctets s n) + n) ⌝ }
+{
+    plus(number_size(s, n as u64), n)
+}
+
+pub fn domain_size(s: Settings, x: &[u8], lengths: &[u64]) -> usize
+    ensures { λ r. ⌜ r ≡ capped (length (domainOctets s (split (now (lengths .entry)) (now (x .entry))))) ⌝ }
+{
+    let mut size = plus(0, number_size(s, lengths.len() as u64));
+    let mut from: usize = 0;
+    let mut k: usize = 0;
+    while k < lengths.len() {
+        let end = octets::within(x.len(), from, lengths[k] as usize);
+        size = plus(size, plus(1, text_size(s, end - from)));
+        from = end;
+        k += 1;
+    }
+    size
 }

@@ -1,0 +1,16 @@
+-- `fields::number_size` meets its contract: a number is written as a Varint.
+-- Assumes nothing.
+use borrow.Author.Needs.{needs}
+use Rattle.fields.proofs.number_size.Statement.{statement}
+use Rattle.fields.proofs.number_size.Tie as tie
+use Rattle.fields.specs.Form.{numberOctets}
+
+size-requires : tie.Need-size-requires
+size-requires c κs = search needs
+
+returns : tie.Need-returns
+unfolding numberOctets
+returns c = c .size .ensures
+
+pub number-size-spec : {M : Type 1} → statement M
+number-size-spec = tie.close (tie.spec size-requires returns)

@@ -1,0 +1,44 @@
+-- `write::middle_size` meets its contract.
+-- Assumes nothing.
+use borrow.Author.Needs.{needs}
+use Rattle.write.proofs.middle_size.Statement.{statement}
+use Rattle.write.proofs.middle_size.Tie as tie
+use Rattle.write.specs.Inner.{middleSize}
+
+number-size-requires : tie.Need-number-size-requires
+number-size-requires c κs = search needs
+
+size-if-requires : tie.Need-size-if-requires
+size-if-requires c κs = search needs
+
+size-if-requires-2 : tie.Need-size-if-requires-2
+size-if-requires-2 c κs = search needs
+
+text-size-requires : tie.Need-text-size-requires
+text-size-requires c κs = search needs
+
+size-if-requires-3 : tie.Need-size-if-requires-3
+size-if-requires-3 c κs = search needs
+
+plus-requires : tie.Need-plus-requires
+plus-requires c κs = search needs
+
+plus-requires-2 : tie.Need-plus-requires-2
+plus-requires-2 c κs = search needs
+
+returns : tie.Need-returns
+unfolding middleSize
+returns c = simp (c .plus2 .ensures, c .before .plus .ensures, c .before .before .size-if3 .ensures, c .before .before .before .text-size .ensures, c .before .before .before .before .size-if2 .ensures, c .before .before .before .before .before .size-if .ensures, c .before .before .before .before .before .before .number-size .ensures)
+
+pub middle-size-spec : {M : Type 1} → statement M
+middle-size-spec =
+    tie.close
+    (tie.spec
+    number-size-requires
+    size-if-requires
+    size-if-requires-2
+    text-size-requires
+    size-if-requires-3
+    plus-requires
+    plus-requires-2
+    returns)

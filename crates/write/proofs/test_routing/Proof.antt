@@ -1,0 +1,36 @@
+-- `write::test_routing` meets its contract: its tests are the definition's, in its order.
+-- Assumes nothing.
+use borrow.Author.Needs.{needs}
+use Rattle.write.proofs.test_routing.Statement.{statement}
+use Rattle.write.proofs.test_routing.Tie as tie
+use Rattle.write.specs.Given.{routingChecks, unlessAll}
+
+unless-requires : tie.Need-unless-requires
+unless-requires c κs = search needs
+
+unless-requires-2 : tie.Need-unless-requires-2
+unless-requires-2 c κs = search needs
+
+unless-requires-3 : tie.Need-unless-requires-3
+unless-requires-3 c κs = search needs
+
+unless-requires-4 : tie.Need-unless-requires-4
+unless-requires-4 c κs = search needs
+
+unless-requires-5 : tie.Need-unless-requires-5
+unless-requires-5 c κs = search needs
+
+returns : tie.Need-returns
+unfolding routingChecks unlessAll
+returns c = simp (c .unless5 .ensures, c .before .before .unless4 .ensures, c .before .before .before .before .unless3 .ensures, c .before .before .before .before .before .before .unless2 .ensures, c .before .before .before .before .before .before .before .before .unless .ensures)
+
+pub test-routing-spec : {M : Type 1} → statement M
+test-routing-spec =
+    tie.close
+    (tie.spec
+    unless-requires
+    unless-requires-2
+    unless-requires-3
+    unless-requires-4
+    unless-requires-5
+    returns)

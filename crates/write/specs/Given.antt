@@ -1,0 +1,144 @@
+-- The values to write as they are given, and which of them are refused by 22.
+-- Document 01, refusal 22: "a field to write above its width or range, APID 2047, a non-zero or non-empty value for an absent field
+-- (a cutting start isn't one), a present timestamp not of T octets, text too long, domain lengths that don't add up".
+-- Assumes nothing: these are definitions.
+use Prim.Native.Nat.{ℕ, _+_}
+use mathlib.Core.List.{List, [], _∷_, _++_}
+use mathlib.Core.Bool.{Bool, true, false}
+use lib.ListN.{length}
+use lib.Dec.{ltb, leb, eqb}
+use Rattle.octets.specs.Octets.{pick}
+use Rattle.walk.specs.declared.Settings.{Settings}
+use Rattle.walk.specs.declared.Refusal.{Refusal}
+use Rattle.walk.specs.Walk.{unless}
+use Rattle.fields.specs.Form.{split}
+use Rattle.packet.specs.Format.{Head, Values, segment, textMost}
+use Rattle.packet.specs.Numbers.{countMost}
+use Rattle.write.specs.declared.HeaderValues.{HeaderValues}
+use Rattle.write.specs.declared.PacketValues.{PacketValues}
+
+-- the lent texts: the domain is one text and the lengths of its parts
+pub record Lent : Type 0 where
+  pub timestamp : List ℕ
+  pub zone : List ℕ
+  pub name : List ℕ
+  pub domain : List ℕ
+  pub lengths : List ℕ
+  pub authentication : List ℕ
+
+abbrev pub lent : List ℕ → List ℕ → List ℕ → List ℕ → List ℕ → List ℕ → Lent
+lent timestamp zone name domain lengths authentication =
+    record { timestamp = timestamp; zone = zone; name = name; domain = domain; lengths = lengths; authentication = authentication }
+
+-- the format's values for those that are given
+unfoldable pub headOf : HeaderValues → Lent → Head
+headOf v t =
+    record {
+      kind = v .kind;
+      apid = v .apid .0;
+      sdu = v .sdu;
+      area = v .area;
+      service = v .service;
+      operation = v .operation;
+      version = v .version;
+      error = v .error;
+      qos = v .qos;
+      session = v .session;
+      second = v .second .0;
+      qualifier = v .qualifier;
+      transaction = v .transaction;
+      has-source = v .has .source;
+      has-destination = v .has .destination;
+      has-priority = v .has .priority;
+      has-timestamp = v .has .timestamp;
+      has-zone = v .has .zone;
+      has-name = v .has .session;
+      has-domain = v .has .domain;
+      has-authentication = v .has .authentication;
+      source = v .source;
+      destination = v .destination;
+      priority = v .priority;
+      timestamp = t .timestamp;
+      zone = t .zone;
+      name = t .name;
+      domain = split (t .lengths) (t .domain);
+      authentication = t .authentication;
+    }
+
+unfoldable pub packetOf : Head → PacketValues → List ℕ → Values
+packetOf h o body = record { head = h; flags = o .flags; count = o .count .0; counter = o .counter .0; body = body }
+
+-- ---- the checks behind 22
+
+-- a number at most so large if it is there, and 0 if it is not
+abbrev pub numberFits : Bool → ℕ → ℕ → Bool
+numberFits there x most = pick there (leb x most) (eqb x 0)
+
+-- a text of at most 65,535 octets if it is there, and none if it is not
+abbrev pub textFits : Bool → ℕ → Bool
+textFits there n = pick there (leb n textMost) (eqb n 0)
+
+-- just so many if it is there, and none if it is not
+abbrev pub exactFits : Bool → ℕ → ℕ → Bool
+exactFits there n want = pick there (eqb n want) (eqb n 0)
+
+unfoldable pub sum : List ℕ → ℕ
+sum [] = 0
+sum (x ∷ xs) = x + sum xs
+
+-- domain lengths add up to the text if it is there; and there are none if it is not
+abbrev pub lengthsFit : Bool → List ℕ → ℕ → Bool
+lengthsFit there ns n = pick there (eqb (sum ns) n) (eqb (length ns) 0)
+
+-- the largest of 8, 16 and 32 bits
+abbrev pub most8 : ℕ
+most8 = 255
+
+abbrev pub most16 : ℕ
+most16 = 65535
+
+abbrev pub most32 : ℕ
+most32 = 4294967295
+
+-- packet type, APID and SDU type to area version
+unfoldable pub nameChecks : HeaderValues → List Bool
+nameChecks v =
+    leb (v .kind) 1 ∷ ltb (v .apid .0) 2047 ∷ leb (v .sdu) 21 ∷ leb (v .area) most16 ∷ leb (v .service) most16 ∷ leb (v .operation) most16
+    ∷ leb (v .version) most8
+    ∷ []
+
+-- error to qualifier. A transaction id of 64 bits always fits
+unfoldable pub routingChecks : HeaderValues → List Bool
+routingChecks v =
+    leb (v .error) 1 ∷ leb (v .qos) 3 ∷ leb (v .session) 2 ∷ leb (v .second .0) 2047 ∷ leb (v .qualifier) most16 ∷ []
+
+-- source id, destination id, priority
+unfoldable pub idChecks : HeaderValues → List Bool
+idChecks v =
+    numberFits (v .has .source) (v .source) most8 ∷ numberFits (v .has .destination) (v .destination) most8
+    ∷ numberFits (v .has .priority) (v .priority) most32
+    ∷ []
+
+-- timestamp, zone, session name, domain, authentication id
+unfoldable pub textChecks : Settings → HeaderValues → Lent → List Bool
+textChecks s v t =
+    exactFits (v .has .timestamp) (length (t .timestamp)) (s .t) ∷ textFits (v .has .zone) (length (t .zone))
+    ∷ textFits (v .has .session) (length (t .name))
+    ∷ textFits (v .has .domain) (length (t .domain))
+    ∷ lengthsFit (v .has .domain) (t .lengths) (length (t .domain))
+    ∷ textFits (v .has .authentication) (length (t .authentication))
+    ∷ []
+
+-- the one list of a header's checks
+unfoldable pub headerChecks : Settings → HeaderValues → Lent → List Bool
+headerChecks s v t = nameChecks v ++ (routingChecks v ++ (idChecks v ++ textChecks s v t))
+
+-- and of a packet's own values: sequence flags, sequence count, and with flags 11 no counter
+unfoldable pub packetChecks : PacketValues → List Bool
+packetChecks o =
+    leb (o .flags) 3 ∷ leb (o .count .0) countMost ∷ numberFits (segment (o .flags)) (o .counter .0) most32 ∷ []
+
+-- the refusal k unless all of them hold
+unfoldable pub unlessAll : List Bool → ℕ → Refusal → Refusal
+unlessAll [] k r = r
+unlessAll (b ∷ bs) k r = unlessAll bs k (unless b k r)

@@ -1,0 +1,65 @@
+-- What writing one packet answers and writes, with its order of refusals.
+-- Document 01: "Writing one packet: 15, 22, 13, 23, 12, 14, 21."
+-- Assumes nothing: these are definitions.
+use Prim.Native.Nat.{ℕ}
+use mathlib.Core.List.{List, _++_}
+use mathlib.Core.Bool.{Bool, true}
+use lib.ListN.{length, drop}
+use lib.Dec.{leb, eqb}
+use Rattle.octets.specs.Octets.{pick}
+use Rattle.walk.specs.declared.Settings.{Settings}
+use Rattle.walk.specs.declared.Refusal.{Refusal}
+use Rattle.walk.specs.Walk.{noRefusal, unless, timestampLeast, timestampMost}
+use Rattle.fields.specs.Fields.{partsMost}
+use Rattle.packet.specs.Format.{Head, Values, segment, octetsOf, secondaryOctets, packetMost, headerMost}
+use Rattle.write.specs.declared.HeaderValues.{HeaderValues}
+use Rattle.write.specs.declared.PacketValues.{PacketValues}
+use Rattle.write.specs.declared.Written.{Written}
+use Rattle.write.specs.Given.{Lent, headOf, packetOf, headerChecks, packetChecks, unlessAll}
+
+-- 15: T outside its range
+unfoldable pub settingsTest : Settings → Refusal → Refusal
+settingsTest s r = unless (leb (s .t) timestampMost) 15 (unless (leb timestampLeast (s .t)) 15 r)
+
+-- 13: more than sixteen domain parts
+unfoldable pub partsTest : Lent → Refusal → Refusal
+partsTest t r = unless (leb (length (t .lengths)) partsMost) 13 r
+
+-- 14: a segmented packet with an empty body
+abbrev pub bodyFits : ℕ → ℕ → Bool
+bodyFits flags n = pick (segment flags) (leb 1 n) true
+
+-- the packet that is to be written
+abbrev pub givenPacket : HeaderValues → PacketValues → Lent → List ℕ → Values
+givenPacket v o t body = packetOf (headOf v t) o body
+
+-- 23 a packet above 65,542; 12 a secondary header past 256; 14; 21 an output too short
+unfoldable pub sizeTests : Settings → Values → ℕ → Refusal → Refusal
+sizeTests s v room r =
+    unless (leb (length (octetsOf s v)) room) 21
+    (unless (bodyFits (v .flags) (length (v .body))) 14
+    (unless (leb (length (secondaryOctets s v)) headerMost) 12 (unless (leb (length (octetsOf s v)) packetMost) 23 r)))
+
+unfoldable pub writeRefusal : Settings → HeaderValues → PacketValues → Lent → List ℕ → ℕ → Refusal
+writeRefusal s v o t body room =
+    sizeTests s (givenPacket v o t body) room
+    (partsTest t (unlessAll (packetChecks o) 22 (unlessAll (headerChecks s v t) 22 (settingsTest s noRefusal))))
+
+-- whether there is none
+abbrev pub fine : Refusal → Bool
+fine r = eqb (r .number) 0
+
+-- the octets written, or the refusal and 0
+unfoldable pub writeAnswer : Settings → HeaderValues → PacketValues → Lent → List ℕ → ℕ → Written
+writeAnswer s v o t body room =
+    record {
+      refusal = writeRefusal s v o t body room;
+      length = pick (fine (writeRefusal s v o t body room)) (length (octetsOf s (givenPacket v o t body))) 0;
+    }
+
+-- the output afterwards: the packet from the first octet on and the rest as it was; on refusal all as it was
+unfoldable pub writeOutput : Settings → HeaderValues → PacketValues → Lent → List ℕ → List ℕ → List ℕ
+writeOutput s v o t body out =
+    pick (fine (writeRefusal s v o t body (length out)))
+    (octetsOf s (givenPacket v o t body) ++ drop (length (octetsOf s (givenPacket v o t body))) out)
+    out

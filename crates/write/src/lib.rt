@@ -1,0 +1,341 @@
+// Writing one packet: the values to write, the tests behind each refusal, and the octets.
+//
+// `write` takes any settings, values, texts, body and output. It answers the octets written, from the output's first octet on, or
+// one refusal, and then the output is as it was. A number that document 01 limits is held in a type wide enough for a bad value,
+// which is 22 and never cut off. The domain is one lent text and the lengths of its parts.
+//
+// Every test is made on the values as they are given; sizes are told up to one above the largest packet, so nothing overflows.
+// The pieces of the packet are then laid one after another. `cut` uses the parts marked inner.
+ghost use mathlib.Core.Path.{_≡_};
+ghost use mathlib.Core.Bool.{Bool};
+ghost use mathlib.Core.List.{[], _∷_, _++_};
+ghost use Prim.Native.Nat.{_+_, _*_};
+ghost use lib.ListN.{length};
+ghost use lib.Dec.{eqb, leb};
+ghost use Rattle.octets.specs.Octets.{pick, wide};
+ghost use Rattle.octets.specs.Laying.{laid, Lays};
+ghost use Rattle.walk.specs.Walk.{unless};
+ghost use Rattle.fields.specs.Fields.{partsMost};
+ghost use Rattle.fields.specs.Form.{numberOctets};
+ghost use Rattle.fields.specs.Inner.{blobPieces, textPieces, domainPieces, capped};
+ghost use Rattle.packet.specs.Format.{segment, presence as presenceOf, headerOctets};
+ghost use Rattle.write.specs.Given.{Lent, lent, headOf, packetOf, numberFits, textFits, exactFits, lengthsFit, sum, nameChecks, routingChecks, idChecks, textChecks, headerChecks, packetChecks, unlessAll};
+ghost use Rattle.write.specs.Writing.{settingsTest, writeAnswer, writeOutput};
+ghost use Rattle.write.specs.Inner.{ifPieces, primaryPieces, namePieces, routingPieces, frontPieces, middlePieces, endPieces, secondaryPieces, packetPieces, middleSize, endSize};
+use packet::Apid;
+use packet::Present;
+use packet::SecondaryApid;
+use packet::SegmentCounter;
+use packet::SequenceCount;
+use walk::Refusal;
+use walk::Settings;
+
+pub const TEXT_MOST: usize = 65535;
+
+pub const HEADER_MOST: usize = 256;
+
+pub const PACKET_MOST: usize = 65542;
+
+const MOST_8: u64 = 255;
+
+const MOST_16: u32 = 65535;
+
+const MOST_32: u64 = 4294967295;
+
+// The values that all packets of a message share, but for its texts.
+pub struct HeaderValues {
+    pub kind: u8,
+    pub apid: Apid,
+    pub sdu: u8,
+    pub area: u32,
+    pub service: u32,
+    pub operation: u32,
+    pub version: u16,
+    pub error: u8,
+    pub qos: u8,
+    pub session: u8,
+    pub second: SecondaryApid,
+    pub qualifier: u32,
+    pub transaction: u64,
+    pub has: Present,
+    pub source: u16,
+    pub destination: u16,
+    pub priority: u64,
+}
+
+// The values of one packet: sequence flags, sequence count, segment counter.
+pub struct PacketValues {
+    pub flags: u8,
+    pub count: SequenceCount,
+    pub counter: SegmentCounter,
+}
+
+// What writing answers: a refusal and 0, or the octets written.
+pub struct Written {
+    pub refusal: Refusal,
+    pub length: usize,
+}
+
+// Numbers widened.
+fn wide8(x: u8) -> u64
+    ensures { λ r. ⌜ r ≡ x ⌝ }
+{
+    x as u64
+}
+
+fn wide16(x: u16) -> u64
+    ensures { λ r. ⌜ r ≡ x ⌝ }
+{
+    x as u64
+}
+
+fn wide32(x: u32) -> u64
+    ensures { λ r. ⌜ r ≡ x ⌝ }
+{
+    x as u64
+}
+
+// ---- the tests
+
+// 15: T.
+pub fn test_settings(s: Settings, r: Refusal) -> Refusal
+    ensures { λ q. ⌜ q ≡ settingsTest s r ⌝ }
+{
+    let a = walk::unless(r, walk::TIMESTAMP_LEAST <= s.t, 15);
+    walk::unless(a, s.t <= walk::TIMESTAMP_MOST, 15)
+}
+
+fn number_fits(there: bool, x: u64, most: u64) -> bool
+    ensures { λ r. ⌜ r ≡ numberFits there x most ⌝ }
+{
+    if there {
+        return x <= most;
+    }
+    x == 0
+}
+
+fn text_fits(there: bool, n: usize) -> bool
+    ensures { λ r. ⌜ r ≡ textFits there n ⌝ }
+{
+    if there {
+        return n <= TEXT_MOST;
+    }
+    n == 0
+}
+
+fn exact_fits(there: bool, n: usize, want: usize) -> bool
+    ensures { λ r. ⌜ r ≡ exactFits there n want ⌝ }
+{
+    if there {
+        return n == want;
+    }
+    n == 0
+}
+
+// Whether lengths add up to n.
+fn adds_up(lengths: &[u64], n: usize) -> bool
+    ensures { λ r. ⌜ r ≡ eqb (sum (now (lengths .entry))) n ⌝ }
+{
+    let mut left = n as u64;
+    let mut k: usize = 0;
+    while k < lengths.len() {
+        if left < lengths[k] {
+            return false;
+        }
+        left = left - lengths[k];
+        k += 1;
+    }
+    left == 0
+}
+
+fn lengths_fit(there: bool, lengths: &[u64], n: usize) -> bool
+    ensures { λ r. ⌜ r ≡ lengthsFit there (now (lengths .entry)) n ⌝ }
+{
+    if there {
+        return adds_up(lengths, n);
+    }
+    lengths.len() == 0
+}
+
+fn test_names(v: HeaderValues, r: Refusal) -> Refusal
+    ensures { λ q. ⌜ q ≡ unlessAll (nameChecks v) 22 r ⌝ }
+{
+    let apid = v.apid;
+    let a = walk::unless(r, v.kind <= 1, 22);
+    let b = walk::unless(a, apid.0 < 2047, 22);
+    let c = walk::unless(b, v.sdu <= 21, 22);
+    let d = walk::unless(c, v.area <= MOST_16, 22);
+    let e = walk::unless(d, v.service <= MOST_16, 22);
+    let f = walk::unless(e, v.operation <= MOST_16, 22);
+    walk::unless(f, v.version <= 255, 22)
+}
+
+fn test_routing(v: HeaderValues, r: Refusal) -> Refusal
+    ensures { λ q. ⌜ q ≡ unlessAll (routingChecks v) 22 r ⌝ }
+{
+    let second = v.second;
+    let a = walk::unless(r, v.error <= 1, 22);
+    let b = walk::unless(a, v.qos <= 3, 22);
+    let c = walk::unless(b, v.session <= 2, 22);
+    let d = walk::unless(c, second.0 <= 2047, 22);
+    walk::unless(d, v.qualifier <= MOST_16, 22)
+}
+
+fn test_ids(v: HeaderValues, r: Refusal) -> Refusal
+    ensures { λ q. ⌜ q ≡ unlessAll (idChecks v) 22 r ⌝ }
+{
+    let has = v.has;
+    let source = wide16(v.source);
+    let destination = wide16(v.destination);
+    let a = walk::unless(r, number_fits(has.source, source, MOST_8), 22);
+    let b = walk::unless(a, number_fits(has.destination, destination, MOST_8), 22);
+    walk::unless(b, number_fits(has.priority, v.priority, MOST_32), 22)
+}
+
+fn test_texts(
+    s: Settings,
+    v: HeaderValues,
+    timestamp: &[u8],
+    zone: &[u8],
+    name: &[u8],
+    domain: &[u8],
+    lengths: &[u64],
+    authentication: &[u8],
+    r: Refusal,
+) -> Refusal
+    ensures { λ q. ⌜ q ≡ unlessAll (textChecks s v (lent (now (timestamp .entry)) (now (zone .entry)) (now (name .entry)) (now (domain .entry)) (now (lengths .entry)) (now (authentication .entry)))) 22 r ⌝ }
+{
+    let has = v.has;
+    let a = walk::unless(r, exact_fits(has.timestamp, timestamp.len(), s.t), 22);
+    let b = walk::unless(a, text_fits(has.zone, zone.len()), 22);
+    let c = walk::unless(b, text_fits(has.session, name.len()), 22);
+    let d = walk::unless(c, text_fits(has.domain, domain.len()), 22);
+    let e = walk::unless(d, lengths_fit(has.domain, lengths, domain.len()), 22);
+    walk::unless(e, text_fits(has.authentication, authentication.len()), 22)
+}
+
+// 22, as far as a header's values go: the one list of its checks.
+pub fn test_header(
+    s: Settings,
+    v: HeaderValues,
+    timestamp: &[u8],
+    zone: &[u8],
+    name: &[u8],
+    domain: &[u8],
+    lengths: &[u64],
+    authentication: &[u8],
+    r: Refusal,
+) -> Refusal
+    ensures { λ q. ⌜ q ≡ unlessAll (headerChecks s v (lent (now (timestamp .entry)) (now (zone .entry)) (now (name .entry)) (now (domain .entry)) (now (lengths .entry)) (now (authentication .entry)))) 22 r ⌝ }
+{
+    let a = test_names(v, r);
+    let b = test_routing(v, a);
+    let c = test_ids(v, b);
+    test_texts(
+        s,
+        v,
+        timestamp,
+        zone,
+        name,
+        domain,
+        lengths,
+        authentication,
+        c,
+    )
+}
+
+// Whether the sequence flags aren't 11.
+fn segmented(flags: u8) -> bool
+    ensures { λ r. ⌜ r ≡ segment flags ⌝ }
+{
+    flags != 3
+}
+
+// 22, as far as a packet's own values go.
+fn test_packet(o: PacketValues, r: Refusal) -> Refusal
+    ensures { λ q. ⌜ q ≡ unlessAll (packetChecks o) 22 r ⌝ }
+{
+    let count = o.count;
+    let counter = o.counter;
+    let a = walk::unless(r, o.flags <= 3, 22);
+    let b = walk::unless(a, count.0 <= packet::COUNT_MOST, 22);
+    walk::unless(
+        b,
+        number_fits(segmented(o.flags), wide32(counter.0), MOST_32),
+        22,
+    )
+}
+
+// 13.
+pub fn test_parts(count: usize, r: Refusal) -> Refusal
+    ensures { λ q. ⌜ q ≡ unless (leb count partsMost) 13 r ⌝ }
+{
+    walk::unless(r, count <= fields::PARTS, 13)
+}
+
+// ---- sizes
+
+// A size if it is there, else 0.
+fn size_if(there: bool, n: usize) -> usize
+    ensures { λ r. ⌜ r ≡ pick there n 0 ⌝ }
+{
+    if there {
+        return n;
+    }
+    0
+}
+
+// The optional fields before the counter.
+fn front_size(has: Present) -> usize
+    ensures { λ r. ⌜ r ≡ pick (has .source) 1 0 + pick (has .destination) 1 0 ⌝ }
+{
+    size_if(has.source, 1) + size_if(has.destination, 1)
+}
+
+// Priority, timestamp, zone.
+fn middle_size(s: Settings, v: HeaderValues, timestamp: usize, zone: usize) -> usize
+    ensures { λ r. ⌜ r ≡ middleSize s v timestamp zone ⌝ }
+{
+    let has = v.has;
+    let a = size_if(has.priority, fields::number_size(s, v.priority));
+    let b = size_if(has.timestamp, timestamp);
+    let c = size_if(has.zone, fields::text_size(s, zone));
+    fields::plus(a, fields::plus(b, c))
+}
+
+// Session name, domain, authentication id.
+fn end_size(
+    s: Settings,
+    has: Present,
+    name: usize,
+    domain: &[u8],
+    lengths: &[u64],
+    authentication: usize,
+) -> usize
+    ensures { λ r. ⌜ r ≡ endSize s has name (now (domain .entry)) (now (lengths .entry)) authentication ⌝ }
+{
+    let a = size_if(has.session, fields::text_size(s, name));
+    let b = size_if(has.domain, fields::domain_size(s, domain, lengths));
+    let c = size_if(has.authentication, fields::text_size(s, authentication));
+    fields::plus(a, fields::plus(b, c))
+}
+
+// H, the octets of the secondary header without its counter, told up to the limit.
+pub fn header_size(
+    s: Settings,
+    v: HeaderValues,
+    timestamp: &[u8],
+    zone: &[u8],
+    name: &[u8],
+    domain: &[u8],
+    lengths: &[u64],
+    authentication: &[u8],
+) -> usize
+    ensures { λ r. ⌜ r ≡ capped (length (headerOctets s (headOf v (lent (now (timestamp .entry)) (now (zone .entry)) (now (name .entry)) (now (domain .entry)) (now (lengths .entry)) (now (authentication .entry)))))) ⌝ }
+{
+    let has = v.has;
+    let a = 21 + front_size(has);
+    let b = middle_size(s, v, timestamp.len(), zone.len());
+    let c = end_size(s, has, name.len(), domain, lengths, authentication.len());
+    fields::plus(a, fields::plus(b, c))
+}
