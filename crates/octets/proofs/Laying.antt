@@ -118,3 +118,7 @@ pub lays-all :
 lays-all {l} {k} {at} {r} {xs} a h =
     let e = lay-all xs (laid l at) h in
     (a .place ∙ ap (λ (y : Laid). y .at) e, a .octets ∙ ap (λ (y : Laid). y .list) e)
+
+-- one list, told in another way
+pub lays-as : {m : Laid} {x y l : List ℕ} {r : ℕ} → x ≡ y → Lays m (x ∷ []) l r → Lays m (y ∷ []) l r
+lays-as e a = rw (← e) a

@@ -1,6 +1,6 @@
 -- The pieces in which a packet is written: laid one after another they are its octets.
 -- Assumes nothing: these are definitions.
-use Prim.Native.Nat.{ℕ, _+_, _-_, _*_}
+use Prim.Native.Nat.{ℕ, _+_, _*_}
 use mathlib.Core.List.{List, [], _∷_, _++_}
 use mathlib.Core.Bool.{Bool}
 use lib.ListN.{length}
@@ -9,50 +9,61 @@ use Rattle.walk.specs.declared.Settings.{Settings}
 use Rattle.fields.specs.Form.{numberOctets, domainOctets, split}
 use Rattle.fields.specs.Inner.{blobPieces, textPieces, domainPieces, capped}
 use Rattle.packet.specs.declared.Present.{Present}
+use Rattle.packet.specs.Format.{segment, bit}
 use Rattle.write.specs.declared.HeaderValues.{HeaderValues}
-use Rattle.packet.specs.Format.{Head, Values, segment, identification, presence, dataOctets}
+use Rattle.write.specs.declared.PacketValues.{PacketValues}
+use Rattle.write.specs.Given.{Lent}
 
 -- pieces that are there only if the flag says so
 abbrev pub ifPieces : Bool → List (List ℕ) → List (List ℕ)
 ifPieces b xs = pick b xs []
 
-unfoldable pub primaryPieces : Head → ℕ → ℕ → ℕ → List (List ℕ)
-primaryPieces h flags count n = identification h ∷ wide 2 (flags * 16384 + count) ∷ wide 2 n ∷ []
+-- identification; sequence flags and count; length field
+unfoldable pub primaryPieces : HeaderValues → PacketValues → ℕ → List (List ℕ)
+primaryPieces v o n =
+    wide 2 (v .kind * 4096 + 2048 + v .apid .0) ∷ wide 2 (o .flags * 16384 + o .count .0) ∷ wide 2 n ∷ []
 
-unfoldable pub namePieces : Head → List (List ℕ)
-namePieces h = wide 1 (h .sdu) ∷ wide 2 (h .area) ∷ wide 2 (h .service) ∷ wide 2 (h .operation) ∷ wide 1 (h .version) ∷ []
+unfoldable pub namePieces : HeaderValues → List (List ℕ)
+namePieces v = wide 1 (v .sdu) ∷ wide 2 (v .area) ∷ wide 2 (v .service) ∷ wide 2 (v .operation) ∷ wide 1 (v .version) ∷ []
 
-unfoldable pub routingPieces : Head → List (List ℕ)
-routingPieces h =
-    wide 2 (h .error * 32768 + h .qos * 8192 + h .session * 2048 + h .second) ∷ wide 2 (h .qualifier) ∷ wide 8 (h .transaction)
-    ∷ wide 1 (presence h)
+-- the presence octet
+unfoldable pub presentOctet : Present → ℕ
+presentOctet has =
+    128 * bit (has .source) + 64 * bit (has .destination) + 32 * bit (has .priority) + 16 * bit (has .timestamp) + 8 * bit (has .zone)
+    + 4 * bit (has .session)
+    + 2 * bit (has .domain)
+    + bit (has .authentication)
+
+unfoldable pub routingPieces : HeaderValues → List (List ℕ)
+routingPieces v =
+    wide 2 (v .error * 32768 + v .qos * 8192 + v .session * 2048 + v .second .0) ∷ wide 2 (v .qualifier) ∷ wide 8 (v .transaction)
+    ∷ wide 1 (presentOctet (v .has))
     ∷ []
 
-unfoldable pub frontPieces : Head → ℕ → ℕ → List (List ℕ)
-frontPieces h flags counter =
-    ifPieces (h .has-source) (wide 1 (h .source) ∷ [])
-    ++ (ifPieces (h .has-destination) (wide 1 (h .destination) ∷ []) ++ ifPieces (segment flags) (wide 4 counter ∷ []))
+unfoldable pub frontPieces : HeaderValues → PacketValues → List (List ℕ)
+frontPieces v o =
+    ifPieces (v .has .source) (wide 1 (v .source) ∷ [])
+    ++ (ifPieces (v .has .destination) (wide 1 (v .destination) ∷ []) ++ ifPieces (segment (o .flags)) (wide 4 (o .counter .0) ∷ []))
 
-unfoldable pub middlePieces : Settings → Head → List (List ℕ)
-middlePieces s h =
-    ifPieces (h .has-priority) (numberOctets s (h .priority) ∷ [])
-    ++ (ifPieces (h .has-timestamp) (h .timestamp ∷ []) ++ ifPieces (h .has-zone) (textPieces s (h .zone)))
+unfoldable pub middlePieces : Settings → HeaderValues → List ℕ → List ℕ → List (List ℕ)
+middlePieces s v timestamp zone =
+    ifPieces (v .has .priority) (numberOctets s (v .priority) ∷ [])
+    ++ (ifPieces (v .has .timestamp) (timestamp ∷ []) ++ ifPieces (v .has .zone) (textPieces s zone))
 
-unfoldable pub endPieces : Settings → Head → List (List ℕ)
-endPieces s h =
-    ifPieces (h .has-name) (textPieces s (h .name))
-    ++ (ifPieces (h .has-domain) (domainPieces s (h .domain)) ++ ifPieces (h .has-authentication) (blobPieces s (h .authentication)))
+unfoldable pub endPieces : Settings → Present → List ℕ → List ℕ → List ℕ → List ℕ → List (List ℕ)
+endPieces s has name domain lengths authentication =
+    ifPieces (has .session) (textPieces s name)
+    ++ (ifPieces (has .domain) (domainPieces s (split lengths domain)) ++ ifPieces (has .authentication) (blobPieces s authentication))
 
--- the secondary header
-unfoldable pub secondaryPieces : Settings → Head → ℕ → ℕ → List (List ℕ)
-secondaryPieces s h flags counter =
-    namePieces h ++ (routingPieces h ++ (frontPieces h flags counter ++ (middlePieces s h ++ endPieces s h)))
-
--- the packet
-unfoldable pub packetPieces : Settings → Values → List (List ℕ)
-packetPieces s v =
-    primaryPieces (v .head) (v .flags) (v .count) (length (dataOctets s v) - 1)
-    ++ (secondaryPieces s (v .head) (v .flags) (v .counter) ++ (v .body ∷ []))
+-- the packet; n is its length field
+unfoldable pub packetPieces : Settings → HeaderValues → PacketValues → Lent → ℕ → List ℕ → List (List ℕ)
+packetPieces s v o t n body =
+    primaryPieces v o n
+    ++ (namePieces v
+    ++ (routingPieces v
+    ++ (frontPieces v o
+    ++ (middlePieces s v (t .timestamp) (t .zone)
+    ++ (endPieces s (v .has) (t .name) (t .domain) (t .lengths) (t .authentication) ++ (body ∷ []))))))
 
 -- ---- sizes, told up to the limit
 

@@ -9,19 +9,19 @@
 ghost use mathlib.Core.Path.{_≡_};
 ghost use mathlib.Core.Bool.{Bool};
 ghost use mathlib.Core.List.{[], _∷_, _++_};
-ghost use Prim.Native.Nat.{_+_, _*_};
+ghost use Prim.Native.Nat.{_+_, _≤_};
 ghost use lib.ListN.{length};
 ghost use lib.Dec.{eqb, leb};
 ghost use Rattle.octets.specs.Octets.{pick, wide};
 ghost use Rattle.octets.specs.Laying.{laid, Lays};
 ghost use Rattle.walk.specs.Walk.{unless};
 ghost use Rattle.fields.specs.Fields.{partsMost};
-ghost use Rattle.fields.specs.Form.{numberOctets};
+ghost use Rattle.fields.specs.Form.{numberOctets, split};
 ghost use Rattle.fields.specs.Inner.{blobPieces, textPieces, domainPieces, capped};
-ghost use Rattle.packet.specs.Format.{segment, presence as presenceOf, headerOctets};
+ghost use Rattle.packet.specs.Format.{segment, bit, headerOctets};
 ghost use Rattle.write.specs.Given.{Lent, lent, headOf, packetOf, numberFits, textFits, exactFits, lengthsFit, sum, nameChecks, routingChecks, idChecks, textChecks, headerChecks, packetChecks, unlessAll};
 ghost use Rattle.write.specs.Writing.{settingsTest, writeAnswer, writeOutput};
-ghost use Rattle.write.specs.Inner.{ifPieces, primaryPieces, namePieces, routingPieces, frontPieces, middlePieces, endPieces, secondaryPieces, packetPieces, middleSize, endSize};
+ghost use Rattle.write.specs.Inner.{ifPieces, primaryPieces, namePieces, routingPieces, presentOctet, frontPieces, middlePieces, endPieces, packetPieces, middleSize, endSize};
 use packet::Apid;
 use packet::Present;
 use packet::SecondaryApid;
@@ -338,4 +338,172 @@ pub fn header_size(
     let b = middle_size(s, v, timestamp.len(), zone.len());
     let c = end_size(s, has, name.len(), domain, lengths, authentication.len());
     fields::plus(a, fields::plus(b, c))
+}
+
+// ---- the octets, piece by piece, and the place behind them
+
+fn put_primary(out: &mut [u8], v: HeaderValues, o: PacketValues, n: usize) -> usize
+    ensures { λ r. ⌜ Lays (laid (now (out .entry)) 0) (primaryPieces v o n) (now (out .exit)) r ⌝ }
+{
+    let apid = v.apid;
+    let count = o.count;
+    let id = wide8(v.kind) * 4096 + 2048 + wide16(apid.0);
+    let sequence = wide8(o.flags) * 16384 + wide16(count.0);
+    let a = octets::lay_number(out, 0, 2, id);
+    let b = octets::lay_number(out, a, 2, sequence);
+    octets::lay_number(out, b, 2, n as u64)
+}
+
+fn put_names(out: &mut [u8], at: usize, v: HeaderValues) -> usize
+    ensures { λ r. ⌜ Lays (laid (now (out .entry)) at) (namePieces v) (now (out .exit)) r ⌝ }
+{
+    let a = octets::lay_number(out, at, 1, wide8(v.sdu));
+    let b = octets::lay_number(out, a, 2, wide32(v.area));
+    let c = octets::lay_number(out, b, 2, wide32(v.service));
+    let d = octets::lay_number(out, c, 2, wide32(v.operation));
+    octets::lay_number(out, d, 1, wide16(v.version))
+}
+
+fn bit_of(b: bool) -> u64
+    ensures bit { λ r. ⌜ r ≡ bit b ⌝ }
+    ensures small { λ r. ⌜ r ≤ 1 ⌝ }
+{
+    if b {
+        return 1;
+    }
+    0
+}
+
+fn present_octet(has: Present) -> u64
+    ensures { λ r. ⌜ r ≡ presentOctet has ⌝ }
+{
+    128 * bit_of(has.source)
+        + 64 * bit_of(has.destination)
+        + 32 * bit_of(has.priority)
+        + 16 * bit_of(has.timestamp)
+        + 8 * bit_of(has.zone)
+        + 4 * bit_of(has.session)
+        + 2 * bit_of(has.domain)
+        + bit_of(has.authentication)
+}
+
+fn put_routing(out: &mut [u8], at: usize, v: HeaderValues) -> usize
+    ensures { λ r. ⌜ Lays (laid (now (out .entry)) at) (routingPieces v) (now (out .exit)) r ⌝ }
+{
+    let second = v.second;
+    let has = v.has;
+    let high = wide8(v.error) * 32768 + wide8(v.qos) * 8192;
+    let low = wide8(v.session) * 2048 + wide16(second.0);
+    let a = octets::lay_number(out, at, 2, high + low);
+    let b = octets::lay_number(out, a, 2, wide32(v.qualifier));
+    let c = octets::lay_number(out, b, 8, v.transaction);
+    octets::lay_number(out, c, 1, present_octet(has))
+}
+
+// A number of n octets if it is there.
+fn wide_if(there: bool, out: &mut [u8], at: usize, n: usize, x: u64) -> usize
+    ensures { λ r. ⌜ Lays (laid (now (out .entry)) at) (ifPieces there (wide n x ∷ [])) (now (out .exit)) r ⌝ }
+{
+    if there {
+        return octets::lay_number(out, at, n, x);
+    }
+    at
+}
+
+// Source id, destination id, segment counter.
+fn put_front(out: &mut [u8], at: usize, v: HeaderValues, o: PacketValues) -> usize
+    ensures { λ r. ⌜ Lays (laid (now (out .entry)) at) (frontPieces v o) (now (out .exit)) r ⌝ }
+{
+    let has = v.has;
+    let counter = o.counter;
+    let a = wide_if(has.source, out, at, 1, wide16(v.source));
+    let b = wide_if(has.destination, out, a, 1, wide16(v.destination));
+    wide_if(segmented(o.flags), out, b, 4, wide32(counter.0))
+}
+
+fn number_if(there: bool, s: Settings, out: &mut [u8], at: usize, n: u64) -> usize
+    ensures { λ r. ⌜ Lays (laid (now (out .entry)) at) (ifPieces there (numberOctets s n ∷ [])) (now (out .exit)) r ⌝ }
+{
+    if there {
+        return fields::put_number(s, out, at, n);
+    }
+    at
+}
+
+fn block_if(there: bool, out: &mut [u8], at: usize, x: &[u8]) -> usize
+    ensures { λ r. ⌜ Lays (laid (now (out .entry)) at) (ifPieces there (now (x .entry) ∷ [])) (now (out .exit)) r ⌝ }
+{
+    if there {
+        return octets::lay(out, at, x);
+    }
+    at
+}
+
+fn text_if(there: bool, s: Settings, out: &mut [u8], at: usize, x: &[u8]) -> usize
+    ensures { λ r. ⌜ Lays (laid (now (out .entry)) at) (ifPieces there (textPieces s (now (x .entry)))) (now (out .exit)) r ⌝ }
+{
+    if there {
+        return fields::put_text(s, out, at, x);
+    }
+    at
+}
+
+fn blob_if(there: bool, s: Settings, out: &mut [u8], at: usize, x: &[u8]) -> usize
+    ensures { λ r. ⌜ Lays (laid (now (out .entry)) at) (ifPieces there (blobPieces s (now (x .entry)))) (now (out .exit)) r ⌝ }
+{
+    if there {
+        return fields::put_blob(s, out, at, x);
+    }
+    at
+}
+
+fn domain_if(
+    there: bool,
+    s: Settings,
+    out: &mut [u8],
+    at: usize,
+    x: &[u8],
+    lengths: &[u64],
+) -> usize
+    ensures { λ r. ⌜ Lays (laid (now (out .entry)) at) (ifPieces there (domainPieces s (split (now (lengths .entry)) (now (x .entry))))) (now (out .exit)) r ⌝ }
+{
+    if there {
+        return fields::put_domain(s, out, at, x, lengths);
+    }
+    at
+}
+
+// Priority, timestamp, zone.
+fn put_middle(
+    s: Settings,
+    out: &mut [u8],
+    at: usize,
+    v: HeaderValues,
+    timestamp: &[u8],
+    zone: &[u8],
+) -> usize
+    ensures { λ r. ⌜ Lays (laid (now (out .entry)) at) (middlePieces s v (now (timestamp .entry)) (now (zone .entry))) (now (out .exit)) r ⌝ }
+{
+    let has = v.has;
+    let a = number_if(has.priority, s, out, at, v.priority);
+    let b = block_if(has.timestamp, out, a, timestamp);
+    text_if(has.zone, s, out, b, zone)
+}
+
+// Session name, domain, authentication id.
+fn put_end(
+    s: Settings,
+    out: &mut [u8],
+    at: usize,
+    has: Present,
+    name: &[u8],
+    domain: &[u8],
+    lengths: &[u64],
+    authentication: &[u8],
+) -> usize
+    ensures { λ r. ⌜ Lays (laid (now (out .entry)) at) (endPieces s has (now (name .entry)) (now (domain .entry)) (now (lengths .entry)) (now (authentication .entry))) (now (out .exit)) r ⌝ }
+{
+    let a = text_if(has.session, s, out, at, name);
+    let b = domain_if(has.domain, s, out, a, domain, lengths);
+    blob_if(has.authentication, s, out, b, authentication)
 }

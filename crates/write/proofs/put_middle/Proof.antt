@@ -1,0 +1,27 @@
+-- `write::put_middle` meets its contract: three fields, one after another.
+-- Assumes nothing.
+use borrow.Author.Needs.{needs}
+use Rattle.octets.proofs.Laying.{lays-both, lays-none}
+use Rattle.write.proofs.put_middle.Statement.{statement}
+use Rattle.write.proofs.put_middle.Tie as tie
+use Rattle.write.specs.Inner.{middlePieces}
+
+number-if-requires : tie.Need-number-if-requires
+number-if-requires c κs = search needs
+
+block-if-requires : tie.Need-block-if-requires
+block-if-requires c κs = search needs
+
+text-if-requires : tie.Need-text-if-requires
+text-if-requires c κs = search needs
+
+same-length : tie.Need-same-length
+same-length c = search needs
+
+returns : tie.Need-returns
+unfolding middlePieces
+returns c = lays-both (c .before .before .before .before .before .before .before .before .before .before .number-if .ensures) (lays-both (c .before .before .before .before .before .before .block-if .ensures) (c .before .before .text-if .ensures))
+
+pub put-middle-spec : {M : Type 1} → statement M
+put-middle-spec =
+    tie.close (tie.spec number-if-requires block-if-requires text-if-requires same-length returns)
