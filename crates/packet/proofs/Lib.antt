@@ -1,1 +1,1 @@
-mod Whole
+pub mod Whole

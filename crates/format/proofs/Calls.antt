@@ -1,0 +1,73 @@
+-- The same over the generated contracts of the public calls: what `packet::read` accepts is the octets of what it answers, it accepts
+-- the octets of any values in range, and two slices that it accepts with the same values are the same. The slice's octets are the
+-- contract's own second clause. And two outcomes that a contract allows for the same arguments have the same answer.
+-- Assumes nothing.
+use Prim.Native.Nat.{ℕ}
+use mathlib.Core.Path.{_≡_, ap, sym, _∙_}
+use mathlib.Core.List.{List}
+use contract.Lifetimes as L
+use denote.Ref.{now}
+use Rattle.octets.specs.Octets.{Octets}
+use Rattle.walk.specs.declared.Settings.{Settings}
+use Rattle.packet.specs.declared.Header.{Header}
+use Rattle.packet.specs.Format.{Values, octetsOf, InRange}
+use Rattle.packet.specs.Reading.{readPacket}
+use Rattle.packet.proofs.read.Reads as reads
+use Rattle.packet.proofs.next_sequence_count.Reads as nexts
+use Rattle.format.specs.Told.{valuesOf}
+use Rattle.format.specs.Accepted.{Accepted}
+use Rattle.format.proofs.TwoWay.{only-writing, reads-back}
+use Rattle.format.proofs.Accepting.{accepted}
+
+-- ---- over plain values
+
+only-plain :
+    (s : Settings) (p : List ℕ) (r : Header) → r ≡ readPacket s p → Octets p → r .refusal .number ≡ 0 →
+    InRange s (valuesOf p r) × (octetsOf s (valuesOf p r) ≡ p)
+only-plain s p r e o h = rw e (only-writing s p o (rw e at h))
+
+back-plain :
+    (s : Settings) (p : List ℕ) (r : Header) (v : Values) → r ≡ readPacket s p → InRange s v → p ≡ octetsOf s v →
+    (r .refusal .number ≡ 0) × (valuesOf p r ≡ v)
+back-plain s p r v e i q = rw (e, q) (reads-back s v i)
+
+accepted-plain :
+    (s : Settings) (p : List ℕ) (r : Header) → r ≡ readPacket s p → Octets p → r .refusal .number ≡ 0 → Accepted s p r
+accepted-plain s p r e o h = rw e (accepted s p o (rw e at h))
+
+-- ---- `packet::read`
+
+-- what the call accepts is the octets of what it answers
+pub read-only :
+    (κs : L.Lfts 1) (a : _) (r : _) (t : _) → reads.Post κs a r t → r .refusal .number ≡ 0 →
+    InRange (a .0) (valuesOf (now (a .1 .0)) r) × (octetsOf (a .0) (valuesOf (now (a .1 .0)) r) ≡ now (a .1 .0))
+read-only κs a r t k h = only-plain (a .0) (now (a .1 .0)) r (k .0) (k .1) h
+
+-- it accepts the octets of any values in range, and answers those
+pub read-back :
+    (κs : L.Lfts 1) (a : _) (r : _) (t : _) (v : Values) → reads.Post κs a r t → InRange (a .0) v →
+    now (a .1 .0) ≡ octetsOf (a .0) v → (r .refusal .number ≡ 0) × (valuesOf (now (a .1 .0)) r ≡ v)
+read-back κs a r t v k i e = back-plain (a .0) (now (a .1 .0)) r v (k .0) i e
+
+-- two slices that are accepted with the same values are the same
+pub read-one :
+    (κs : L.Lfts 1) (a b : _) (r q : _) (t u : _) → reads.Post κs a r t → reads.Post κs b q u → a .0 ≡ b .0 → r .refusal .number ≡ 0 →
+    q .refusal .number ≡ 0 → valuesOf (now (a .1 .0)) r ≡ valuesOf (now (b .1 .0)) q → now (a .1 .0) ≡ now (b .1 .0)
+read-one κs a b r q t u k j s g h e =
+    sym (read-only κs a r t k g .1)
+    ∙ ap (octetsOf (a .0)) e
+    ∙ ap (λ (x : Settings). octetsOf x (valuesOf (now (b .1 .0)) q)) s
+    ∙ read-only κs b q u j h .1
+
+-- what the call accepts has what an accepted packet has
+pub read-accepted :
+    (κs : L.Lfts 1) (a : _) (r : _) (t : _) → reads.Post κs a r t → r .refusal .number ≡ 0 → Accepted (a .0) (now (a .1 .0)) r
+read-accepted κs a r t k h = accepted-plain (a .0) (now (a .1 .0)) r (k .0) (k .1) h
+
+-- ---- the same arguments, the same answer
+
+pub read-same-answer : (κs : L.Lfts 1) (a : _) (r q : _) (s t : _) → reads.Post κs a r s → reads.Post κs a q t → r ≡ q
+read-same-answer κs a r q s t k j = k .0 ∙ sym (j .0)
+
+pub next-same-answer : (κs : L.Lfts 0) (a : _) (r q : _) (s t : _) → nexts.Post κs a r s → nexts.Post κs a q t → r ≡ q
+next-same-answer κs a r q s t k j = k ∙ sym j

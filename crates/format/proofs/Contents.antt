@@ -1,0 +1,107 @@
+-- The authentication id, a text and a domain part as fields: a length decides a block; an octet of 1 stands before a part.
+-- Assumes nothing.
+use Prim.Native.Nat.{ℕ, _≤_}
+use mathlib.Core.Path.{_≡_, refl, ap, sym}
+use mathlib.Core.List.{List, [], _∷_}
+use native.Mathlib.Omega.{arith}
+use lib.ListN.{length, length-append}
+use lib.Dec.{eqb}
+use borrow.Author.Tests.{eqb-true}
+use Rattle.octets.specs.Octets.{Octets, wide}
+use Rattle.walk.specs.declared.Settings.{Settings}
+use Rattle.walk.specs.Walk.{Reading, headerEnd}
+use Rattle.fields.specs.Fields.{blob, text, part}
+use Rattle.fields.specs.Form.{blobOctets, textOctets, partOctets}
+use Rattle.format.specs.Told.{content}
+use Rattle.format.proofs.Field.{Field, seq, told}
+use Rattle.format.proofs.Combine.{tested, via, dep, formed}
+use Rattle.format.proofs.Numbers.{octetF, blockF, numberF}
+
+module _ (s : Settings) (p : List ℕ) where
+  -- ---- a length and as many octets
+
+  -- the field that the length decides
+  abbrev pub sized : Field p (List ℕ)
+  sized = dep p (numberF p s) (blockF p) length (λ n x f. f .0)
+
+  pub blob-form : (x : List ℕ) → blobOctets s x ≡ sized .form x
+  unfolding blobOctets
+  blob-form x = refl
+
+  pub blob-fit : (x : List ℕ) → Octets x → length (blobOctets s x) ≤ headerEnd → sized .Fit x
+  unfolding blobOctets
+  blob-fit x f l = let e = simp length-append at l in ((omega arith, (refl, f)), refl)
+
+  pub blob-step : (w : Reading) → blob s p w .walk ≡ sized .step w
+  unfolding blob
+  blob-step w = refl
+
+  pub blob-value : (w : Reading) → content p (blob s p w .value) ≡ sized .value w
+  unfolding blob
+  blob-value w = refl
+
+  pub blob-spots : (w : Reading) → blob s p w .value ∷ [] ≡ sized .spots w
+  unfolding blob
+  blob-spots w = refl
+
+  abbrev pub blobF : Field p (List ℕ)
+  blobF =
+      told p (formed p sized (blobOctets s) Octets blob-form blob-fit (λ x f. f .0 .1 .1)) (λ w. blob s p w .walk)
+      (λ w. content p (blob s p w .value)) (λ w. blob s p w .value ∷ []) blob-step blob-value blob-spots
+
+  -- ---- a text: the same
+
+  pub text-form : (x : List ℕ) → textOctets s x ≡ blobF .form x
+  unfolding textOctets
+  text-form x = refl
+
+  pub text-step : (w : Reading) → text s p w .walk ≡ blobF .step w
+  unfolding text
+  text-step w = refl
+
+  pub text-value : (w : Reading) → content p (text s p w .value) ≡ blobF .value w
+  unfolding text
+  text-value w = refl
+
+  pub text-spots : (w : Reading) → text s p w .value ∷ [] ≡ blobF .spots w
+  unfolding text
+  text-spots w = refl
+
+  abbrev pub textF : Field p (List ℕ)
+  textF =
+      told p (formed p blobF (textOctets s) Octets text-form (λ x f l. f) (λ x f. f)) (λ w. text s p w .walk)
+      (λ w. content p (text s p w .value)) (λ w. text s p w .value ∷ []) text-step text-value text-spots
+
+  -- ---- a domain part
+
+  -- an octet of 1, else 11
+  abbrev pub mark : Field p ℕ
+  mark = tested p (λ x. eqb x 1) 10 (octetF p)
+
+  pub marked : (x : ℕ × List ℕ) → mark .Fit (x .0) → (1, x .1) ≡ x
+  marked x f = let e : x .0 ≡ 1 = eqb-true (x .0) 1 (f .1) in ap (λ (n : ℕ). (n, x .1)) (sym e)
+
+  abbrev pub markedText : Field p (List ℕ)
+  markedText = via p (seq p mark textF) (λ (x : ℕ × List ℕ). x .1) (λ (x : List ℕ). (1, x)) (λ a f. marked a (f .0))
+
+  pub part-form : (x : List ℕ) → partOctets s x ≡ markedText .form x
+  unfolding partOctets wide
+  part-form x = refl
+
+  pub part-step : (w : Reading) → part s p w .walk ≡ markedText .step w
+  unfolding part
+  part-step w = refl
+
+  pub part-value : (w : Reading) → content p (part s p w .value) ≡ markedText .value w
+  unfolding part
+  part-value w = refl
+
+  pub part-spots : (w : Reading) → part s p w .value ∷ [] ≡ markedText .spots w
+  unfolding part
+  part-spots w = refl
+
+  abbrev pub partF : Field p (List ℕ)
+  partF =
+      told p
+      (formed p markedText (partOctets s) Octets part-form (λ x f l. (((omega arith, refl), f), refl)) (λ x f. f .0 .1))
+      (λ w. part s p w .walk) (λ w. content p (part s p w .value)) (λ w. part s p w .value ∷ []) part-step part-value part-spots

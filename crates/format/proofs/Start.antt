@@ -1,0 +1,96 @@
+-- The tests of the settings and the primary header, both ways; the test for a body; and what an answer with no refusal is.
+-- Assumes nothing.
+use Prim.Native.Nat.{ℕ, _+_, _/_, _%_, _≤_, _<_}
+use mathlib.Core.Path.{_≡_, refl, ap, _∙_}
+use mathlib.Core.Logic.{⊎-elim}
+use mathlib.Core.List.{List}
+use mathlib.Core.Bool.{Bool, true, false, not}
+use native.Mathlib.Omega.{arith}
+use lib.ListN.{length}
+use lib.Dec.{eqb, leb, ltb}
+use borrow.Author.Tests.{eqb-true, eqb-false, leb-true, ltb-true, not-true, eq-eqb, le-leb, lt-ltb, ne-eqb}
+use Rattle.octets.specs.Octets.{pick, octetAt, number}
+use Rattle.octets.proofs.Lists.{bool}
+use Rattle.walk.specs.declared.Settings.{Settings}
+use Rattle.walk.specs.Walk.{Reading, goes, going, check, begun, timestampLeast, timestampMost}
+use Rattle.walk.proofs.Steps.{check-held, check-ok}
+use Rattle.packet.specs.Reading.{primaryTests, segmented, bodyTest, startAt, ended, refusedHeader, acceptedHeader, readPacket}
+use Rattle.packet.proofs.Whole.{accepts}
+
+-- 15 and 1 to 5 passed
+pub record Opens (s : Settings) (p : List ℕ) : Type 0 where
+  pub t-low : timestampLeast ≤ s .t
+  pub t-top : s .t ≤ timestampMost
+  pub six : 6 ≤ length p
+  pub version : octetAt p 0 < 32
+  pub second : octetAt p 0 / 8 % 2 ≡ 1
+  pub idle : number 2 p 0 % 2048 ≡ 2047 → ⊥
+  pub long : length p ≡ number 2 p 4 + 7
+
+module _ (s : Settings) (p : List ℕ) where
+  pub start-only : going (startAt s p) ≡ true → (startAt s p ≡ goes 6) × Opens s p
+  unfolding primaryTests begun
+  start-only g =
+      let e = check-held (eqb (length p) (number 2 p 4 + 7)) 4 _ g in
+      let d = check-held (not (eqb (number 2 p 0 % 2048) 2047)) 3 _ (e .went) in
+      let c = check-held (eqb (octetAt p 0 / 8 % 2) 1) 2 _ (d .went) in
+      let b = check-held (ltb (octetAt p 0) 32) 1 _ (c .went) in
+      let a = check-held (leb 6 (length p)) 0 _ (b .went) in
+      let u = check-held (leb (s .t) timestampMost) 14 _ (a .went) in
+      let t = check-held (leb timestampLeast (s .t)) 14 _ (u .went) in (
+        e .same ∙ d .same ∙ c .same ∙ b .same ∙ a .same ∙ u .same ∙ t .same,
+        record {
+          t-low = leb-true _ _ (t .held);
+          t-top = leb-true _ _ (u .held);
+          six = leb-true _ _ (a .held);
+          version = ltb-true _ _ (b .held);
+          second = eqb-true _ _ (c .held);
+          idle = eqb-false _ _ (not-true _ (d .held));
+          long = eqb-true _ _ (e .held);
+        },
+      )
+
+  pub start-back : Opens s p → startAt s p ≡ goes 6
+  unfolding primaryTests begun
+  start-back h =
+      check-ok (eqb (length p) (number 2 p 4 + 7)) 5 _ (eq-eqb _ _ (h .long))
+      ∙ check-ok (not (eqb (number 2 p 0 % 2048) 2047)) 4 _ (ap not (ne-eqb (number 2 p 0 % 2048) 2047 (h .idle)))
+      ∙ check-ok (eqb (octetAt p 0 / 8 % 2) 1) 3 _ (eq-eqb _ _ (h .second))
+      ∙ check-ok (ltb (octetAt p 0) 32) 2 _ (lt-ltb _ _ (h .version))
+      ∙ check-ok (leb 6 (length p)) 1 _ (le-leb _ _ (h .six))
+      ∙ check-ok (leb (s .t) timestampMost) 15 _ (le-leb _ _ (h .t-top))
+      ∙ check-ok (leb timestampLeast (s .t)) 15 (goes 6) (le-leb _ _ (h .t-low))
+
+  -- 14
+  pub record Body (w : Reading) : Type 0 where
+    pub went : going w ≡ true
+    pub same : bodyTest p w ≡ w
+    pub some : segmented p ≡ true → w .at < length p
+
+  body-cases :
+      (b t : Bool) (w : Reading) → going (pick b (check t 14 w) w) ≡ true →
+      (going w ≡ true) × ((pick b (check t 14 w) w ≡ w) × (b ≡ true → t ≡ true))
+  body-cases true t w g = let a = check-held t 13 w g in (a .went, (a .same, λ e. a .held))
+  body-cases false t w g = (g, (refl, λ e. let z : _≡_ {A = ℕ} 0 1 = cc e in absurd (omega arith)))
+
+  pub body-only : (w : Reading) → going (bodyTest p w) ≡ true → Body w
+  unfolding bodyTest
+  body-only w g =
+      let a = body-cases (segmented p) (ltb (w .at) (length p)) w g in
+      record { went = a .0; same = a .1 .0; some = λ e. ltb-true _ _ (a .1 .1 e) }
+
+  body-goes : (b t : Bool) (w : Reading) → (b ≡ true → t ≡ true) → pick b (check t 14 w) w ≡ w
+  body-goes true t w f = check-ok t 14 w (f refl)
+  body-goes false t w f = refl
+
+  pub body-back : (w : Reading) → (segmented p ≡ true → w .at < length p) → bodyTest p w ≡ w
+  unfolding bodyTest
+  body-back w f = body-goes (segmented p) (ltb (w .at) (length p)) w (λ e. lt-ltb _ _ (f e))
+
+  -- an answer that is no refusal: the reading goes on to its end
+  pub answered : readPacket s p .refusal .number ≡ 0 → going (ended s p) ≡ true
+  unfolding readPacket refusedHeader
+  answered h = ⊎-elim (λ e. e) (λ e. absurd (eqb-false _ _ e (rw e at h))) (bool (going (ended s p)))
+
+  pub answer : readPacket s p .refusal .number ≡ 0 → readPacket s p ≡ acceptedHeader s p
+  answer h = accepts s p (answered h)
