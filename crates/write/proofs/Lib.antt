@@ -2,3 +2,4 @@ pub mod Sums
 pub mod Tests
 pub mod Sizes
 pub mod Pieces
+pub mod Answers

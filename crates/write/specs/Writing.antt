@@ -40,10 +40,14 @@ sizeTests s v room r =
     (unless (bodyFits (v .flags) (length (v .body))) 14
     (unless (leb (length (secondaryOctets s v)) headerMost) 12 (unless (leb (length (octetsOf s v)) packetMost) 23 r)))
 
+-- 15, 22, 13: the tests on the values alone
+unfoldable pub valueRefusal : Settings → HeaderValues → PacketValues → Lent → Refusal
+valueRefusal s v o t =
+    partsTest t (unlessAll (packetChecks o) 22 (unlessAll (headerChecks s v t) 22 (settingsTest s noRefusal)))
+
+-- all of them, in their order
 unfoldable pub writeRefusal : Settings → HeaderValues → PacketValues → Lent → List ℕ → ℕ → Refusal
-writeRefusal s v o t body room =
-    sizeTests s (givenPacket v o t body) room
-    (partsTest t (unlessAll (packetChecks o) 22 (unlessAll (headerChecks s v t) 22 (settingsTest s noRefusal))))
+writeRefusal s v o t body room = sizeTests s (givenPacket v o t body) room (valueRefusal s v o t)
 
 -- whether there is none
 abbrev pub fine : Refusal → Bool

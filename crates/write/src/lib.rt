@@ -18,9 +18,9 @@ ghost use Rattle.walk.specs.Walk.{unless};
 ghost use Rattle.fields.specs.Fields.{partsMost};
 ghost use Rattle.fields.specs.Form.{numberOctets, split};
 ghost use Rattle.fields.specs.Inner.{blobPieces, textPieces, domainPieces, capped};
-ghost use Rattle.packet.specs.Format.{segment, bit, headerOctets};
+ghost use Rattle.packet.specs.Format.{segment, bit, headerOctets, headerMost, packetMost};
 ghost use Rattle.write.specs.Given.{Lent, lent, headOf, packetOf, numberFits, textFits, exactFits, lengthsFit, sum, nameChecks, routingChecks, idChecks, textChecks, headerChecks, packetChecks, unlessAll};
-ghost use Rattle.write.specs.Writing.{settingsTest, writeAnswer, writeOutput};
+ghost use Rattle.write.specs.Writing.{settingsTest, bodyFits, valueRefusal, writeAnswer, writeOutput};
 ghost use Rattle.write.specs.Inner.{ifPieces, primaryPieces, namePieces, routingPieces, presentOctet, frontPieces, middlePieces, endPieces, packetPieces, middleSize, endSize};
 use packet::Apid;
 use packet::Present;
@@ -506,4 +506,160 @@ fn put_end(
     let a = text_if(has.session, s, out, at, name);
     let b = domain_if(has.domain, s, out, a, domain, lengths);
     blob_if(has.authentication, s, out, b, authentication)
+}
+
+// The whole packet from the first octet on; n is its length field. The place behind it.
+pub fn put_packet(
+    s: Settings,
+    out: &mut [u8],
+    v: HeaderValues,
+    o: PacketValues,
+    n: usize,
+    timestamp: &[u8],
+    zone: &[u8],
+    name: &[u8],
+    domain: &[u8],
+    lengths: &[u64],
+    authentication: &[u8],
+    body: &[u8],
+) -> usize
+    ensures { λ r. ⌜ Lays (laid (now (out .entry)) 0) (packetPieces s v o (lent (now (timestamp .entry)) (now (zone .entry)) (now (name .entry)) (now (domain .entry)) (now (lengths .entry)) (now (authentication .entry))) n (now (body .entry))) (now (out .exit)) r ⌝ }
+{
+    let has = v.has;
+    let a = put_primary(out, v, o, n);
+    let b = put_names(out, a, v);
+    let c = put_routing(out, b, v);
+    let d = put_front(out, c, v, o);
+    let e = put_middle(s, out, d, v, timestamp, zone);
+    let f = put_end(s, out, e, has, name, domain, lengths, authentication);
+    octets::lay(out, f, body)
+}
+
+// The secondary header as it stands in a packet, told up to the limit.
+pub fn secondary_size(h: usize, flags: u8) -> usize
+    ensures { λ r. ⌜ r ≡ capped (h + pick (segment flags) 4 0) ⌝ }
+{
+    fields::plus(h, size_if(segmented(flags), 4))
+}
+
+// A packet with this secondary header and body, told up to the limit.
+pub fn packet_size(second: usize, body: usize) -> usize
+    ensures { λ r. ⌜ r ≡ capped (6 + second + body) ⌝ }
+{
+    fields::plus(fields::plus(6, second), body)
+}
+
+fn body_fits(flags: u8, n: usize) -> bool
+    ensures { λ r. ⌜ r ≡ bodyFits flags n ⌝ }
+{
+    if segmented(flags) {
+        return 1 <= n;
+    }
+    true
+}
+
+// 23, 12, 14, 21, by the sizes of the secondary header, the packet, the body and the output.
+fn test_sizes(
+    second: usize,
+    size: usize,
+    flags: u8,
+    body: usize,
+    room: usize,
+    r: Refusal,
+) -> Refusal
+    ensures { λ q. ⌜ q ≡ unless (leb size room) 21 (unless (bodyFits flags body) 14 (unless (leb second headerMost) 12 (unless (leb size packetMost) 23 r))) ⌝ }
+{
+    let a = walk::unless(r, size <= PACKET_MOST, 23);
+    let b = walk::unless(a, second <= HEADER_MOST, 12);
+    let c = walk::unless(b, body_fits(flags, body), 14);
+    walk::unless(c, size <= room, 21)
+}
+
+// 15, 22 and 13: the tests on the values alone.
+fn test_values(
+    s: Settings,
+    v: HeaderValues,
+    o: PacketValues,
+    timestamp: &[u8],
+    zone: &[u8],
+    name: &[u8],
+    domain: &[u8],
+    lengths: &[u64],
+    authentication: &[u8],
+) -> Refusal
+    ensures { λ q. ⌜ q ≡ valueRefusal s v o (lent (now (timestamp .entry)) (now (zone .entry)) (now (name .entry)) (now (domain .entry)) (now (lengths .entry)) (now (authentication .entry))) ⌝ }
+{
+    let none = Refusal { number: 0 };
+    let a = test_settings(s, none);
+    let b = test_header(
+        s,
+        v,
+        timestamp,
+        zone,
+        name,
+        domain,
+        lengths,
+        authentication,
+        a,
+    );
+    let c = test_packet(o, b);
+    test_parts(lengths.len(), c)
+}
+
+// Writes one packet, or refuses and changes nothing.
+pub fn write(
+    s: Settings,
+    v: HeaderValues,
+    o: PacketValues,
+    timestamp: &[u8],
+    zone: &[u8],
+    name: &[u8],
+    domain: &[u8],
+    lengths: &[u64],
+    authentication: &[u8],
+    body: &[u8],
+    out: &mut [u8],
+) -> Written
+    ensures answer { λ r. ⌜ r ≡ writeAnswer s v o (lent (now (timestamp .entry)) (now (zone .entry)) (now (name .entry)) (now (domain .entry)) (now (lengths .entry)) (now (authentication .entry))) (now (body .entry)) (length (now (out .entry))) ⌝ }
+    ensures octets { λ r. ⌜ now (out .exit) ≡ writeOutput s v o (lent (now (timestamp .entry)) (now (zone .entry)) (now (name .entry)) (now (domain .entry)) (now (lengths .entry)) (now (authentication .entry))) (now (body .entry)) (now (out .entry)) ⌝ }
+{
+    let values = test_values(
+        s,
+        v,
+        o,
+        timestamp,
+        zone,
+        name,
+        domain,
+        lengths,
+        authentication,
+    );
+    let h = header_size(s, v, timestamp, zone, name, domain, lengths, authentication);
+    let second = secondary_size(h, o.flags);
+    let size = packet_size(second, body.len());
+    let r = test_sizes(second, size, o.flags, body.len(), out.len(), values);
+    if r.number != 0 {
+        return Written {
+            refusal: r,
+            length: 0,
+        };
+    }
+    put_packet(
+        s,
+        out,
+        v,
+        o,
+        size - 7,
+        timestamp,
+        zone,
+        name,
+        domain,
+        lengths,
+        authentication,
+        body,
+    );
+    Written {
+        refusal: r,
+        length: size,
+    }
 }

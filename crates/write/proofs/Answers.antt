@@ -1,0 +1,185 @@
+-- From the sizes and tests of the code to the answer and the output of writing, on plain values.
+-- Assumes nothing.
+use Prim.Native.Nat.{ℕ, _+_, _-_, _*_, _≤_, _<_, min}
+use mathlib.Core.Path.{_≡_, refl, ap, ap₂, sym, _∙_}
+use mathlib.Core.Logic.{⊎-elim}
+use mathlib.Core.Bool.{Bool, true, false}
+use mathlib.Core.List.{List, [], _∷_, _++_}
+use native.Mathlib.Omega.{arith}
+use native.Mathlib.Nat.{zero-add}
+use lib.ListN.{length, drop, length-append}
+use lib.Seq.{sets, sets-eq}
+use lib.Dec.{leb, eqb}
+use borrow.Author.Tests.{leb-true, le-leb, lt-leb, eq-eqb, ne-eqb}
+use Rattle.octets.specs.Octets.{pick, wide}
+use Rattle.octets.specs.Laying.{laid, together, Lays}
+use Rattle.octets.proofs.Lists.{bool, below-or}
+use Rattle.octets.proofs.Numbers.{wide-length}
+use Rattle.octets.proofs.Laying.{lays-all}
+use Rattle.walk.specs.declared.Settings.{Settings}
+use Rattle.walk.specs.declared.Refusal.{Refusal}
+use Rattle.walk.specs.Walk.{unless}
+use Rattle.fields.specs.Inner.{capped, sizeMost}
+use Rattle.fields.proofs.Sized.{cap-right}
+use Rattle.packet.specs.Format.{Head, Values, segment, identification, fixedOctets, frontOctets, counterOctets, backOctets, headerOctets, secondaryOctets, dataOctets, octetsOf, headerMost, packetMost}
+use Rattle.write.specs.declared.HeaderValues.{HeaderValues}
+use Rattle.write.specs.declared.PacketValues.{PacketValues}
+use Rattle.write.specs.declared.Written.{Written}
+use Rattle.write.specs.Given.{Lent, headOf, packetOf}
+use Rattle.write.specs.Writing.{bodyFits, givenPacket, sizeTests, valueRefusal, writeRefusal, fine, writeAnswer, writeOutput}
+use Rattle.write.specs.Inner.{packetPieces}
+use Rattle.write.proofs.Tests.{unless-fine}
+use Rattle.write.proofs.Sizes.{when-length, fixed-length, header-length}
+use Rattle.write.proofs.Pieces.{packet-together}
+
+-- ---- lengths
+
+pub counter-length : (v : Values) → length (counterOctets v) ≡ pick (segment (v .flags)) 4 0
+unfolding counterOctets
+counter-length v = simp (when-length, wide-length)
+
+between : (a b c d : ℕ) → a + (b + (c + d)) ≡ a + (b + d) + c
+between a b c d = omega arith
+
+pub secondary-length : (s : Settings) (v : Values) → length (secondaryOctets s v) ≡ length (headerOctets s (v .head)) + pick (segment (v .flags)) 4 0
+unfolding secondaryOctets headerOctets
+secondary-length s v = simp (length-append, counter-length v) (between _ _ _ _)
+
+pub packet-length : (s : Settings) (v : Values) → length (octetsOf s v) ≡ 6 + length (secondaryOctets s v) + length (v .body)
+unfolding octetsOf identification dataOctets
+packet-length s v = simp (length-append, wide-length) (omega arith)
+
+pub data-length : (s : Settings) (v : Values) → length (dataOctets s v) ≡ length (secondaryOctets s v) + length (v .body)
+unfolding dataOctets
+data-length s v = length-append (secondaryOctets s v) (v .body)
+
+pub packet-least : (s : Settings) (v : Values) → 27 ≤ length (octetsOf s v)
+packet-least s v = omega (arith, packet-length s v, secondary-length s v, header-length s (v .head))
+
+-- ---- tests on sizes that are told up to the limit
+
+below-cap : (n m : ℕ) → m < sizeMost → leb (capped n) m ≡ leb n m
+below-cap n m h =
+    ⊎-elim
+    (λ k. lt-leb (capped n) m (omega arith) ∙ sym (lt-leb n m k))
+    (λ k. le-leb (capped n) m (omega arith) ∙ sym (le-leb n m k))
+    (below-or m n)
+
+shut : (x : Bool) (k : ℕ) (r : Refusal) → fine r ≡ false → unless x k r ≡ r
+unfolding unless
+shut x k r e = simp e
+
+cap-left : (a b : ℕ) → capped (capped a + b) ≡ capped (a + b)
+cap-left a b = omega arith
+
+cap-middle : (a b : ℕ) → capped (6 + capped a + b) ≡ capped (6 + a + b)
+cap-middle a b = omega arith
+
+-- a test matters only where nothing refused before
+unless-same : (k : ℕ) (r : Refusal) {a b : Bool} → (fine r ≡ true → a ≡ b) → unless a k r ≡ unless b k r
+unless-same k r {a} {b} h =
+    ⊎-elim
+    (λ e. ap (λ (x : Bool). unless x k r) (h e))
+    (λ e. shut a k r e ∙ sym (shut b k r e))
+    (bool (fine r))
+
+module _ (s : Settings) (v : HeaderValues) (o : PacketValues) (t : Lent) (body : List ℕ) {h second size : ℕ}
+    (eh : h ≡ capped (length (headerOctets s (headOf v t))))
+    (es : second ≡ capped (h + pick (segment (o .flags)) 4 0))
+    (ez : size ≡ capped (6 + second + length body)) where
+  abbrev whole : Values
+  whole = givenPacket v o t body
+
+  second-is : second ≡ capped (length (secondaryOctets s whole))
+  unfolding packetOf
+  second-is =
+      es ∙ ap (λ (n : ℕ). capped (n + pick (segment (o .flags)) 4 0)) eh ∙ cap-left (length (headerOctets s (headOf v t))) (pick (segment (o .flags)) 4 0)
+      ∙ ap capped (sym (secondary-length s whole))
+
+  size-is : size ≡ capped (length (octetsOf s whole))
+  unfolding packetOf
+  size-is =
+      ez ∙ ap (λ (n : ℕ). capped (6 + n + length body)) second-is ∙ cap-middle (length (secondaryOctets s whole)) (length body)
+      ∙ ap capped (sym (packet-length s whole))
+
+  -- the tests on sizes are the definition's
+  module _ (room : ℕ) {r q : Refusal} (er : r ≡ valueRefusal s v o t)
+      (eq : q ≡ unless (leb size room) 21 (unless (bodyFits (o .flags) (length body)) 14 (unless (leb second headerMost) 12 (unless (leb size packetMost) 23 r)))) where
+    long-test : leb size packetMost ≡ leb (length (octetsOf s whole)) packetMost
+    long-test = ap (λ (n : ℕ). leb n packetMost) size-is ∙ below-cap (length (octetsOf s whole)) packetMost (omega arith)
+
+    head-test : leb second headerMost ≡ leb (length (secondaryOctets s whole)) headerMost
+    head-test = ap (λ (n : ℕ). leb n headerMost) second-is ∙ below-cap (length (secondaryOctets s whole)) headerMost (omega arith)
+
+    abbrev inner : Refusal
+    inner =
+        unless (bodyFits (o .flags) (length body)) 14
+        (unless (leb (length (secondaryOctets s whole)) headerMost) 12 (unless (leb (length (octetsOf s whole)) packetMost) 23 r))
+
+    -- where nothing refused before 21, the size is told exactly
+    exact : fine inner ≡ true → size ≡ length (octetsOf s whole)
+    exact g =
+        let a = unless-fine (bodyFits (o .flags) (length body)) 13 _ g in
+        let b = unless-fine (leb (length (secondaryOctets s whole)) headerMost) 11 _ (a .before) in
+        let d = unless-fine (leb (length (octetsOf s whole)) packetMost) 22 r (b .before) in
+        let l = leb-true (length (octetsOf s whole)) packetMost (d .held) in
+        omega (arith, size-is)
+
+    pub refusal-is : q ≡ writeRefusal s v o t body room
+    unfolding writeRefusal sizeTests packetOf
+    refusal-is =
+        eq ∙ rw (long-test, head-test) (unless-same 21 inner (λ g. ap (λ (n : ℕ). leb n room) (exact g)))
+        ∙ ap
+        (λ (x : Refusal).
+        unless (leb (length (octetsOf s whole)) room) 21
+        (unless (bodyFits (o .flags) (length body)) 14
+        (unless (leb (length (secondaryOctets s whole)) headerMost) 12 (unless (leb (length (octetsOf s whole)) packetMost) 23 x))))
+        er
+
+    -- where nothing refused at all
+    pub record Fits : Type 0 where
+      pub size-exact : size ≡ length (octetsOf s whole)
+      pub fits-room : length (octetsOf s whole) ≤ room
+      pub least : 27 ≤ size
+
+    pub fits : q .number ≡ 0 → Fits
+    unfolding writeRefusal sizeTests packetOf
+    fits z =
+        let g : fine (writeRefusal s v o t body room) ≡ true = ap fine (sym refusal-is) ∙ eq-eqb (q .number) 0 z in
+        let a = unless-fine (leb (length (octetsOf s whole)) room) 20 _ g in
+        let e = exact (ap (λ (x : Refusal). fine (unless (bodyFits (o .flags) (length body)) 14 (unless (leb (length (secondaryOctets s whole)) headerMost) 12 (unless (leb (length (octetsOf s whole)) packetMost) 23 x)))) er ∙ a .before) in
+        record { size-exact = e; fits-room = leb-true (length (octetsOf s whole)) room (a .held); least = omega (arith, packet-least s whole) }
+
+    pub refused-answer : (q .number ≡ 0 → ⊥) → record { refusal = q; length = 0 } ≡ writeAnswer s v o t body room
+    unfolding writeAnswer
+    refused-answer n =
+        let f : fine (writeRefusal s v o t body room) ≡ false = ap fine (sym refusal-is) ∙ ne-eqb (q .number) 0 n in
+        λ i. record { refusal = refusal-is i; length = ap (λ (x : Bool). pick x (length (octetsOf s whole)) 0) (sym f) i }
+
+    pub written-answer : q .number ≡ 0 → record { refusal = q; length = size } ≡ writeAnswer s v o t body room
+    unfolding writeAnswer
+    written-answer z =
+        let f : fine (writeRefusal s v o t body room) ≡ true = ap fine (sym refusal-is) ∙ eq-eqb (q .number) 0 z in
+        λ i. record { refusal = refusal-is i; length = (fits z .size-exact ∙ ap (λ (x : Bool). pick x (length (octetsOf s whole)) 0) (sym f)) i }
+
+  module _ (out : List ℕ) {r q : Refusal} (er : r ≡ valueRefusal s v o t)
+      (eq : q ≡ unless (leb size (length out)) 21 (unless (bodyFits (o .flags) (length body)) 14 (unless (leb second headerMost) 12 (unless (leb size packetMost) 23 r)))) where
+    pub refused-output : (q .number ≡ 0 → ⊥) → out ≡ writeOutput s v o t body out
+    unfolding writeOutput
+    refused-output n =
+        let f : fine (writeRefusal s v o t body (length out)) ≡ false = ap fine (sym (refusal-is (length out) er eq)) ∙ ne-eqb (q .number) 0 n in
+        rw f
+
+    pub written-output :
+        q .number ≡ 0 → {l : List ℕ} {e : ℕ} → Lays (laid out 0) (packetPieces s v o t (size - 7) body) l e → l ≡ writeOutput s v o t body out
+    unfolding writeOutput packetOf
+    written-output z {l} {e} a =
+        let f : fine (writeRefusal s v o t body (length out)) ≡ true = ap fine (sym (refusal-is (length out) er eq)) ∙ eq-eqb (q .number) 0 z in
+        let k = fits (length out) er eq z in
+        let n : size - 7 ≡ length (dataOctets s whole) - 1 = omega (arith, k .size-exact, packet-length s whole, data-length s whole) in
+        let p : together (packetPieces s v o t (size - 7) body) ≡ octetsOf s whole =
+        ap (λ (j : ℕ). together (packetPieces s v o t j body)) n ∙ packet-together s v o t body in
+        let c = lays-all a (omega (arith, ap length p, k .fits-room)) .1 in
+        rw f
+        (c ∙ ap (sets out 0) p ∙ sets-eq (octetsOf s whole) out 0 (omega (arith, k .fits-room))
+        ∙ ap (λ (j : ℕ). octetsOf s whole ++ drop j out) (zero-add (length (octetsOf s whole))))

@@ -1,0 +1,32 @@
+-- `write::test_values` meets its contract: its tests are the definition's, in its order.
+-- Assumes nothing.
+use borrow.Author.Needs.{needs}
+use Rattle.write.proofs.test_values.Statement.{statement}
+use Rattle.write.proofs.test_values.Tie as tie
+use Rattle.write.specs.Writing.{valueRefusal, partsTest}
+
+test-settings-requires : tie.Need-test-settings-requires
+test-settings-requires c κs = search needs
+
+test-header-requires : tie.Need-test-header-requires
+test-header-requires c κs = search needs
+
+test-packet-requires : tie.Need-test-packet-requires
+test-packet-requires c κs = search needs
+
+test-parts-requires : tie.Need-test-parts-requires
+test-parts-requires c κs = search needs
+
+returns : tie.Need-returns
+unfolding valueRefusal partsTest
+returns c = simp (c .test-parts .ensures, c .before .test-packet .ensures, c .before .before .test-header .ensures, c .before .before .before .test-settings .ensures)
+
+pub test-values-spec : {M : Type 1} → statement M
+test-values-spec =
+    tie.close
+    (tie.spec
+    test-settings-requires
+    test-header-requires
+    test-packet-requires
+    test-parts-requires
+    returns)

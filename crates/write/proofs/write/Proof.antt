@@ -1,0 +1,61 @@
+-- `write::write` meets its contract: the tests on sizes are the definition's, and the pieces laid are the packet.
+-- Assumes nothing.
+use borrow.Author.Needs.{needs}
+use denote.Ref.{now}
+use lib.ListN.{length}
+use native.Mathlib.Omega.{arith}
+use Rattle.write.proofs.Answers.{refused-answer, refused-output, written-answer, written-output, fits}
+use Rattle.write.proofs.write.Statement.{statement}
+use Rattle.write.proofs.write.Tie as tie
+use Rattle.write.specs.Given.{lent}
+
+test-values-requires : tie.Need-test-values-requires
+test-values-requires c κs = search needs
+
+header-size-requires : tie.Need-header-size-requires
+header-size-requires c κs = search needs
+
+secondary-size-requires : tie.Need-secondary-size-requires
+secondary-size-requires c κs = search needs
+
+packet-size-requires : tie.Need-packet-size-requires
+packet-size-requires c κs = search needs
+
+test-sizes-requires : tie.Need-test-sizes-requires
+test-sizes-requires c κs = search needs
+
+returns : tie.Need-returns
+returns c =
+    let g = c .before .before .before .before .before .before .before .before .before .before .before .before .before .before .before .args in
+    (refused-answer (g .s) (g .v) (g .o) (lent (now (g .timestamp)) (now (g .zone)) (now (g .name)) (now (g .domain)) (now (g .lengths)) (now (g .authentication))) (now (g .body)) (c .before .before .before .before .before .header-size .ensures) (c .before .before .before .before .secondary-size .ensures) (c .before .before .before .packet-size .ensures) (length (now (g .out))) (c .before .before .before .before .before .before .test-values .ensures) (c .before .before .test-sizes .ensures) (c .if1 .taken), refused-output (g .s) (g .v) (g .o) (lent (now (g .timestamp)) (now (g .zone)) (now (g .name)) (now (g .domain)) (now (g .lengths)) (now (g .authentication))) (now (g .body)) (c .before .before .before .before .before .header-size .ensures) (c .before .before .before .before .secondary-size .ensures) (c .before .before .before .packet-size .ensures) (now (g .out)) (c .before .before .before .before .before .before .test-values .ensures) (c .before .before .test-sizes .ensures) (c .if1 .taken))
+
+sub-put-packet : tie.Need-sub-put-packet
+sub-put-packet c =
+    let g = c .before .before .before .before .before .before .before .before .before .before .before .before .before .before .before .before .args in
+    omega (arith, fits (g .s) (g .v) (g .o) (lent (now (g .timestamp)) (now (g .zone)) (now (g .name)) (now (g .domain)) (now (g .lengths)) (now (g .authentication))) (now (g .body)) (c .before .before .before .before .before .before .header-size .ensures) (c .before .before .before .before .before .secondary-size .ensures) (c .before .before .before .before .packet-size .ensures) (length (now (g .out))) (c .before .before .before .before .before .before .before .test-values .ensures) (c .before .before .before .test-sizes .ensures) (c .before .if1 .left) .least)
+
+put-packet-requires : tie.Need-put-packet-requires
+put-packet-requires c κs = search needs
+
+same-length : tie.Need-same-length
+same-length c = search needs
+
+returns-2 : tie.Need-returns-2
+returns-2 c =
+    let g = c .before .before .before .before .before .before .before .before .before .before .before .before .before .before .before .before .before .before .before .args in
+    (written-answer (g .s) (g .v) (g .o) (lent (now (g .timestamp)) (now (g .zone)) (now (g .name)) (now (g .domain)) (now (g .lengths)) (now (g .authentication))) (now (g .body)) (c .before .before .before .before .before .before .before .before .before .header-size .ensures) (c .before .before .before .before .before .before .before .before .secondary-size .ensures) (c .before .before .before .before .before .before .before .packet-size .ensures) (length (now (g .out))) (c .before .before .before .before .before .before .before .before .before .before .test-values .ensures) (c .before .before .before .before .before .before .test-sizes .ensures) (c .before .before .before .before .if1 .left), written-output (g .s) (g .v) (g .o) (lent (now (g .timestamp)) (now (g .zone)) (now (g .name)) (now (g .domain)) (now (g .lengths)) (now (g .authentication))) (now (g .body)) (c .before .before .before .before .before .before .before .before .before .header-size .ensures) (c .before .before .before .before .before .before .before .before .secondary-size .ensures) (c .before .before .before .before .before .before .before .packet-size .ensures) (now (g .out)) (c .before .before .before .before .before .before .before .before .before .before .test-values .ensures) (c .before .before .before .before .before .before .test-sizes .ensures) (c .before .before .before .before .if1 .left) (c .before .before .put-packet .ensures))
+
+pub write-spec : {M : Type 1} → statement M
+write-spec =
+    tie.close
+    (tie.spec
+    test-values-requires
+    header-size-requires
+    secondary-size-requires
+    packet-size-requires
+    test-sizes-requires
+    returns
+    sub-put-packet
+    put-packet-requires
+    same-length
+    returns-2)
