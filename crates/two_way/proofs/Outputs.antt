@@ -1,0 +1,48 @@
+-- Where the values can be written, the writer answers no refusal and the packet's length, and the output is the packet and the rest.
+-- Assumes nothing.
+use Prim.Native.Nat.{ℕ, _≤_}
+use mathlib.Core.Path.{_≡_, refl, ap, ap₂, sym, _∙_}
+use mathlib.Core.Bool.{Bool, true}
+use mathlib.Core.List.{List, _++_}
+use lib.ListN.{length, take, drop}
+use lib.Seq.{take-at}
+use borrow.Author.Tests.{eq-eqb}
+use Rattle.octets.specs.Octets.{pick}
+use Rattle.walk.specs.declared.Settings.{Settings}
+use Rattle.walk.specs.declared.Refusal.{Refusal}
+use Rattle.walk.specs.Walk.{noRefusal}
+use Rattle.packet.specs.Format.{Values, octetsOf}
+use Rattle.write.specs.declared.HeaderValues.{HeaderValues}
+use Rattle.write.specs.declared.PacketValues.{PacketValues}
+use Rattle.write.specs.declared.Written.{Written}
+use Rattle.write.specs.Given.{Lent}
+use Rattle.write.specs.Writing.{givenPacket, writeRefusal, fine, writeAnswer, writeOutput}
+use Rattle.two_way.specs.Writable.{Writable}
+use Rattle.two_way.specs.Same.{written}
+use Rattle.two_way.proofs.Accepts.{written-fine}
+
+module _ (s : Settings) (v : HeaderValues) (o : PacketValues) (t : Lent) (body out : List ℕ) (k : Writable s v o t body (length out)) where
+  abbrev packet : List ℕ
+  packet = octetsOf s (givenPacket v o t body)
+
+  all-fine : fine (writeRefusal s v o t body (length out)) ≡ true
+  all-fine = ap fine (written-fine s v o t body (length out) k)
+
+  pub answer-is : writeAnswer s v o t body (length out) ≡ record { refusal = noRefusal; length = length packet }
+  unfolding writeAnswer
+  answer-is =
+      λ i.
+      record {
+        refusal = written-fine s v o t body (length out) k i;
+        length = ap (λ (b : Bool). pick b (length packet) 0) all-fine i;
+      }
+
+  pub output-is : writeOutput s v o t body out ≡ packet ++ drop (length packet) out
+  unfolding writeOutput
+  output-is = ap (λ (b : Bool). pick b (packet ++ drop (length packet) out) out) all-fine
+
+  -- so what was written is the packet
+  pub written-is : written s v o t body out ≡ packet
+  written-is =
+      ap₂ (λ (r : Written) (l : List ℕ). take (r .length) l) answer-is output-is
+      ∙ take-at packet (drop (length packet) out) (length packet) refl
