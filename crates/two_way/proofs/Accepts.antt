@@ -117,10 +117,10 @@ module _ (s : Settings) (v : HeaderValues) (o : PacketValues) (t : Lent) (body :
         ∙ unless-true (leb (length (octetsOf s whole)) packetMost) 23 _ (le-leb (length (octetsOf s whole)) packetMost (k .range .packet))
         ∙ values-fine
 
+  pub accepts : Writable s v o t body room → writeRefusal s v o t body room .number ≡ 0
+  accepts k = ap (λ (r : Refusal). r .number) (written-fine k)
+
   -- so, of arguments as a call has them, exactly what can be written
   pub writes-exactly :
       LentOctets t body → Bits64 (v .transaction) → writeRefusal s v o t body room .number ≡ 0 ↔ Writable s v o t body room
-  writes-exactly p w = (
-    λ z. accepted-plain (lent-texts v t body p) (p .body) w z,
-    λ k. ap (λ (r : Refusal). r .number) (written-fine k),
-  )
+  writes-exactly p w = (accepted-plain (lent-texts v t body p) (p .body) w, accepts)

@@ -14,11 +14,11 @@ use Rattle.write.specs.declared.PacketValues.{PacketValues}
 use Rattle.write.specs.Given.{Lent, headOf as givenHead, packetOf}
 use Rattle.write.specs.Writing.{givenPacket, writeRefusal}
 use Rattle.format.specs.Told.{headOf as toldHead, valuesOf}
-use Rattle.format.proofs.TwoWay.{reads-back}
+use Rattle.format.proofs.TwoWay.{reads-back, one-value}
 use Rattle.two_way.specs.Writable.{Bits64, LentOctets, Writable}
 use Rattle.two_way.specs.Same.{written, SameRead}
-use Rattle.two_way.proofs.Texts.{lent-texts}
-use Rattle.two_way.proofs.Accepts.{accepted-plain}
+use Rattle.two_way.proofs.Texts.{packet-texts, packet-body}
+use Rattle.two_way.proofs.Accepts.{accepted-plain, accepts, writes-exactly}
 use Rattle.two_way.proofs.Outputs.{written-is}
 
 -- values told as they were given, one by one
@@ -69,20 +69,34 @@ told-same p h v o t b z e =
     }
 
 module _ (s : Settings) (v : HeaderValues) (o : PacketValues) (t : Lent) (body out : List ℕ) where
-  -- of values that can be written
+  -- what was written is octets, so the texts that are there and the body are: nothing else need be known of what was lent
+  pub written-writable :
+      Octets (written s v o t body out) → Bits64 (v .transaction) → writeRefusal s v o t body (length out) .number ≡ 0 →
+      Writable s v o t body (length out)
+  unfolding packetOf
+  written-writable q w z =
+      let e : Octets (octetsOf s (givenPacket v o t body)) = subst Octets (written-is s v o t body out z) q in
+      accepted-plain s v o t body (length out) (packet-texts s (givenPacket v o t body) e) (packet-body s (givenPacket v o t body) e) w z
+
   pub writable-back :
-      Writable s v o t body (length out) →
-      (readPacket s (written s v o t body out) .refusal .number ≡ 0)
-      × (valuesOf (written s v o t body out) (readPacket s (written s v o t body out)) ≡ givenPacket v o t body)
-  writable-back k =
-      subst (λ (p : List ℕ). (readPacket s p .refusal .number ≡ 0) × (valuesOf p (readPacket s p) ≡ givenPacket v o t body))
-      (sym (written-is s v o t body out k))
-      (reads-back s (givenPacket v o t body) (k .range))
+      Writable s v o t body (length out) → writeRefusal s v o t body (length out) .number ≡ 0 →
+      SameRead (written s v o t body out) (readPacket s (written s v o t body out)) v o t body
+  writable-back k z =
+      subst (λ (p : List ℕ). SameRead p (readPacket s p) v o t body) (sym (written-is s v o t body out z))
+      (told-same (octetsOf s (givenPacket v o t body)) (readPacket s (octetsOf s (givenPacket v o t body))) v o t body
+      (reads-back s (givenPacket v o t body) (k .range) .0) (reads-back s (givenPacket v o t body) (k .range) .1))
 
   -- what the writer accepts and writes reads back the same
   pub writes-back :
       LentOctets t body → Bits64 (v .transaction) → writeRefusal s v o t body (length out) .number ≡ 0 →
       SameRead (written s v o t body out) (readPacket s (written s v o t body out)) v o t body
-  writes-back p w z =
-      let k = writable-back (accepted-plain s v o t body (length out) (lent-texts v t body p) (p .body) w z) in
-      told-same (written s v o t body out) (readPacket s (written s v o t body out)) v o t body (k .0) (k .1)
+  writes-back p w z = writable-back (writes-exactly s v o t body (length out) p w .0 z) z
+
+  -- so no two different headers, packet values, texts or bodies are written alike
+  pub writes-apart :
+      (v′ : HeaderValues) (o′ : PacketValues) (t′ : Lent) (body′ out′ : List ℕ) → Writable s v o t body (length out) →
+      Writable s v′ o′ t′ body′ (length out′) → written s v o t body out ≡ written s v′ o′ t′ body′ out′ →
+      givenPacket v o t body ≡ givenPacket v′ o′ t′ body′
+  writes-apart v′ o′ t′ body′ out′ k j e =
+      one-value s (givenPacket v o t body) (givenPacket v′ o′ t′ body′) (k .range) (j .range)
+      (sym (written-is s v o t body out (accepts s v o t body (length out) k)) ∙ e ∙ written-is s v′ o′ t′ body′ out′ (accepts s v′ o′ t′ body′ (length out′) j))

@@ -6,3 +6,4 @@ pub mod Accepts
 pub mod Outputs
 pub mod Back
 pub mod Forth
+pub mod Calls

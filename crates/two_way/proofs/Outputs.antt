@@ -1,4 +1,4 @@
--- Where the values can be written, the writer answers no refusal and the packet's length, and the output is the packet and the rest.
+-- Where the writer does not refuse, it answers the packet's length, and the output is the packet and the rest as it was.
 -- Assumes nothing.
 use Prim.Native.Nat.{ℕ, _≤_}
 use mathlib.Core.Path.{_≡_, refl, ap, ap₂, sym, _∙_}
@@ -17,23 +17,21 @@ use Rattle.write.specs.declared.PacketValues.{PacketValues}
 use Rattle.write.specs.declared.Written.{Written}
 use Rattle.write.specs.Given.{Lent}
 use Rattle.write.specs.Writing.{givenPacket, writeRefusal, fine, writeAnswer, writeOutput}
-use Rattle.two_way.specs.Writable.{Writable}
 use Rattle.two_way.specs.Same.{written}
-use Rattle.two_way.proofs.Accepts.{written-fine}
 
-module _ (s : Settings) (v : HeaderValues) (o : PacketValues) (t : Lent) (body out : List ℕ) (k : Writable s v o t body (length out)) where
+module _ (s : Settings) (v : HeaderValues) (o : PacketValues) (t : Lent) (body out : List ℕ) (z : writeRefusal s v o t body (length out) .number ≡ 0) where
   abbrev packet : List ℕ
   packet = octetsOf s (givenPacket v o t body)
 
   all-fine : fine (writeRefusal s v o t body (length out)) ≡ true
-  all-fine = ap fine (written-fine s v o t body (length out) k)
+  all-fine = eq-eqb (writeRefusal s v o t body (length out) .number) 0 z
 
   pub answer-is : writeAnswer s v o t body (length out) ≡ record { refusal = noRefusal; length = length packet }
   unfolding writeAnswer
   answer-is =
       λ i.
       record {
-        refusal = written-fine s v o t body (length out) k i;
+        refusal = record { number = z i };
         length = ap (λ (b : Bool). pick b (length packet) 0) all-fine i;
       }
 
