@@ -7,3 +7,4 @@ pub mod Outputs
 pub mod Back
 pub mod Forth
 pub mod Calls
+pub mod Figures
