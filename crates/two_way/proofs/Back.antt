@@ -2,31 +2,38 @@
 -- Assumes nothing.
 use Prim.Native.Nat.{ℕ}
 use mathlib.Core.Path.{_≡_, refl, ap, sym, _∙_, subst}
-use mathlib.Core.List.{List}
+use mathlib.Core.List.{List, map}
 use lib.ListN.{length}
 use Rattle.octets.specs.Octets.{Octets}
 use Rattle.walk.specs.declared.Settings.{Settings}
+use Rattle.fields.specs.Form.{joined, split}
 use Rattle.packet.specs.declared.Header.{Header}
 use Rattle.packet.specs.Format.{Values, octetsOf, InRange}
 use Rattle.packet.specs.Reading.{readPacket}
 use Rattle.write.specs.declared.HeaderValues.{HeaderValues}
 use Rattle.write.specs.declared.PacketValues.{PacketValues}
-use Rattle.write.specs.Given.{Lent, headOf as givenHead, packetOf}
+use Rattle.write.specs.Given.{Lent, headOf as givenHead, packetOf, sum}
 use Rattle.write.specs.Writing.{givenPacket, writeRefusal}
-use Rattle.format.specs.Told.{headOf as toldHead, valuesOf}
-use Rattle.format.proofs.TwoWay.{reads-back, one-value}
+use Rattle.format.specs.Told.{content, headOf as toldHead, valuesOf}
+use Rattle.format.specs.Accepted.{Accepted}
+use Rattle.format.proofs.TwoWay.{reads-back, writes-octets, one-value}
+use Rattle.format.proofs.Accepting.{accepted}
+use Rattle.two_way.specs.Again.{partPlaces, againHeader, againPacket, againDomain, againLengths, againTexts, againBody}
 use Rattle.two_way.specs.Writable.{Bits64, LentOctets, Writable}
 use Rattle.two_way.specs.Same.{written, SameRead}
+use Rattle.two_way.proofs.Lists.{lengths-told, joined-contents, lengths-split, joined-split}
 use Rattle.two_way.proofs.Texts.{packet-texts, packet-body}
 use Rattle.two_way.proofs.Accepts.{accepted-plain, accepts, writes-exactly}
+use Rattle.two_way.proofs.Forth.{inside}
 use Rattle.two_way.proofs.Outputs.{written-is}
 
 -- values told as they were given, one by one
 pub told-same :
-    (p : List ℕ) (h : Header) (v : HeaderValues) (o : PacketValues) (t : Lent) (b : List ℕ) → h .refusal .number ≡ 0 →
-    valuesOf p h ≡ givenPacket v o t b → SameRead p h v o t b
+    (s : Settings) (p : List ℕ) (h : Header) (v : HeaderValues) (o : PacketValues) (t : Lent) (b : List ℕ) → h .refusal .number ≡ 0 →
+    Accepted s p h → sum (t .lengths) ≡ length (t .domain) → valuesOf p h ≡ givenPacket v o t b → SameRead p h v o t b
 unfolding valuesOf toldHead packetOf givenHead
-told-same p h v o t b z e =
+told-same s p h v o t b z a n e =
+    let d : map (content p) (partPlaces h) ≡ split (t .lengths) (t .domain) = ap (λ (u : Values). u .head .domain) e in
     record {
       no-refusal = z;
       kind = ap (λ (u : Values). u .head .kind) e;
@@ -63,10 +70,58 @@ told-same p h v o t b z e =
       timestamp = ap (λ (u : Values). u .head .timestamp) e;
       zone = ap (λ (u : Values). u .head .zone) e;
       name = ap (λ (u : Values). u .head .name) e;
-      domain = ap (λ (u : Values). u .head .domain) e;
+      parts = d;
+      domain =
+          joined-contents p (partPlaces h)
+          ∙ ap (joined (λ (x : List ℕ). x)) d
+          ∙ joined-split (t .lengths) (t .domain) n;
+      lengths = lengths-told p (partPlaces h) (inside s p h a) ∙ ap (map length) d ∙ lengths-split (t .lengths) (t .domain) n;
       authentication = ap (λ (u : Values). u .head .authentication) e;
       body = ap (λ (u : Values). u .body) e;
     }
+
+-- what was read so, given to the writer again, is what it was given
+pub same-again :
+    (p : List ℕ) (h : Header) (v : HeaderValues) (o : PacketValues) (t : Lent) (b : List ℕ) → SameRead p h v o t b →
+    (againHeader h ≡ v) × ((againPacket h ≡ o) × ((againTexts p h ≡ t) × (againBody p h ≡ b)))
+unfolding againHeader againPacket againTexts againDomain againLengths
+same-again p h v o t b k = (
+  λ i.
+      record {
+        kind = k .kind i;
+        apid = k .apid i;
+        sdu = k .sdu i;
+        area = k .area i;
+        service = k .service i;
+        operation = k .operation i;
+        version = k .version i;
+        error = k .error i;
+        qos = k .qos i;
+        session = k .session i;
+        second = k .second i;
+        qualifier = k .qualifier i;
+        transaction = k .transaction i;
+        has = k .has i;
+        source = k .source i;
+        destination = k .destination i;
+        priority = k .priority i;
+      },
+  (
+    λ i. record { flags = k .flags i; count = k .count i; counter = k .counter i },
+    (
+      λ i.
+          record {
+            timestamp = k .timestamp i;
+            zone = k .zone i;
+            name = k .name i;
+            domain = k .domain i;
+            lengths = k .lengths i;
+            authentication = k .authentication i;
+          },
+      k .body,
+    ),
+  ),
+)
 
 module _ (s : Settings) (v : HeaderValues) (o : PacketValues) (t : Lent) (body out : List ℕ) where
   -- what was written is octets, so the texts that are there and the body are: nothing else need be known of what was lent
@@ -83,8 +138,11 @@ module _ (s : Settings) (v : HeaderValues) (o : PacketValues) (t : Lent) (body o
       SameRead (written s v o t body out) (readPacket s (written s v o t body out)) v o t body
   writable-back k z =
       subst (λ (p : List ℕ). SameRead p (readPacket s p) v o t body) (sym (written-is s v o t body out z))
-      (told-same (octetsOf s (givenPacket v o t body)) (readPacket s (octetsOf s (givenPacket v o t body))) v o t body
-      (reads-back s (givenPacket v o t body) (k .range) .0) (reads-back s (givenPacket v o t body) (k .range) .1))
+      (told-same s (octetsOf s (givenPacket v o t body)) (readPacket s (octetsOf s (givenPacket v o t body))) v o t body
+      (reads-back s (givenPacket v o t body) (k .range) .0)
+      (accepted s (octetsOf s (givenPacket v o t body)) (writes-octets s (givenPacket v o t body) (k .range))
+      (reads-back s (givenPacket v o t body) (k .range) .0))
+      (k .adds) (reads-back s (givenPacket v o t body) (k .range) .1))
 
   -- what the writer accepts and writes reads back the same
   pub writes-back :

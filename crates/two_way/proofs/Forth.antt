@@ -28,7 +28,7 @@ use Rattle.two_way.proofs.Accepts.{accepts}
 use Rattle.two_way.proofs.Outputs.{answer-is, output-is}
 
 module _ (s : Settings) (p : List ℕ) (h : Header) (a : Accepted s p h) where
-  inside : Inside p (partPlaces h)
+  pub inside : Inside p (partPlaces h)
   unfolding Inside
   inside k b =
       let l = length-take (h .texts .count) (h .texts .parts) in

@@ -4,7 +4,8 @@ pub mod Headers
 pub mod Texts
 pub mod Accepts
 pub mod Outputs
-pub mod Back
 pub mod Forth
+pub mod Back
+pub mod Exactly
 pub mod Calls
 pub mod Figures

@@ -4,18 +4,21 @@ use Prim.Native.Nat.{ℕ, zero, suc, _+_, _-_, _≤_, _<_}
 use mathlib.Core.Path.{_≡_, refl, ap, ap₂, sym, _∙_}
 use mathlib.Core.List.{List, [], _∷_, _++_, map}
 use native.Mathlib.Omega.{arith}
-use lib.ListN.{length, getD, take, drop, length-append, length-take, length-drop}
+use lib.ListN.{length, getD, take, drop, length-append, length-drop, take-append-drop}
 use lib.Seq.{take-at, drop-at, length-take-le}
 use Rattle.octets.specs.Octets.{Octets}
-use Rattle.octets.proofs.Has.{octets-nil, octets-take, octets-drop, part-length}
+use Rattle.octets.proofs.Has.{octets-nil, octets-append, octets-take, octets-drop, octets-part, part-length}
 use Rattle.walk.specs.declared.Settings.{Settings}
 use Rattle.fields.specs.declared.Place.{Place}
 use Rattle.fields.specs.Fields.{nowhere}
 use Rattle.fields.specs.Form.{numberOctets, blobOctets, textOctets, partOctets, joined, split}
-use Rattle.fields.proofs.Written.{length-split}
 use Rattle.packet.specs.Format.{Each}
 use Rattle.write.specs.Given.{sum}
 use Rattle.format.specs.Told.{content}
+
+pub list-none : {A : Type 0} (x : List A) → length x ≡ 0 → x ≡ []
+list-none [] h = refl
+list-none (a ∷ x) h = absurd (omega arith)
 
 -- ---- octets of what two lists make, and of each
 
@@ -80,16 +83,41 @@ module _ (p : List ℕ) where
       ap₂ _+_ (sym (first-long a l h)) (sum-joined l (rest-inside a l h))
       ∙ sym (length-append (content p a) (joined (content p) l))
 
+  -- the lengths told are those of the contents
+  pub lengths-told : (l : List Place) → Inside p l → map (λ (a : Place). a .length) l ≡ map length (map (content p) l)
+  lengths-told [] h = refl
+  lengths-told (a ∷ l) h = ap₂ _∷_ (sym (first-long a l h)) (lengths-told l (rest-inside a l h))
+
+  pub joined-contents : (l : List Place) → joined (content p) l ≡ joined (λ (x : List ℕ). x) (map (content p) l)
+  unfolding joined
+  joined-contents [] = refl
+  joined-contents (a ∷ l) = ap (λ (x : List ℕ). content p a ++ x) (joined-contents l)
+
+  pub joined-octets : (l : List Place) → Octets p → Octets (joined (content p) l)
+  unfolding joined
+  joined-octets [] o = octets-nil
+  joined-octets (a ∷ l) o =
+      octets-append (content p a) (joined (content p) l) (octets-part p (a .at) (a .length) o) (joined-octets l o)
+
+-- a text cut by lengths that add up: its parts have these lengths, and joined they are the text
+pub lengths-split : (ns x : List ℕ) → sum ns ≡ length x → map length (split ns x) ≡ ns
+unfolding sum split
+lengths-split [] x h = refl
+lengths-split (n ∷ ns) x h =
+    ap₂ _∷_ (length-take-le n x (omega arith)) (lengths-split ns (drop n x) (omega (arith, length-drop n x)))
+
+pub joined-split : (ns x : List ℕ) → sum ns ≡ length x → joined (λ (y : List ℕ). y) (split ns x) ≡ x
+unfolding sum split joined
+joined-split [] x h = sym (list-none x (sym h))
+joined-split (n ∷ ns) x h =
+    ap (λ (y : List ℕ). take n x ++ y) (joined-split ns (drop n x) (omega (arith, length-drop n x))) ∙ take-append-drop n x
+
 -- ---- lengths
 
 pub sum-none : (ns : List ℕ) → length ns ≡ 0 → sum ns ≡ 0
 unfolding sum
 sum-none [] h = refl
 sum-none (n ∷ ns) h = absurd (omega arith)
-
-pub list-none : {A : Type 0} (x : List A) → length x ≡ 0 → x ≡ []
-list-none [] h = refl
-list-none (a ∷ x) h = absurd (omega arith)
 
 part-least : (s : Settings) (x : List ℕ) → length x ≤ length (partOctets s x)
 unfolding partOctets textOctets blobOctets

@@ -1,11 +1,14 @@
--- A packet read as the values given to the writer: no refusal, every number, every text's octets at its told place, the body.
+-- A packet read as the values given to the writer: no refusal, every number, every text's octets at its told place, the body. And
+-- a slice that the writer could have written.
 -- Assumes nothing: these are definitions.
-use Prim.Native.Nat.{ℕ}
+use Prim.Native.Nat.{ℕ, _≤_}
 use mathlib.Core.Path.{_≡_}
-use mathlib.Core.List.{List, map}
-use lib.ListN.{length, take}
+use mathlib.Core.List.{List, _++_, map}
+use lib.ListN.{length, take, drop}
 use Rattle.walk.specs.declared.Settings.{Settings}
-use Rattle.fields.specs.Form.{split}
+use Rattle.walk.specs.Walk.{noRefusal}
+use Rattle.fields.specs.declared.Place.{Place}
+use Rattle.fields.specs.Form.{joined, split}
 use Rattle.packet.specs.declared.Header.{Header}
 use Rattle.write.specs.declared.HeaderValues.{HeaderValues}
 use Rattle.write.specs.declared.PacketValues.{PacketValues}
@@ -13,10 +16,25 @@ use Rattle.write.specs.Given.{Lent}
 use Rattle.write.specs.Writing.{writeAnswer, writeOutput}
 use Rattle.format.specs.Told.{content}
 use Rattle.two_way.specs.Again.{partPlaces}
+use Rattle.two_way.specs.Writable.{Bits64, LentOctets}
 
 -- the octets that the writer wrote: as many as it answers, from the output's first on
 abbrev pub written : Settings → HeaderValues → PacketValues → Lent → List ℕ → List ℕ → List ℕ
 written s v o t b out = take (writeAnswer s v o t b (length out) .length) (writeOutput s v o t b out)
+
+-- p could have been written: there are values, texts and a body, as a call of the writer has them, for which, given room, it writes
+-- just p
+pub record CouldWrite (s : Settings) (p : List ℕ) : Type 0 where
+  pub header : HeaderValues
+  pub own : PacketValues
+  pub texts : Lent
+  pub body : List ℕ
+  pub octets : LentOctets texts body
+  pub bits : Bits64 (header .transaction)
+  pub answers :
+      (out : List ℕ) → length p ≤ length out →
+      writeAnswer s header own texts body (length out) ≡ record { refusal = noRefusal; length = length p }
+  pub writes : (out : List ℕ) → length p ≤ length out → writeOutput s header own texts body out ≡ p ++ drop (length p) out
 
 -- h is what reading answers of p
 pub record SameRead (p : List ℕ) (h : Header) (v : HeaderValues) (o : PacketValues) (t : Lent) (b : List ℕ) : Type 0 where
@@ -44,7 +62,9 @@ pub record SameRead (p : List ℕ) (h : Header) (v : HeaderValues) (o : PacketVa
   pub timestamp : content p (h .texts .timestamp) ≡ t .timestamp
   pub zone : content p (h .texts .zone) ≡ t .zone
   pub name : content p (h .texts .session) ≡ t .name
-  -- the parts of the domain, by their lengths
-  pub domain : map (content p) (partPlaces h) ≡ split (t .lengths) (t .domain)
+  -- the domain: its parts, all of it, and their lengths
+  pub parts : map (content p) (partPlaces h) ≡ split (t .lengths) (t .domain)
+  pub domain : joined (content p) (partPlaces h) ≡ t .domain
+  pub lengths : map (λ (a : Place). a .length) (partPlaces h) ≡ t .lengths
   pub authentication : content p (h .texts .authentication) ≡ t .authentication
   pub body : content p (h .body) ≡ b
