@@ -185,7 +185,7 @@ module _ (s : Settings) (v : HeaderValues) (t : Lent) where
               opt-lengths (t .lengths) (t .domain) e (v .has .domain) (r .domain),
               (
                 opt-text (v .has .authentication) (t .authentication) (r .authentication)
-                (λ h. omega (arith, authentication-long s (headOf v t) h)),
+                    (λ h. omega (arith, authentication-long s (headOf v t) h)),
                 tt,
               ),
             ),
