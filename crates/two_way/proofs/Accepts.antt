@@ -1,7 +1,7 @@
 -- The writer accepts exactly the values in range whose domain lengths add up, where there is room.
 -- Assumes nothing.
-use Prim.Native.Nat.{ℕ, _+_, _≤_, _<_}
-use mathlib.Core.Path.{_≡_, refl, ap, sym, _∙_}
+use Prim.Native.Nat.{ℕ, _≤_}
+use mathlib.Core.Path.{_≡_, refl, ap, _∙_}
 use mathlib.Core.Logic.{_↔_}
 use mathlib.Core.Bool.{Bool, true, false}
 use mathlib.Core.List.{List}
@@ -14,12 +14,12 @@ use Rattle.walk.specs.declared.Settings.{Settings}
 use Rattle.walk.specs.declared.Refusal.{Refusal}
 use Rattle.walk.specs.Walk.{noRefusal, timestampLeast, timestampMost}
 use Rattle.fields.specs.Fields.{partsMost}
-use Rattle.packet.specs.Format.{Values, segment, headerOctets, secondaryOctets, octetsOf, headerMost, packetMost, InRange}
+use Rattle.packet.specs.Format.{Values, segment, secondaryOctets, octetsOf, headerMost, packetMost}
 use Rattle.packet.specs.Numbers.{countMost}
 use Rattle.write.specs.declared.HeaderValues.{HeaderValues}
 use Rattle.write.specs.declared.PacketValues.{PacketValues}
 use Rattle.write.specs.Given.{Lent, headOf, packetOf, most32, headerChecks, packetChecks}
-use Rattle.write.specs.Writing.{settingsTest, partsTest, bodyFits, givenPacket, sizeTests, valueRefusal, writeRefusal, fine}
+use Rattle.write.specs.Writing.{settingsTest, partsTest, bodyFits, givenPacket, sizeTests, valueRefusal, writeRefusal}
 use Rattle.write.proofs.Tests.{unless-fine, unless-true, AllHold, unlessAll-fine, unlessAll-true}
 use Rattle.write.proofs.Answers.{secondary-length}
 use Rattle.two_way.specs.Writable.{Bits64, LentOctets, Writable}

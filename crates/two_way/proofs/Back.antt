@@ -1,14 +1,14 @@
 -- What the writer writes reads back the same (M-3), over the definitions.
 -- Assumes nothing.
 use Prim.Native.Nat.{ℕ}
-use mathlib.Core.Path.{_≡_, refl, ap, sym, _∙_, subst}
+use mathlib.Core.Path.{_≡_, ap, sym, _∙_, subst}
 use mathlib.Core.List.{List, map}
 use lib.ListN.{length}
 use Rattle.octets.specs.Octets.{Octets}
 use Rattle.walk.specs.declared.Settings.{Settings}
 use Rattle.fields.specs.Form.{joined, split}
 use Rattle.packet.specs.declared.Header.{Header}
-use Rattle.packet.specs.Format.{Values, octetsOf, InRange}
+use Rattle.packet.specs.Format.{Values, octetsOf}
 use Rattle.packet.specs.Reading.{readPacket}
 use Rattle.write.specs.declared.HeaderValues.{HeaderValues}
 use Rattle.write.specs.declared.PacketValues.{PacketValues}

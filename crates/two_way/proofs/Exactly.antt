@@ -1,9 +1,9 @@
--- Reading accepts a slice exactly if the writer could have written it.
+-- Reading accepts a slice exactly if the writer could have written it; and the writer can write every packet of the format.
 -- Assumes nothing.
 use Prim.Native.Nat.{ℕ, _≤_}
-use mathlib.Core.Path.{_≡_, refl, ap, ap₂, sym, _∙_, subst}
+use mathlib.Core.Path.{_≡_, refl, ap, ap₂, _∙_, subst}
 use mathlib.Core.Logic.{_↔_}
-use mathlib.Core.List.{List, _++_}
+use mathlib.Core.List.{List}
 use native.Mathlib.Omega.{arith}
 use lib.ListN.{length, take, drop, replicate, length-replicate}
 use lib.Seq.{take-at}
@@ -11,11 +11,12 @@ use Rattle.octets.specs.Octets.{Octets}
 use Rattle.octets.proofs.Has.{octets-part}
 use Rattle.walk.specs.declared.Settings.{Settings}
 use Rattle.packet.specs.declared.Header.{Header}
+use Rattle.packet.specs.Format.{Values, octetsOf, InRange}
 use Rattle.packet.specs.Reading.{readPacket}
 use Rattle.write.specs.declared.Written.{Written}
-use Rattle.write.specs.Writing.{writeRefusal, writeAnswer, writeOutput}
+use Rattle.write.specs.Writing.{writeRefusal, writeAnswer}
 use Rattle.format.specs.Told.{headOf, valuesOf}
-use Rattle.format.proofs.TwoWay.{only-writing}
+use Rattle.format.proofs.TwoWay.{writes-octets, reads-back, only-writing}
 use Rattle.two_way.specs.Again.{partPlaces, againHeader, againPacket, againDomain, againTexts, againBody}
 use Rattle.two_way.specs.Writable.{Bits64, LentOctets}
 use Rattle.two_way.specs.Same.{written, CouldWrite}
@@ -68,3 +69,7 @@ could-accepted s p c =
 
 pub reads-exactly : (s : Settings) (p : List ℕ) → Octets p → readPacket s p .refusal .number ≡ 0 ↔ CouldWrite s p
 reads-exactly s p o = (accepted-could s p o, could-accepted s p)
+
+-- and the writer can write every packet of the format
+pub range-could : (s : Settings) (v : Values) → InRange s v → CouldWrite s (octetsOf s v)
+range-could s v r = accepted-could s (octetsOf s v) (writes-octets s v r) (reads-back s v r .0)

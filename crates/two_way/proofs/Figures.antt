@@ -4,11 +4,11 @@
 use Prim.Native.Nat.{ℕ, zero, suc, _/_, _%_}
 use mathlib.Core.Path.{_≡_, refl, ap, sym, _∙_}
 use mathlib.Core.Bool.{true, false}
-use mathlib.Core.List.{List, [], _∷_, _++_}
+use mathlib.Core.List.{List, [], _∷_, _++_, map}
 use native.Mathlib.Omega.{arith}
 use lib.ListN.{length, take, replicate}
 use Rattle.octets.specs.Octets.{octetAt, wide}
-use Rattle.walk.specs.Walk.{unless, noRefusal}
+use Rattle.walk.specs.Walk.{unless, noRefusal, refusal}
 use Rattle.fields.specs.Form.{split}
 use Rattle.packet.specs.declared.Header.{Header}
 use Rattle.packet.specs.Format.{presence, identification, fixedOctets, frontOctets, counterOctets, backOctets, secondaryOctets, dataOctets, octetsOf}
@@ -69,31 +69,29 @@ texts = lent [] [] [] [] [] []
 abbrev pub zeros : ℕ → List ℕ
 zeros n = replicate n 0
 
-pub figure-answers :
-    (writeAnswer settings header own texts [] 27 ≡ record { refusal = noRefusal; length = 27 })
-    × (writeAnswer settings header own texts [] 30 ≡ record { refusal = noRefusal; length = 27 })
-unfolding writeAnswer writeRefusal sizeTests valueRefusal partsTest settingsTest unlessAll unless headerChecks nameChecks routingChecks idChecks textChecks packetChecks headOf packetOf split sum octetsOf identification dataOctets secondaryOctets fixedOctets presence frontOctets counterOctets backOctets wide
-figure-answers = (refl, refl)
+-- what writing it into n zeros answers, and the output afterwards
+abbrev answers : ℕ → Written
+answers n = writeAnswer settings header own texts [] (length (zeros n))
 
-pub figure-outputs :
-    (writeOutput settings header own texts [] (zeros 27) ≡ packet)
-    × (writeOutput settings header own texts [] (zeros 30) ≡ packet ++ (0 ∷ 0 ∷ 0 ∷ []))
-unfolding writeOutput writeRefusal sizeTests valueRefusal partsTest settingsTest unlessAll unless headerChecks nameChecks routingChecks idChecks textChecks packetChecks headOf packetOf split sum octetsOf identification dataOctets secondaryOctets fixedOctets presence frontOctets counterOctets backOctets wide
-figure-outputs = (refl, refl)
+abbrev outputs : ℕ → List ℕ
+outputs n = writeOutput settings header own texts [] (zeros n)
 
--- one octet less is 21, and all is as it was
-pub figure-short :
-    (writeAnswer settings header own texts [] 26 ≡ record { refusal = record { number = 21 }; length = 0 })
-    × (writeOutput settings header own texts [] (zeros 26) ≡ zeros 26)
+-- 27 octets are room enough, what is behind them stays; with one less it is 21, and all is as it was
+pub figure-written :
+    (map answers (27 ∷ 30 ∷ 26 ∷ [])
+    ≡ record { refusal = noRefusal; length = 27 } ∷ record { refusal = noRefusal; length = 27 }
+    ∷ record { refusal = refusal 21; length = 0 }
+    ∷ [])
+    × ((outputs 27 ≡ packet) × ((outputs 30 ≡ packet ++ (0 ∷ 0 ∷ 0 ∷ [])) × (outputs 26 ≡ zeros 26)))
 unfolding writeAnswer writeOutput writeRefusal sizeTests valueRefusal partsTest settingsTest unlessAll unless headerChecks nameChecks routingChecks idChecks textChecks packetChecks headOf packetOf split sum octetsOf identification dataOctets secondaryOctets fixedOctets presence frontOctets counterOctets backOctets wide
-figure-short = (refl, refl)
+figure-written = (refl, (refl, (refl, refl)))
 
 -- ---- a writer that writes nothing
 
 -- its output is not the promised one
-pub no-silent-output : writeOutput settings header own texts [] (zeros 27) ≡ zeros 27 → ⊥
+pub no-silent-output : outputs 27 ≡ zeros 27 → ⊥
 no-silent-output e =
-    let z : octetAt packet 0 ≡ octetAt (zeros 27) 0 = ap (λ (l : List ℕ). octetAt l 0) (sym (figure-outputs .0) ∙ e) in
+    let z : octetAt packet 0 ≡ octetAt (zeros 27) 0 = ap (λ (l : List ℕ). octetAt l 0) (sym (figure-written .1 .0) ∙ e) in
     omega arith
 
 -- and whatever length it answers, what it left in the output does not read back

@@ -1,13 +1,13 @@
 -- One field that may be absent, as the writer tests it and as the format has it in range: the same, each way.
 -- Assumes nothing.
-use Prim.Native.Nat.{ℕ, suc, _+_, _≤_, _<_}
+use Prim.Native.Nat.{ℕ, suc, _≤_, _<_}
 use mathlib.Core.Path.{_≡_, refl, ap, sym, _∙_}
 use mathlib.Core.Bool.{Bool, true, false}
 use mathlib.Core.List.{List, []}
 use native.Mathlib.Omega.{arith}
 use lib.ListN.{length}
 use borrow.Author.Tests.{leb-true, eqb-true, le-leb, eq-eqb}
-use Rattle.octets.specs.Octets.{pick, Octets}
+use Rattle.octets.specs.Octets.{Octets}
 use Rattle.fields.specs.Fields.{partsMost}
 use Rattle.fields.specs.Form.{split}
 use Rattle.fields.proofs.Written.{length-split}

@@ -1,11 +1,11 @@
 -- What is accepted is what the writer could have written (M-4), over the definitions: given the values that reading told, texts from
 -- their places, the same settings and room, the writer writes exactly that slice.
 -- Assumes nothing.
-use Prim.Native.Nat.{ℕ, _+_, _≤_, _<_, min}
-use mathlib.Core.Path.{_≡_, refl, ap, sym, _∙_, subst}
+use Prim.Native.Nat.{ℕ, _≤_, _<_}
+use mathlib.Core.Path.{_≡_, ap, sym, _∙_, subst}
 use mathlib.Core.List.{List, _++_}
 use native.Mathlib.Omega.{arith}
-use lib.ListN.{length, getD, take, drop, length-take}
+use lib.ListN.{length, drop, length-take}
 use lib.Seq.{getD-take}
 use Rattle.octets.specs.Octets.{Octets}
 use Rattle.walk.specs.declared.Settings.{Settings}
@@ -14,7 +14,6 @@ use Rattle.fields.specs.Fields.{nowhere}
 use Rattle.packet.specs.declared.Header.{Header}
 use Rattle.packet.specs.Format.{Values, octetsOf, InRange}
 use Rattle.packet.specs.Reading.{readPacket}
-use Rattle.write.specs.declared.Written.{Written}
 use Rattle.write.specs.Given.{headOf as givenHead, packetOf, sum}
 use Rattle.write.specs.Writing.{givenPacket, writeRefusal, writeAnswer, writeOutput}
 use Rattle.format.specs.Told.{headOf as toldHead, valuesOf}

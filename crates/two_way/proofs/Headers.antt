@@ -2,16 +2,16 @@
 -- That a text has at most 65,535 octets follows from the header's limit.
 -- Assumes nothing.
 use Prim.Native.Nat.{ℕ, _+_, _≤_, _<_}
-use mathlib.Core.Path.{_≡_, refl, ap, sym, _∙_}
+use mathlib.Core.Path.{_≡_, refl}
 use mathlib.Core.Bool.{Bool, true, false}
-use mathlib.Core.List.{List, [], _∷_, _++_}
+use mathlib.Core.List.{_++_}
 use native.Mathlib.Omega.{arith}
 use lib.ListN.{length, length-append}
 use borrow.Author.Tests.{leb-true, ltb-true, le-leb, lt-ltb}
 use Rattle.octets.specs.Octets.{pick, Octets}
 use Rattle.walk.specs.declared.Settings.{Settings}
 use Rattle.fields.specs.Fields.{partsMost}
-use Rattle.fields.specs.Form.{numberOctets, partOctets, joined, domainOctets, split}
+use Rattle.fields.specs.Form.{numberOctets, partOctets, joined, domainOctets}
 use Rattle.packet.specs.Format.{Head, Each, headerOctets, textMost, HeadInRange}
 use Rattle.write.specs.declared.HeaderValues.{HeaderValues}
 use Rattle.write.specs.Given.{Lent, headOf, sum, most8, most16, most32, nameChecks, routingChecks, idChecks, textChecks, headerChecks}
