@@ -41,46 +41,7 @@ module _ (s : Settings) (p : List ℕ) (h : Header) (a : Accepted s p h) where
   -- they are the values that were told
   pub again-values : again ≡ valuesOf p h
   unfolding packetOf givenHead againHeader againPacket againTexts againDomain againLengths valuesOf toldHead
-  again-values =
-      λ i.
-      record {
-        head =
-            record {
-              kind = h .primary .kind;
-              apid = h .primary .apid .0;
-              sdu = h .fixed .sdu;
-              area = h .fixed .area;
-              service = h .fixed .service;
-              operation = h .fixed .operation;
-              version = h .fixed .version;
-              error = h .fixed .error;
-              qos = h .fixed .qos;
-              session = h .fixed .session;
-              second = h .fixed .apid .0;
-              qualifier = h .fixed .qualifier;
-              transaction = h .fixed .transaction;
-              has-source = h .has .source;
-              has-destination = h .has .destination;
-              has-priority = h .has .priority;
-              has-timestamp = h .has .timestamp;
-              has-zone = h .has .zone;
-              has-name = h .has .session;
-              has-domain = h .has .domain;
-              has-authentication = h .has .authentication;
-              source = h .ids .source;
-              destination = h .ids .destination;
-              priority = h .ids .priority;
-              timestamp = againTexts p h .timestamp;
-              zone = againTexts p h .zone;
-              name = againTexts p h .name;
-              domain = split-joined p (partPlaces h) inside i;
-              authentication = againTexts p h .authentication;
-            };
-        flags = h .primary .flags;
-        count = h .primary .count .0;
-        counter = h .ids .counter .0;
-        body = againBody p h;
-      }
+  again-values = rw (split-joined p (partPlaces h) inside)
 
   adds-up : sum (againTexts p h .lengths) ≡ length (againTexts p h .domain)
   unfolding againTexts againDomain againLengths
