@@ -1,12 +1,12 @@
 #!/usr/bin/env python3
-"""cases.py VECTORS_DIR [--read]: writes what the crate vectors reads, and what it must print, beside its src/.
+"""cases.py VECTORS_DIR: writes what the crate vectors reads, and what it must print, beside its src/.
 
 VECTORS_DIR holds a file CALL.jsonl for each call, a case a line: the call's inputs and, under `expect`, its answer and the lent
 buffers after it. The lines that must be printed are made from `expect`, never from the program. The form of a case and of a line
 is told in crates/vectors/src/main.rt; a call is added by a row of CALLS.
 
-With --read the cases of reading are among them, and those of damaged(): figure 14 with each octet changed, cut and lengthened,
-whose answers tests/model.py gives.
+To the cases of reading those of damaged() are added: figure 14 with each octet changed, cut and lengthened. Their answers are
+those of tests/model.py, which must agree with the file on every case of its own.
 """
 
 import itertools
@@ -139,9 +139,6 @@ CALLS = {
         lambda row: [(OUTPUT, octets(row["out"]))],
         lambda row: line([answer(row)["refusal"], answer(row)["length"]], octets(row["expect"]["out"])),
     ),
-}
-
-READING = {
     "read": Call(
         3,
         lambda row: [row["T"]],
@@ -185,29 +182,26 @@ def check_model(row):
         sys.exit(f"cases.py: tests/model.py disagrees on T {row['T']}, packet {row['packet']}")
 
 
-def main(arguments):
-    with_reading = "--read" in arguments
-    directories = [a for a in arguments if a != "--read"]
-    if len(directories) != 1:
-        sys.exit(__doc__)
-    vectors = pathlib.Path(directories[0])
-    stdin, stdout, counts = bytearray(), [], {}
+def cases(vectors):
+    """Every case: what it is counted under, its call and its row."""
+    for name, call in CALLS.items():
+        for row in rows(vectors, name):
+            yield name, call, row
+    for row in read_rows():
+        yield "figure 14 damaged", CALLS["read"], row
 
-    def add(call, name, row):
+
+def main(arguments):
+    if len(arguments) != 1:
+        sys.exit(__doc__)
+    vectors = pathlib.Path(arguments[0])
+    for row in rows(vectors, "read"):
+        check_model(row)
+    stdin, stdout, counts = bytearray(), [], {}
+    for name, call, row in cases(vectors):
         stdin.extend(call.encoded(row))
         stdout.append(call.expected(row))
         counts[name] = counts.get(name, 0) + 1
-
-    for name, call in CALLS.items():
-        for row in rows(vectors, name):
-            add(call, name, row)
-    for row in rows(vectors, "read"):
-        check_model(row)
-        if with_reading:
-            add(READING["read"], "read", row)
-    if with_reading:
-        for row in read_rows():
-            add(READING["read"], "figure 14 damaged", row)
     (CRATE / "stdin").write_bytes(stdin)
     (CRATE / "stdout").write_text("".join(stdout), encoding="ascii")
     for name, count in counts.items():

@@ -23,6 +23,7 @@ mod case;
 mod input;
 mod lists;
 mod print;
+mod reads;
 mod varints;
 
 use case::Case;
@@ -33,6 +34,8 @@ ghost use Prim.Native.Nat.{_≤_};
 const VARINT_READ: u8 = 1;
 
 const VARINT_WRITE: u8 = 2;
+
+const READ: u8 = 3;
 
 // The sizes of the buffers: input and text are emptied as the run goes, the others hold one case.
 const INPUT: usize = 65536;
@@ -83,6 +86,9 @@ fn run(
     }
     if tag == VARINT_WRITE {
         return varints::write(numbers, out, answer);
+    }
+    if tag == READ {
+        return reads::read(numbers, lists::part(strings, ends, 0), answer);
     }
     0
 }

@@ -83,6 +83,22 @@ unless-same k r {a} {b} h =
     (λ e. shut a k r e ∙ sym (shut b k r e))
     (bool (fine r))
 
+-- the pieces of a packet laid over an output with room for it
+pub packet-laid :
+    (s : Settings) (v : HeaderValues) (o : PacketValues) (t : Lent) (body out : List ℕ) {size : ℕ} →
+    size ≡ length (octetsOf s (givenPacket v o t body)) → length (octetsOf s (givenPacket v o t body)) ≤ length out →
+    {l : List ℕ} {e : ℕ} → Lays (laid out 0) (packetPieces s v o t (size - 7) body) l e →
+    l ≡ octetsOf s (givenPacket v o t body) ++ drop (length (octetsOf s (givenPacket v o t body))) out
+unfolding packetOf
+packet-laid s v o t body out {size} e room a =
+    let w = givenPacket v o t body in
+    let n : size - 7 ≡ length (dataOctets s w) - 1 = omega (arith, packet-length s w, data-length s w) in
+    let p : together (packetPieces s v o t (size - 7) body) ≡ octetsOf s w =
+    ap (λ (j : ℕ). together (packetPieces s v o t j body)) n ∙ packet-together s v o t body in
+    let c = lays-all a (omega (arith, ap length p)) .1 in
+    c ∙ ap (sets out 0) p ∙ sets-eq (octetsOf s w) out 0 (omega arith)
+    ∙ ap (λ (j : ℕ). octetsOf s w ++ drop j out) (zero-add (length (octetsOf s w)))
+
 module _ (s : Settings) (v : HeaderValues) (o : PacketValues) (t : Lent) (body : List ℕ) {h second size : ℕ}
     (eh : h ≡ capped (length (headerOctets s (headOf v t))))
     (es : second ≡ capped (h + pick (segment (o .flags)) 4 0))
@@ -96,7 +112,7 @@ module _ (s : Settings) (v : HeaderValues) (o : PacketValues) (t : Lent) (body :
       es ∙ ap (λ (n : ℕ). capped (n + pick (segment (o .flags)) 4 0)) eh ∙ cap-left (length (headerOctets s (headOf v t))) (pick (segment (o .flags)) 4 0)
       ∙ ap capped (sym (secondary-length s whole))
 
-  size-is : size ≡ capped (length (octetsOf s whole))
+  pub size-is : size ≡ capped (length (octetsOf s whole))
   unfolding packetOf
   size-is =
       ez ∙ ap (λ (n : ℕ). capped (6 + n + length body)) second-is ∙ cap-middle (length (secondaryOctets s whole)) (length body)
@@ -176,10 +192,4 @@ module _ (s : Settings) (v : HeaderValues) (o : PacketValues) (t : Lent) (body :
     written-output z {l} {e} a =
         let f : fine (writeRefusal s v o t body (length out)) ≡ true = ap fine (sym (refusal-is (length out) er eq)) ∙ eq-eqb (q .number) 0 z in
         let k = fits (length out) er eq z in
-        let n : size - 7 ≡ length (dataOctets s whole) - 1 = omega (arith, k .size-exact, packet-length s whole, data-length s whole) in
-        let p : together (packetPieces s v o t (size - 7) body) ≡ octetsOf s whole =
-        ap (λ (j : ℕ). together (packetPieces s v o t j body)) n ∙ packet-together s v o t body in
-        let c = lays-all a (omega (arith, ap length p, k .fits-room)) .1 in
-        rw f
-        (c ∙ ap (sets out 0) p ∙ sets-eq (octetsOf s whole) out 0 (omega (arith, k .fits-room))
-        ∙ ap (λ (j : ℕ). octetsOf s whole ++ drop j out) (zero-add (length (octetsOf s whole))))
+        rw f (packet-laid s v o t body out (k .size-exact) (k .fits-room) a)

@@ -6,11 +6,9 @@ use borrow.Author.Tests.{eq-eqb, ne-eqb}
 use denote.Ref.{now}
 use mathlib.Core.Path.{sym, _∙_, ap}
 use native.Mathlib.Omega.{arith}
-use Rattle.walk.proofs.Steps.{number-refused, number-found}
 use Rattle.walk.proofs.Steps.{number-refused, number-got, number-told, number-small}
 use Rattle.walk.proofs.read_number.Statement.{statement}
 use Rattle.walk.proofs.read_number.Tie as tie
-use Rattle.walk.specs.Inner.{asWalk, asNumber}
 use Rattle.walk.specs.Inner.{asWalk, ofWalk, asNumber}
 use Rattle.walk.specs.Walk.{numberStep}
 
