@@ -150,7 +150,7 @@ module _ (s : Settings) (v : HeaderValues) (o : PacketValues) (t : Lent) (body o
       SameRead (written s v o t body out) (readPacket s (written s v o t body out)) v o t body
   writes-back p w z = writable-back (writes-exactly s v o t body (length out) p w .0 z) z
 
-  -- so no two different headers, packet values, texts or bodies are written alike
+  -- so no two different values of the format are written alike
   pub writes-apart :
       (v′ : HeaderValues) (o′ : PacketValues) (t′ : Lent) (body′ out′ : List ℕ) → Writable s v o t body (length out) →
       Writable s v′ o′ t′ body′ (length out′) → written s v o t body out ≡ written s v′ o′ t′ body′ out′ →
@@ -158,3 +158,27 @@ module _ (s : Settings) (v : HeaderValues) (o : PacketValues) (t : Lent) (body o
   writes-apart v′ o′ t′ body′ out′ k j e =
       one-value s (givenPacket v o t body) (givenPacket v′ o′ t′ body′) (k .range) (j .range)
       (sym (written-is s v o t body out (accepts s v o t body (length out) k)) ∙ e ∙ written-is s v′ o′ t′ body′ out′ (accepts s v′ o′ t′ body′ (length out′) j))
+
+-- and no two different headers, values of a packet, texts or bodies are
+pub writes-one :
+    (s : Settings) (v v′ : HeaderValues) (o o′ : PacketValues) (t t′ : Lent) (body body′ out out′ : List ℕ) →
+    Writable s v o t body (length out) → Writable s v′ o′ t′ body′ (length out′) →
+    written s v o t body out ≡ written s v′ o′ t′ body′ out′ → (v ≡ v′) × ((o ≡ o′) × ((t ≡ t′) × (body ≡ body′)))
+writes-one s v v′ o o′ t t′ body body′ out out′ k j e =
+    let p = written s v o t body out in
+    let q = written s v′ o′ t′ body′ out′ in
+    let a =
+    same-again p (readPacket s p) v o t body
+    (writable-back s v o t body out k (accepts s v o t body (length out) k)) in
+    let b =
+    same-again q (readPacket s q) v′ o′ t′ body′
+    (writable-back s v′ o′ t′ body′ out′ j (accepts s v′ o′ t′ body′ (length out′) j)) in (
+      sym (a .0) ∙ ap (λ (x : List ℕ). againHeader (readPacket s x)) e ∙ b .0,
+      (
+        sym (a .1 .0) ∙ ap (λ (x : List ℕ). againPacket (readPacket s x)) e ∙ b .1 .0,
+        (
+          sym (a .1 .1 .0) ∙ ap (λ (x : List ℕ). againTexts x (readPacket s x)) e ∙ b .1 .1 .0,
+          sym (a .1 .1 .1) ∙ ap (λ (x : List ℕ). againBody x (readPacket s x)) e ∙ b .1 .1 .1,
+        ),
+      ),
+    )
