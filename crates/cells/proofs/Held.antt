@@ -19,7 +19,7 @@ use Rattle.packet.specs.Reading.{readPacket, segmented, acceptedHeader, primary
 use Rattle.format.proofs.Start.{answer}
 use Rattle.cells.specs.Segments.{Seg, segOf, both}
 use Rattle.cells.specs.Rows.{Cell, free, held, broken, zeroRow, heldRow, packetIn, mayHold, holds, cellOf}
-use Rattle.cells.specs.Inner.{heldRowTest, kindOf}
+use Rattle.cells.specs.Inner.{heldRowTest, kindOf, placeIn}
 
 pub both-true : (a b : Bool) → both a b ≡ true → (a ≡ true) × (b ≡ true)
 both-true true b e = (refl, e)
@@ -172,3 +172,8 @@ module _ (s : Settings) (r z : List ℕ) (ez : z ≡ zeroRow (length z)) (el : l
 
     pub told-broken : t ≡ false → 2 ≡ kindOf (cellOf s (length z) r)
     told-broken e = kind-broken s (length z) r el row-free (sym row-holds ∙ e)
+
+-- a counter's place is one of three
+pub place-least : (p : List ℕ) → (27 ≤ placeIn p) × (placeIn p ≤ 29)
+unfolding placeIn
+place-least p = (omega arith, omega arith)

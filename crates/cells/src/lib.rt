@@ -5,13 +5,13 @@
 //
 // Every function takes any octets. The zero cell is lent as a slice, and its length is the cell size Z.
 ghost use mathlib.Core.Path.{_≡_};
-ghost use Prim.Native.Nat.{_+_, _*_, _/_, _≤_};
+ghost use Prim.Native.Nat.{_+_, _-_, _*_, _/_, _≤_};
 ghost use lib.ListN.{drop};
 ghost use lib.ListN.{length};
 ghost use Rattle.octets.specs.Octets.{pick, part, number, alike};
 ghost use Rattle.cells.specs.Segments.{both};
 ghost use Rattle.cells.specs.Rows.{rowAt, zeroRow, cellOf};
-ghost use Rattle.cells.specs.Inner.{heldRowTest, kindOf};
+ghost use Rattle.cells.specs.Inner.{heldRowTest, kindOf, placeIn, counterIn, spansAlike};
 ghost use Rattle.cells.specs.Order.{lowest, lengthFits, sound};
 use walk::Settings;
 
@@ -27,14 +27,62 @@ pub fn row(store: &[u8], z: usize, i: usize) -> &[u8]
     &store[from..to]
 }
 
+// n octets of a slice from a place on, as far as they are there.
+pub fn span(x: &[u8], at: usize, n: usize) -> &[u8]
+    ensures { λ r. ⌜ now r ≡ part (now (x .entry)) at n ⌝ }
+{
+    let from = octets::within(x.len(), 0, at);
+    let to = octets::within(x.len(), from, n);
+    &x[from..to]
+}
+
 // The packet that a row holds, by its length field, as far as it is there.
 pub fn packet_in(row: &[u8]) -> &[u8]
     ensures { λ r. ⌜ now r ≡ part (now (row .entry)) 2 (number 2 (now (row .entry)) 6 + 7) ⌝ }
 {
     let size = octets::be16(row, 6) as usize + 7;
-    let from = octets::within(row.len(), 0, 2);
-    let to = octets::within(row.len(), from, size);
-    &row[from..to]
+    span(row, 2, size)
+}
+
+// Where the segment counter of a packet stands, by its presence octet.
+pub fn counter_place(p: &[u8]) -> usize
+    ensures { λ r. ⌜ r ≡ placeIn (now (p .entry)) ⌝ }
+{
+    let f = octets::octet(p, 26);
+    27 + (f / 128 % 2) as usize + (f / 64 % 2) as usize
+}
+
+// The segment counter that stands there.
+pub fn counter_in(p: &[u8]) -> u32
+    ensures { λ r. ⌜ r ≡ counterIn (now (p .entry)) ⌝ }
+{
+    octets::be32(p, counter_place(p))
+}
+
+// Whether two segments have the same key, told where their bodies begin.
+pub fn same_key(p: &[u8], end: usize, q: &[u8], stop: usize) -> bool
+    ensures { λ r. ⌜ r ≡ spansAlike (now (p .entry)) end (now (q .entry)) stop ⌝ }
+{
+    let c = counter_place(p);
+    let d = counter_place(q);
+    let long = and(c == d, end == stop);
+    let ids = octets::same(span(p, 0, 2), span(q, 0, 2));
+    let fore = octets::same(span(p, 6, c - 6), span(q, 6, d - 6));
+    let aft = octets::same(
+        span(p, c + 4, less(end, c + 4)),
+        span(q, d + 4, less(stop, d + 4)),
+    );
+    and(long, and(ids, and(fore, aft)))
+}
+
+// What is left of a number, 0 where it is the smaller one.
+fn less(a: usize, b: usize) -> usize
+    ensures { λ r. ⌜ r ≡ a - b ⌝ }
+{
+    if b <= a {
+        return a - b;
+    }
+    0
 }
 
 // Both tests hold.
