@@ -3,3 +3,4 @@ pub mod Fewest
 pub mod Headers
 pub mod Parts
 pub mod Numbers
+pub mod ReadBack

@@ -96,3 +96,17 @@ module _ {A : Type 0} where
   unfolding firstOf
   joined-suc W f n =
       joined-append W (firstOf f n) (f n ∷ []) ∙ ap (λ (y : List ℕ). joined W (firstOf f n) ++ y) (joined-one W (f n))
+
+  pub joined-none : (W : A → List ℕ) → joined W [] ≡ []
+  unfolding joined
+  joined-none W = refl
+
+-- joined, by the contents alone
+pub joined-first :
+    {A : Type 0} (W : A → List ℕ) (f : ℕ → A) (n : ℕ) →
+    joined W (firstOf f n) ≡ joined (λ (x : List ℕ). x) (firstOf (λ (i : ℕ). W (f i)) n)
+unfolding firstOf
+joined-first W f zero = joined-none W ∙ sym (joined-none (λ (x : List ℕ). x))
+joined-first W f (suc n) =
+    joined-suc W f n ∙ ap (λ (y : List ℕ). y ++ W (f n)) (joined-first W f n)
+    ∙ sym (joined-suc (λ (x : List ℕ). x) (λ (i : ℕ). W (f i)) n)
