@@ -4,3 +4,4 @@ pub mod Headers
 pub mod Parts
 pub mod Numbers
 pub mod ReadBack
+pub mod Calls
