@@ -5,3 +5,4 @@ pub mod Parts
 pub mod Numbers
 pub mod ReadBack
 pub mod Calls
+pub mod Runs

@@ -46,6 +46,12 @@ module _ (B C : ℕ) (h : 1 ≤ C) where
   reach =
       ⊎-elim (λ l. let k = below (rounded B C) l in absurd (omega arith)) (λ l. l) (below-or (rounded B C * C) B)
 
+-- ---- where one packet is enough
+
+pub packets-one : (P H B : ℕ) → single P H B ≡ true → packets P H B ≡ 1
+unfolding packets
+packets-one P H B e = rw e
+
 -- ---- where cutting is needed
 
 module _ (P H B : ℕ) (e : single P H B ≡ false) where

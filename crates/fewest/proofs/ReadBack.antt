@@ -29,7 +29,7 @@ use Rattle.cut.proofs.Packets.{packet-most}
 use Rattle.fewest.specs.Carrying.{bodyOf, firstOf, Carried, OneWhole, AllSegments, Carries}
 use Rattle.fewest.specs.Cutting.{Lends, told, oneEnough, number, full, octetsAt, allPackets, Segment, Back, AllBack}
 use Rattle.fewest.proofs.Lists.{first-length, first-each, first-same, joined-first}
-use Rattle.fewest.proofs.Parts.{two-at-least, piece-full, piece-some, piece-most, parts-joined}
+use Rattle.fewest.proofs.Parts.{packets-one, two-at-least, piece-full, piece-some, piece-most, parts-joined}
 use Rattle.fewest.proofs.Numbers.{segment-is, flags-whole, flags-first, flags-last, flags-between, counter-of, count-mod, cuts-well, good-values, room, counters, packet-range}
 use Rattle.fewest.proofs.Fewest.{fewest}
 
@@ -97,15 +97,11 @@ module _ (s : Settings) (P : ℕ) (v : HeaderValues) (t : Lent) (body : List ℕ
         segment = λ e. segment-back i (octetsOf s u) l (b .1) (q ∙ ap not e) e;
       }
 
-  number-one : single P H B ≡ true → packets P H B ≡ 1
-  unfolding packets
-  number-one e = rw e
-
   two : single P H B ≡ false → 2 ≤ packets P H B
   two e = two-at-least P H B e (room s P v t body d z e)
 
   some : 1 ≤ packets P H B
-  some = ⊎-elim (λ e. omega (arith, number-one e)) (λ e. omega (arith, two e)) (bool (single P H B))
+  some = ⊎-elim (λ e. omega (arith, packets-one P H B e)) (λ e. omega (arith, two e)) (bool (single P H B))
 
   body-back : (i : ℕ) → i < packets P H B → bodyOf s (octetsAt s P v t body d i) ≡ bodyAt P H body i
   unfolding packetAt
@@ -136,7 +132,7 @@ module _ (s : Settings) (P : ℕ) (v : HeaderValues) (t : Lent) (body : List ℕ
             (λ e.
             inl
             (record {
-              one = first-length (octetsAt s P v t body d) (packets P H B) ∙ number-one e;
+              one = first-length (octetsAt s P v t body d) (packets P H B) ∙ packets-one P H B e;
               whole =
                   first-each (λ (p : List ℕ). segmented p ≡ false) (octetsAt s P v t body d) (packets P H B)
                   (λ i l. back i l .whole e .0);
