@@ -6,3 +6,4 @@ pub mod Numbers
 pub mod ReadBack
 pub mod Calls
 pub mod Runs
+pub mod Figures
