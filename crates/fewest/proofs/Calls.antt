@@ -1,22 +1,20 @@
 -- The same over the generated contracts of the public calls of `cut`: where the count succeeds, no list of packets that carries the
--- message is shorter than its answer; where a packet is written, its octets are packet number i, below the count, and the sender is as
--- it was. And two outcomes that a contract allows for the same arguments have the same answer, and the same octets in the output (M-7).
+-- message is shorter than its answer; where a packet is written, its octets are packet number i, below the count, they read back
+-- as that, and the sender is as it was. And two outcomes that a contract allows for the same arguments have the same answer, and the same octets in the output (M-7).
 -- Assumes nothing.
 use Prim.Native.Nat.{ℕ, _≤_, _<_}
-use mathlib.Core.Path.{_≡_, refl, ap, ap₂, sym, _∙_}
-use mathlib.Core.Bool.{Bool, true, false}
+use mathlib.Core.Path.{_≡_, refl, ap, ap₂, sym, _∙_, subst}
+use mathlib.Core.Bool.{Bool, true}
 use mathlib.Core.List.{List, _++_}
 use native.Mathlib.Omega.{arith}
 use contract.Lifetimes as L
 use denote.Ref.{now}
 use lib.ListN.{length, take, drop}
 use lib.Seq.{take-at, drop-at}
-use lib.Dec.{ltb, leb, eqb}
+use lib.Dec.{ltb, leb}
 use borrow.Author.Tests.{eq-eqb, eqb-true, ltb-true}
-use Rattle.octets.specs.Octets.{pick}
+use Rattle.octets.specs.Octets.{pick, Octets}
 use Rattle.walk.specs.declared.Settings.{Settings}
-use Rattle.walk.specs.Walk.{unless}
-use Rattle.packet.specs.Format.{octetsOf, headerOctets}
 use Rattle.write.specs.declared.HeaderValues.{HeaderValues}
 use Rattle.write.specs.Given.{Lent, lent, headOf}
 use Rattle.write.specs.Writing.{fine}
@@ -24,14 +22,15 @@ use Rattle.write.proofs.Tests.{unless-fine}
 use Rattle.cut.specs.declared.Sender.{Sender}
 use Rattle.cut.specs.declared.Counted.{Counted}
 use Rattle.cut.specs.declared.Cut.{Cut}
-use Rattle.cut.specs.Cutting.{packets, headerLength, countRefusal, senderAfter, countAnswer, givenAt, packetRefusal, packetAnswer, packetOutput}
+use Rattle.cut.specs.Cutting.{packets, headerLength, countRefusal, senderAfter, countAnswer, packetRefusal, packetAnswer, packetOutput}
 use Rattle.cut.proofs.count.Reads as counts
 use Rattle.cut.proofs.packet.Reads as cuts
 use Rattle.cut.proofs.Sender.after_packet.Reads as packeted
 use Rattle.cut.proofs.Sender.after_segment.Reads as segmented
 use Rattle.fewest.specs.Carrying.{Carries}
-use Rattle.fewest.specs.Cutting.{number, octetsAt}
+use Rattle.fewest.specs.Cutting.{Lends, number, octetsAt, Back}
 use Rattle.fewest.proofs.Fewest.{fewest}
+use Rattle.fewest.proofs.ReadBack.{packets-read-back}
 
 -- ---- over plain values
 
@@ -112,6 +111,12 @@ module _ (s : Settings) (P : ℕ) (v : HeaderValues) (t : Lent) (body : List ℕ
         sender = ap (λ (x : Cut). x .sender) e;
       }
 
+  plain-back : Lends v t → Octets body → Back s P v t body d i (take (r .length) after)
+  plain-back w o =
+      let k = plain-wrote in
+      subst (λ (p : List ℕ). Back s P v t body d i p) (sym (k .octets))
+      (packets-read-back s P v t body d w o (k .no-refusal) .each i (k .below))
+
 -- ---- `cut::count`
 
 pub count-counts :
@@ -143,6 +148,21 @@ pub packet-wrote :
     (now (a .1 .1 .1 .1 .1 .1 .1 .1 .1 .0)) (a .1 .1 .1 .1 .1 .1 .1 .1 .1 .1 .0) (a .1 .1 .1 .1 .1 .1 .1 .1 .1 .1 .1 .0) r
     (now (a .1 .1 .1 .1 .1 .1 .1 .1 .1 .1 .1 .1 .0)) (now (x .1 .1 .1 .1 .1 .1 .1 .1 .1 .1 .1 .1 .0))
 packet-wrote κs a r x k z = plain-wrote _ _ _ _ _ _ _ r _ _ (k .0) (k .1) z
+
+-- what it wrote reads back as packet number i; that lent texts and the body are octets, and a transaction id one of 64 bits, is what
+-- their types say
+pub packet-back :
+    (κs : L.Lfts 8) (a : _) (r : _) (x : _) → cuts.Post κs a r x → r .refusal .number ≡ 0 →
+    Lends (a .1 .1 .0)
+    (lent (now (a .1 .1 .1 .0)) (now (a .1 .1 .1 .1 .0)) (now (a .1 .1 .1 .1 .1 .0)) (now (a .1 .1 .1 .1 .1 .1 .0))
+    (now (a .1 .1 .1 .1 .1 .1 .1 .0)) (now (a .1 .1 .1 .1 .1 .1 .1 .1 .0))) →
+    Octets (now (a .1 .1 .1 .1 .1 .1 .1 .1 .1 .0)) →
+    Back (a .0) (a .1 .0) (a .1 .1 .0)
+    (lent (now (a .1 .1 .1 .0)) (now (a .1 .1 .1 .1 .0)) (now (a .1 .1 .1 .1 .1 .0)) (now (a .1 .1 .1 .1 .1 .1 .0))
+    (now (a .1 .1 .1 .1 .1 .1 .1 .0)) (now (a .1 .1 .1 .1 .1 .1 .1 .1 .0)))
+    (now (a .1 .1 .1 .1 .1 .1 .1 .1 .1 .0)) (a .1 .1 .1 .1 .1 .1 .1 .1 .1 .1 .0) (a .1 .1 .1 .1 .1 .1 .1 .1 .1 .1 .1 .0)
+    (take (r .length) (now (x .1 .1 .1 .1 .1 .1 .1 .1 .1 .1 .1 .1 .0)))
+packet-back κs a r x k z w o = plain-back (a .0) (a .1 .0) (a .1 .1 .0) _ _ _ _ r _ _ (k .0) (k .1) z w o
 
 -- ---- the same arguments, the same answer and the same output
 

@@ -3,15 +3,14 @@
 -- carries the body at all.
 -- Assumes nothing.
 use Prim.Native.Nat.{ℕ, suc, _+_, _-_, _*_, _/_, _≤_, _<_}
-use mathlib.Core.Path.{_≡_, refl, ap, sym, _∙_}
+use mathlib.Core.Path.{_≡_, ap, sym, _∙_}
 use mathlib.Core.Logic.{⊎-elim}
 use mathlib.Core.Bool.{Bool, true, false}
 use mathlib.Core.List.{List, [], _∷_, _++_}
 use native.Mathlib.Omega.{arith}
-use native.Mathlib.Nat.{div-le-of-le-mul, mul-comm, div-lt-iff-lt-mul}
+use native.Mathlib.Nat.{div-lt-iff-lt-mul}
 use lib.ListN.{length, length-append}
-use lib.Dec.{leb}
-use borrow.Author.Tests.{leb-true, leb-false, le-leb}
+use borrow.Author.Tests.{leb-false}
 use Rattle.octets.specs.Octets.{pick}
 use Rattle.octets.proofs.Lists.{bool}
 use Rattle.octets.proofs.Has.{part-length}
@@ -19,12 +18,12 @@ use Rattle.walk.specs.declared.Settings.{Settings}
 use Rattle.fields.specs.Form.{joined}
 use Rattle.packet.specs.Format.{Head, Each, identification, headerOctets, headerMost}
 use Rattle.packet.specs.Reading.{segmented, counterSize, readPacket}
-use Rattle.format.specs.Told.{valuesOf, content}
+use Rattle.format.specs.Told.{valuesOf}
 use Rattle.format.proofs.Frame.{identification-long}
 use Rattle.format.proofs.Accepting.{accepted}
 use Rattle.cut.specs.Cutting.{single, chunk, rounded, packets}
 use Rattle.fewest.specs.Carrying.{bodyOf, Carried, OneWhole, AllSegments, Carries}
-use Rattle.fewest.proofs.Lists.{each-map, each-both, joined-most}
+use Rattle.fewest.proofs.Lists.{each-both, joined-most}
 
 -- rounding up gives no more than any number that is enough
 pub rounded-least : (B C n : ℕ) → 1 ≤ C → B ≤ n * C → rounded B C ≤ n

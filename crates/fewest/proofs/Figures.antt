@@ -1,10 +1,10 @@
 -- Document 01's figures 7 to 12, by computation over the definitions, as one table; and two of its wrong programs refuted on figure 8
 -- (E-5): a cutter that repeats packet 0, and an invented count. The header is figure 14's, H 21, and a body is so many zeros.
 -- Assumes nothing.
-use Prim.Native.Nat.{ℕ, zero, suc, _+_, _<_}
-use mathlib.Core.Path.{_≡_, refl, ap, sym, _∙_}
-use mathlib.Core.Bool.{Bool, true, false}
-use mathlib.Core.List.{List, [], _∷_, _++_, map}
+use Prim.Native.Nat.{ℕ, zero, suc}
+use mathlib.Core.Path.{_≡_, refl, ap, _∙_}
+use mathlib.Core.Bool.{false}
+use mathlib.Core.List.{List, [], _∷_, map}
 use native.Mathlib.Omega.{arith}
 use lib.ListN.{length, replicate}
 use Rattle.octets.specs.Octets.{Octets, wide, number as numberAt}
@@ -12,8 +12,7 @@ use Rattle.octets.proofs.Has.{octets-nil}
 use Rattle.walk.specs.declared.Settings.{Settings}
 use Rattle.walk.specs.Walk.{begun, check, octets, unless}
 use Rattle.fields.specs.Form.{joined, split}
-use Rattle.packet.specs.Format.{Values, presence, identification, fixedOctets, frontOctets, counterOctets, backOctets, headerOctets, secondaryOctets, dataOctets, octetsOf}
-use Rattle.packet.specs.Numbers.{nextCount}
+use Rattle.packet.specs.Format.{presence, identification, fixedOctets, frontOctets, counterOctets, backOctets, headerOctets, secondaryOctets, dataOctets, octetsOf}
 use Rattle.packet.specs.Reading.{primaryTests, primaryOf, afterSdu, afterArea, afterService, afterOperation, afterVersion, afterSession, afterSecondary, afterQualifier, afterTransaction, afterPresence, fixedOf, flagsOf, presentOf, idsOf, textsOf, bodyTest, wideField, acceptedHeader, readPacket}
 use Rattle.write.specs.declared.HeaderValues.{HeaderValues}
 use Rattle.write.specs.Given.{Lent, lent, headOf, sum, nameChecks, routingChecks, idChecks, textChecks, headerChecks, unlessAll}
@@ -21,8 +20,8 @@ use Rattle.write.specs.Writing.{settingsTest, partsTest}
 use Rattle.cut.specs.declared.Sender.{Sender}
 use Rattle.cut.specs.declared.Counted.{Counted}
 use Rattle.cut.specs.declared.Next.the-variants.{At, NoneLeft}
-use Rattle.cut.specs.Sending.{countersFit, counterAt, countAt}
-use Rattle.cut.specs.Cutting.{packets, rounded, limitTest, valueTests, messageTests, headerLength, countRefusal, countAnswer, flagsAt, bodyAt, packetAt, givenAt}
+use Rattle.cut.specs.Sending.{nextCounter, afterSegment, afterSegments, countersFit, counterAt, countAt}
+use Rattle.cut.specs.Cutting.{packets, rounded, limitTest, valueTests, messageTests, headerLength, countRefusal, senderAfter, countAnswer, flagsAt, bodyAt, packetAt, givenAt}
 use Rattle.fewest.specs.Carrying.{bodyOf, firstOf, Carries}
 use Rattle.fewest.specs.Cutting.{Lends, octetsAt, allPackets, AllBack}
 use Rattle.fewest.proofs.ReadBack.{packets-read-back, carries}
@@ -130,6 +129,11 @@ pub figures : map (λ (r : Row). answer (r .asks)) table ≡ map (λ (r : Row). 
 unfolding countAnswer countRefusal messageTests limitTest valueTests settingsTest partsTest unless unlessAll headerChecks nameChecks routingChecks idChecks textChecks sum packets rounded countersFit headOf split packetAt flagsAt bodyAt countAt counterAt octetsOf identification dataOctets secondaryOctets fixedOctets presence frontOctets counterOctets backOctets headerOctets wide numberAt
 figures = refl
 
+-- figure 12: the largest counter is used, and then none is left
+pub twelve-none : countAnswer settings 64 values texts 38 (sender 4294967294) .sender .next ≡ NoneLeft
+unfolding countAnswer countRefusal messageTests limitTest valueTests settingsTest partsTest unless unlessAll headerChecks nameChecks routingChecks idChecks textChecks sum packets rounded countersFit headOf split headerOctets fixedOctets frontOctets backOctets wide senderAfter afterSegments afterSegment nextCounter
+twelve-none = refl
+
 -- ---- figure 8's message, and the wrong programs
 
 zeros-octets : (n : ℕ) → Octets (zeros n)
@@ -172,6 +176,17 @@ pub repeats-refuted : Carries settings (headOf values texts) (zeros 38) 64 repea
 repeats-refuted c =
     let e : length (joined (bodyOf settings) repeated) ≡ 38 = ap length (c .bodies) in
     omega (arith, repeated-long)
+
+long-at :
+    (length (octetsAt settings 64 values texts (zeros 38) (sender 0) 0) ≡ 64)
+    × (length (octetsAt settings 64 values texts (zeros 38) (sender 0) 1) ≡ 36)
+unfolding packetAt flagsAt bodyAt packets rounded countAt counterAt headOf split octetsOf identification dataOctets secondaryOctets fixedOctets presence frontOctets counterOctets backOctets headerOctets wide
+long-at = (refl, refl)
+
+-- nor does the call's promise allow it: packet 1 has 36 octets, and packet 0 has 64
+pub repeats-not-promised :
+    octetsAt settings 64 values texts (zeros 38) (sender 0) 1 ≡ octetsAt settings 64 values texts (zeros 38) (sender 0) 0 → ⊥
+repeats-not-promised e = let l = ap length e in omega (arith, long-at)
 
 eight-count : countAnswer settings 64 values texts 38 (sender 0) .count ≡ 2
 unfolding countAnswer countRefusal messageTests limitTest valueTests settingsTest partsTest unless unlessAll headerChecks nameChecks routingChecks idChecks textChecks sum packets rounded countersFit headOf split headerOctets fixedOctets frontOctets backOctets wide

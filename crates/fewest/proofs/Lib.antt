@@ -7,3 +7,4 @@ pub mod ReadBack
 pub mod Calls
 pub mod Runs
 pub mod Figures
+pub mod Senders

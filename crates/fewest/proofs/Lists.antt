@@ -8,7 +8,7 @@ use native.Mathlib.Omega.{arith}
 use native.Mathlib.Numerals.{add-one}
 use native.Mathlib.Nat.{add-zero}
 use lib.ListN.{length, getD, length-append, List·getD-append}
-use lib.Seq.{getD-append-add, getD-at}
+use lib.Seq.{getD-at}
 use Rattle.octets.proofs.Lists.{below-or}
 use Rattle.fields.specs.Form.{joined}
 use Rattle.packet.specs.Format.{Each}

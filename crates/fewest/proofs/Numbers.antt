@@ -1,25 +1,23 @@
 -- The numbers of packet i where the count succeeds: its flags, sequence count and counter; and its values are in range.
 -- Assumes nothing.
-use Prim.Native.Nat.{ℕ, suc, _+_, _-_, _*_, _%_, _≤_, _<_}
-use mathlib.Core.Path.{_≡_, refl, ap, ap₂, sym, _∙_, subst}
-use mathlib.Core.Logic.{⊎-elim}
+use Prim.Native.Nat.{ℕ, suc, _+_, _*_, _%_, _≤_, _<_}
+use mathlib.Core.Path.{_≡_, refl, ap, sym, _∙_, subst}
 use mathlib.Core.Bool.{Bool, true, false, not}
-use mathlib.Core.List.{List, [], _∷_, _++_}
+use mathlib.Core.List.{List}
 use native.Mathlib.Omega.{arith}
 use native.Mathlib.Nat.{add-mod-mod}
 use lib.ListN.{length}
 use lib.Dec.{leb, eqb}
 use borrow.Author.Tests.{leb-true, eq-eqb, ne-eqb}
 use Rattle.octets.specs.Octets.{pick, part, Octets}
-use Rattle.octets.proofs.Lists.{bool}
 use Rattle.octets.proofs.Has.{octets-part}
 use Rattle.walk.specs.declared.Settings.{Settings}
 use Rattle.walk.specs.Walk.{noRefusal, unless, timestampLeast, timestampMost}
 use Rattle.packet.specs.declared.SegmentCounter.{SegmentCounter}
-use Rattle.packet.specs.Format.{Values, Opt, segment, octetsOf, SettingsInRange, InRange}
+use Rattle.packet.specs.Format.{Opt, segment, SettingsInRange, InRange}
 use Rattle.packet.specs.Numbers.{countMost}
 use Rattle.write.specs.declared.HeaderValues.{HeaderValues}
-use Rattle.write.specs.Given.{Lent, headOf, most32}
+use Rattle.write.specs.Given.{Lent, most32}
 use Rattle.write.specs.Writing.{settingsTest, fine}
 use Rattle.write.proofs.Tests.{unless-fine}
 use Rattle.write.proofs.Answers.{secondary-length}

@@ -2,10 +2,10 @@
 -- needed there are at least two.
 -- Assumes nothing.
 use Prim.Native.Nat.{ℕ, zero, suc, _+_, _-_, _*_, _/_, _≤_, _<_, min}
-use mathlib.Core.Path.{_≡_, refl, ap, sym, _∙_}
+use mathlib.Core.Path.{_≡_, ap, sym, _∙_}
 use mathlib.Core.Logic.{⊎-elim}
 use mathlib.Core.Bool.{Bool, true, false}
-use mathlib.Core.List.{List, [], _∷_, _++_}
+use mathlib.Core.List.{List, _++_}
 use native.Mathlib.Omega.{arith}
 use native.Mathlib.Nat.{zero-mul, le-div-iff-mul-le}
 use lib.ListN.{length, take, drop, length-take, length-drop}
@@ -13,7 +13,7 @@ use lib.Seq.{take-add, take-all}
 use lib.Dec.{leb}
 use borrow.Author.Tests.{leb-true, leb-false}
 use Rattle.octets.specs.Octets.{pick, part}
-use Rattle.octets.proofs.Lists.{bool, below-or}
+use Rattle.octets.proofs.Lists.{below-or}
 use Rattle.fields.specs.Form.{joined}
 use Rattle.cut.specs.Cutting.{single, chunk, rounded, packets, bodyAt}
 use Rattle.fewest.specs.Carrying.{firstOf}

@@ -2,32 +2,31 @@
 -- another, the flags, lengths at most P, and bodies that joined are the message's. So they are a list of packets that carries it, and
 -- the fewest (M-5): the bound is reached.
 -- Assumes nothing.
-use Prim.Native.Nat.{ℕ, zero, suc, _+_, _-_, _*_, _≤_, _<_}
-use mathlib.Core.Path.{_≡_, refl, ap, ap₂, sym, _∙_, subst}
-use mathlib.Core.Logic.{_⊎_, inl, inr, ⊎-elim}
+use Prim.Native.Nat.{ℕ, suc, _+_, _*_, _≤_, _<_}
+use mathlib.Core.Path.{_≡_, refl, ap, sym, _∙_}
+use mathlib.Core.Logic.{inl, inr, ⊎-elim}
 use mathlib.Core.Bool.{Bool, true, false, not}
-use mathlib.Core.List.{List, [], _∷_, _++_}
+use mathlib.Core.List.{List}
 use native.Mathlib.Omega.{arith}
 use lib.ListN.{length}
-use lib.Dec.{leb}
 use Rattle.octets.specs.Octets.{pick, part, Octets}
 use Rattle.octets.proofs.Lists.{bool}
 use Rattle.walk.specs.declared.Settings.{Settings}
 use Rattle.fields.specs.Form.{joined}
-use Rattle.packet.specs.Format.{Values, Each, segment, octetsOf, headerOctets}
-use Rattle.packet.specs.Reading.{segmented, readPacket}
+use Rattle.packet.specs.Format.{Values, segment, octetsOf}
+use Rattle.packet.specs.Numbers.{nextCount}
+use Rattle.packet.specs.Reading.{segmented}
 use Rattle.write.specs.declared.HeaderValues.{HeaderValues}
-use Rattle.write.specs.Given.{Lent, headOf, most32}
+use Rattle.write.specs.Given.{Lent, headOf}
 use Rattle.format.specs.Told.{valuesOf}
 use Rattle.format.proofs.TwoWay.{writes-octets, reads-back}
 use Rattle.format.proofs.Accepting.{written}
 use Rattle.cut.specs.declared.Sender.{Sender}
-use Rattle.cut.specs.declared.Next.the-variants.{At}
 use Rattle.cut.specs.Sending.{counterAt, countAt}
-use Rattle.cut.specs.Cutting.{single, chunk, rounded, packets, headerLength, countRefusal, flagsAt, bodyAt, packetAt, givenAt}
+use Rattle.cut.specs.Cutting.{single, chunk, packets, headerLength, countRefusal, flagsAt, bodyAt, packetAt, givenAt}
 use Rattle.cut.proofs.Packets.{packet-most}
-use Rattle.fewest.specs.Carrying.{bodyOf, firstOf, Carried, OneWhole, AllSegments, Carries}
-use Rattle.fewest.specs.Cutting.{Lends, told, oneEnough, number, full, octetsAt, allPackets, Segment, Back, AllBack}
+use Rattle.fewest.specs.Carrying.{bodyOf, Carried, Carries}
+use Rattle.fewest.specs.Cutting.{Lends, told, number, octetsAt, allPackets, Segment, Back, AllBack}
 use Rattle.fewest.proofs.Lists.{first-length, first-each, first-same, joined-first}
 use Rattle.fewest.proofs.Parts.{packets-one, two-at-least, piece-full, piece-some, piece-most, parts-joined}
 use Rattle.fewest.proofs.Numbers.{segment-is, flags-whole, flags-first, flags-last, flags-between, counter-of, count-mod, cuts-well, good-values, room, counters, packet-range}
@@ -115,9 +114,31 @@ module _ (s : Settings) (P : ℕ) (v : HeaderValues) (t : Lent) (body : List ℕ
       body-back)
       ∙ parts-joined P H body (cuts-well s P v t body d z .some)
 
+  counts-on :
+      (i : ℕ) → suc i < packets P H B →
+      told s (octetsAt s P v t body d (suc i)) .count ≡ nextCount (told s (octetsAt s P v t body d i) .count)
+  unfolding countAt
+  counts-on i l = back (suc i) l .count ∙ ap nextCount (sym (back i (omega arith) .count))
+
+  counter-told :
+      single P H B ≡ false → (i : ℕ) → i < packets P H B → told s (octetsAt s P v t body d i) .counter ≡ counterAt (d .next) i
+  unfolding packetAt
+  counter-told e i l =
+      ap (λ (u : Values). u .counter) (back i l .values) ∙ ap (λ (b : Bool). pick b 0 (counterAt (d .next) i)) e
+
+  counters-on :
+      single P H B ≡ false → (i : ℕ) → suc i < packets P H B →
+      told s (octetsAt s P v t body d (suc i)) .counter ≡ suc (told s (octetsAt s P v t body d i) .counter)
+  counters-on e i l =
+      let k = counters s P v t body d z e in
+      let a = counter-told e i (omega arith) ∙ counter-of (d .next) (k .start) i (k .starts) in
+      let b = counter-told e (suc i) l ∙ counter-of (d .next) (k .start) (suc i) (k .starts) in
+      omega arith
+
   -- C-7
   pub packets-read-back : AllBack s P v t body d
-  packets-read-back = record { each = back; some = some; two = two; bodies = all-bodies }
+  packets-read-back =
+      record { each = back; some = some; two = two; counts = counts-on; counters = counters-on; bodies = all-bodies }
 
   -- and they carry the message
   pub carries : Carries s (headOf v t) body P (allPackets s P v t body d)

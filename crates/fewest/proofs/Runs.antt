@@ -1,16 +1,14 @@
--- The sender over several messages: the numbers behind a run are those behind its last message, sequence counts go on by one for each
--- packet, and counters by one for each segment, so that each is larger than all before it and none is given twice; and once none is
--- left, no segment is sent.
+-- What one message does to the sender's two numbers, refused or not: the sequence counts go on by one for each packet, the counters by
+-- one for each segment. And what two lists of packets do, sent one behind the other.
 -- Assumes nothing.
-use Prim.Native.Nat.{ℕ, zero, suc, _+_, _-_, _*_, _≤_, _<_}
+use Prim.Native.Nat.{ℕ, zero, suc, _+_, _≤_}
 use mathlib.Core.Path.{_≡_, refl, ap, ap₂, sym, _∙_, subst}
 use mathlib.Core.Logic.{⊎-elim}
 use mathlib.Core.Bool.{Bool, true, false, not}
-use mathlib.Core.List.{List, [], _∷_, _++_, map, append-assoc}
+use mathlib.Core.List.{List, [], _∷_, _++_}
 use native.Mathlib.Omega.{arith}
 use native.Mathlib.Nat.{add-zero}
-use lib.ListN.{length, getD, length-append}
-use lib.Dec.{leb}
+use lib.ListN.{length, length-append}
 use borrow.Author.Tests.{eqb-true}
 use Rattle.octets.specs.Octets.{pick}
 use Rattle.octets.proofs.Lists.{bool, below-or}
@@ -24,12 +22,12 @@ use Rattle.cut.specs.declared.Sender.{Sender}
 use Rattle.cut.specs.declared.Next.{Next}
 use Rattle.cut.specs.declared.Next.the-variants.{At, NoneLeft}
 use Rattle.cut.specs.Sending.{afterPacket, afterSegments, counterAt, countAt}
-use Rattle.cut.specs.Cutting.{single, packets, headerLength, countRefusal, senderAfter, countAnswer, flagsAt, packetAt, givenAt}
+use Rattle.cut.specs.Cutting.{single, packets, headerLength, countRefusal, senderAfter, countAnswer, packetAt, givenAt}
 use Rattle.cut.specs.Inner.{counterAfter}
 use Rattle.cut.proofs.Counting.{after-fits, after-past, after-both}
 use Rattle.fewest.specs.Carrying.{firstOf}
-use Rattle.fewest.specs.Runs.{Message, counted, packetsOf, afterRun, sent, countsOf, counterIn, countersOf, place, Bits32, Goes}
-use Rattle.fewest.proofs.Lists.{joined-append, joined-none, joined-suc, first-length, first-same, first-at, first-more}
+use Rattle.fewest.specs.Runs.{Message, counted, packetsOf, countsOf, counterIn, countersOf, place, Bits32, Goes}
+use Rattle.fewest.proofs.Lists.{joined-append, joined-none, joined-suc, first-length, first-same, first-more}
 use Rattle.fewest.proofs.Parts.{packets-one}
 use Rattle.fewest.proofs.Numbers.{segment-is, counter-of, counters}
 
@@ -220,48 +218,3 @@ module _ (d : Sender) (m : Message) (h : Bits32 (d .next)) where
       (λ f. rw f (made-goes (eqb-true (countRefusal (m .settings) (m .limit) (m .values) (m .texts) B d .number) 0 f)))
       (λ f. rw f (goes-none d h))
       (bool (fine (countRefusal (m .settings) (m .limit) (m .values) (m .texts) B d)))
-
--- ---- a run
-
-pub run : (d : Sender) (ms : List Message) → Bits32 (d .next) → Goes d (sent d ms) (afterRun d ms)
-unfolding sent afterRun
-run d [] h = goes-none d h
-run d (m ∷ ms) h =
-    let k = one-goes d m h in
-    goes-on (packetsOf d m) (sent (counted d m .sender) ms) k (run (counted d m .sender) ms (k .bits))
-
--- the numbers behind a run are those that the count of its last message answers
-pub run-last : (d : Sender) (ms : List Message) (m : Message) → afterRun d (ms ++ (m ∷ [])) ≡ counted (afterRun d ms) m .sender
-unfolding afterRun
-run-last d [] m = refl
-run-last d (x ∷ ms) m = run-last (counted d x .sender) ms m
-
-module _ (d : Sender) (ms : List Message) (h : Bits32 (d .next)) where
-  abbrev given-counters : List ℕ
-  given-counters = countersOf (sent d ms)
-
-  counter-at : (i : ℕ) → i < length given-counters → getD given-counters i 0 ≡ place (d .next) + i
-  counter-at i l =
-      ap (λ (x : List ℕ). getD x i 0) (run d ms h .counters)
-      ∙ first-at (λ (i : ℕ). place (d .next) + i) (length given-counters) i 0 l
-
-  -- each counter is larger than all before it: none is given to two segments of a run
-  pub run-rising : (i j : ℕ) → i < j → j < length given-counters → getD given-counters i 0 < getD given-counters j 0
-  run-rising i j l k = omega (arith, counter-at i (omega arith), counter-at j k)
-
-  -- each is one of 32 bits
-  pub run-bits : (i : ℕ) → i < length given-counters → getD given-counters i 0 ≤ most32
-  run-bits i l = let k = run d ms h in omega (arith, counter-at i l, k .next, k .top)
-
-  -- once none is left, no segment is sent
-  pub run-none : d .next ≡ NoneLeft → length given-counters ≡ 0
-  unfolding place
-  run-none e =
-      let k = run d ms h in
-      let p : place (d .next) ≡ 4294967296 = ap place e in
-      omega (arith, k .next, k .top)
-
-  -- packet number i of a run has the sender's sequence count moved on by i
-  pub run-count : (i : ℕ) → i < length (sent d ms) → getD (countsOf (sent d ms)) i 0 ≡ countAt (d .count .0) i
-  run-count i l =
-      ap (λ (x : List ℕ). getD x i 0) (run d ms h .counts) ∙ first-at (countAt (d .count .0)) (length (sent d ms)) i 0 l

@@ -1,6 +1,6 @@
 -- What a message's packets have once they are read back (C-7), and what the types of a call's arguments say of them.
 -- Assumes nothing: these are definitions.
-use Prim.Native.Nat.{ℕ, suc, _+_, _*_, _%_, _≤_, _<_}
+use Prim.Native.Nat.{ℕ, suc, _+_, _%_, _≤_, _<_}
 use mathlib.Core.Path.{_≡_}
 use mathlib.Core.Bool.{Bool, true, false}
 use mathlib.Core.List.{List, _++_}
@@ -10,14 +10,14 @@ use Rattle.walk.specs.declared.Settings.{Settings}
 use Rattle.fields.specs.Form.{joined}
 use Rattle.packet.specs.declared.SegmentCounter.{SegmentCounter}
 use Rattle.packet.specs.Format.{Values, identification, headerOctets, octetsOf, InRange}
+use Rattle.packet.specs.Numbers.{nextCount}
 use Rattle.packet.specs.Reading.{segmented, readPacket}
 use Rattle.packet.specs.Key.{keyOf}
 use Rattle.write.specs.declared.HeaderValues.{HeaderValues}
 use Rattle.write.specs.Given.{Lent, headOf, most32}
 use Rattle.format.specs.Told.{valuesOf}
 use Rattle.cut.specs.declared.Sender.{Sender}
-use Rattle.cut.specs.declared.Next.{Next}
-use Rattle.cut.specs.declared.Next.the-variants.{At, NoneLeft}
+use Rattle.cut.specs.declared.Next.the-variants.{At}
 use Rattle.cut.specs.Sending.{countAt}
 use Rattle.cut.specs.Cutting.{single, chunk, packets, headerLength, givenAt}
 use Rattle.fewest.specs.Carrying.{bodyOf, firstOf}
@@ -113,5 +113,9 @@ module _ (s : Settings) (P : ℕ) (v : HeaderValues) (t : Lent) (body : List ℕ
     pub some : 1 ≤ number
     -- and where cutting is needed at least two, so that the first is not the last
     pub two : oneEnough ≡ false → 2 ≤ number
+    -- from one to the next the sequence count goes up by one, and 0 follows 16,383
+    pub counts : (i : ℕ) → suc i < number → told s (octetsAt (suc i)) .count ≡ nextCount (told s (octetsAt i) .count)
+    -- and where cutting is needed the counter goes up by one
+    pub counters : oneEnough ≡ false → (i : ℕ) → suc i < number → told s (octetsAt (suc i)) .counter ≡ suc (told s (octetsAt i) .counter)
     -- their bodies joined are the message's
     pub bodies : joined (bodyOf s) allPackets ≡ body
