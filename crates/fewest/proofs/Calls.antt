@@ -2,7 +2,7 @@
 -- message is shorter than its answer; where a packet is written, its octets are packet number i, below the count, they read back
 -- as that, and the sender is as it was. And two outcomes that a contract allows for the same arguments have the same answer, and the same octets in the output (M-7).
 -- Assumes nothing.
-use Prim.Native.Nat.{ℕ, _≤_, _<_}
+use Prim.Native.Nat.{ℕ, _≤_}
 use mathlib.Core.Path.{_≡_, refl, ap, ap₂, sym, _∙_, subst}
 use mathlib.Core.Bool.{Bool, true}
 use mathlib.Core.List.{List, _++_}
@@ -28,20 +28,12 @@ use Rattle.cut.proofs.packet.Reads as cuts
 use Rattle.cut.proofs.Sender.after_packet.Reads as packeted
 use Rattle.cut.proofs.Sender.after_segment.Reads as segmented
 use Rattle.fewest.specs.Carrying.{Carries}
+use Rattle.fewest.specs.Answers.{Counts, Wrote}
 use Rattle.fewest.specs.Cutting.{Lends, number, octetsAt, Back}
 use Rattle.fewest.proofs.Fewest.{fewest}
 use Rattle.fewest.proofs.ReadBack.{packets-read-back}
 
 -- ---- over plain values
-
--- a count that succeeded
-pub record Counts (s : Settings) (P : ℕ) (v : HeaderValues) (t : Lent) (B : ℕ) (d : Sender) (r : Counted) : Type 0 where
-  -- the definition refuses nothing either
-  pub no-refusal : countRefusal s P v t B d .number ≡ 0
-  -- the answer is the formula's count
-  pub count : r .count ≡ packets P (headerLength s v t) B
-  -- and the sender moved on
-  pub sender : r .sender ≡ senderAfter P (headerLength s v t) B d
 
 plain-counts :
     (s : Settings) (P : ℕ) (v : HeaderValues) (t : Lent) (B : ℕ) (d : Sender) (r : Counted) → r ≡ countAnswer s P v t B d →
@@ -64,19 +56,6 @@ plain-fewest s P v t B d r e z body n ps c =
     let k = plain-counts s P v t B d r e z .count in
     let m = ap (packets P (headerLength s v t)) n in
     omega (arith, fewest s (headOf v t) P body ps c)
-
--- a packet that was written
-pub record Wrote (s : Settings) (P : ℕ) (v : HeaderValues) (t : Lent) (body : List ℕ) (d : Sender) (i : ℕ) (r : Cut) (out after : List ℕ) : Type 0 where
-  -- the count succeeds
-  pub no-refusal : countRefusal s P v t (length body) d .number ≡ 0
-  -- it is one of the message's
-  pub below : i < number s P v t body d
-  -- its octets are those of packet number i
-  pub octets : take (r .length) after ≡ octetsAt s P v t body d i
-  -- behind it the output is as it was
-  pub rest : drop (r .length) after ≡ drop (r .length) out
-  -- the sender is as it was
-  pub sender : r .sender ≡ d
 
 module _ (s : Settings) (P : ℕ) (v : HeaderValues) (t : Lent) (body : List ℕ) (d : Sender) (i : ℕ) (r : Cut) (out after : List ℕ)
     (e : r ≡ packetAnswer s P v t body d i (length out)) (f : after ≡ packetOutput s P v t body d i out) (z : r .refusal .number ≡ 0) where

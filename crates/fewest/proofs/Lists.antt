@@ -17,11 +17,6 @@ use Rattle.fewest.specs.Carrying.{firstOf}
 module _ {A : Type 0} where
   -- ---- each
 
-  pub each-map : {P Q : A → Type 0} → ((x : A) → P x → Q x) → (l : List A) → Each P l → Each Q l
-  unfolding Each
-  each-map f [] h = tt
-  each-map f (x ∷ l) h = (f x (h .0), each-map f l (h .1))
-
   -- of both, what follows from both
   pub each-both : {P Q R : A → Type 0} → ((x : A) → P x → Q x → R x) → (l : List A) → Each P l → Each Q l → Each R l
   unfolding Each
