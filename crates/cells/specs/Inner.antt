@@ -1,11 +1,14 @@
 -- The code's tests on a row, told by its octets.
 -- Assumes nothing: these are definitions.
 use Prim.Native.Nat.{ℕ, _+_, _-_, _/_, _%_}
+use mathlib.Core.Path.{_≡_}
 use mathlib.Core.List.{List}
 use mathlib.Core.Bool.{Bool, true, false}
 use lib.ListN.{length, drop}
 use lib.Dec.{eqb}
-use Rattle.octets.specs.Octets.{octetAt, part, number, alike}
+use Rattle.octets.specs.Octets.{Octets, octetAt, part, number, alike}
+use Rattle.walk.specs.declared.Settings.{Settings}
+use Rattle.packet.specs.Reading.{readPacket, segmented}
 use Rattle.cells.specs.Segments.{both}
 use Rattle.cells.specs.Rows.{Cell, free, held, broken}
 
@@ -34,3 +37,11 @@ abbrev pub kindOf : Cell → ℕ
 kindOf free = 0
 kindOf (held t) = 1
 kindOf broken = 2
+
+-- a segment that is looked for: what reading answered of it, where its body begins, its counter
+pub record Asked (s : Settings) (q : List ℕ) (stop c : ℕ) : Type 0 where
+  pub octets : Octets q
+  pub accepted : readPacket s q .refusal .number ≡ 0
+  pub segment : segmented q ≡ true
+  pub body : stop ≡ readPacket s q .body .at
+  pub counter : c ≡ readPacket s q .ids .counter .0

@@ -53,11 +53,15 @@ unfoldable pub allTo : (ℕ → Bool) → ℕ → Bool
 allTo f zero = true
 allTo f (suc n) = both (allTo f n) (f n)
 
+-- none of the first n cells has this key and counter
+unfoldable pub newTo : Settings → ℕ → List ℕ → ℕ → List ℕ → ℕ → Bool
+newTo s Z st n k c = allTo (λ j. not (carriesIn k c (cellAt s Z st j))) n
+
 -- no cell below i has the key and counter of this one
 unfoldable pub newAt : Settings → ℕ → List ℕ → ℕ → Cell → Bool
 newAt s Z st i free = true
 newAt s Z st i broken = true
-newAt s Z st i (held t) = allTo (λ j. not (carriesIn (t .key) (t .counter) (cellAt s Z st j))) i
+newAt s Z st i (held t) = newTo s Z st i (t .key) (t .counter)
 
 -- no two of the first n cells have equal key and counter
 unfoldable pub distinct : Settings → ℕ → List ℕ → ℕ → Bool

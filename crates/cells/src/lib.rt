@@ -11,8 +11,11 @@ ghost use lib.ListN.{length};
 ghost use Rattle.octets.specs.Octets.{pick, part, number, alike};
 ghost use Rattle.cells.specs.Segments.{both};
 ghost use Rattle.cells.specs.Rows.{rowAt, zeroRow, cellOf};
-ghost use Rattle.cells.specs.Inner.{heldRowTest, kindOf, placeIn, counterIn, spansAlike};
-ghost use Rattle.cells.specs.Order.{lowest, lengthFits, sound};
+ghost use Rattle.cells.specs.Inner.{heldRowTest, kindOf, placeIn, counterIn, spansAlike, Asked};
+ghost use mathlib.Core.Bool.{true};
+ghost use Rattle.packet.specs.Reading.{readPacket};
+ghost use Rattle.packet.specs.Key.{keyOf};
+ghost use Rattle.cells.specs.Order.{lowest, lengthFits, sound, isSound, carriesIn, newTo, newAt};
 use walk::Settings;
 
 // The most cells that a store has.
@@ -184,4 +187,69 @@ pub fn count(len: usize, z: usize) -> usize
         return 0;
     }
     n
+}
+
+// Whether a sound cell holds a segment with the key and counter of the one that is looked for.
+pub fn carries_at(s: Settings, row: &[u8], zero: &[u8], q: &[u8], stop: usize, c: u32) -> bool
+    requires { ⌜ now zero ≡ zeroRow (length (now zero)) ⌝ }
+    requires { ⌜ length (now row) ≡ length (now zero) ⌝ }
+    requires { ⌜ isSound (cellOf s (length (now zero)) (now row)) ≡ true ⌝ }
+    requires { ⌜ Asked s (now q) stop c ⌝ }
+    ensures { λ r. ⌜ r ≡ carriesIn (keyOf (now (q .entry)) (readPacket s (now (q .entry)))) c (cellOf s (length (now (zero .entry))) (now (row .entry))) ⌝ }
+{
+    if octets::same(row, zero) {
+        return false;
+    }
+    let p = packet_in(row);
+    if counter_in(p) != c {
+        return false;
+    }
+    let h = packet::read(s, p);
+    let body = h.body;
+    same_key(q, stop, p, body.at)
+}
+
+// Whether none of the first n cells, all sound, carries the key and counter of the one that is looked for.
+pub fn is_new(
+    s: Settings,
+    store: &[u8],
+    n: usize,
+    zero: &[u8],
+    q: &[u8],
+    stop: usize,
+    c: u32,
+) -> bool
+    requires { ⌜ now zero ≡ zeroRow (length (now zero)) ⌝ }
+    requires { ⌜ n * length (now zero) ≤ length (now store) ⌝ }
+    requires { ⌜ sound s (length (now zero)) (now store) n ≡ true ⌝ }
+    requires { ⌜ Asked s (now q) stop c ⌝ }
+    ensures { λ r. ⌜ r ≡ newTo s (length (now (zero .entry))) (now (store .entry)) n (keyOf (now (q .entry)) (readPacket s (now (q .entry)))) c ⌝ }
+{
+    let z = zero.len();
+    let mut so_far = true;
+    let mut j: usize = 0;
+    while j < n {
+        so_far = and(so_far, !carries_at(s, row(store, z, j), zero, q, stop, c));
+        j += 1;
+    }
+    so_far
+}
+
+// Whether no cell below i carries the key and counter of cell i; both are sound.
+fn is_apart(s: Settings, store: &[u8], i: usize, row: &[u8], zero: &[u8]) -> bool
+    requires { ⌜ now zero ≡ zeroRow (length (now zero)) ⌝ }
+    requires { ⌜ i * length (now zero) ≤ length (now store) ⌝ }
+    requires { ⌜ sound s (length (now zero)) (now store) i ≡ true ⌝ }
+    requires { ⌜ isSound (cellOf s (length (now zero)) (now row)) ≡ true ⌝ }
+    ensures { λ r. ⌜ r ≡ newAt s (length (now (zero .entry))) (now (store .entry)) i (cellOf s (length (now (zero .entry))) (now (row .entry))) ⌝ }
+{
+    if octets::same(row, zero) {
+        return true;
+    }
+    let q = packet_in(row);
+    let g = packet::read(s, q);
+    let body = g.body;
+    let ids = g.ids;
+    let counter = ids.counter;
+    is_new(s, store, i, zero, q, body.at, counter.0)
 }
