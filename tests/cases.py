@@ -112,6 +112,28 @@ def read_line(a):
     return line(numbers + part(a["authentication"]) + [a["H"]] + part(a["body"]))
 
 
+HEADER_NUMBERS = (
+    "packet_type apid sdu area service operation area_version error qos session secondary_apid qualifier transaction has_source "
+    "has_destination has_priority has_timestamp has_zone has_session_name has_domain has_authentication source destination priority"
+).split()
+
+TEXTS = "timestamp zone session_name domain authentication".split()
+
+
+def header(row):
+    """The numbers of a header to write; the domain's lengths stand elsewhere, behind all other numbers."""
+    return [row["header"][name] for name in HEADER_NUMBERS]
+
+
+def lengths(row):
+    return row["header"]["domain_lengths"]
+
+
+def texts(row):
+    """The texts of a header to write."""
+    return [(READABLE, octets(row["header"][name])) for name in TEXTS]
+
+
 def answer(row):
     return row["expect"]["answer"]
 
@@ -144,6 +166,12 @@ CALLS = {
         lambda row: [row["T"]],
         lambda row: [(READABLE, octets(row["packet"]))],
         lambda row: read_line(answer(row)),
+    ),
+    "write": Call(
+        4,
+        lambda row: [row["T"]] + header(row) + [row["flags"], row["seq"], row["counter"]] + lengths(row),
+        lambda row: texts(row) + [(READABLE, octets(row["body"])), (OUTPUT, octets(row["out"]))],
+        lambda row: line([answer(row)["refusal"], answer(row)["length"]], octets(row["expect"]["out"])),
     ),
 }
 
