@@ -58,25 +58,25 @@ packet-least s v = omega (arith, packet-length s v, secondary-length s v, header
 
 -- ---- tests on sizes that are told up to the limit
 
-below-cap : (n m : ℕ) → m < sizeMost → leb (capped n) m ≡ leb n m
+pub below-cap : (n m : ℕ) → m < sizeMost → leb (capped n) m ≡ leb n m
 below-cap n m h =
     ⊎-elim
     (λ k. lt-leb (capped n) m (omega arith) ∙ sym (lt-leb n m k))
     (λ k. le-leb (capped n) m (omega arith) ∙ sym (le-leb n m k))
     (below-or m n)
 
-shut : (x : Bool) (k : ℕ) (r : Refusal) → fine r ≡ false → unless x k r ≡ r
+pub shut : (x : Bool) (k : ℕ) (r : Refusal) → fine r ≡ false → unless x k r ≡ r
 unfolding unless
 shut x k r e = simp e
 
 cap-left : (a b : ℕ) → capped (capped a + b) ≡ capped (a + b)
 cap-left a b = omega arith
 
-cap-middle : (a b : ℕ) → capped (6 + capped a + b) ≡ capped (6 + a + b)
+pub cap-middle : (a b : ℕ) → capped (6 + capped a + b) ≡ capped (6 + a + b)
 cap-middle a b = omega arith
 
 -- a test matters only where nothing refused before
-unless-same : (k : ℕ) (r : Refusal) {a b : Bool} → (fine r ≡ true → a ≡ b) → unless a k r ≡ unless b k r
+pub unless-same : (k : ℕ) (r : Refusal) {a b : Bool} → (fine r ≡ true → a ≡ b) → unless a k r ≡ unless b k r
 unless-same k r {a} {b} h =
     ⊎-elim
     (λ e. ap (λ (x : Bool). unless x k r) (h e))

@@ -1,0 +1,195 @@
+-- A message's plan as the code makes it is the definition's, and the count's answer follows.
+-- Assumes nothing.
+use Prim.Native.Nat.{ℕ, suc, _+_, _-_, _*_, _≤_, _<_, min}
+use mathlib.Core.Path.{_≡_, refl, ap, ap₂, sym, _∙_}
+use mathlib.Core.Logic.{⊎-elim}
+use mathlib.Core.Bool.{Bool, true, false}
+use mathlib.Core.List.{List}
+use native.Mathlib.Omega.{arith}
+use lib.ListN.{length}
+use lib.Dec.{leb, ltb, eqb}
+use borrow.Author.Tests.{leb-true, le-leb, lt-leb, eq-eqb, ne-eqb}
+use Rattle.octets.specs.Octets.{pick}
+use Rattle.octets.proofs.Lists.{bool}
+use Rattle.walk.specs.declared.Settings.{Settings}
+use Rattle.walk.specs.declared.Refusal.{Refusal}
+use Rattle.walk.specs.Walk.{noRefusal, unless}
+use Rattle.fields.specs.Inner.{capped}
+use Rattle.fields.specs.Fields.{partsMost}
+use Rattle.packet.specs.Format.{headerMost, packetMost}
+use Rattle.packet.specs.Numbers.{countMost}
+use Rattle.write.specs.declared.HeaderValues.{HeaderValues}
+use Rattle.write.specs.Given.{Lent, headerChecks, unlessAll}
+use Rattle.write.specs.Writing.{settingsTest, partsTest, fine}
+use Rattle.write.proofs.Tests.{unless-fine, unlessAll-fine, AllHold}
+use Rattle.write.proofs.Answers.{shut, below-cap, cap-middle}
+use Rattle.cut.specs.declared.Sender.{Sender}
+use Rattle.cut.specs.declared.Plan.{Plan}
+use Rattle.cut.specs.declared.Counted.{Counted}
+use Rattle.cut.specs.Sending.{afterPacket, afterSegments, countersFit}
+use Rattle.cut.specs.Cutting.{single, chunk, packets, limitTest, valueTests, messageTests, headerLength, countRefusal, senderAfter, countAnswer, bodyMost, limitLeast}
+use Rattle.cut.specs.Inner.{singleOf, packetsOf, planRefusal, planOf}
+
+-- ---- the tests before the plan
+
+abbrev pub before : Settings → ℕ → HeaderValues → Lent → Sender → Refusal
+before s P v t d = partsTest t (valueTests s v t d (limitTest s P noRefusal))
+
+-- what holds where none of them refused
+pub record Good (s : Settings) (P : ℕ) (v : HeaderValues) (t : Lent) (d : Sender) : Type 0 where
+  pub parts : length (t .lengths) ≤ partsMost
+  pub count : d .count .0 ≤ countMost
+  pub checks : AllHold (headerChecks s v t)
+  pub low : limitLeast ≤ P
+  pub top : P ≤ packetMost
+  pub settings : fine (settingsTest s noRefusal) ≡ true
+
+pub good : (s : Settings) (P : ℕ) (v : HeaderValues) (t : Lent) (d : Sender) → fine (before s P v t d) ≡ true → Good s P v t d
+unfolding partsTest valueTests limitTest
+good s P v t d g =
+    let a = unless-fine (leb (length (t .lengths)) partsMost) 12 (valueTests s v t d (limitTest s P noRefusal)) g in
+    let b = unless-fine (leb (d .count .0) countMost) 21 (unlessAll (headerChecks s v t) 22 (limitTest s P noRefusal)) (a .before) in
+    let c = unlessAll-fine (headerChecks s v t) 21 (limitTest s P noRefusal) (b .before) in
+    let e = unless-fine (leb P packetMost) 14 (unless (leb limitLeast P) 15 (settingsTest s noRefusal)) (c .0) in
+    let f = unless-fine (leb limitLeast P) 14 (settingsTest s noRefusal) (e .before) in
+    record {
+      parts = leb-true (length (t .lengths)) partsMost (a .held);
+      count = leb-true (d .count .0) countMost (b .held);
+      checks = c .1;
+      low = leb-true limitLeast P (f .held);
+      top = leb-true P packetMost (e .held);
+      settings = f .before;
+    }
+
+-- ---- the plan, from a size told up to the limit
+
+module _ (P H B : ℕ) (d : Sender) {h : ℕ} (eh : h ≡ capped H) (top : P ≤ packetMost) where
+  pub single-same : singleOf P h B ≡ single P H B
+  single-same =
+      ap (λ (n : ℕ). leb (capped (6 + n + B)) P) eh
+      ∙ ap (λ (n : ℕ). leb n P) (cap-middle H B)
+      ∙ below-cap (6 + H + B) P (omega arith)
+
+  pub chunk-same : chunk P h ≡ chunk P H
+  chunk-same = omega arith
+
+  pub packets-same : packetsOf (singleOf P h B) B (chunk P h) ≡ packets P H B
+  unfolding packets
+  packets-same = ap₂ (λ (o : Bool) (c : ℕ). packetsOf o B c) single-same chunk-same
+
+  head-same : (one : Bool) → leb (pick one h (capped (h + 4))) headerMost ≡ leb (pick one H (H + 4)) headerMost
+  head-same true = ap (λ (n : ℕ). leb n headerMost) eh ∙ below-cap H headerMost (omega arith)
+  head-same false =
+      let e : capped (h + 4) ≡ capped (H + 4) = omega arith in
+      ap (λ (n : ℕ). leb n headerMost) e ∙ below-cap (H + 4) headerMost (omega arith)
+
+  tests-same : (r : Refusal) → planRefusal (singleOf P h B) h B (chunk P h) d r ≡ messageTests P H B d r
+  unfolding planRefusal messageTests
+  tests-same r = rw (packets-same, single-same, chunk-same, head-same (single P H B))
+
+-- a refusal that was there stays
+still-plan : (one : Bool) (h B C : ℕ) (d : Sender) (r : Refusal) → fine r ≡ false → planRefusal one h B C d r ≡ r
+unfolding planRefusal
+still-plan one h B C d r e =
+    rw (shut (leb B bodyMost) 23 r e, shut (leb (pick one h (capped (h + 4))) headerMost) 12 r e, shut (pick one true (leb 1 C)) 24 r e)
+    (shut (pick one true (countersFit (d .next) (packetsOf one B C))) 25 r e)
+
+still-tests : (P H B : ℕ) (d : Sender) (r : Refusal) → fine r ≡ false → messageTests P H B d r ≡ r
+unfolding messageTests
+still-tests P H B d r e =
+    rw (shut (leb B bodyMost) 23 r e, shut (leb (pick (single P H B) H (H + 4)) headerMost) 12 r e, shut (pick (single P H B) true (leb 1 (chunk P H))) 24 r e)
+    (shut (pick (single P H B) true (countersFit (d .next) (packets P H B))) 25 r e)
+
+-- what holds where the plan refused nothing
+pub record Cuts (P H B : ℕ) (d : Sender) : Type 0 where
+  pub body : B ≤ bodyMost
+  pub header : pick (single P H B) H (H + 4) ≤ headerMost
+  pub some : pick (single P H B) true (leb 1 (chunk P H)) ≡ true
+  pub counters : pick (single P H B) true (countersFit (d .next) (packets P H B)) ≡ true
+
+pub cuts : (P H B : ℕ) (d : Sender) (r : Refusal) → fine (messageTests P H B d r) ≡ true → Cuts P H B d × (fine r ≡ true)
+unfolding messageTests
+cuts P H B d r g =
+    let a = unless-fine (pick (single P H B) true (countersFit (d .next) (packets P H B))) 24 _ g in
+    let b = unless-fine (pick (single P H B) true (leb 1 (chunk P H))) 23 _ (a .before) in
+    let c = unless-fine (leb (pick (single P H B) H (H + 4)) headerMost) 11 _ (b .before) in
+    let e = unless-fine (leb B bodyMost) 22 r (c .before) in (
+      record {
+        body = leb-true B bodyMost (e .held);
+        header = leb-true (pick (single P H B) H (H + 4)) headerMost (c .held);
+        some = b .held;
+        counters = a .held;
+      },
+      e .before,
+    )
+
+-- ---- the code's plan
+
+module _ (s : Settings) (P : ℕ) (v : HeaderValues) (t : Lent) (B : ℕ) (d : Sender) {h : ℕ} {r : Refusal} {q : Plan}
+    (er : r ≡ before s P v t d) (eh : h ≡ capped (headerLength s v t)) (eq : q ≡ planOf P h B d r) where
+  abbrev H : ℕ
+  H = headerLength s v t
+
+  pub refusal-same : q .refusal ≡ countRefusal s P v t B d
+  unfolding planOf countRefusal
+  refusal-same =
+      ap (λ (x : Plan). x .refusal) eq
+      ∙ ⊎-elim
+      (λ g. let k = good s P v t d (ap fine (sym er) ∙ g) in tests-same P H B d eh (k .top) r)
+      (λ e. still-plan (singleOf P h B) h B (chunk P h) d r e ∙ sym (still-tests P H B d r e))
+      (bool (fine r))
+      ∙ ap (messageTests P H B d) er
+
+  -- where nothing refused
+  pub record Planned : Type 0 where
+    pub fine-count : fine (countRefusal s P v t B d) ≡ true
+    pub good-values : Good s P v t d
+    pub cuts-well : Cuts P H B d
+    pub single-is : q .single ≡ single P H B
+    pub chunk-is : q .chunk ≡ chunk P H
+    pub count-is : q .count ≡ packets P H B
+
+  pub planned : fine (q .refusal) ≡ true → Planned
+  unfolding planOf countRefusal
+  planned g =
+      let f : fine (countRefusal s P v t B d) ≡ true = ap fine (sym refusal-same) ∙ g in
+      let c = cuts P H B d (before s P v t d) f in
+      let k = good s P v t d (c .1) in
+      record {
+        fine-count = f;
+        good-values = k;
+        cuts-well = c .0;
+        single-is = ap (λ (x : Plan). x .single) eq ∙ single-same P H B d eh (k .top);
+        chunk-is = ap (λ (x : Plan). x .chunk) eq ∙ chunk-same P H B d eh (k .top);
+        count-is = ap (λ (x : Plan). x .count) eq ∙ packets-same P H B d eh (k .top);
+      }
+
+  pub refused-count : (q .refusal .number ≡ 0 → ⊥) → record { refusal = q .refusal; count = 0; sender = d } ≡ countAnswer s P v t B d
+  unfolding countAnswer
+  refused-count n =
+      let f : fine (countRefusal s P v t B d) ≡ false = ap fine (sym refusal-same) ∙ ne-eqb (q .refusal .number) 0 n in
+      λ i.
+      record {
+        refusal = refusal-same i;
+        count = ap (λ (x : Bool). pick x (packets P H B) 0) (sym f) i;
+        sender = ap (λ (x : Bool). pick x (senderAfter P H B d) d) (sym f) i;
+      }
+
+  pub small-count : q .refusal .number ≡ 0 → d .count .0 ≤ countMost
+  small-count z = planned (eq-eqb (q .refusal .number) 0 z) .good-values .count
+
+  pub made-count :
+      q .refusal .number ≡ 0 → {m : Sender} → m ≡ pick (q .single) (afterPacket d) (afterSegments (q .count) d) →
+      record { refusal = q .refusal; count = q .count; sender = m } ≡ countAnswer s P v t B d
+  unfolding countAnswer senderAfter
+  made-count z {m} em =
+      let k = planned (eq-eqb (q .refusal .number) 0 z) in
+      let f = k .fine-count in
+      let a : m ≡ pick (single P H B) (afterPacket d) (afterSegments (packets P H B) d) =
+      em ∙ ap₂ (λ (o : Bool) (n : ℕ). pick o (afterPacket d) (afterSegments n d)) (k .single-is) (k .count-is) in
+      λ i.
+      record {
+        refusal = refusal-same i;
+        count = (k .count-is ∙ ap (λ (x : Bool). pick x (packets P H B) 0) (sym f)) i;
+        sender = (a ∙ ap (λ (x : Bool). pick x (pick (single P H B) (afterPacket d) (afterSegments (packets P H B) d)) d) (sym f)) i;
+      }

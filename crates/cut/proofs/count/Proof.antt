@@ -1,0 +1,43 @@
+-- `cut::count` meets its contract: the plan is the definition's, and so are the numbers moved on.
+-- Assumes nothing.
+use borrow.Author.Needs.{needs}
+use denote.Ref.{now}
+use Rattle.cut.proofs.Plans.{refused-count, small-count, made-count}
+use Rattle.cut.proofs.count.Statement.{statement}
+use Rattle.cut.proofs.count.Tie as tie
+use Rattle.write.specs.Given.{lent}
+
+test-message-requires : tie.Need-test-message-requires
+test-message-requires c κs = search needs
+
+header-size-requires : tie.Need-header-size-requires
+header-size-requires c κs = search needs
+
+plan-of-requires : tie.Need-plan-of-requires
+plan-of-requires c κs = search needs
+
+returns : tie.Need-returns
+returns c =
+    let g = c .before .before .before .before .before .before .before .before .before .before .before .before .args in
+    refused-count (g .s) (g .p) (g .v) (lent (now (g .timestamp)) (now (g .zone)) (now (g .name)) (now (g .domain)) (now (g .lengths)) (now (g .authentication))) (g .body) (g .sender) (c .before .before .before .before .before .test-message .ensures) (c .before .before .before .before .header-size .ensures) (c .before .before .before .plan-of .ensures) (c .if1 .taken)
+
+moved-on-requires : tie.Need-moved-on-requires
+moved-on-requires c κs =
+    let g = c .before .before .before .before .before .before .before .before .before .before .before .before .args in
+    small-count (g .s) (g .p) (g .v) (lent (now (g .timestamp)) (now (g .zone)) (now (g .name)) (now (g .domain)) (now (g .lengths)) (now (g .authentication))) (g .body) (g .sender) (c .before .before .before .before .before .test-message .ensures) (c .before .before .before .before .header-size .ensures) (c .before .before .before .plan-of .ensures) (c .if1 .left)
+
+returns-2 : tie.Need-returns-2
+returns-2 c =
+    let g = c .before .before .before .before .before .before .before .before .before .before .before .before .before .args in
+    made-count (g .s) (g .p) (g .v) (lent (now (g .timestamp)) (now (g .zone)) (now (g .name)) (now (g .domain)) (now (g .lengths)) (now (g .authentication))) (g .body) (g .sender) (c .before .before .before .before .before .before .test-message .ensures) (c .before .before .before .before .before .header-size .ensures) (c .before .before .before .before .plan-of .ensures) (c .before .if1 .left) (c .moved-on .ensures)
+
+pub count-spec : {M : Type 1} → statement M
+count-spec =
+    tie.close
+    (tie.spec
+    test-message-requires
+    header-size-requires
+    plan-of-requires
+    returns
+    moved-on-requires
+    returns-2)

@@ -1,0 +1,106 @@
+-- `cut::packet` meets its contract: the packet made is the definition's, and the pieces laid are its octets.
+-- Assumes nothing.
+use Prim.Native.Nat.{_≤_}
+use borrow.Author.Needs.{needs}
+use denote.Ref.{now}
+use lib.ListN.{length}
+use native.Mathlib.Omega.{arith}
+use Rattle.cut.proofs.Packets.{part-inside, refused-packet, refused-output, made-packet, made-output, done}
+use Rattle.cut.proofs.packet.Statement.{statement}
+use Rattle.cut.proofs.packet.Tie as tie
+use Rattle.write.specs.Given.{lent}
+
+test-message-requires : tie.Need-test-message-requires
+test-message-requires c κs = search needs
+
+header-size-requires : tie.Need-header-size-requires
+header-size-requires c κs = search needs
+
+plan-of-requires : tie.Need-plan-of-requires
+plan-of-requires c κs = search needs
+
+values-at-requires : tie.Need-values-at-requires
+values-at-requires c κs = search needs
+
+from-of-requires : tie.Need-from-of-requires
+from-of-requires c κs = search needs
+
+to-of-requires : tie.Need-to-of-requires
+to-of-requires c κs = search needs
+
+sub-part : tie.Need-sub-part
+sub-part c =
+    let g = c .before .before .before .before .before .before .before .before .before .before .before .before .before .before .args in
+    part-inside (c .before .before .before .plan-of .result .single) (c .before .before .before .plan-of .result .chunk) (g .i) (length (now (g .body))) (c .before .from-of .ensures) (c .to-of .ensures) .0
+
+part-part-start : tie.Need-part-part-start
+part-part-start c =
+    let g = c .before .before .before .before .before .before .before .before .before .before .before .before .before .before .args in
+    let k = part-inside (c .before .before .before .plan-of .result .single) (c .before .before .before .plan-of .result .chunk) (g .i) (length (now (g .body))) (c .before .from-of .ensures) (c .to-of .ensures) in
+    search needs
+
+part-part-end : tie.Need-part-part-end
+part-part-end c =
+    let g = c .before .before .before .before .before .before .before .before .before .before .before .before .before .before .args in
+    let k = part-inside (c .before .before .before .plan-of .result .single) (c .before .before .before .plan-of .result .chunk) (g .i) (length (now (g .body))) (c .before .from-of .ensures) (c .to-of .ensures) in
+    search needs
+
+secondary-size-requires : tie.Need-secondary-size-requires
+secondary-size-requires c κs = search needs
+
+packet-size-requires : tie.Need-packet-size-requires
+packet-size-requires c κs = search needs
+
+unless-requires : tie.Need-unless-requires
+unless-requires c κs = search needs
+
+unless-requires-2 : tie.Need-unless-requires-2
+unless-requires-2 c κs = search needs
+
+refused-requires : tie.Need-refused-requires
+refused-requires c κs = search needs
+
+returns : tie.Need-returns
+returns c =
+    let g = c .before .before .before .before .before .before .before .before .before .before .before .before .before .before .before .before .before .before .before .before .before .before .before .args in
+    (rw (c .refused .ensures) (refused-packet (g .s) (g .p) (g .v) (lent (now (g .timestamp)) (now (g .zone)) (now (g .name)) (now (g .domain)) (now (g .lengths)) (now (g .authentication))) (now (g .body)) (g .sender) (g .i) (c .before .before .before .before .before .before .before .before .before .before .before .before .before .before .test-message .ensures) (c .before .before .before .before .before .before .before .before .before .before .before .before .before .header-size .ensures) (c .before .before .before .before .before .before .before .before .before .before .before .before .plan-of .ensures) (c .before .before .before .before .before .before .before .before .before .before .before .values-at .ensures) (c .before .before .before .before .before .before .before .before .before .before .from-of .ensures) (c .before .before .before .before .before .before .before .before .before .to-of .ensures) (c .before .before .before .before .before .before .before .secondary-size .ensures) (c .before .before .before .before .before .before .packet-size .ensures) (length (now (g .out))) (c .before .before .before .before .unless .ensures) (c .before .before .before .unless2 .ensures) (c .before .if1 .taken)), refused-output (g .s) (g .p) (g .v) (lent (now (g .timestamp)) (now (g .zone)) (now (g .name)) (now (g .domain)) (now (g .lengths)) (now (g .authentication))) (now (g .body)) (g .sender) (g .i) (c .before .before .before .before .before .before .before .before .before .before .before .before .before .before .test-message .ensures) (c .before .before .before .before .before .before .before .before .before .before .before .before .before .header-size .ensures) (c .before .before .before .before .before .before .before .before .before .before .before .before .plan-of .ensures) (c .before .before .before .before .before .before .before .before .before .before .before .values-at .ensures) (c .before .before .before .before .before .before .before .before .before .before .from-of .ensures) (c .before .before .before .before .before .before .before .before .before .to-of .ensures) (c .before .before .before .before .before .before .before .secondary-size .ensures) (c .before .before .before .before .before .before .packet-size .ensures) (now (g .out)) (c .before .before .before .before .unless .ensures) (c .before .before .before .unless2 .ensures) (c .before .if1 .taken))
+
+sub-put-packet : tie.Need-sub-put-packet
+sub-put-packet c =
+    let g = c .before .before .before .before .before .before .before .before .before .before .before .before .before .before .before .before .before .before .before .before .before .before .before .args in
+    omega (arith, done (g .s) (g .p) (g .v) (lent (now (g .timestamp)) (now (g .zone)) (now (g .name)) (now (g .domain)) (now (g .lengths)) (now (g .authentication))) (now (g .body)) (g .sender) (g .i) (c .before .before .before .before .before .before .before .before .before .before .before .before .before .before .test-message .ensures) (c .before .before .before .before .before .before .before .before .before .before .before .before .before .header-size .ensures) (c .before .before .before .before .before .before .before .before .before .before .before .before .plan-of .ensures) (c .before .before .before .before .before .before .before .before .before .before .before .values-at .ensures) (c .before .before .before .before .before .before .before .before .before .before .from-of .ensures) (c .before .before .before .before .before .before .before .before .before .to-of .ensures) (c .before .before .before .before .before .before .before .secondary-size .ensures) (c .before .before .before .before .before .before .packet-size .ensures) (length (now (g .out))) (c .before .before .before .before .unless .ensures) (c .before .before .before .unless2 .ensures) (c .before .if1 .left) .least)
+
+put-packet-requires : tie.Need-put-packet-requires
+put-packet-requires c κs = search needs
+
+same-length : tie.Need-same-length
+same-length c = search needs
+
+returns-2 : tie.Need-returns-2
+returns-2 c =
+    let g = c .before .before .before .before .before .before .before .before .before .before .before .before .before .before .before .before .before .before .before .before .before .before .before .before .before .before .args in
+    (made-packet (g .s) (g .p) (g .v) (lent (now (g .timestamp)) (now (g .zone)) (now (g .name)) (now (g .domain)) (now (g .lengths)) (now (g .authentication))) (now (g .body)) (g .sender) (g .i) (c .before .before .before .before .before .before .before .before .before .before .before .before .before .before .before .before .before .test-message .ensures) (c .before .before .before .before .before .before .before .before .before .before .before .before .before .before .before .before .header-size .ensures) (c .before .before .before .before .before .before .before .before .before .before .before .before .before .before .before .plan-of .ensures) (c .before .before .before .before .before .before .before .before .before .before .before .before .before .before .values-at .ensures) (c .before .before .before .before .before .before .before .before .before .before .before .before .before .from-of .ensures) (c .before .before .before .before .before .before .before .before .before .before .before .before .to-of .ensures) (c .before .before .before .before .before .before .before .before .before .before .secondary-size .ensures) (c .before .before .before .before .before .before .before .before .before .packet-size .ensures) (length (now (g .out))) (c .before .before .before .before .before .before .before .unless .ensures) (c .before .before .before .before .before .before .unless2 .ensures) (c .before .before .before .before .if1 .left), made-output (g .s) (g .p) (g .v) (lent (now (g .timestamp)) (now (g .zone)) (now (g .name)) (now (g .domain)) (now (g .lengths)) (now (g .authentication))) (now (g .body)) (g .sender) (g .i) (c .before .before .before .before .before .before .before .before .before .before .before .before .before .before .before .before .before .test-message .ensures) (c .before .before .before .before .before .before .before .before .before .before .before .before .before .before .before .before .header-size .ensures) (c .before .before .before .before .before .before .before .before .before .before .before .before .before .before .before .plan-of .ensures) (c .before .before .before .before .before .before .before .before .before .before .before .before .before .before .values-at .ensures) (c .before .before .before .before .before .before .before .before .before .before .before .before .before .from-of .ensures) (c .before .before .before .before .before .before .before .before .before .before .before .before .to-of .ensures) (c .before .before .before .before .before .before .before .before .before .before .secondary-size .ensures) (c .before .before .before .before .before .before .before .before .before .packet-size .ensures) (now (g .out)) (c .before .before .before .before .before .before .before .unless .ensures) (c .before .before .before .before .before .before .unless2 .ensures) (c .before .before .before .before .if1 .left) (c .before .before .put-packet .ensures))
+
+pub packet-spec : {M : Type 1} → statement M
+packet-spec =
+    tie.close
+    (tie.spec
+    test-message-requires
+    header-size-requires
+    plan-of-requires
+    values-at-requires
+    from-of-requires
+    to-of-requires
+    sub-part
+    part-part-start
+    part-part-end
+    secondary-size-requires
+    packet-size-requires
+    unless-requires
+    unless-requires-2
+    refused-requires
+    returns
+    sub-put-packet
+    put-packet-requires
+    same-length
+    returns-2)

@@ -1,0 +1,60 @@
+-- `cut::plan_of` meets its contract: its tests are the definition's, in its order.
+-- Assumes nothing.
+use borrow.Author.Needs.{needs}
+use Rattle.cut.proofs.plan_of.Statement.{statement}
+use Rattle.cut.proofs.plan_of.Tie as tie
+use Rattle.cut.specs.Inner.{planOf, planRefusal}
+
+packet-size-requires : tie.Need-packet-size-requires
+packet-size-requires c κs = search needs
+
+chunk-of-requires : tie.Need-chunk-of-requires
+chunk-of-requires c κs = search needs
+
+count-of-requires : tie.Need-count-of-requires
+count-of-requires c κs = search needs
+
+unless-requires : tie.Need-unless-requires
+unless-requires c κs = search needs
+
+header-of-requires : tie.Need-header-of-requires
+header-of-requires c κs = search needs
+
+unless-requires-2 : tie.Need-unless-requires-2
+unless-requires-2 c κs = search needs
+
+or-single-requires : tie.Need-or-single-requires
+or-single-requires c κs = search needs
+
+unless-requires-3 : tie.Need-unless-requires-3
+unless-requires-3 c κs = search needs
+
+counters-fit-requires : tie.Need-counters-fit-requires
+counters-fit-requires c κs = search needs
+
+or-single-requires-2 : tie.Need-or-single-requires-2
+or-single-requires-2 c κs = search needs
+
+unless-requires-4 : tie.Need-unless-requires-4
+unless-requires-4 c κs = search needs
+
+returns : tie.Need-returns
+unfolding planOf planRefusal
+returns c = simp (c .unless4 .ensures, c .before .or-single2 .ensures, c .before .before .counters-fit .ensures, c .before .before .before .unless3 .ensures, c .before .before .before .before .or-single .ensures, c .before .before .before .before .before .unless2 .ensures, c .before .before .before .before .before .before .header-of .ensures, c .before .before .before .before .before .before .before .unless .ensures, c .before .before .before .before .before .before .before .before .count-of .ensures, c .before .before .before .before .before .before .before .before .before .chunk-of .ensures, c .before .before .before .before .before .before .before .before .before .before .packet-size .ensures)
+
+pub plan-of-spec : {M : Type 1} → statement M
+plan-of-spec =
+    tie.close
+    (tie.spec
+    packet-size-requires
+    chunk-of-requires
+    count-of-requires
+    unless-requires
+    header-of-requires
+    unless-requires-2
+    or-single-requires
+    unless-requires-3
+    counters-fit-requires
+    or-single-requires-2
+    unless-requires-4
+    returns)

@@ -1,0 +1,28 @@
+-- `cut::test_message` meets its contract: its tests are the definition's, in its order.
+-- Assumes nothing.
+use borrow.Author.Needs.{needs}
+use Rattle.cut.proofs.test_message.Statement.{statement}
+use Rattle.cut.proofs.test_message.Tie as tie
+use Rattle.cut.specs.Cutting.{valueTests}
+use Rattle.write.specs.Writing.{partsTest}
+
+test-limit-requires : tie.Need-test-limit-requires
+test-limit-requires c κs = search needs
+
+test-header-requires : tie.Need-test-header-requires
+test-header-requires c κs = search needs
+
+unless-requires : tie.Need-unless-requires
+unless-requires c κs = search needs
+
+test-parts-requires : tie.Need-test-parts-requires
+test-parts-requires c κs = search needs
+
+returns : tie.Need-returns
+unfolding valueTests partsTest
+returns c = simp (c .test-parts .ensures, c .before .unless .ensures, c .before .before .before .test-header .ensures, c .before .before .before .before .test-limit .ensures)
+
+pub test-message-spec : {M : Type 1} → statement M
+test-message-spec =
+    tie.close
+    (tie.spec test-limit-requires test-header-requires unless-requires test-parts-requires returns)

@@ -1,0 +1,135 @@
+-- Cutting a message into packets of at most P octets.
+-- Document 01, "Cutting": "H is the secondary header's length without a counter, B the body's. If 6 + H + B is at most P, one
+-- unsegmented packet. Otherwise each packet carries C = P - H - 10 body octets except the last, which carries the rest (1 to C). The
+-- count is B / C rounded up. Refusal 12 is judged on H for one packet and on H + 4 where cutting is needed."
+-- Assumes nothing: these are definitions.
+use Prim.Native.Nat.{ℕ, suc, _+_, _-_, _*_, _/_}
+use mathlib.Core.List.{List, _++_}
+use mathlib.Core.Bool.{Bool, true}
+use lib.ListN.{length, drop}
+use lib.Dec.{ltb, leb, eqb}
+use Rattle.octets.specs.Octets.{pick, part}
+use Rattle.walk.specs.declared.Settings.{Settings}
+use Rattle.walk.specs.declared.Refusal.{Refusal}
+use Rattle.walk.specs.Walk.{noRefusal, unless}
+use Rattle.packet.specs.Format.{Head, Values, headerOctets, octetsOf, packetMost, headerMost}
+use Rattle.packet.specs.Numbers.{countMost}
+use Rattle.write.specs.declared.HeaderValues.{HeaderValues}
+use Rattle.write.specs.Given.{Lent, headOf, headerChecks, unlessAll}
+use Rattle.write.specs.Writing.{settingsTest, partsTest, fine}
+use Rattle.cut.specs.declared.Sender.{Sender}
+use Rattle.cut.specs.declared.Counted.{Counted}
+use Rattle.cut.specs.declared.Cut.{Cut}
+use Rattle.cut.specs.Sending.{afterPacket, afterSegments, countersFit, counterAt, countAt}
+
+-- P, the packet limit for cutting, 27 to 65,542; a message body at most 1,048,576
+abbrev pub limitLeast : ℕ
+limitLeast = 27
+
+abbrev pub bodyMost : ℕ
+bodyMost = 1048576
+
+-- ---- the formula
+
+-- one unsegmented packet is enough
+abbrev pub single : ℕ → ℕ → ℕ → Bool
+single P H B = leb (6 + H + B) P
+
+-- the body octets of a packet where cutting is needed
+abbrev pub chunk : ℕ → ℕ → ℕ
+chunk P H = P - H - 10
+
+-- B / C rounded up. (Where C is 0 this is 0, and 24 is given.)
+unfoldable pub rounded : ℕ → ℕ → ℕ
+rounded B C = (B + (C - 1)) / C
+
+-- how many packets
+unfoldable pub packets : ℕ → ℕ → ℕ → ℕ
+packets P H B = pick (single P H B) 1 (rounded B (chunk P H))
+
+-- ---- the refusals
+
+-- 15: T and P
+unfoldable pub limitTest : Settings → ℕ → Refusal → Refusal
+limitTest s P r = unless (leb P packetMost) 15 (unless (leb limitLeast P) 15 (settingsTest s r))
+
+-- 22: the header's checks, and the sender's sequence count (its counter always fits its type)
+unfoldable pub valueTests : Settings → HeaderValues → Lent → Sender → Refusal → Refusal
+valueTests s v t d r = unless (leb (d .count .0) countMost) 22 (unlessAll (headerChecks s v t) 22 r)
+
+-- 23: the body; 12: the header; 24: C below 1; 25: the counters
+unfoldable pub messageTests : ℕ → ℕ → ℕ → Sender → Refusal → Refusal
+messageTests P H B d r =
+    unless (pick (single P H B) true (countersFit (d .next) (packets P H B))) 25
+    (unless (pick (single P H B) true (leb 1 (chunk P H))) 24
+    (unless (leb (pick (single P H B) H (H + 4)) headerMost) 12 (unless (leb B bodyMost) 23 r)))
+
+-- H of the values given
+abbrev pub headerLength : Settings → HeaderValues → Lent → ℕ
+headerLength s v t = length (headerOctets s (headOf v t))
+
+-- 15, 22, 13, 23, 12, 24, 25
+unfoldable pub countRefusal : Settings → ℕ → HeaderValues → Lent → ℕ → Sender → Refusal
+countRefusal s P v t B d =
+    messageTests P (headerLength s v t) B d (partsTest t (valueTests s v t d (limitTest s P noRefusal)))
+
+-- ---- the count and the numbers moved on
+
+unfoldable pub senderAfter : ℕ → ℕ → ℕ → Sender → Sender
+senderAfter P H B d = pick (single P H B) (afterPacket d) (afterSegments (packets P H B) d)
+
+-- the number of packets and the sender's numbers behind the message; or the refusal, 0 and the sender as it was
+unfoldable pub countAnswer : Settings → ℕ → HeaderValues → Lent → ℕ → Sender → Counted
+countAnswer s P v t B d =
+    record {
+      refusal = countRefusal s P v t B d;
+      count = pick (fine (countRefusal s P v t B d)) (packets P (headerLength s v t) B) 0;
+      sender = pick (fine (countRefusal s P v t B d)) (senderAfter P (headerLength s v t) B d) d;
+    }
+
+-- ---- packet number i
+
+-- sequence flags: 11 unsegmented, 01 first, 10 last, 00 between
+unfoldable pub flagsAt : ℕ → ℕ → ℕ → ℕ → ℕ
+flagsAt P H B i =
+    pick (single P H B) 3 (pick (eqb i 0) 1 (pick (eqb (suc i) (packets P H B)) 2 0))
+
+-- its part of the body
+unfoldable pub bodyAt : ℕ → ℕ → List ℕ → ℕ → List ℕ
+bodyAt P H body i = pick (single P H (length body)) body (part body (i * chunk P H) (chunk P H))
+
+unfoldable pub packetAt : ℕ → ℕ → Head → List ℕ → Sender → ℕ → Values
+packetAt P H h body d i =
+    record {
+      head = h;
+      flags = flagsAt P H (length body) i;
+      count = countAt (d .count .0) i;
+      counter = pick (single P H (length body)) 0 (counterAt (d .next) i);
+      body = bodyAt P H body i;
+    }
+
+-- the packet of the values given
+abbrev pub givenAt : Settings → ℕ → HeaderValues → Lent → List ℕ → Sender → ℕ → Values
+givenAt s P v t body d i = packetAt P (headerLength s v t) (headOf v t) body d i
+
+-- and then 26 and 21
+unfoldable pub packetRefusal : Settings → ℕ → HeaderValues → Lent → List ℕ → Sender → ℕ → ℕ → Refusal
+packetRefusal s P v t body d i room =
+    unless (leb (length (octetsOf s (givenAt s P v t body d i))) room) 21
+    (unless (ltb i (packets P (headerLength s v t) (length body))) 26 (countRefusal s P v t (length body) d))
+
+-- the octets written, or the refusal and 0; the sender as it was
+unfoldable pub packetAnswer : Settings → ℕ → HeaderValues → Lent → List ℕ → Sender → ℕ → ℕ → Cut
+packetAnswer s P v t body d i room =
+    record {
+      refusal = packetRefusal s P v t body d i room;
+      length = pick (fine (packetRefusal s P v t body d i room)) (length (octetsOf s (givenAt s P v t body d i))) 0;
+      sender = d;
+    }
+
+-- the output afterwards: the packet from the first octet on and the rest as it was; on refusal all as it was
+unfoldable pub packetOutput : Settings → ℕ → HeaderValues → Lent → List ℕ → Sender → ℕ → List ℕ → List ℕ
+packetOutput s P v t body d i out =
+    pick (fine (packetRefusal s P v t body d i (length out)))
+    (octetsOf s (givenAt s P v t body d i) ++ drop (length (octetsOf s (givenAt s P v t body d i))) out)
+    out

@@ -1,0 +1,69 @@
+-- The plan of a message as the code makes it, from a size h that is told up to the limit; and the numbers of a packet, total.
+-- Assumes nothing: these are definitions.
+use Prim.Native.Nat.{ℕ, zero, suc, _+_, _-_, _*_, _%_, min}
+use mathlib.Core.Bool.{Bool, true, false}
+use lib.Dec.{leb, eqb}
+use Rattle.octets.specs.Octets.{pick, roomOf}
+use Rattle.walk.specs.declared.Refusal.{Refusal}
+use Rattle.walk.specs.Walk.{unless}
+use Rattle.fields.specs.Inner.{capped}
+use Rattle.packet.specs.Format.{headerMost}
+use Rattle.write.specs.declared.PacketValues.{PacketValues}
+use Rattle.write.specs.Given.{most32}
+use Rattle.cut.specs.declared.Sender.{Sender}
+use Rattle.cut.specs.declared.Next.{Next}
+use Rattle.cut.specs.declared.Next.the-variants.{At, NoneLeft}
+use Rattle.cut.specs.declared.Plan.{Plan}
+use Rattle.cut.specs.Sending.{nextCounter, countersFit}
+use Rattle.cut.specs.Cutting.{bodyMost, chunk, rounded}
+
+abbrev pub singleOf : ℕ → ℕ → ℕ → Bool
+singleOf P h B = leb (capped (6 + h + B)) P
+
+abbrev pub packetsOf : Bool → ℕ → ℕ → ℕ
+packetsOf one B C = pick one 1 (rounded B C)
+
+unfoldable pub planRefusal : Bool → ℕ → ℕ → ℕ → Sender → Refusal → Refusal
+planRefusal one h B C d r =
+    unless (pick one true (countersFit (d .next) (packetsOf one B C))) 25
+    (unless (pick one true (leb 1 C)) 24
+    (unless (leb (pick one h (capped (h + 4))) headerMost) 12 (unless (leb B bodyMost) 23 r)))
+
+unfoldable pub planOf : ℕ → ℕ → ℕ → Sender → Refusal → Plan
+planOf P h B d r =
+    record {
+      refusal = planRefusal (singleOf P h B) h B (chunk P h) d r;
+      single = singleOf P h B;
+      chunk = chunk P h;
+      count = packetsOf (singleOf P h B) B (chunk P h);
+    }
+
+-- the counter behind n segments
+unfoldable pub counterAfter : ℕ → Next → Next
+counterAfter zero n = n
+counterAfter (suc k) n = nextCounter (counterAfter k n)
+
+-- the counter of segment i where it fits, else 0
+unfoldable pub counterOf : Bool → Next → ℕ → ℕ
+counterOf one (At c) i = pick one 0 (pick (leb (c .0 + i) most32) (c .0 + i) 0)
+counterOf one NoneLeft i = 0
+
+-- where the part of packet i begins
+abbrev pub fromOf : Bool → ℕ → ℕ → ℕ → ℕ
+fromOf one C i B = pick one 0 (min (i * C) B)
+
+-- and the sequence count
+abbrev pub countOf : ℕ → ℕ → ℕ
+countOf c i = (c + i % 16384) % 16384
+
+abbrev pub toOf : Bool → ℕ → ℕ → ℕ → ℕ
+toOf one from C B = pick one B (from + roomOf B from C)
+
+-- the values of packet i
+unfoldable pub valuesOf : Bool → ℕ → Sender → ℕ → PacketValues
+valuesOf one n d i =
+    record {
+      flags = pick one 3 (pick (eqb i 0) 1 (pick (eqb (suc i) n) 2 0));
+      count = record { 0 = countOf (d .count .0) i };
+      counter = record { 0 = counterOf one (d .next) i };
+    }

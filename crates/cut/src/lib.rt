@@ -1,0 +1,500 @@
+// Cutting a message into packets of at most P octets.
+//
+//   H octets of header, B of body:   6 + H + B <= P   one unsegmented packet
+//                                    else             C = P - H - 10 body octets a packet, the last one the rest
+//
+// `count` answers how many packets a message takes and the sender's two numbers moved on; `packet` writes packet number i, by the
+// numbers as they stood before the message, and moves neither. A refusal leaves the sender and the output as they were. The tests
+// on a header, its size and its octets are those of crate `write`.
+ghost use mathlib.Core.Path.{_≡_};
+ghost use Prim.Native.Nat.{suc, _+_, _-_, _≤_};
+ghost use Rattle.packet.specs.Numbers.{countMost};
+ghost use lib.ListN.{length};
+ghost use lib.Dec.{leb, eqb};
+ghost use Rattle.fields.specs.Inner.{capped};
+ghost use Rattle.octets.specs.Octets.{pick};
+ghost use Rattle.walk.specs.Walk.{unless};
+ghost use Rattle.write.specs.Given.{lent};
+ghost use Rattle.cut.specs.Sending.{afterPacket, afterSegment, afterSegments, nextCounter, countersFit};
+ghost use Rattle.cut.specs.Cutting.{limitTest, valueTests, chunk as chunkOf, rounded, flagsAt, countAnswer, packetAnswer, packetOutput};
+ghost use Rattle.cut.specs.Inner.{packetsOf, planOf, counterAfter, counterOf, fromOf, toOf, countOf, valuesOf};
+ghost use mathlib.Core.Bool.{true};
+ghost use Rattle.write.specs.Writing.{partsTest};
+ghost use Rattle.walk.specs.Walk.{noRefusal};
+use packet::SegmentCounter;
+use packet::SequenceCount;
+use walk::Refusal;
+use walk::Settings;
+use write::HeaderValues;
+use write::PacketValues;
+
+pub const LIMIT_LEAST: usize = 27;
+
+pub const BODY_MOST: usize = 1048576;
+
+const COUNTER_MOST: u32 = 4294967295;
+
+// The counter that the next segment gets, or that none is left.
+pub enum Next {
+    At(SegmentCounter),
+    NoneLeft,
+}
+
+// The sender's two running numbers.
+pub struct Sender {
+    pub count: SequenceCount,
+    pub next: Next,
+}
+
+// What the count answers: a refusal, or the number of packets; and the sender.
+pub struct Counted {
+    pub refusal: Refusal,
+    pub count: usize,
+    pub sender: Sender,
+}
+
+// What a packet's writing answers: a refusal, or the octets written; and the sender as it was.
+pub struct Cut {
+    pub refusal: Refusal,
+    pub length: usize,
+    pub sender: Sender,
+}
+
+// A message's plan: whether one packet is enough, the body octets of a packet where it is not, and how many packets.
+struct Plan {
+    refusal: Refusal,
+    single: bool,
+    chunk: usize,
+    count: usize,
+}
+
+// The counter after one that was used.
+fn next_counter(n: Next) -> Next
+    ensures { λ r. ⌜ r ≡ nextCounter n ⌝ }
+{
+    match n {
+        Next::At(c) => {
+            let x = c.0;
+            if COUNTER_MOST <= x {
+                return Next::NoneLeft;
+            }
+            Next::At(SegmentCounter(x + 1))
+        }
+        Next::NoneLeft => Next::NoneLeft,
+    }
+}
+
+impl Sender {
+    // The state after an unsegmented packet.
+    pub fn after_packet(self) -> Sender
+        ensures { λ r. ⌜ r ≡ afterPacket self ⌝ }
+    {
+        let count = packet::next_sequence_count(self.count);
+        let next = self.next;
+        Sender {
+            count: count,
+            next: next,
+        }
+    }
+
+    // The state after a segment: both numbers move.
+    pub fn after_segment(self) -> Sender
+        ensures { λ r. ⌜ r ≡ afterSegment self ⌝ }
+    {
+        let next = self.next;
+        let moved = next_counter(next);
+        let count = packet::next_sequence_count(self.count);
+        Sender {
+            count: count,
+            next: moved,
+        }
+    }
+}
+
+// ---- the plan
+
+// 15: T and P.
+fn test_limit(s: Settings, p: usize, r: Refusal) -> Refusal
+    ensures { λ q. ⌜ q ≡ limitTest s p r ⌝ }
+{
+    let a = write::test_settings(s, r);
+    let b = walk::unless(a, LIMIT_LEAST <= p, 15);
+    walk::unless(b, p <= write::PACKET_MOST, 15)
+}
+
+// 15, 22, 13.
+fn test_message(
+    s: Settings,
+    p: usize,
+    v: HeaderValues,
+    timestamp: &[u8],
+    zone: &[u8],
+    name: &[u8],
+    domain: &[u8],
+    lengths: &[u64],
+    authentication: &[u8],
+    sender: Sender,
+) -> Refusal
+    ensures { λ q. ⌜ q ≡ partsTest (lent (now (timestamp .entry)) (now (zone .entry)) (now (name .entry)) (now (domain .entry)) (now (lengths .entry)) (now (authentication .entry))) (valueTests s v (lent (now (timestamp .entry)) (now (zone .entry)) (now (name .entry)) (now (domain .entry)) (now (lengths .entry)) (now (authentication .entry))) sender (limitTest s p noRefusal)) ⌝ }
+{
+    let none = Refusal { number: 0 };
+    let count = sender.count;
+    let a = test_limit(s, p, none);
+    let b = write::test_header(
+        s,
+        v,
+        timestamp,
+        zone,
+        name,
+        domain,
+        lengths,
+        authentication,
+        a,
+    );
+    let c = walk::unless(b, count.0 <= packet::COUNT_MOST, 22);
+    write::test_parts(lengths.len(), c)
+}
+
+// What is left of a number, 0 where it is the smaller one.
+fn less(a: usize, b: usize) -> usize
+    ensures { λ r. ⌜ r ≡ a - b ⌝ }
+{
+    if b <= a {
+        return a - b;
+    }
+    0
+}
+
+// C.
+fn chunk_of(p: usize, h: usize) -> usize
+    ensures { λ r. ⌜ r ≡ chunkOf p h ⌝ }
+{
+    less(less(p, h), 10)
+}
+
+// B / C rounded up, 0 where C is.
+fn parts_of(b: usize, c: usize) -> usize
+    ensures { λ r. ⌜ r ≡ rounded b c ⌝ }
+{
+    if c == 0 {
+        return 0;
+    }
+    if b == 0 {
+        return 0;
+    }
+    (b - 1) / c + 1
+}
+
+fn count_of(single: bool, b: usize, c: usize) -> usize
+    ensures { λ r. ⌜ r ≡ packetsOf single b c ⌝ }
+{
+    if single {
+        return 1;
+    }
+    parts_of(b, c)
+}
+
+// Whether n segments have a counter each.
+fn counters_fit(next: Next, n: usize) -> bool
+    ensures { λ r. ⌜ r ≡ countersFit next n ⌝ }
+{
+    match next {
+        Next::At(c) => {
+            let left = 4294967296 - wide(c.0);
+            n as u64 <= left
+        }
+        Next::NoneLeft => false,
+    }
+}
+
+fn wide(x: u32) -> u64
+    ensures { λ r. ⌜ r ≡ x ⌝ }
+{
+    x as u64
+}
+
+// Held by one packet, or else by a test.
+fn or_single(single: bool, ok: bool) -> bool
+    ensures { λ r. ⌜ r ≡ pick single true ok ⌝ }
+{
+    if single {
+        return true;
+    }
+    ok
+}
+
+// The secondary header as it will stand in a packet.
+fn header_of(single: bool, h: usize) -> usize
+    ensures { λ r. ⌜ r ≡ pick single h (capped (h + 4)) ⌝ }
+{
+    if single {
+        return h;
+    }
+    fields::plus(h, 4)
+}
+
+// 23, 12, 24, 25, and the numbers that they are judged on.
+fn plan_of(p: usize, h: usize, b: usize, sender: Sender, r: Refusal) -> Plan
+    ensures { λ q. ⌜ q ≡ planOf p h b sender r ⌝ }
+{
+    let single = write::packet_size(h, b) <= p;
+    let chunk = chunk_of(p, h);
+    let count = count_of(single, b, chunk);
+    let next = sender.next;
+    let a = walk::unless(r, b <= BODY_MOST, 23);
+    let c = walk::unless(a, header_of(single, h) <= write::HEADER_MOST, 12);
+    let d = walk::unless(c, or_single(single, 1 <= chunk), 24);
+    let e = walk::unless(d, or_single(single, counters_fit(next, count)), 25);
+    Plan {
+        refusal: e,
+        single: single,
+        chunk: chunk,
+        count: count,
+    }
+}
+
+// ---- the numbers of a sender and of a packet
+
+// The counter behind n segments.
+fn counter_after(next: Next, n: usize) -> Next
+    ensures { λ r. ⌜ r ≡ counterAfter n next ⌝ }
+{
+    match next {
+        Next::At(c) => {
+            let x = c.0;
+            let left = wide(COUNTER_MOST - x);
+            if n as u64 <= left {
+                return Next::At(SegmentCounter(x + n as u32));
+            }
+            Next::NoneLeft
+        }
+        Next::NoneLeft => Next::NoneLeft,
+    }
+}
+
+// The sequence count n packets on.
+fn count_after(c: SequenceCount, n: usize) -> SequenceCount
+    ensures { λ r. ⌜ r .0 ≡ countOf (c .0) n ⌝ }
+{
+    let x = c.0 as u32 + (n % 16384) as u32;
+    SequenceCount((x % 16384) as u16)
+}
+
+// The counter of segment i, 0 where there is none.
+fn counter_at(single: bool, next: Next, i: usize) -> SegmentCounter
+    ensures { λ r. ⌜ r .0 ≡ counterOf single next i ⌝ }
+{
+    match next {
+        Next::At(c) => {
+            let x = c.0;
+            let left = wide(COUNTER_MOST - x);
+            if single {
+                return SegmentCounter(0);
+            }
+            if i as u64 <= left {
+                return SegmentCounter(x + i as u32);
+            }
+            SegmentCounter(0)
+        }
+        Next::NoneLeft => SegmentCounter(0),
+    }
+}
+
+// The sequence flags of packet i.
+fn flags_at(single: bool, count: usize, i: usize) -> u8
+    ensures { λ r. ⌜ r ≡ pick single 3 (pick (eqb i 0) 1 (pick (eqb (suc i) count) 2 0)) ⌝ }
+{
+    if single {
+        return 3;
+    }
+    if i == 0 {
+        return 1;
+    }
+    if i < count {
+        if count - i == 1 {
+            return 2;
+        }
+    }
+    0
+}
+
+// Where the part of packet i begins.
+fn from_of(single: bool, chunk: usize, i: usize, b: usize) -> usize
+    ensures { λ r. ⌜ r ≡ fromOf single chunk i b ⌝ }
+{
+    if single {
+        return 0;
+    }
+    if chunk == 0 {
+        return 0;
+    }
+    if b / chunk < i {
+        return b;
+    }
+    i * chunk
+}
+
+// Where it ends.
+fn to_of(single: bool, from: usize, chunk: usize, b: usize) -> usize
+    ensures { λ r. ⌜ r ≡ toOf single from chunk b ⌝ }
+{
+    if single {
+        return b;
+    }
+    octets::within(b, from, chunk)
+}
+
+// The values of packet i.
+fn values_at(single: bool, count: usize, sender: Sender, i: usize) -> PacketValues
+    ensures { λ r. ⌜ r ≡ valuesOf single count sender i ⌝ }
+{
+    let next = sender.next;
+    let first = sender.count;
+    let flags = flags_at(single, count, i);
+    let number = count_after(first, i);
+    let counter = counter_at(single, next, i);
+    PacketValues {
+        flags: flags,
+        count: number,
+        counter: counter,
+    }
+}
+
+// The sender behind a message. Its sequence count is one of 14 bits.
+fn moved_on(single: bool, n: usize, sender: Sender) -> Sender
+    requires { ⌜ sender .count .0 ≤ countMost ⌝ }
+    ensures { λ r. ⌜ r ≡ pick single (afterPacket sender) (afterSegments n sender) ⌝ }
+{
+    if single {
+        return sender.after_packet();
+    }
+    let next = sender.next;
+    let moved = counter_after(next, n);
+    let first = sender.count;
+    let count = count_after(first, n);
+    Sender {
+        count: count,
+        next: moved,
+    }
+}
+
+// The number of packets of a message with a body of so many octets, and the sender's numbers behind it.
+pub fn count(
+    s: Settings,
+    p: usize,
+    v: HeaderValues,
+    timestamp: &[u8],
+    zone: &[u8],
+    name: &[u8],
+    domain: &[u8],
+    lengths: &[u64],
+    authentication: &[u8],
+    body: usize,
+    sender: Sender,
+) -> Counted
+    ensures { λ r. ⌜ r ≡ countAnswer s p v (lent (now (timestamp .entry)) (now (zone .entry)) (now (name .entry)) (now (domain .entry)) (now (lengths .entry)) (now (authentication .entry))) body sender ⌝ }
+{
+    let values = test_message(
+        s,
+        p,
+        v,
+        timestamp,
+        zone,
+        name,
+        domain,
+        lengths,
+        authentication,
+        sender,
+    );
+    let h = write::header_size(s, v, timestamp, zone, name, domain, lengths, authentication);
+    let plan = plan_of(p, h, body, sender, values);
+    let refusal = plan.refusal;
+    if refusal.number != 0 {
+        return Counted {
+            refusal: refusal,
+            count: 0,
+            sender: sender,
+        };
+    }
+    let moved = moved_on(plan.single, plan.count, sender);
+    Counted {
+        refusal: refusal,
+        count: plan.count,
+        sender: moved,
+    }
+}
+
+// What a refusal answers.
+fn refused(refusal: Refusal, sender: Sender) -> Cut
+    ensures { λ r. ⌜ r ≡ record { refusal = refusal; length = 0; sender = sender } ⌝ }
+{
+    Cut {
+        refusal: refusal,
+        length: 0,
+        sender: sender,
+    }
+}
+
+// Writes packet number i of a message, by the sender's numbers as they stand, or refuses and changes nothing.
+pub fn packet(
+    s: Settings,
+    p: usize,
+    v: HeaderValues,
+    timestamp: &[u8],
+    zone: &[u8],
+    name: &[u8],
+    domain: &[u8],
+    lengths: &[u64],
+    authentication: &[u8],
+    body: &[u8],
+    sender: Sender,
+    i: usize,
+    out: &mut [u8],
+) -> Cut
+    ensures answer { λ r. ⌜ r ≡ packetAnswer s p v (lent (now (timestamp .entry)) (now (zone .entry)) (now (name .entry)) (now (domain .entry)) (now (lengths .entry)) (now (authentication .entry))) (now (body .entry)) sender i (length (now (out .entry))) ⌝ }
+    ensures octets { λ r. ⌜ now (out .exit) ≡ packetOutput s p v (lent (now (timestamp .entry)) (now (zone .entry)) (now (name .entry)) (now (domain .entry)) (now (lengths .entry)) (now (authentication .entry))) (now (body .entry)) sender i (now (out .entry)) ⌝ }
+{
+    let values = test_message(
+        s,
+        p,
+        v,
+        timestamp,
+        zone,
+        name,
+        domain,
+        lengths,
+        authentication,
+        sender,
+    );
+    let h = write::header_size(s, v, timestamp, zone, name, domain, lengths, authentication);
+    let plan = plan_of(p, h, body.len(), sender, values);
+    let o = values_at(plan.single, plan.count, sender, i);
+    let from = from_of(plan.single, plan.chunk, i, body.len());
+    let to = to_of(plan.single, from, plan.chunk, body.len());
+    let part = &body[from..to];
+    let size = write::packet_size(write::secondary_size(h, o.flags), part.len());
+    let a = walk::unless(plan.refusal, i < plan.count, 26);
+    let r = walk::unless(a, size <= out.len(), 21);
+    if r.number != 0 {
+        return refused(r, sender);
+    }
+    write::put_packet(
+        s,
+        out,
+        v,
+        o,
+        size - 7,
+        timestamp,
+        zone,
+        name,
+        domain,
+        lengths,
+        authentication,
+        part,
+    );
+    Cut {
+        refusal: r,
+        length: size,
+        sender: sender,
+    }
+}

@@ -1,0 +1,165 @@
+-- By computation: document 01's figure 14, written into 27 and into 30 octets, is its packet and the rest as it was. So a writer that
+-- writes nothing is refuted. And a segment with every optional field can be written: the laws are not empty.
+-- Assumes nothing.
+use Prim.Native.Nat.{ℕ, zero, suc, _/_, _%_}
+use mathlib.Core.Path.{_≡_, refl, ap, sym, _∙_}
+use mathlib.Core.Bool.{true, false}
+use mathlib.Core.List.{List, [], _∷_, _++_, map}
+use native.Mathlib.Omega.{arith}
+use lib.ListN.{length, take, replicate}
+use Rattle.octets.specs.Octets.{octetAt, wide}
+use Rattle.walk.specs.Walk.{unless, noRefusal, refusal}
+use Rattle.fields.specs.Form.{split}
+use Rattle.packet.specs.declared.Header.{Header}
+use Rattle.packet.specs.Format.{presence, identification, fixedOctets, frontOctets, counterOctets, backOctets, secondaryOctets, dataOctets, octetsOf}
+use Rattle.packet.specs.Reading.{primaryOf, acceptedHeader, readPacket}
+use Rattle.write.specs.declared.HeaderValues.{HeaderValues}
+use Rattle.write.specs.declared.PacketValues.{PacketValues}
+use Rattle.write.specs.declared.Written.{Written}
+use Rattle.write.specs.Given.{Lent, lent, headOf, packetOf, sum, nameChecks, routingChecks, idChecks, textChecks, headerChecks, packetChecks, unlessAll}
+use Rattle.write.specs.Writing.{settingsTest, partsTest, givenPacket, sizeTests, valueRefusal, writeRefusal, writeAnswer, writeOutput}
+use Rattle.format.proofs.Start.{answer}
+use Rattle.format.proofs.Figure14.{settings, packet}
+use Rattle.format.proofs.Examples.{two, full, full-in-range, full-octets}
+use Rattle.two_way.specs.Writable.{Writable}
+use Rattle.two_way.specs.Same.{written, SameRead}
+use Rattle.two_way.proofs.Accepts.{accepts}
+use Rattle.two_way.proofs.Back.{writable-back}
+
+-- ---- figure 14
+
+abbrev pub header : HeaderValues
+header =
+    record {
+      kind = 1;
+      apid = record { 0 = 5 };
+      sdu = 0;
+      area = 1;
+      service = 2;
+      operation = 3;
+      version = 1;
+      error = 0;
+      qos = 1;
+      session = 0;
+      second = record { 0 = 6 };
+      qualifier = 7;
+      transaction = 9;
+      has =
+          record {
+            source = false;
+            destination = false;
+            priority = false;
+            timestamp = false;
+            zone = false;
+            session = false;
+            domain = false;
+            authentication = false;
+          };
+      source = 0;
+      destination = 0;
+      priority = 0;
+    }
+
+abbrev pub own : PacketValues
+own = record { flags = 3; count = record { 0 = 0 }; counter = record { 0 = 0 } }
+
+abbrev pub texts : Lent
+texts = lent [] [] [] [] [] []
+
+abbrev pub zeros : ℕ → List ℕ
+zeros n = replicate n 0
+
+-- what writing it into n zeros answers, and the output afterwards
+abbrev answers : ℕ → Written
+answers n = writeAnswer settings header own texts [] (length (zeros n))
+
+abbrev outputs : ℕ → List ℕ
+outputs n = writeOutput settings header own texts [] (zeros n)
+
+-- 27 octets are room enough, what is behind them stays; with one less it is 21, and all is as it was
+pub figure-written :
+    (map answers (27 ∷ 30 ∷ 26 ∷ [])
+    ≡ record { refusal = noRefusal; length = 27 } ∷ record { refusal = noRefusal; length = 27 }
+    ∷ record { refusal = refusal 21; length = 0 }
+    ∷ [])
+    × ((outputs 27 ≡ packet) × ((outputs 30 ≡ packet ++ (0 ∷ 0 ∷ 0 ∷ [])) × (outputs 26 ≡ zeros 26)))
+unfolding writeAnswer writeOutput writeRefusal sizeTests valueRefusal partsTest settingsTest unlessAll unless headerChecks nameChecks routingChecks idChecks textChecks packetChecks headOf packetOf split sum octetsOf identification dataOctets secondaryOctets fixedOctets presence frontOctets counterOctets backOctets wide
+figure-written = (refl, (refl, (refl, refl)))
+
+-- ---- a writer that writes nothing
+
+-- its output is not the promised one
+pub no-silent-output : outputs 27 ≡ zeros 27 → ⊥
+no-silent-output e =
+    let z : octetAt packet 0 ≡ octetAt (zeros 27) 0 = ap (λ (l : List ℕ). octetAt l 0) (sym (figure-written .1 .0) ∙ e) in
+    omega arith
+
+-- and whatever length it answers, what it left in the output does not read back
+first-zero : (n : ℕ) → octetAt (take n (zeros 27)) 0 ≡ 0
+first-zero zero = refl
+first-zero (suc n) = refl
+
+pub no-silent-writer : (n : ℕ) → SameRead (take n (zeros 27)) (readPacket settings (take n (zeros 27))) header own texts [] → ⊥
+unfolding acceptedHeader primaryOf
+no-silent-writer n k =
+    let a : readPacket settings (take n (zeros 27)) .primary .kind ≡ octetAt (take n (zeros 27)) 0 / 16 % 2 =
+    ap (λ (h : Header). h .primary .kind) (answer settings (take n (zeros 27)) (k .no-refusal)) in
+    omega (arith, k .kind, first-zero n)
+
+-- ---- a first segment with every optional field
+
+abbrev pub full-header : HeaderValues
+full-header =
+    record {
+      kind = 0;
+      apid = record { 0 = 2046 };
+      sdu = 21;
+      area = 65535;
+      service = 0;
+      operation = 258;
+      version = 255;
+      error = 1;
+      qos = 3;
+      session = 2;
+      second = record { 0 = 2047 };
+      qualifier = 1;
+      transaction = 18446744073709551615;
+      has =
+          record {
+            source = true;
+            destination = true;
+            priority = true;
+            timestamp = true;
+            zone = true;
+            session = true;
+            domain = true;
+            authentication = true;
+          };
+      source = 255;
+      destination = 1;
+      priority = 300;
+    }
+
+abbrev pub full-own : PacketValues
+full-own = record { flags = 1; count = record { 0 = 16383 }; counter = record { 0 = 4294967295 } }
+
+abbrev pub full-texts : Lent
+full-texts = lent (1 ∷ 2 ∷ []) (65 ∷ []) [] (66 ∷ []) (1 ∷ 0 ∷ []) (255 ∷ 0 ∷ [])
+
+abbrev pub full-body : List ℕ
+full-body = 7 ∷ []
+
+pub full-given : givenPacket full-header full-own full-texts full-body ≡ full
+unfolding packetOf headOf split
+full-given = refl
+
+pub full-writable : Writable two full-header full-own full-texts full-body (length (zeros 60))
+unfolding packetOf headOf split sum
+full-writable = record { range = full-in-range; adds = refl; fits = omega (arith, ap length full-octets) }
+
+pub full-back :
+    SameRead (written two full-header full-own full-texts full-body (zeros 60))
+    (readPacket two (written two full-header full-own full-texts full-body (zeros 60))) full-header full-own full-texts full-body
+full-back =
+    writable-back two full-header full-own full-texts full-body (zeros 60) full-writable
+    (accepts two full-header full-own full-texts full-body (length (zeros 60)) full-writable)

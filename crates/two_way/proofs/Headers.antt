@@ -1,0 +1,202 @@
+-- A header's values: the writer's checks behind 22 and 13 hold exactly if the header is in range and the domain's lengths add up.
+-- That a text has at most 65,535 octets follows from the header's limit.
+-- Assumes nothing.
+use Prim.Native.Nat.{ℕ, _+_, _≤_, _<_}
+use mathlib.Core.Path.{_≡_, refl}
+use mathlib.Core.Bool.{Bool, true, false}
+use mathlib.Core.List.{_++_}
+use native.Mathlib.Omega.{arith}
+use lib.ListN.{length, length-append}
+use borrow.Author.Tests.{leb-true, ltb-true, le-leb, lt-ltb}
+use Rattle.octets.specs.Octets.{pick, Octets}
+use Rattle.walk.specs.declared.Settings.{Settings}
+use Rattle.fields.specs.Fields.{partsMost}
+use Rattle.fields.specs.Form.{numberOctets, partOctets, joined, domainOctets}
+use Rattle.packet.specs.Format.{Head, Each, headerOctets, textMost, HeadInRange}
+use Rattle.write.specs.declared.HeaderValues.{HeaderValues}
+use Rattle.write.specs.Given.{Lent, headOf, sum, most8, most16, most32, nameChecks, routingChecks, idChecks, textChecks, headerChecks}
+use Rattle.write.proofs.Tests.{AllHold, hold-append, hold-first, hold-second}
+use Rattle.write.proofs.Sizes.{header-length}
+use Rattle.two_way.proofs.Lists.{joined-least}
+use Rattle.two_way.proofs.Fits.{number-opt, text-opt, exact-opt, domain-opt, fits-sum, opt-number, opt-text, opt-exact, opt-lengths, opt-domain}
+
+-- the texts that are there are octets
+pub record PlainTexts (h : Head) : Type 0 where
+  pub timestamp : h .has-timestamp ≡ true → Octets (h .timestamp)
+  pub zone : h .has-zone ≡ true → Octets (h .zone)
+  pub name : h .has-name ≡ true → Octets (h .name)
+  pub domain : h .has-domain ≡ true → Each Octets (h .domain)
+  pub authentication : h .has-authentication ≡ true → Octets (h .authentication)
+
+-- ---- a text that is there is no longer than the header
+
+pick-true : (b : Bool) (n : ℕ) → b ≡ true → pick b n 0 ≡ n
+pick-true true n e = refl
+pick-true false n e = let z : _≡_ {A = ℕ} 0 1 = cc in absurd (omega arith)
+
+module _ (s : Settings) (h : Head) where
+  zone-long : h .has-zone ≡ true → length (h .zone) ≤ length (headerOctets s h)
+  zone-long e = omega (arith, header-length s h, pick-true (h .has-zone) (length (numberOctets s (length (h .zone))) + length (h .zone)) e)
+
+  name-long : h .has-name ≡ true → length (h .name) ≤ length (headerOctets s h)
+  name-long e = omega (arith, header-length s h, pick-true (h .has-name) (length (numberOctets s (length (h .name))) + length (h .name)) e)
+
+  authentication-long : h .has-authentication ≡ true → length (h .authentication) ≤ length (headerOctets s h)
+  authentication-long e =
+      omega (
+        arith,
+        header-length s h,
+        pick-true (h .has-authentication) (length (numberOctets s (length (h .authentication))) + length (h .authentication)) e,
+      )
+
+  domain-long : h .has-domain ≡ true → length (joined (partOctets s) (h .domain)) ≤ length (headerOctets s h)
+  unfolding domainOctets
+  domain-long e =
+      omega (
+        arith,
+        header-length s h,
+        pick-true (h .has-domain) (length (domainOctets s (h .domain))) e,
+        length-append (numberOctets s (length (h .domain))) (joined (partOctets s) (h .domain)),
+      )
+
+module _ (s : Settings) (v : HeaderValues) (t : Lent) where
+  -- ---- from the checks to the range
+
+  module _ (a : AllHold (headerChecks s v t)) where
+    names : AllHold (nameChecks v)
+    unfolding headerChecks
+    names = hold-first (nameChecks v) (routingChecks v ++ (idChecks v ++ textChecks s v t)) a
+
+    behind : AllHold (routingChecks v ++ (idChecks v ++ textChecks s v t))
+    unfolding headerChecks
+    behind = hold-second (nameChecks v) (routingChecks v ++ (idChecks v ++ textChecks s v t)) a
+
+    routing : AllHold (routingChecks v)
+    routing = hold-first (routingChecks v) (idChecks v ++ textChecks s v t) behind
+
+    last : AllHold (idChecks v ++ textChecks s v t)
+    last = hold-second (routingChecks v) (idChecks v ++ textChecks s v t) behind
+
+    ids : AllHold (idChecks v)
+    ids = hold-first (idChecks v) (textChecks s v t) last
+
+    texts : AllHold (textChecks s v t)
+    texts = hold-second (idChecks v) (textChecks s v t) last
+
+    pub checks-sum : sum (t .lengths) ≡ length (t .domain)
+    unfolding AllHold textChecks
+    checks-sum = fits-sum (v .has .domain) (t .lengths) (t .domain) (texts .1 .1 .1 .0) (texts .1 .1 .1 .1 .0)
+
+    pub checks-range :
+        length (t .lengths) ≤ partsMost → v .transaction < 18446744073709551616 → PlainTexts (headOf v t) → HeadInRange s (headOf v t)
+    unfolding AllHold nameChecks routingChecks idChecks textChecks headOf
+    checks-range l w p =
+        let n = names in
+        let r = routing in
+        let i = ids in
+        let x = texts in
+        record {
+          kind = omega (arith, leb-true (v .kind) 1 (n .0));
+          apid = ltb-true (v .apid .0) 2047 (n .1 .0);
+          sdu = leb-true (v .sdu) 21 (n .1 .1 .0);
+          area = omega (arith, leb-true (v .area) most16 (n .1 .1 .1 .0));
+          service = omega (arith, leb-true (v .service) most16 (n .1 .1 .1 .1 .0));
+          operation = omega (arith, leb-true (v .operation) most16 (n .1 .1 .1 .1 .1 .0));
+          version = omega (arith, leb-true (v .version) most8 (n .1 .1 .1 .1 .1 .1 .0));
+          error = omega (arith, leb-true (v .error) 1 (r .0));
+          qos = omega (arith, leb-true (v .qos) 3 (r .1 .0));
+          session = leb-true (v .session) 2 (r .1 .1 .0);
+          second = omega (arith, leb-true (v .second .0) 2047 (r .1 .1 .1 .0));
+          qualifier = omega (arith, leb-true (v .qualifier) most16 (r .1 .1 .1 .1 .0));
+          transaction = w;
+          source = number-opt (v .has .source) (v .source) most8 256 refl (i .0);
+          destination = number-opt (v .has .destination) (v .destination) most8 256 refl (i .1 .0);
+          priority = number-opt (v .has .priority) (v .priority) most32 4294967296 refl (i .1 .1 .0);
+          timestamp = exact-opt (v .has .timestamp) (t .timestamp) (s .t) (p .timestamp) (x .0);
+          zone = text-opt (v .has .zone) (t .zone) (p .zone) (x .1 .0);
+          name = text-opt (v .has .session) (t .name) (p .name) (x .1 .1 .0);
+          domain = domain-opt (v .has .domain) (t .lengths) (t .domain) (p .domain) l (x .1 .1 .1 .1 .0);
+          authentication = text-opt (v .has .authentication) (t .authentication) (p .authentication) (x .1 .1 .1 .1 .1 .0);
+        }
+
+  -- ---- and back
+
+  module _
+      (r : HeadInRange s (headOf v t))
+      (e : sum (t .lengths) ≡ length (t .domain))
+      (l : length (headerOctets s (headOf v t)) ≤ textMost) where
+    names-hold : AllHold (nameChecks v)
+    unfolding AllHold nameChecks headOf
+    names-hold = (
+      le-leb (v .kind) 1 (omega (arith, r .kind)),
+      (
+        lt-ltb (v .apid .0) 2047 (r .apid),
+        (
+          le-leb (v .sdu) 21 (r .sdu),
+          (
+            le-leb (v .area) most16 (omega (arith, r .area)),
+            (
+              le-leb (v .service) most16 (omega (arith, r .service)),
+              (le-leb (v .operation) most16 (omega (arith, r .operation)), (le-leb (v .version) most8 (omega (arith, r .version)), tt)),
+            ),
+          ),
+        ),
+      ),
+    )
+
+    routing-hold : AllHold (routingChecks v)
+    unfolding AllHold routingChecks headOf
+    routing-hold = (
+      le-leb (v .error) 1 (omega (arith, r .error)),
+      (
+        le-leb (v .qos) 3 (omega (arith, r .qos)),
+        (
+          le-leb (v .session) 2 (r .session),
+          (le-leb (v .second .0) 2047 (omega (arith, r .second)), (le-leb (v .qualifier) most16 (omega (arith, r .qualifier)), tt)),
+        ),
+      ),
+    )
+
+    ids-hold : AllHold (idChecks v)
+    unfolding AllHold idChecks headOf
+    ids-hold = (
+      opt-number (v .has .source) (v .source) most8 256 refl (r .source),
+      (
+        opt-number (v .has .destination) (v .destination) most8 256 refl (r .destination),
+        (opt-number (v .has .priority) (v .priority) most32 4294967296 refl (r .priority), tt),
+      ),
+    )
+
+    domain-most : v .has .domain ≡ true → length (t .domain) ≤ textMost
+    unfolding headOf
+    domain-most h = omega (arith, joined-least s (t .lengths) (t .domain) e, domain-long s (headOf v t) h)
+
+    texts-hold : AllHold (textChecks s v t)
+    unfolding AllHold textChecks headOf
+    texts-hold = (
+      opt-exact (v .has .timestamp) (t .timestamp) (s .t) (r .timestamp),
+      (
+        opt-text (v .has .zone) (t .zone) (r .zone) (λ h. omega (arith, zone-long s (headOf v t) h)),
+        (
+          opt-text (v .has .session) (t .name) (r .name) (λ h. omega (arith, name-long s (headOf v t) h)),
+          (
+            opt-domain (t .lengths) (t .domain) e (v .has .domain) (r .domain) domain-most,
+            (
+              opt-lengths (t .lengths) (t .domain) e (v .has .domain) (r .domain),
+              (
+                opt-text (v .has .authentication) (t .authentication) (r .authentication)
+                    (λ h. omega (arith, authentication-long s (headOf v t) h)),
+                tt,
+              ),
+            ),
+          ),
+        ),
+      ),
+    )
+
+    pub range-checks : AllHold (headerChecks s v t)
+    unfolding headerChecks
+    range-checks =
+        hold-append (nameChecks v) (routingChecks v ++ (idChecks v ++ textChecks s v t)) names-hold
+        (hold-append (routingChecks v) (idChecks v ++ textChecks s v t) routing-hold
+        (hold-append (idChecks v) (textChecks s v t) ids-hold texts-hold))

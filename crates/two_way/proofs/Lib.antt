@@ -1,0 +1,11 @@
+pub mod Lists
+pub mod Fits
+pub mod Headers
+pub mod Texts
+pub mod Accepts
+pub mod Outputs
+pub mod Forth
+pub mod Back
+pub mod Exactly
+pub mod Calls
+pub mod Figures

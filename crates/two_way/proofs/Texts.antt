@@ -1,0 +1,82 @@
+-- The texts and the body of a packet are octets if what is lent is, or if the packet is.
+-- Assumes nothing.
+use Prim.Native.Nat.{ℕ, _+_, _-_, _*_}
+use mathlib.Core.Path.{_≡_}
+use mathlib.Core.Bool.{Bool, true, false}
+use mathlib.Core.List.{List}
+use native.Mathlib.Omega.{arith}
+use lib.ListN.{length}
+use Rattle.octets.specs.Octets.{Octets, wide}
+use Rattle.walk.specs.declared.Settings.{Settings}
+use Rattle.fields.specs.Form.{numberOctets, blobOctets, textOctets, partOctets, joined, domainOctets}
+use Rattle.packet.specs.Format.{Head, Values, Each, when, identification, fixedOctets, frontOctets, counterOctets, backOctets, secondaryOctets, dataOctets, octetsOf}
+use Rattle.write.specs.declared.HeaderValues.{HeaderValues}
+use Rattle.write.specs.Given.{Lent, headOf}
+use Rattle.two_way.specs.Writable.{LentOctets}
+use Rattle.two_way.proofs.Lists.{octets-left, octets-right, split-octets, text-octets, parts-octets}
+use Rattle.two_way.proofs.Headers.{PlainTexts}
+
+-- by what is lent
+pub lent-texts : (v : HeaderValues) (t : Lent) (body : List ℕ) → LentOctets t body → PlainTexts (headOf v t)
+unfolding headOf
+lent-texts v t body p =
+    record {
+      timestamp = λ e. p .timestamp;
+      zone = λ e. p .zone;
+      name = λ e. p .name;
+      domain = λ e. split-octets (t .lengths) (t .domain) (p .domain);
+      authentication = λ e. p .authentication;
+    }
+
+-- by the packet
+when-octets : (b : Bool) (l : List ℕ) → Octets (when b l) → b ≡ true → Octets l
+when-octets true l o e = o
+when-octets false l o e = let z : _≡_ {A = ℕ} 0 1 = cc in absurd (omega arith)
+
+blob-octets : (s : Settings) (x : List ℕ) → Octets (blobOctets s x) → Octets x
+unfolding blobOctets
+blob-octets s x o = octets-right (numberOctets s (length x)) x o
+
+domain-octets : (s : Settings) (ts : List (List ℕ)) → Octets (domainOctets s ts) → Each Octets ts
+unfolding domainOctets
+domain-octets s ts o = parts-octets s ts (octets-right (numberOctets s (length ts)) (joined (partOctets s) ts) o)
+
+back-texts : (s : Settings) (h : Head) → Octets (backOctets s h) → PlainTexts h
+unfolding backOctets
+back-texts s h o =
+    let a = octets-right (when (h .has-priority) (numberOctets s (h .priority))) _ o in
+    let b = octets-right (when (h .has-timestamp) (h .timestamp)) _ a in
+    let c = octets-right (when (h .has-zone) (textOctets s (h .zone))) _ b in
+    let d = octets-right (when (h .has-name) (textOctets s (h .name))) _ c in
+    let f = octets-right (when (h .has-domain) (domainOctets s (h .domain))) _ d in
+    record {
+      timestamp = λ e. when-octets (h .has-timestamp) (h .timestamp) (octets-left (when (h .has-timestamp) (h .timestamp)) _ a) e;
+      zone =
+          λ e. text-octets s (h .zone) (when-octets (h .has-zone) (textOctets s (h .zone)) (octets-left (when (h .has-zone) (textOctets s (h .zone))) _ b) e);
+      name =
+          λ e. text-octets s (h .name) (when-octets (h .has-name) (textOctets s (h .name)) (octets-left (when (h .has-name) (textOctets s (h .name))) _ c) e);
+      domain =
+          λ e.
+          domain-octets s (h .domain)
+          (when-octets (h .has-domain) (domainOctets s (h .domain)) (octets-left (when (h .has-domain) (domainOctets s (h .domain))) _ d) e);
+      authentication =
+          λ e. blob-octets s (h .authentication) (when-octets (h .has-authentication) (blobOctets s (h .authentication)) f e);
+    }
+
+data-octets : (s : Settings) (v : Values) → Octets (octetsOf s v) → Octets (dataOctets s v)
+unfolding octetsOf
+data-octets s v o =
+    octets-right (wide 2 (length (dataOctets s v) - 1)) (dataOctets s v)
+    (octets-right (wide 2 (v .flags * 16384 + v .count)) _ (octets-right (identification (v .head)) _ o))
+
+pub packet-body : (s : Settings) (v : Values) → Octets (octetsOf s v) → Octets (v .body)
+unfolding dataOctets
+packet-body s v o = octets-right (secondaryOctets s v) (v .body) (data-octets s v o)
+
+pub packet-texts : (s : Settings) (v : Values) → Octets (octetsOf s v) → PlainTexts (v .head)
+unfolding dataOctets secondaryOctets
+packet-texts s v o =
+    back-texts s (v .head)
+    (octets-right (counterOctets v) (backOctets s (v .head))
+    (octets-right (frontOctets (v .head)) _
+    (octets-right (fixedOctets (v .head)) _ (octets-left (secondaryOctets s v) (v .body) (data-octets s v o)))))
