@@ -134,6 +134,12 @@ def texts(row):
     return [(READABLE, octets(row["header"][name])) for name in TEXTS]
 
 
+def sender(numbers):
+    """A sender's numbers: sequence count, counter, and whether one is left."""
+    counter = numbers["counter"]
+    return [numbers["seq"], 0, 0] if counter is None else [numbers["seq"], counter, 1]
+
+
 def answer(row):
     return row["expect"]["answer"]
 
@@ -172,6 +178,20 @@ CALLS = {
         lambda row: [row["T"]] + header(row) + [row["flags"], row["seq"], row["counter"]] + lengths(row),
         lambda row: texts(row) + [(READABLE, octets(row["body"])), (OUTPUT, octets(row["out"]))],
         lambda row: line([answer(row)["refusal"], answer(row)["length"]], octets(row["expect"]["out"])),
+    ),
+    "count": Call(
+        5,
+        lambda row: [row["T"], row["P"]] + header(row) + [row["body_length"]] + sender(row["sender"]) + lengths(row),
+        texts,
+        lambda row: line([answer(row)["refusal"], answer(row)["count"]] + sender(answer(row)["sender"])),
+    ),
+    "packet": Call(
+        6,
+        lambda row: [row["T"], row["P"]] + header(row) + sender(row["sender"]) + [row["i"]] + lengths(row),
+        lambda row: texts(row) + [(READABLE, octets(row["body"])), (OUTPUT, octets(row["out"]))],
+        lambda row: line(
+            [answer(row)["refusal"], answer(row)["length"]] + sender(answer(row)["sender"]), octets(row["expect"]["out"])
+        ),
     ),
 }
 

@@ -12,7 +12,10 @@ use write::HeaderValues;
 // How many numbers a header has.
 pub const HEADER: usize = 24;
 
-const FLAG: u64 = 1;
+// The refusal of a number too wide for its field.
+pub const TOO_WIDE: u8 = 22;
+
+pub const FLAG: u64 = 1;
 
 pub const MOST_8: u64 = 0xff;
 

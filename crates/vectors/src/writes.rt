@@ -14,9 +14,6 @@ const PACKET_AT: usize = 25;
 
 const LENGTHS_AT: usize = 28;
 
-// The refusal of a number too wide for its field.
-const TOO_WIDE: u8 = 22;
-
 // Whether each of the packet's own values fits its type: sequence flags, sequence count, segment counter.
 fn fit(list: &[u64]) -> bool {
     lists::at(list, 0) <= headers::MOST_8
@@ -37,8 +34,9 @@ fn values(list: &[u64]) -> PacketValues {
 fn refusal(s: Settings, numbers: &[u64]) -> Refusal {
     let none = Refusal { number: 0 };
     let a = write::test_settings(s, none);
-    let b = walk::unless(a, headers::fit(lists::from(numbers, HEADER_AT)), TOO_WIDE);
-    walk::unless(b, fit(lists::from(numbers, PACKET_AT)), TOO_WIDE)
+    let header = headers::fit(lists::from(numbers, HEADER_AT));
+    let b = walk::unless(a, header, headers::TOO_WIDE);
+    walk::unless(b, fit(lists::from(numbers, PACKET_AT)), headers::TOO_WIDE)
 }
 
 // Writes the packet of numbers that fit, and answers the refusal and the octets written.
