@@ -6,7 +6,7 @@ use mathlib.Core.Logic.{⊎-elim}
 use mathlib.Core.Bool.{Bool, true, false}
 use native.Mathlib.Numerals.{add-one}
 use native.Mathlib.Omega.{arith}
-use native.Mathlib.Nat.{div-zero, div-eq-of-lt, add-div-right, le-div-iff-mul-le, add-mod-mod, add-zero, mul-zero}
+use native.Mathlib.Nat.{div-zero, div-eq-of-lt, add-div-right, add-mod-mod, add-zero}
 use lib.Dec.{leb, eqb}
 use borrow.Author.Tests.{le-leb, lt-leb, eq-eqb, ne-eqb}
 use Rattle.octets.specs.Octets.{pick}
@@ -20,7 +20,7 @@ use Rattle.cut.specs.declared.Next.{Next}
 use Rattle.cut.specs.declared.Next.the-variants.{At, NoneLeft}
 use Rattle.cut.specs.Sending.{nextCounter, afterSegment, afterSegments, countersFit, counterAt, countAt}
 use Rattle.cut.specs.Cutting.{rounded}
-use Rattle.cut.specs.Inner.{counterAfter, counterOf, fromOf, countOf}
+use Rattle.cut.specs.Inner.{counterAfter, counterOf, countOf}
 
 -- ---- rounding up
 
@@ -38,22 +38,6 @@ rounded-some B C b h =
     let p : 0 < C = omega arith in
     let e : B - 1 + C ≡ B + (C - 1) = omega arith in
     sym (add-div-right (B - 1) p) ∙ ap (λ (n : ℕ). n / C) e
-
--- ---- where a part begins
-
-pub from-nothing : (C i B : ℕ) → C ≡ 0 → 0 ≡ fromOf false C i B
-from-nothing C i B e = rw e (omega (arith, mul-zero i))
-
-pub from-past : (C i B : ℕ) → (C ≡ 0 → ⊥) → B / C < i → B ≡ fromOf false C i B
-from-past C i B h l =
-    let p : 0 < C = omega arith in
-    ⊎-elim
-    (λ k. omega arith)
-    (λ k. let z = le-div-iff-mul-le {k = C} {x = i} {y = B} p .1 k in absurd (omega arith))
-    (below-or B (i * C))
-
-pub from-inside : (C i B : ℕ) → (C ≡ 0 → ⊥) → i ≤ B / C → i * C ≤ B
-from-inside C i B h l = let p : 0 < C = omega arith in le-div-iff-mul-le {k = C} {x = i} {y = B} p .0 l
 
 -- ---- the counter
 

@@ -17,7 +17,7 @@ use Rattle.walk.specs.declared.Settings.{Settings}
 use Rattle.walk.specs.declared.Refusal.{Refusal}
 use Rattle.walk.specs.Walk.{unless}
 use Rattle.fields.specs.Inner.{capped}
-use Rattle.fields.proofs.Written.{next-part}
+use Rattle.octets.proofs.Places.{part-at}
 use Rattle.packet.specs.Format.{Values, segment, octetsOf, secondaryOctets, headerOctets, packetMost}
 use Rattle.packet.specs.Numbers.{countMost}
 use Rattle.write.specs.declared.HeaderValues.{HeaderValues}
@@ -55,19 +55,7 @@ body-part :
 body-part true C i body {from} {to} ef et =
     let a : to - from ≡ length body = omega arith in
     rw (a, ef) (take-all (length body) body (omega arith))
-body-part false C i body {from} {to} ef et = ⊎-elim past inside (below-or (length body) (i * C))
-  where
-    past : length body < i * C → take (to - from) (drop from body) ≡ part body (i * C) C
-    past h =
-        let a : length body ≤ from = omega arith in
-        let b : length body ≤ i * C = omega arith in
-        ap (take (to - from)) (drop-of-length-le body a) ∙ take-nil (to - from) ∙ sym (take-nil C) ∙ ap (take C) (sym (drop-of-length-le body b))
-
-    inside : i * C ≤ length body → take (to - from) (drop from body) ≡ part body (i * C) C
-    inside h =
-        let f : from ≡ i * C = omega arith in
-        let g : from ≤ length body = omega arith in
-        ap (λ (n : ℕ). take (n - from) (drop from body)) et ∙ next-part body from C g ∙ ap (λ (n : ℕ). take C (drop n body)) f
+body-part false C i body ef et = part-at body (i * C) C ef et
 
 -- ---- the numbers of the packet
 

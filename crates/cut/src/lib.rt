@@ -325,13 +325,7 @@ fn from_of(single: bool, chunk: usize, i: usize, b: usize) -> usize
     if single {
         return 0;
     }
-    if chunk == 0 {
-        return 0;
-    }
-    if b / chunk < i {
-        return b;
-    }
-    i * chunk
+    octets::place(b, chunk, i)
 }
 
 // Where it ends.

@@ -11,7 +11,7 @@ use Rattle.octets.proofs.Has.{part-length}
 use Rattle.walk.specs.declared.Settings.{Settings}
 use Rattle.fields.specs.Form.{numberOctets, blobOctets, textOctets, partOctets, joined, domainOctets, split}
 use Rattle.fields.specs.Inner.{capped}
-use Rattle.fields.proofs.Written.{next-part, rest-part, length-split, split-more}
+use Rattle.fields.proofs.Written.{length-split, split-more}
 
 pub text-long : (s : Settings) (x : List ℕ) → length (textOctets s x) ≡ length (numberOctets s (length x)) + length x
 unfolding textOctets blobOctets

@@ -13,6 +13,7 @@ use borrow.Author.Tests.{leb-true, leb-false, le-leb, lt-leb}
 use Rattle.octets.specs.Octets.{roomOf}
 use Rattle.octets.specs.Laying.{Laid, laid, lay, layAll, Lays}
 use Rattle.octets.proofs.Lists.{bool, below-or}
+use Rattle.octets.proofs.Places.{next-part, rest-part}
 use Rattle.octets.proofs.Laying.{lays-both, lays-none, lay-fits, lay-not}
 use Rattle.varint.specs.declared.Wrote.{Wrote}
 use Rattle.varint.specs.declared.Wrote.the-variants.{Done, Full}
@@ -61,31 +62,6 @@ module _ (s : Settings) (l k : List ℕ) (at n : ℕ) {r : Wrote} (e : r ≡ put
       (below-or (length l) (at + length (write n)))
 
 -- ---- the parts of a domain
-
--- the next part, as far as the text goes
-pub next-part : (x : List ℕ) (from n : ℕ) → from ≤ length x → take (from + roomOf (length x) from n - from) (drop from x) ≡ take n (drop from x)
-next-part x from n h = ⊎-elim short long (below-or (length x - from) n)
-  where
-    short : length x - from < n → take (from + roomOf (length x) from n - from) (drop from x) ≡ take n (drop from x)
-    short k =
-        let a : length (drop from x) ≤ from + roomOf (length x) from n - from = omega (arith, length-drop from x) in
-        let b : length (drop from x) ≤ n = omega (arith, length-drop from x) in
-        take-all (from + roomOf (length x) from n - from) (drop from x) a ∙ sym (take-all n (drop from x) b)
-
-    long : n ≤ length x - from → take (from + roomOf (length x) from n - from) (drop from x) ≡ take n (drop from x)
-    long k = let a : from + roomOf (length x) from n - from ≡ n = omega arith in ap (λ (j : ℕ). take j (drop from x)) a
-
-pub rest-part : (x : List ℕ) (from n : ℕ) → from ≤ length x → drop (from + roomOf (length x) from n) x ≡ drop n (drop from x)
-rest-part x from n h = ⊎-elim short long (below-or (length x - from) n) ∙ sym (drop-drop n from x)
-  where
-    short : length x - from < n → drop (from + roomOf (length x) from n) x ≡ drop (from + n) x
-    short k =
-        let a : length x ≤ from + roomOf (length x) from n = omega arith in
-        let b : length x ≤ from + n = omega arith in
-        drop-of-length-le x a ∙ sym (drop-of-length-le x b)
-
-    long : n ≤ length x - from → drop (from + roomOf (length x) from n) x ≡ drop (from + n) x
-    long k = let a : roomOf (length x) from n ≡ n = omega arith in ap (λ (j : ℕ). drop (from + j) x) a
 
 -- the next part and the rest
 pub split-more :

@@ -4,7 +4,7 @@
 // list l with x laid over it from `at` on, as far as l goes. Who writes tests the room first; here nothing can go wrong.
 // Loops over octets carry a flag and do not leave early, so that they are compiled to compare many octets at a time.
 ghost use mathlib.Core.Path.{_≡_};
-ghost use Prim.Native.Nat.{_+_, _≤_};
+ghost use Prim.Native.Nat.{_+_, _*_, _≤_, min};
 ghost use lib.ListN.{set};
 ghost use lib.Seq.{sets};
 ghost use Rattle.octets.specs.Octets.{pick, octetAt, number as numberOf, wide, alike, blank, roomOf};
@@ -225,4 +225,17 @@ pub fn within(len: usize, at: usize, n: usize) -> usize
     ensures { λ r. ⌜ r ≡ at + roomOf len at n ⌝ }
 {
     at + room(len, at, n)
+}
+
+// Where part number i begins, of parts of n octets each; the end where it comes first.
+pub fn place(len: usize, n: usize, i: usize) -> usize
+    ensures { λ r. ⌜ r ≡ min (i * n) len ⌝ }
+{
+    if n == 0 {
+        return 0;
+    }
+    if len / n < i {
+        return len;
+    }
+    i * n
 }
