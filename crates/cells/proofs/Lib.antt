@@ -1,0 +1,4 @@
+pub mod Held
+pub mod Scans
+pub mod Counters
+pub mod SameKeys

@@ -1,0 +1,119 @@
+-- The scans over the cells, on plain values: all of them sound, the lowest free one, the length.
+-- Assumes nothing.
+use Prim.Native.Nat.{ℕ, zero, suc, _+_, _-_, _*_, _/_, _%_, _≤_, _<_}
+use mathlib.Core.Path.{_≡_, refl, ap, sym, _∙_}
+use mathlib.Core.Bool.{Bool, true, false, not}
+use mathlib.Core.List.{List}
+use native.Mathlib.Numerals.{add-one}
+use native.Mathlib.Omega.{arith}
+use native.Mathlib.Nat.{mul-le-mul-right, suc-mul, div-zero}
+use lib.ListN.{length}
+use lib.Dec.{leb, eqb}
+use borrow.Author.Tests.{le-leb, lt-leb, eq-eqb, ne-eqb}
+use Rattle.octets.specs.Octets.{pick, alike}
+use Rattle.octets.proofs.Has.{part-length}
+use Rattle.octets.proofs.Lists.{bool}
+use Rattle.walk.specs.declared.Settings.{Settings}
+use Rattle.packet.specs.Reading.{readPacket}
+use Rattle.cells.specs.Segments.{Seg, segOf, both}
+use Rattle.cells.specs.Rows.{Cell, free, held, broken, rowAt, zeroRow, packetIn, holds, cellOf}
+use Rattle.cells.specs.Order.{isFree, isSound, lowest, cellAt, allTo, sound, lengthFits, cellsMost}
+use Rattle.cells.specs.Inner.{kindOf}
+
+-- a row inside the store has its whole length
+pub row-long : (Z n i : ℕ) (st : List ℕ) → i < n → n * Z ≤ length st → length (rowAt Z st i) ≡ Z
+row-long Z n i st h l =
+    let k : suc i ≤ n = h in
+    part-length st (i * Z) Z (omega (arith, mul-le-mul-right Z k, suc-mul i Z))
+
+told : (a b : Bool) (t : Seg) → isFree (pick a free (pick b (held t) broken)) ≡ a
+told true b t = refl
+told false true t = refl
+told false false t = refl
+
+pub free-is : (s : Settings) (Z : ℕ) (r : List ℕ) → isFree (cellOf s Z r) ≡ alike r (zeroRow Z)
+unfolding cellOf
+free-is s Z r = told (alike r (zeroRow Z)) (holds s Z r) (segOf (packetIn Z r) (readPacket s (packetIn Z r)))
+
+pub sound-is : (c : Cell) {k : ℕ} → k ≡ kindOf c → not (eqb k 2) ≡ isSound c
+sound-is free e = rw e refl
+sound-is (held t) e = rw e refl
+sound-is broken e = rw e refl
+
+-- ---- all of the first i
+
+pub record Passing (f : ℕ → Bool) (n : ℕ) (so-far : Bool) (i : ℕ) : Type 0 where
+  pub most : i ≤ n
+  pub told : so-far ≡ allTo f i
+
+pub passing-first : (f : ℕ → Bool) (n : ℕ) → Passing f n true 0
+unfolding allTo
+passing-first f n = record { most = omega arith; told = refl }
+
+pub passing-turn : {f : ℕ → Bool} {n i : ℕ} {b t c : Bool} → Passing f n b i → i < n → t ≡ f i → c ≡ both b t → Passing f n c (i + 1)
+unfolding allTo
+passing-turn {f} {n} {i} {b} {t} {c} p h e g =
+    record { most = omega arith; told = rw (add-one i) (g ∙ ap (λ (x : Bool). both x t) (p .told) ∙ ap (both (allTo f i)) e) }
+
+pub passing-done : {f : ℕ → Bool} {n i : ℕ} {b : Bool} → Passing f n b i → n ≤ i → b ≡ allTo f n
+passing-done {f} {n} {i} p h = let e : i ≡ n = omega (arith, p .most) in p .told ∙ ap (allTo f) e
+
+-- ---- the lowest
+
+pub record Seeking (f : ℕ → Bool) (n i : ℕ) : Type 0 where
+  pub most : i ≤ n
+  pub same : lowest f (n - i) i ≡ lowest f n 0
+
+pub seeking-first : (f : ℕ → Bool) (n : ℕ) → Seeking f n 0
+seeking-first f n = let e : n - 0 ≡ n = omega arith in record { most = omega arith; same = ap (λ (k : ℕ). lowest f k 0) e }
+
+one-more : (f : ℕ → Bool) (n i : ℕ) → i < n → lowest f (n - i) i ≡ pick (f i) i (lowest f (n - suc i) (suc i))
+unfolding lowest
+one-more f n i h = let e : n - i ≡ suc (n - suc i) = omega arith in ap (λ (k : ℕ). lowest f k i) e
+
+pub seeking-turn : {f : ℕ → Bool} {n i : ℕ} → Seeking f n i → i < n → f i ≡ false → Seeking f n (i + 1)
+seeking-turn {f} {n} {i} p h e =
+    record { most = omega arith; same = rw (add-one i) (sym (one-more f n i h ∙ ap (λ (b : Bool). pick b i (lowest f (n - suc i) (suc i))) e) ∙ p .same) }
+
+pub seeking-found : {f : ℕ → Bool} {n i : ℕ} → Seeking f n i → i < n → f i ≡ true → i ≡ lowest f n 0
+seeking-found {f} {n} {i} p h e = sym (one-more f n i h ∙ ap (λ (b : Bool). pick b i (lowest f (n - suc i) (suc i))) e) ∙ p .same
+
+pub seeking-none : {f : ℕ → Bool} {n i : ℕ} → Seeking f n i → n ≤ i → n ≡ lowest f n 0
+unfolding lowest
+seeking-none {f} {n} {i} p h =
+    let e : i ≡ n = omega (arith, p .most) in
+    let z : n - i ≡ 0 = omega arith in
+    sym e ∙ ap (λ (k : ℕ). lowest f k i) (sym z) ∙ p .same
+
+-- a cell of the store, by its row
+pub cell-sound : (s : Settings) (st z : List ℕ) (i : ℕ) {r : List ℕ} {k : ℕ} → r ≡ rowAt (length z) st i → k ≡ kindOf (cellOf s (length z) r) → not (eqb k 2) ≡ isSound (cellAt s (length z) st i)
+cell-sound s st z i e h = sound-is (cellAt s (length z) st i) (h ∙ ap (λ (r : List ℕ). kindOf (cellOf s (length z) r)) e)
+
+-- the lowest free cell is the lowest row of zeros
+pub row-free : (st z : List ℕ) (i : ℕ) {r : List ℕ} {b c : Bool} → r ≡ rowAt (length z) st i → b ≡ alike r z → b ≡ c → alike (rowAt (length z) st i) z ≡ c
+row-free st z i er eb ec = ap (λ (x : List ℕ). alike x z) (sym er) ∙ sym eb ∙ ec
+
+-- ---- the length
+
+pub fits-all : (z n : ℕ) → (n % z ≡ 0) → 1 ≤ n / z → n / z ≤ cellsMost → lengthFits z n ≡ true
+unfolding lengthFits
+fits-all z n a b c = rw (eq-eqb (n % z) 0 a, le-leb 1 (n / z) b, le-leb (n / z) cellsMost c) refl
+
+pub fits-ragged : (z n : ℕ) → (n % z ≡ 0 → ⊥) → lengthFits z n ≡ false
+unfolding lengthFits
+fits-ragged z n a = rw (ne-eqb (n % z) 0 a) refl
+
+pub fits-none : (z n : ℕ) → n % z ≡ 0 → n / z < 1 → lengthFits z n ≡ false
+unfolding lengthFits
+fits-none z n a b = rw (eq-eqb (n % z) 0 a, lt-leb 1 (n / z) b) refl
+
+pub fits-many : (z n : ℕ) → n % z ≡ 0 → 1 ≤ n / z → cellsMost < n / z → lengthFits z n ≡ false
+unfolding lengthFits
+fits-many z n a b c = rw (eq-eqb (n % z) 0 a, le-leb 1 (n / z) b, lt-leb (n / z) cellsMost c) refl
+
+pub fits-nothing : (z n : ℕ) → z ≡ 0 → 0 ≡ pick (lengthFits z n) (n / z) 0
+fits-nothing z n e = rw (e, div-zero n) (sym (same (lengthFits 0 n)))
+  where
+    same : (b : Bool) → _≡_ {A = ℕ} (pick b 0 0) 0
+    same true = refl
+    same false = refl

@@ -1,0 +1,111 @@
+-- `cells::same_key` meets its contract: its tests are the definition's.
+-- Assumes nothing.
+use borrow.Author.Needs.{needs}
+use denote.Ref.{now}
+use native.Mathlib.Omega.{arith}
+use Rattle.cells.proofs.Held.{place-least}
+use Rattle.cells.proofs.same_key.Statement.{statement}
+use Rattle.cells.proofs.same_key.Tie as tie
+use Rattle.cells.specs.Inner.{spansAlike}
+
+counter-place-requires : tie.Need-counter-place-requires
+counter-place-requires c κs = search needs
+
+counter-place-requires-2 : tie.Need-counter-place-requires-2
+counter-place-requires-2 c κs = search needs
+
+and-requires : tie.Need-and-requires
+and-requires c κs = search needs
+
+span-requires : tie.Need-span-requires
+span-requires c κs = search needs
+
+span-requires-2 : tie.Need-span-requires-2
+span-requires-2 c κs = search needs
+
+same-requires : tie.Need-same-requires
+same-requires c κs = search needs
+
+sub-span : tie.Need-sub-span
+sub-span c = omega (arith, c .before .before .before .before .before .counter-place .ensures, c .before .before .before .before .counter-place2 .ensures, place-least (now (c .before .before .before .before .before .before .before .before .args .p)), place-least (now (c .before .before .before .before .before .before .before .before .args .q)))
+
+span-requires-3 : tie.Need-span-requires-3
+span-requires-3 c κs = search needs
+
+sub-span-2 : tie.Need-sub-span-2
+sub-span-2 c = omega (arith, c .before .before .before .before .before .before .counter-place .ensures, c .before .before .before .before .before .counter-place2 .ensures, place-least (now (c .before .before .before .before .before .before .before .before .before .args .p)), place-least (now (c .before .before .before .before .before .before .before .before .before .args .q)))
+
+span-requires-4 : tie.Need-span-requires-4
+span-requires-4 c κs = search needs
+
+same-requires-2 : tie.Need-same-requires-2
+same-requires-2 c κs = search needs
+
+add-span : tie.Need-add-span
+add-span c = omega (arith, c .before .before .before .before .before .before .before .before .counter-place .ensures, c .before .before .before .before .before .before .before .counter-place2 .ensures, place-least (now (c .before .before .before .before .before .before .before .before .before .before .before .args .p)), place-least (now (c .before .before .before .before .before .before .before .before .before .before .before .args .q)))
+
+add-less : tie.Need-add-less
+add-less c = omega (arith, c .before .before .before .before .before .before .before .before .counter-place .ensures, c .before .before .before .before .before .before .before .counter-place2 .ensures, place-least (now (c .before .before .before .before .before .before .before .before .before .before .before .args .p)), place-least (now (c .before .before .before .before .before .before .before .before .before .before .before .args .q)))
+
+less-requires : tie.Need-less-requires
+less-requires c κs = search needs
+
+span-requires-5 : tie.Need-span-requires-5
+span-requires-5 c κs = search needs
+
+add-span-2 : tie.Need-add-span-2
+add-span-2 c = omega (arith, c .before .before .before .before .before .before .before .before .before .before .counter-place .ensures, c .before .before .before .before .before .before .before .before .before .counter-place2 .ensures, place-least (now (c .before .before .before .before .before .before .before .before .before .before .before .before .before .args .p)), place-least (now (c .before .before .before .before .before .before .before .before .before .before .before .before .before .args .q)))
+
+add-less-2 : tie.Need-add-less-2
+add-less-2 c = omega (arith, c .before .before .before .before .before .before .before .before .before .before .counter-place .ensures, c .before .before .before .before .before .before .before .before .before .counter-place2 .ensures, place-least (now (c .before .before .before .before .before .before .before .before .before .before .before .before .before .args .p)), place-least (now (c .before .before .before .before .before .before .before .before .before .before .before .before .before .args .q)))
+
+less-requires-2 : tie.Need-less-requires-2
+less-requires-2 c κs = search needs
+
+span-requires-6 : tie.Need-span-requires-6
+span-requires-6 c κs = search needs
+
+same-requires-3 : tie.Need-same-requires-3
+same-requires-3 c κs = search needs
+
+and-requires-2 : tie.Need-and-requires-2
+and-requires-2 c κs = search needs
+
+and-requires-3 : tie.Need-and-requires-3
+and-requires-3 c κs = search needs
+
+and-requires-4 : tie.Need-and-requires-4
+and-requires-4 c κs = search needs
+
+returns : tie.Need-returns
+unfolding spansAlike
+returns c = simp (c .and4 .ensures, c .before .and3 .ensures, c .before .before .and2 .ensures, c .before .before .before .same3 .ensures, c .before .before .before .before .span6 .ensures, c .before .before .before .before .before .less2 .ensures, c .before .before .before .before .before .before .span5 .ensures, c .before .before .before .before .before .before .before .less .ensures, c .before .before .before .before .before .before .before .before .same2 .ensures, c .before .before .before .before .before .before .before .before .before .span4 .ensures, c .before .before .before .before .before .before .before .before .before .before .span3 .ensures, c .before .before .before .before .before .before .before .before .before .before .before .same .ensures, c .before .before .before .before .before .before .before .before .before .before .before .before .span2 .ensures, c .before .before .before .before .before .before .before .before .before .before .before .before .before .span .ensures, c .before .before .before .before .before .before .before .before .before .before .before .before .before .before .and .ensures, c .before .before .before .before .before .before .before .before .before .before .before .before .before .before .before .counter-place2 .ensures, c .before .before .before .before .before .before .before .before .before .before .before .before .before .before .before .before .counter-place .ensures)
+
+pub same-key-spec : {M : Type 1} → statement M
+same-key-spec =
+    tie.close
+    (tie.spec
+    counter-place-requires
+    counter-place-requires-2
+    and-requires
+    span-requires
+    span-requires-2
+    same-requires
+    sub-span
+    span-requires-3
+    sub-span-2
+    span-requires-4
+    same-requires-2
+    add-span
+    add-less
+    less-requires
+    span-requires-5
+    add-span-2
+    add-less-2
+    less-requires-2
+    span-requires-6
+    same-requires-3
+    and-requires-2
+    and-requires-3
+    and-requires-4
+    returns)

@@ -1,0 +1,36 @@
+-- The code's tests on a row, told by its octets.
+-- Assumes nothing: these are definitions.
+use Prim.Native.Nat.{ℕ, _+_, _-_, _/_, _%_}
+use mathlib.Core.List.{List}
+use mathlib.Core.Bool.{Bool, true, false}
+use lib.ListN.{length, drop}
+use lib.Dec.{eqb}
+use Rattle.octets.specs.Octets.{octetAt, part, number, alike}
+use Rattle.cells.specs.Segments.{both}
+use Rattle.cells.specs.Rows.{Cell, free, held, broken}
+
+-- a row begins with the mark, and from n on is as the zero cell
+unfoldable pub heldRowTest : List ℕ → ℕ → List ℕ → Bool
+heldRowTest r n z =
+    both (eqb (octetAt r 0) 0x4d) (both (eqb (octetAt r 1) 0x53) (both (eqb (length r) (length z)) (alike (drop n r) (drop n z))))
+
+-- where a packet's segment counter stands, by its presence octet, and the counter
+unfoldable pub placeIn : List ℕ → ℕ
+placeIn p = 27 + (octetAt p 26 / 128 % 2 + octetAt p 26 / 64 % 2)
+
+unfoldable pub counterIn : List ℕ → ℕ
+counterIn p = number 4 p (placeIn p)
+
+-- two packets agree around their counters, told where their bodies begin
+unfoldable pub spansAlike : List ℕ → ℕ → List ℕ → ℕ → Bool
+spansAlike p end q stop =
+    both (both (eqb (placeIn p) (placeIn q)) (eqb end stop))
+    (both (alike (part p 0 2) (part q 0 2))
+    (both (alike (part p 6 (placeIn p - 6)) (part q 6 (placeIn q - 6)))
+    (alike (part p (placeIn p + 4) (end - (placeIn p + 4))) (part q (placeIn q + 4) (stop - (placeIn q + 4))))))
+
+-- a cell as a number: 0 free, 1 held, 2 broken
+abbrev pub kindOf : Cell → ℕ
+kindOf free = 0
+kindOf (held t) = 1
+kindOf broken = 2

@@ -1,0 +1,4 @@
+pub mod Segments
+pub mod Rows
+pub mod Order
+pub mod Inner

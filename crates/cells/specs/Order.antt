@@ -1,0 +1,70 @@
+-- A store in order, and searches in it.
+-- Document 01, "The store": "A store is in order if its length fits, each cell is as above and readable under T, and no two cells have
+-- equal key and counter."
+-- Assumes nothing: these are definitions.
+use Prim.Native.Nat.{ℕ, zero, suc, _+_, _/_, _%_}
+use mathlib.Core.List.{List, [], _∷_, _++_}
+use mathlib.Core.Bool.{Bool, true, false, not}
+use lib.ListN.{length}
+use lib.Dec.{leb, eqb}
+use Rattle.octets.specs.Octets.{pick}
+use Rattle.walk.specs.declared.Settings.{Settings}
+use Rattle.cells.specs.Segments.{Seg, carries, both}
+use Rattle.cells.specs.Rows.{Cell, free, held, broken, rowAt, cellOf, cellsTo}
+
+-- 1 to 4,096 cells
+abbrev pub cellsMost : ℕ
+cellsMost = 4096
+
+-- a length is that of some whole cells, not none and not too many
+unfoldable pub lengthFits : ℕ → ℕ → Bool
+lengthFits Z n = both (eqb (n % Z) 0) (both (leb 1 (n / Z)) (leb (n / Z) cellsMost))
+
+-- how many there are
+abbrev pub countIn : ℕ → List ℕ → ℕ
+countIn Z st = length st / Z
+
+abbrev pub isFree : Cell → Bool
+isFree free = true
+isFree (held t) = false
+isFree broken = false
+
+abbrev pub isSound : Cell → Bool
+isSound free = true
+isSound (held t) = true
+isSound broken = false
+
+-- the cell holds a segment of this key and counter
+abbrev pub carriesIn : List ℕ → ℕ → Cell → Bool
+carriesIn k c free = false
+carriesIn k c (held t) = carries k c t
+carriesIn k c broken = false
+
+-- the lowest of n numbers, from i on, of which a test holds: n + i where there is none
+unfoldable pub lowest : (ℕ → Bool) → ℕ → ℕ → ℕ
+lowest f zero i = i
+lowest f (suc n) i = pick (f i) i (lowest f n (suc i))
+
+abbrev pub cellAt : Settings → ℕ → List ℕ → ℕ → Cell
+cellAt s Z st i = cellOf s Z (rowAt Z st i)
+
+-- all of the first n hold
+unfoldable pub allTo : (ℕ → Bool) → ℕ → Bool
+allTo f zero = true
+allTo f (suc n) = both (allTo f n) (f n)
+
+-- no cell below i has the key and counter of this one
+unfoldable pub newAt : Settings → ℕ → List ℕ → ℕ → Cell → Bool
+newAt s Z st i free = true
+newAt s Z st i broken = true
+newAt s Z st i (held t) = allTo (λ j. not (carriesIn (t .key) (t .counter) (cellAt s Z st j))) i
+
+-- no two of the first n cells have equal key and counter
+unfoldable pub distinct : Settings → ℕ → List ℕ → ℕ → Bool
+distinct s Z st n = allTo (λ i. newAt s Z st i (cellAt s Z st i)) n
+
+unfoldable pub sound : Settings → ℕ → List ℕ → ℕ → Bool
+sound s Z st n = allTo (λ i. isSound (cellAt s Z st i)) n
+
+unfoldable pub inOrder : Settings → ℕ → List ℕ → Bool
+inOrder s Z st = both (lengthFits Z (length st)) (both (sound s Z st (countIn Z st)) (distinct s Z st (countIn Z st)))

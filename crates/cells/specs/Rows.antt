@@ -1,0 +1,55 @@
+-- The store's cells, over the cell size Z: rows of Z octets.
+-- Document 01, "The store": "Each record has a two-byte mark before it: 4D 53 held, 00 00 free. A held cell is the mark, one segmented
+-- packet of at most 1,022 octets as it arrived, and zeros. A free cell is all zeros."
+-- Assumes nothing: these are definitions.
+use Prim.Native.Nat.{ℕ, zero, suc, _+_, _-_, _*_}
+use mathlib.Core.List.{List, [], _∷_, _++_}
+use mathlib.Core.Bool.{Bool, true, false}
+use lib.ListN.{length, take, drop, replicate}
+use lib.Dec.{leb, eqb}
+use Rattle.octets.specs.Octets.{pick, part, number, alike}
+use Rattle.walk.specs.declared.Settings.{Settings}
+use Rattle.packet.specs.Reading.{readPacket, segmented}
+use Rattle.cells.specs.Segments.{Seg, segOf, both}
+
+-- what a cell holds; a row that is neither free nor held is broken
+pub data Cell : Type 0 where
+  free : Cell
+  held : Seg → Cell
+  broken : Cell
+
+-- row number i of the store's octets
+abbrev pub rowAt : ℕ → List ℕ → ℕ → List ℕ
+rowAt Z st i = part st (i * Z) Z
+
+abbrev pub zeroRow : ℕ → List ℕ
+zeroRow Z = replicate Z 0
+
+-- the mark, the packet and zeros
+abbrev pub heldRow : ℕ → List ℕ → List ℕ
+heldRow Z p = 0x4d ∷ 0x53 ∷ p ++ replicate (Z - (2 + length p)) 0
+
+-- how long the packet in a row is, its length field says
+abbrev pub sizeIn : ℕ → List ℕ → ℕ
+sizeIn Z r = number 2 r 6 + 7
+
+abbrev pub packetIn : ℕ → List ℕ → List ℕ
+packetIn Z r = part r 2 (sizeIn Z r)
+
+-- a packet that may be held: reading accepts it, it is segmented, and fits the cell behind the mark
+unfoldable pub mayHold : Settings → ℕ → List ℕ → Bool
+mayHold s Z p = both (leb (2 + length p) Z) (both (eqb (readPacket s p .refusal .number) 0) (segmented p))
+
+-- a row that holds one, just as it arrived
+unfoldable pub holds : Settings → ℕ → List ℕ → Bool
+holds s Z r = both (alike r (heldRow Z (packetIn Z r))) (mayHold s Z (packetIn Z r))
+
+unfoldable pub cellOf : Settings → ℕ → List ℕ → Cell
+cellOf s Z r =
+    pick (alike r (zeroRow Z)) free
+    (pick (holds s Z r) (held (segOf (packetIn Z r) (readPacket s (packetIn Z r)))) broken)
+
+-- the first n cells of the store, on any octets
+unfoldable pub cellsTo : Settings → ℕ → ℕ → List ℕ → List Cell
+cellsTo s Z zero st = []
+cellsTo s Z (suc n) st = cellsTo s Z n st ++ (cellOf s Z (rowAt Z st n) ∷ [])

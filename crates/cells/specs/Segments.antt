@@ -1,0 +1,39 @@
+-- A segment as the store's rules read it, and when two are the same or contradict.
+-- Document 01, "The store": "Two segments are the same if key, counter, sequence flags and body are; sequence counts may differ. They
+-- contradict if key and counter agree and flags or body don't."
+-- Assumes nothing: these are definitions.
+use Prim.Native.Nat.{ℕ}
+use mathlib.Core.List.{List}
+use mathlib.Core.Bool.{Bool, true, false}
+use lib.Dec.{eqb}
+use Rattle.octets.specs.Octets.{pick, part, alike}
+use Rattle.packet.specs.declared.Header.{Header}
+use Rattle.packet.specs.Key.{keyOf}
+
+pub record Seg : Type 0 where
+  pub key : List ℕ
+  pub counter : ℕ
+  pub flags : ℕ
+  pub body : List ℕ
+
+-- the segment of a packet, with what reading answered of it
+unfoldable pub segOf : List ℕ → Header → Seg
+segOf p h =
+    record {
+      key = keyOf p h;
+      counter = h .ids .counter .0;
+      flags = h .primary .flags;
+      body = part p (h .body .at) (h .body .length);
+    }
+
+-- both tests
+abbrev pub both : Bool → Bool → Bool
+both a b = pick a b false
+
+-- it has this key and counter
+unfoldable pub carries : List ℕ → ℕ → Seg → Bool
+carries k c t = both (eqb c (t .counter)) (alike k (t .key))
+
+-- of two with equal key and counter: whether they are the same, else they contradict
+unfoldable pub sameRest : Seg → Seg → Bool
+sameRest t u = both (eqb (t .flags) (u .flags)) (alike (t .body) (u .body))

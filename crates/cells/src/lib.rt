@@ -1,0 +1,187 @@
+// The store's cells: what stands in each, and the searches that the order, arrival and taking are made of.
+//
+//   held   4D 53 | a segmented packet as it arrived | zeros
+//   free   zeros
+//
+// Every function takes any octets. The zero cell is lent as a slice, and its length is the cell size Z.
+ghost use mathlib.Core.Path.{_≡_};
+ghost use Prim.Native.Nat.{_+_, _-_, _*_, _/_, _≤_};
+ghost use lib.ListN.{drop};
+ghost use lib.ListN.{length};
+ghost use Rattle.octets.specs.Octets.{pick, part, number, alike};
+ghost use Rattle.cells.specs.Segments.{both};
+ghost use Rattle.cells.specs.Rows.{rowAt, zeroRow, cellOf};
+ghost use Rattle.cells.specs.Inner.{heldRowTest, kindOf, placeIn, counterIn, spansAlike};
+ghost use Rattle.cells.specs.Order.{lowest, lengthFits, sound};
+use walk::Settings;
+
+// The most cells that a store has.
+pub const CELLS_MOST: usize = 4096;
+
+// The octets of cell i, as far as they are there.
+pub fn row(store: &[u8], z: usize, i: usize) -> &[u8]
+    ensures { λ r. ⌜ now r ≡ rowAt z (now (store .entry)) i ⌝ }
+{
+    let from = octets::place(store.len(), z, i);
+    let to = octets::within(store.len(), from, z);
+    &store[from..to]
+}
+
+// n octets of a slice from a place on, as far as they are there.
+pub fn span(x: &[u8], at: usize, n: usize) -> &[u8]
+    ensures { λ r. ⌜ now r ≡ part (now (x .entry)) at n ⌝ }
+{
+    let from = octets::within(x.len(), 0, at);
+    let to = octets::within(x.len(), from, n);
+    &x[from..to]
+}
+
+// The packet that a row holds, by its length field, as far as it is there.
+pub fn packet_in(row: &[u8]) -> &[u8]
+    ensures { λ r. ⌜ now r ≡ part (now (row .entry)) 2 (number 2 (now (row .entry)) 6 + 7) ⌝ }
+{
+    let size = octets::be16(row, 6) as usize + 7;
+    span(row, 2, size)
+}
+
+// Where the segment counter of a packet stands, by its presence octet.
+pub fn counter_place(p: &[u8]) -> usize
+    ensures { λ r. ⌜ r ≡ placeIn (now (p .entry)) ⌝ }
+{
+    let f = octets::octet(p, 26);
+    27 + (f / 128 % 2) as usize + (f / 64 % 2) as usize
+}
+
+// The segment counter that stands there.
+pub fn counter_in(p: &[u8]) -> u32
+    ensures { λ r. ⌜ r ≡ counterIn (now (p .entry)) ⌝ }
+{
+    octets::be32(p, counter_place(p))
+}
+
+// Whether two segments have the same key, told where their bodies begin.
+pub fn same_key(p: &[u8], end: usize, q: &[u8], stop: usize) -> bool
+    ensures { λ r. ⌜ r ≡ spansAlike (now (p .entry)) end (now (q .entry)) stop ⌝ }
+{
+    let c = counter_place(p);
+    let d = counter_place(q);
+    let long = and(c == d, end == stop);
+    let ids = octets::same(span(p, 0, 2), span(q, 0, 2));
+    let fore = octets::same(span(p, 6, c - 6), span(q, 6, d - 6));
+    let aft = octets::same(
+        span(p, c + 4, less(end, c + 4)),
+        span(q, d + 4, less(stop, d + 4)),
+    );
+    and(long, and(ids, and(fore, aft)))
+}
+
+// What is left of a number, 0 where it is the smaller one.
+fn less(a: usize, b: usize) -> usize
+    ensures { λ r. ⌜ r ≡ a - b ⌝ }
+{
+    if b <= a {
+        return a - b;
+    }
+    0
+}
+
+// Both tests hold.
+fn and(a: bool, b: bool) -> bool
+    ensures { λ r. ⌜ r ≡ both a b ⌝ }
+{
+    if a {
+        return b;
+    }
+    false
+}
+
+// What is left of a slice from a place on.
+fn tail(x: &[u8], n: usize) -> &[u8]
+    ensures { λ r. ⌜ now r ≡ drop n (now (x .entry)) ⌝ }
+{
+    let from = octets::within(x.len(), 0, n);
+    let to = x.len();
+    &x[from..to]
+}
+
+// Whether a row begins with the mark, and from n on is as the zero cell.
+fn is_held_row(row: &[u8], n: usize, zero: &[u8]) -> bool
+    ensures { λ r. ⌜ r ≡ heldRowTest (now (row .entry)) n (now (zero .entry)) ⌝ }
+{
+    let first = octets::octet(row, 0) == 0x4d;
+    let second = octets::octet(row, 1) == 0x53;
+    let long = row.len() == zero.len();
+    let rest = octets::same(tail(row, n), tail(zero, n));
+    and(first, and(second, and(long, rest)))
+}
+
+// What a row is, beside a zero cell of its size: 0 free, 1 held, 2 broken.
+pub fn kind(s: Settings, row: &[u8], zero: &[u8]) -> u8
+    requires { ⌜ now zero ≡ zeroRow (length (now zero)) ⌝ }
+    requires { ⌜ length (now row) ≡ length (now zero) ⌝ }
+    ensures { λ r. ⌜ r ≡ kindOf (cellOf s (length (now (zero .entry))) (now (row .entry))) ⌝ }
+{
+    if octets::same(row, zero) {
+        return 0;
+    }
+    let p = packet_in(row);
+    let h = packet::read(s, p);
+    let refusal = h.refusal;
+    let primary = h.primary;
+    let marked = is_held_row(row, 2 + p.len(), zero);
+    if and(marked, and(refusal.number == 0, primary.flags != 3)) {
+        return 1;
+    }
+    2
+}
+
+// Whether every one of the first n cells is free or held.
+pub fn all_sound(s: Settings, store: &[u8], n: usize, zero: &[u8]) -> bool
+    requires { ⌜ now zero ≡ zeroRow (length (now zero)) ⌝ }
+    requires { ⌜ n * length (now zero) ≤ length (now store) ⌝ }
+    ensures { λ r. ⌜ r ≡ sound s (length (now (zero .entry))) (now (store .entry)) n ⌝ }
+{
+    let z = zero.len();
+    let mut so_far = true;
+    let mut i: usize = 0;
+    while i < n {
+        so_far = and(so_far, kind(s, row(store, z, i), zero) != 2);
+        i += 1;
+    }
+    so_far
+}
+
+// The lowest free cell of the first n; n where there is none.
+pub fn lowest_free(store: &[u8], n: usize, zero: &[u8]) -> usize
+    ensures { λ r. ⌜ r ≡ lowest (λ j. alike (rowAt (length (now (zero .entry))) (now (store .entry)) j) (now (zero .entry))) n 0 ⌝ }
+{
+    let z = zero.len();
+    let mut i: usize = 0;
+    while i < n {
+        if octets::same(row(store, z, i), zero) {
+            return i;
+        }
+        i += 1;
+    }
+    n
+}
+
+// How many cells a store of this length has, 0 where its length does not fit.
+pub fn count(len: usize, z: usize) -> usize
+    ensures { λ r. ⌜ r ≡ pick (lengthFits z len) (len / z) 0 ⌝ }
+{
+    if z == 0 {
+        return 0;
+    }
+    let n = len / z;
+    if len % z != 0 {
+        return 0;
+    }
+    if n < 1 {
+        return 0;
+    }
+    if CELLS_MOST < n {
+        return 0;
+    }
+    n
+}

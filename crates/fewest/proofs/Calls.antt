@@ -1,0 +1,165 @@
+-- The same over the generated contracts of the public calls of `cut`: where the count succeeds, no list of packets that carries the
+-- message is shorter than its answer; where a packet is written, its octets are packet number i, below the count, they read back
+-- as that, and the sender is as it was. And two outcomes that a contract allows for the same arguments have the same answer, and the same octets in the output (M-7).
+-- Assumes nothing.
+use Prim.Native.Nat.{ℕ, _≤_}
+use mathlib.Core.Path.{_≡_, refl, ap, ap₂, sym, _∙_, subst}
+use mathlib.Core.Bool.{Bool, true}
+use mathlib.Core.List.{List, _++_}
+use native.Mathlib.Omega.{arith}
+use contract.Lifetimes as L
+use denote.Ref.{now}
+use lib.ListN.{length, take, drop}
+use lib.Seq.{take-at, drop-at}
+use lib.Dec.{ltb, leb}
+use borrow.Author.Tests.{eq-eqb, eqb-true, ltb-true}
+use Rattle.octets.specs.Octets.{pick, Octets}
+use Rattle.walk.specs.declared.Settings.{Settings}
+use Rattle.write.specs.declared.HeaderValues.{HeaderValues}
+use Rattle.write.specs.Given.{Lent, lent, headOf}
+use Rattle.write.specs.Writing.{fine}
+use Rattle.write.proofs.Tests.{unless-fine}
+use Rattle.cut.specs.declared.Sender.{Sender}
+use Rattle.cut.specs.declared.Counted.{Counted}
+use Rattle.cut.specs.declared.Cut.{Cut}
+use Rattle.cut.specs.Cutting.{packets, headerLength, countRefusal, senderAfter, countAnswer, packetRefusal, packetAnswer, packetOutput}
+use Rattle.cut.proofs.count.Reads as counts
+use Rattle.cut.proofs.packet.Reads as cuts
+use Rattle.cut.proofs.Sender.after_packet.Reads as packeted
+use Rattle.cut.proofs.Sender.after_segment.Reads as segmented
+use Rattle.fewest.specs.Carrying.{Carries}
+use Rattle.fewest.specs.Answers.{Counts, Wrote}
+use Rattle.fewest.specs.Cutting.{Lends, number, octetsAt, Back}
+use Rattle.fewest.proofs.Fewest.{fewest}
+use Rattle.fewest.proofs.ReadBack.{packets-read-back}
+
+-- ---- over plain values
+
+plain-counts :
+    (s : Settings) (P : ℕ) (v : HeaderValues) (t : Lent) (B : ℕ) (d : Sender) (r : Counted) → r ≡ countAnswer s P v t B d →
+    r .refusal .number ≡ 0 → Counts s P v t B d r
+unfolding countAnswer
+plain-counts s P v t B d r e z =
+    let y : countRefusal s P v t B d .number ≡ 0 = ap (λ (x : Counted). x .refusal .number) (sym e) ∙ z in
+    let f : fine (countRefusal s P v t B d) ≡ true = eq-eqb (countRefusal s P v t B d .number) 0 y in
+    record {
+      no-refusal = y;
+      count = ap (λ (x : Counted). x .count) e ∙ ap (λ (b : Bool). pick b (packets P (headerLength s v t) B) 0) f;
+      sender = ap (λ (x : Counted). x .sender) e ∙ ap (λ (b : Bool). pick b (senderAfter P (headerLength s v t) B d) d) f;
+    }
+
+plain-fewest :
+    (s : Settings) (P : ℕ) (v : HeaderValues) (t : Lent) (B : ℕ) (d : Sender) (r : Counted) → r ≡ countAnswer s P v t B d →
+    r .refusal .number ≡ 0 → (body : List ℕ) → length body ≡ B → (ps : List (List ℕ)) → Carries s (headOf v t) body P ps →
+    r .count ≤ length ps
+plain-fewest s P v t B d r e z body n ps c =
+    let k = plain-counts s P v t B d r e z .count in
+    let m = ap (packets P (headerLength s v t)) n in
+    omega (arith, fewest s (headOf v t) P body ps c)
+
+module _ (s : Settings) (P : ℕ) (v : HeaderValues) (t : Lent) (body : List ℕ) (d : Sender) (i : ℕ) (r : Cut) (out after : List ℕ)
+    (e : r ≡ packetAnswer s P v t body d i (length out)) (f : after ≡ packetOutput s P v t body d i out) (z : r .refusal .number ≡ 0) where
+  abbrev packet : List ℕ
+  packet = octetsAt s P v t body d i
+
+  none : packetRefusal s P v t body d i (length out) .number ≡ 0
+  unfolding packetAnswer
+  none = ap (λ (x : Cut). x .refusal .number) (sym e) ∙ z
+
+  all-fine : fine (packetRefusal s P v t body d i (length out)) ≡ true
+  all-fine = eq-eqb (packetRefusal s P v t body d i (length out) .number) 0 none
+
+  length-is : r .length ≡ length packet
+  unfolding packetAnswer
+  length-is = ap (λ (x : Cut). x .length) e ∙ ap (λ (b : Bool). pick b (length packet) 0) all-fine
+
+  output-is : after ≡ packet ++ drop (length packet) out
+  unfolding packetOutput
+  output-is = f ∙ ap (λ (b : Bool). pick b (packet ++ drop (length packet) out) out) all-fine
+
+  plain-wrote : Wrote s P v t body d i r out after
+  unfolding packetRefusal packetAnswer
+  plain-wrote =
+      let a = unless-fine (leb (length packet) (length out)) 20 _ all-fine in
+      let b = unless-fine (ltb i (packets P (headerLength s v t) (length body))) 25 (countRefusal s P v t (length body) d) (a .before) in
+      record {
+        no-refusal = eqb-true (countRefusal s P v t (length body) d .number) 0 (b .before);
+        below = ltb-true i (packets P (headerLength s v t) (length body)) (b .held);
+        octets = ap₂ take length-is output-is ∙ take-at packet (drop (length packet) out) (length packet) refl;
+        rest = ap₂ drop length-is output-is ∙ drop-at packet (drop (length packet) out) (length packet) refl ∙ ap (λ (n : ℕ). drop n out) (sym length-is);
+        sender = ap (λ (x : Cut). x .sender) e;
+      }
+
+  plain-back : Lends v t → Octets body → Back s P v t body d i (take (r .length) after)
+  plain-back w o =
+      let k = plain-wrote in
+      subst (λ (p : List ℕ). Back s P v t body d i p) (sym (k .octets))
+      (packets-read-back s P v t body d w o (k .no-refusal) .each i (k .below))
+
+-- ---- `cut::count`
+
+pub count-counts :
+    (κs : L.Lfts 6) (a : _) (r : _) (x : _) → counts.Post κs a r x → r .refusal .number ≡ 0 →
+    Counts (a .0) (a .1 .0) (a .1 .1 .0)
+    (lent (now (a .1 .1 .1 .0)) (now (a .1 .1 .1 .1 .0)) (now (a .1 .1 .1 .1 .1 .0)) (now (a .1 .1 .1 .1 .1 .1 .0))
+    (now (a .1 .1 .1 .1 .1 .1 .1 .0)) (now (a .1 .1 .1 .1 .1 .1 .1 .1 .0)))
+    (a .1 .1 .1 .1 .1 .1 .1 .1 .1 .0) (a .1 .1 .1 .1 .1 .1 .1 .1 .1 .1 .0) r
+count-counts κs a r x k z = plain-counts _ _ _ _ _ _ r k z
+
+pub count-fewest :
+    (κs : L.Lfts 6) (a : _) (r : _) (x : _) → counts.Post κs a r x → r .refusal .number ≡ 0 → (body : List ℕ) →
+    length body ≡ a .1 .1 .1 .1 .1 .1 .1 .1 .1 .0 → (ps : List (List ℕ)) →
+    Carries (a .0)
+    (headOf (a .1 .1 .0)
+    (lent (now (a .1 .1 .1 .0)) (now (a .1 .1 .1 .1 .0)) (now (a .1 .1 .1 .1 .1 .0)) (now (a .1 .1 .1 .1 .1 .1 .0))
+    (now (a .1 .1 .1 .1 .1 .1 .1 .0)) (now (a .1 .1 .1 .1 .1 .1 .1 .1 .0))))
+    body (a .1 .0) ps →
+    r .count ≤ length ps
+count-fewest κs a r x k z body n ps c = plain-fewest (a .0) (a .1 .0) (a .1 .1 .0) _ _ _ r k z body n ps c
+
+-- ---- `cut::packet`
+
+pub packet-wrote :
+    (κs : L.Lfts 8) (a : _) (r : _) (x : _) → cuts.Post κs a r x → r .refusal .number ≡ 0 →
+    Wrote (a .0) (a .1 .0) (a .1 .1 .0)
+    (lent (now (a .1 .1 .1 .0)) (now (a .1 .1 .1 .1 .0)) (now (a .1 .1 .1 .1 .1 .0)) (now (a .1 .1 .1 .1 .1 .1 .0))
+    (now (a .1 .1 .1 .1 .1 .1 .1 .0)) (now (a .1 .1 .1 .1 .1 .1 .1 .1 .0)))
+    (now (a .1 .1 .1 .1 .1 .1 .1 .1 .1 .0)) (a .1 .1 .1 .1 .1 .1 .1 .1 .1 .1 .0) (a .1 .1 .1 .1 .1 .1 .1 .1 .1 .1 .1 .0) r
+    (now (a .1 .1 .1 .1 .1 .1 .1 .1 .1 .1 .1 .1 .0)) (now (x .1 .1 .1 .1 .1 .1 .1 .1 .1 .1 .1 .1 .0))
+packet-wrote κs a r x k z = plain-wrote _ _ _ _ _ _ _ r _ _ (k .0) (k .1) z
+
+-- what it wrote reads back as packet number i; that lent texts and the body are octets, and a transaction id one of 64 bits, is what
+-- their types say
+pub packet-back :
+    (κs : L.Lfts 8) (a : _) (r : _) (x : _) → cuts.Post κs a r x → r .refusal .number ≡ 0 →
+    Lends (a .1 .1 .0)
+    (lent (now (a .1 .1 .1 .0)) (now (a .1 .1 .1 .1 .0)) (now (a .1 .1 .1 .1 .1 .0)) (now (a .1 .1 .1 .1 .1 .1 .0))
+    (now (a .1 .1 .1 .1 .1 .1 .1 .0)) (now (a .1 .1 .1 .1 .1 .1 .1 .1 .0))) →
+    Octets (now (a .1 .1 .1 .1 .1 .1 .1 .1 .1 .0)) →
+    Back (a .0) (a .1 .0) (a .1 .1 .0)
+    (lent (now (a .1 .1 .1 .0)) (now (a .1 .1 .1 .1 .0)) (now (a .1 .1 .1 .1 .1 .0)) (now (a .1 .1 .1 .1 .1 .1 .0))
+    (now (a .1 .1 .1 .1 .1 .1 .1 .0)) (now (a .1 .1 .1 .1 .1 .1 .1 .1 .0)))
+    (now (a .1 .1 .1 .1 .1 .1 .1 .1 .1 .0)) (a .1 .1 .1 .1 .1 .1 .1 .1 .1 .1 .0) (a .1 .1 .1 .1 .1 .1 .1 .1 .1 .1 .1 .0)
+    (take (r .length) (now (x .1 .1 .1 .1 .1 .1 .1 .1 .1 .1 .1 .1 .0)))
+packet-back κs a r x k z w o = plain-back (a .0) (a .1 .0) (a .1 .1 .0) _ _ _ _ r _ _ (k .0) (k .1) z w o
+
+-- ---- the same arguments, the same answer and the same output
+
+pub count-same-answer : (κs : L.Lfts 6) (a : _) (r q : _) (s t : _) → counts.Post κs a r s → counts.Post κs a q t → r ≡ q
+count-same-answer κs a r q s t k j = k ∙ sym j
+
+pub packet-same-answer : (κs : L.Lfts 8) (a : _) (r q : _) (s t : _) → cuts.Post κs a r s → cuts.Post κs a q t → r ≡ q
+packet-same-answer κs a r q s t k j = k .0 ∙ sym (j .0)
+
+pub packet-same-lent :
+    (κs : L.Lfts 8) (a : _) (r q : _) (s t : _) → cuts.Post κs a r s → cuts.Post κs a q t →
+    now (s .1 .1 .1 .1 .1 .1 .1 .1 .1 .1 .1 .1 .0) ≡ now (t .1 .1 .1 .1 .1 .1 .1 .1 .1 .1 .1 .1 .0)
+packet-same-lent κs a r q s t k j = k .1 ∙ sym (j .1)
+
+pub after-packet-same-answer :
+    (κs : L.Lfts 0) (a : _) (r q : _) (s t : _) → packeted.Post κs a r s → packeted.Post κs a q t → r ≡ q
+after-packet-same-answer κs a r q s t k j = k ∙ sym j
+
+pub after-segment-same-answer :
+    (κs : L.Lfts 0) (a : _) (r q : _) (s t : _) → segmented.Post κs a r s → segmented.Post κs a q t → r ≡ q
+after-segment-same-answer κs a r q s t k j = k ∙ sym j

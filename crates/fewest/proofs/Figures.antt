@@ -1,0 +1,199 @@
+-- Document 01's figures 7 to 12, by computation over the definitions, as one table; and two of its wrong programs refuted on figure 8
+-- (E-5): a cutter that repeats packet 0, and an invented count. The header is figure 14's, H 21, and a body is so many zeros.
+-- Assumes nothing.
+use Prim.Native.Nat.{ℕ, zero, suc}
+use mathlib.Core.Path.{_≡_, refl, ap, _∙_}
+use mathlib.Core.Bool.{false}
+use mathlib.Core.List.{List, [], _∷_, map}
+use native.Mathlib.Omega.{arith}
+use lib.ListN.{length, replicate}
+use Rattle.octets.specs.Octets.{Octets, wide, number as numberAt}
+use Rattle.octets.proofs.Has.{octets-nil}
+use Rattle.walk.specs.declared.Settings.{Settings}
+use Rattle.walk.specs.Walk.{begun, check, octets, unless}
+use Rattle.fields.specs.Form.{joined, split}
+use Rattle.packet.specs.Format.{presence, identification, fixedOctets, frontOctets, counterOctets, backOctets, headerOctets, secondaryOctets, dataOctets, octetsOf}
+use Rattle.packet.specs.Reading.{primaryTests, primaryOf, afterSdu, afterArea, afterService, afterOperation, afterVersion, afterSession, afterSecondary, afterQualifier, afterTransaction, afterPresence, fixedOf, flagsOf, presentOf, idsOf, textsOf, bodyTest, wideField, acceptedHeader, readPacket}
+use Rattle.write.specs.declared.HeaderValues.{HeaderValues}
+use Rattle.write.specs.Given.{Lent, lent, headOf, sum, nameChecks, routingChecks, idChecks, textChecks, headerChecks, unlessAll}
+use Rattle.write.specs.Writing.{settingsTest, partsTest}
+use Rattle.cut.specs.declared.Sender.{Sender}
+use Rattle.cut.specs.declared.Counted.{Counted}
+use Rattle.cut.specs.declared.Next.the-variants.{At, NoneLeft}
+use Rattle.cut.specs.Sending.{nextCounter, afterSegment, afterSegments, countersFit, counterAt, countAt}
+use Rattle.cut.specs.Cutting.{packets, rounded, limitTest, valueTests, messageTests, headerLength, countRefusal, senderAfter, countAnswer, flagsAt, bodyAt, packetAt, givenAt}
+use Rattle.fewest.specs.Carrying.{bodyOf, firstOf, Carries}
+use Rattle.fewest.specs.Cutting.{Lends, octetsAt, allPackets, AllBack}
+use Rattle.fewest.proofs.ReadBack.{packets-read-back, carries}
+
+abbrev pub settings : Settings
+settings = record { t = 8 }
+
+abbrev pub values : HeaderValues
+values =
+    record {
+      kind = 1;
+      apid = record { 0 = 5 };
+      sdu = 0;
+      area = 1;
+      service = 2;
+      operation = 3;
+      version = 1;
+      error = 0;
+      qos = 1;
+      session = 0;
+      second = record { 0 = 6 };
+      qualifier = 7;
+      transaction = 9;
+      has =
+          record {
+            source = false;
+            destination = false;
+            priority = false;
+            timestamp = false;
+            zone = false;
+            session = false;
+            domain = false;
+            authentication = false;
+          };
+      source = 0;
+      destination = 0;
+      priority = 0;
+    }
+
+abbrev pub texts : Lent
+texts = lent [] [] [] [] [] []
+
+abbrev pub sender : ℕ → Sender
+sender c = record { count = record { 0 = 0 }; next = At (record { 0 = c }) }
+
+abbrev pub zeros : ℕ → List ℕ
+zeros B = replicate B 0
+
+-- ---- the figures
+
+-- what is asked, by P and B (and a counter to start from, or a packet's number)
+pub data Ask : Type 0 where
+  -- how many packets, or 0 with a refusal
+  count : ℕ → ℕ → ℕ → Ask
+  -- the refusal
+  refusal : ℕ → ℕ → ℕ → Ask
+  -- the octets of packet i
+  packet : ℕ → ℕ → ℕ → Ask
+  -- its body's
+  body : ℕ → ℕ → ℕ → Ask
+  -- its length field
+  field : ℕ → ℕ → ℕ → Ask
+
+abbrev pub answer : Ask → ℕ
+answer (count P B c) = countAnswer settings P values texts B (sender c) .count
+answer (refusal P B c) = countAnswer settings P values texts B (sender c) .refusal .number
+answer (packet P B i) = length (octetsOf settings (givenAt settings P values texts (zeros B) (sender 0) i))
+answer (body P B i) = length (givenAt settings P values texts (zeros B) (sender 0) i .body)
+answer (field P B i) = numberAt 2 (octetsOf settings (givenAt settings P values texts (zeros B) (sender 0) i)) 4
+
+-- a row: the figure's number, what is asked, and what document 01 says
+pub record Row : Type 0 where
+  pub figure : ℕ
+  pub asks : Ask
+  pub says : ℕ
+
+abbrev pub row : ℕ → Ask → ℕ → Row
+row f a n = record { figure = f; asks = a; says = n }
+
+abbrev pub table : List Row
+table =
+    row 7 (count 64 37 0) 1
+    ∷ row 7 (packet 64 37 0) 64
+    ∷ row 7 (field 64 37 0) 57
+    ∷ row 8 (count 64 38 0) 2
+    ∷ row 8 (body 64 38 0) 33
+    ∷ row 8 (body 64 38 1) 5
+    ∷ row 8 (packet 64 38 0) 64
+    ∷ row 8 (packet 64 38 1) 36
+    ∷ row 9 (count 64 99 0) 3
+    ∷ row 10 (count 64 100 0) 4
+    ∷ row 10 (body 64 100 3) 1
+    ∷ row 11 (count 31 4 0) 1
+    ∷ row 11 (refusal 31 5 0) 24
+    ∷ row 12 (refusal 64 38 4294967294) 0
+    ∷ row 12 (count 64 38 4294967294) 2
+    ∷ row 12 (refusal 64 38 4294967295) 25
+    ∷ []
+
+pub header : headerLength settings values texts ≡ 21
+unfolding headerOctets headOf fixedOctets frontOctets backOctets wide
+header = refl
+
+pub figures : map (λ (r : Row). answer (r .asks)) table ≡ map (λ (r : Row). r .says) table
+unfolding countAnswer countRefusal messageTests limitTest valueTests settingsTest partsTest unless unlessAll headerChecks nameChecks routingChecks idChecks textChecks sum packets rounded countersFit headOf split packetAt flagsAt bodyAt countAt counterAt octetsOf identification dataOctets secondaryOctets fixedOctets presence frontOctets counterOctets backOctets headerOctets wide numberAt
+figures = refl
+
+-- figure 12: the largest counter is used, and then none is left
+pub twelve-none : countAnswer settings 64 values texts 38 (sender 4294967294) .sender .next ≡ NoneLeft
+unfolding countAnswer countRefusal messageTests limitTest valueTests settingsTest partsTest unless unlessAll headerChecks nameChecks routingChecks idChecks textChecks sum packets rounded countersFit headOf split headerOctets fixedOctets frontOctets backOctets wide senderAfter afterSegments afterSegment nextCounter
+twelve-none = refl
+
+-- ---- figure 8's message, and the wrong programs
+
+zeros-octets : (n : ℕ) → Octets (zeros n)
+zeros-octets zero i = omega arith
+zeros-octets (suc n) zero = omega arith
+zeros-octets (suc n) (suc i) = zeros-octets n i
+
+lends : Lends values texts
+lends =
+    record {
+      timestamp = octets-nil;
+      zone = octets-nil;
+      name = octets-nil;
+      domain = octets-nil;
+      authentication = octets-nil;
+      transaction = omega arith;
+    }
+
+counts : countRefusal settings 64 values texts 38 (sender 0) .number ≡ 0
+unfolding countRefusal messageTests limitTest valueTests settingsTest partsTest unless unlessAll headerChecks nameChecks routingChecks idChecks textChecks sum packets rounded countersFit headOf split headerOctets fixedOctets frontOctets backOctets wide
+counts = refl
+
+-- the laws speak of it: its two packets read back, and carry it
+pub eight-back : AllBack settings 64 values texts (zeros 38) (sender 0)
+eight-back = packets-read-back settings 64 values texts (zeros 38) (sender 0) lends (zeros-octets 38) counts
+
+pub eight-carries : Carries settings (headOf values texts) (zeros 38) 64 (allPackets settings 64 values texts (zeros 38) (sender 0))
+eight-carries = carries settings 64 values texts (zeros 38) (sender 0) lends (zeros-octets 38) counts
+
+-- a cutter that makes packet 0 and repeats it
+abbrev pub repeated : List (List ℕ)
+repeated = firstOf (λ (i : ℕ). octetsAt settings 64 values texts (zeros 38) (sender 0) 0) 2
+
+repeated-long : length (joined (bodyOf settings) repeated) ≡ 66
+unfolding firstOf joined packetAt flagsAt bodyAt packets rounded countAt counterAt headOf split octetsOf identification dataOctets secondaryOctets fixedOctets presence frontOctets counterOctets backOctets headerOctets wide readPacket acceptedHeader primaryTests begun check octets numberAt primaryOf afterSdu afterArea afterService afterOperation afterVersion afterSession afterSecondary afterQualifier afterTransaction afterPresence fixedOf flagsOf presentOf idsOf textsOf bodyTest wideField
+repeated-long = refl
+
+-- does not carry the message: its bodies joined are 66 octets, not 38
+pub repeats-refuted : Carries settings (headOf values texts) (zeros 38) 64 repeated → ⊥
+repeats-refuted c =
+    let e : length (joined (bodyOf settings) repeated) ≡ 38 = ap length (c .bodies) in
+    omega (arith, repeated-long)
+
+long-at :
+    (length (octetsAt settings 64 values texts (zeros 38) (sender 0) 0) ≡ 64)
+    × (length (octetsAt settings 64 values texts (zeros 38) (sender 0) 1) ≡ 36)
+unfolding packetAt flagsAt bodyAt packets rounded countAt counterAt headOf split octetsOf identification dataOctets secondaryOctets fixedOctets presence frontOctets counterOctets backOctets headerOctets wide
+long-at = (refl, refl)
+
+-- nor does the call's promise allow it: packet 1 has 36 octets, and packet 0 has 64
+pub repeats-not-promised :
+    octetsAt settings 64 values texts (zeros 38) (sender 0) 1 ≡ octetsAt settings 64 values texts (zeros 38) (sender 0) 0 → ⊥
+repeats-not-promised e = let l = ap length e in omega (arith, long-at)
+
+eight-count : countAnswer settings 64 values texts 38 (sender 0) .count ≡ 2
+unfolding countAnswer countRefusal messageTests limitTest valueTests settingsTest partsTest unless unlessAll headerChecks nameChecks routingChecks idChecks textChecks sum packets rounded countersFit headOf split headerOctets fixedOctets frontOctets backOctets wide
+eight-count = refl
+
+-- an invented count of 3 is not the answer
+pub invented-refuted : (r : Counted) → r .count ≡ 3 → r ≡ countAnswer settings 64 values texts 38 (sender 0) → ⊥
+invented-refuted r n e =
+    let k : r .count ≡ 2 = ap (λ (x : Counted). x .count) e ∙ eight-count in
+    omega arith

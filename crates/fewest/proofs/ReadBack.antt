@@ -1,0 +1,173 @@
+-- The packets of a message whose count succeeds, read back (C-7): the message's header and key, counters and sequence counts one after
+-- another, the flags, lengths at most P, and bodies that joined are the message's. So they are a list of packets that carries it, and
+-- the fewest (M-5): the bound is reached.
+-- Assumes nothing.
+use Prim.Native.Nat.{ℕ, suc, _+_, _*_, _≤_, _<_}
+use mathlib.Core.Path.{_≡_, refl, ap, sym, _∙_}
+use mathlib.Core.Logic.{inl, inr, ⊎-elim}
+use mathlib.Core.Bool.{Bool, true, false, not}
+use mathlib.Core.List.{List}
+use native.Mathlib.Omega.{arith}
+use lib.ListN.{length}
+use Rattle.octets.specs.Octets.{pick, part, Octets}
+use Rattle.octets.proofs.Lists.{bool}
+use Rattle.walk.specs.declared.Settings.{Settings}
+use Rattle.fields.specs.Form.{joined}
+use Rattle.packet.specs.Format.{Values, segment, octetsOf}
+use Rattle.packet.specs.Numbers.{nextCount}
+use Rattle.packet.specs.Reading.{segmented}
+use Rattle.write.specs.declared.HeaderValues.{HeaderValues}
+use Rattle.write.specs.Given.{Lent, headOf}
+use Rattle.format.specs.Told.{valuesOf}
+use Rattle.format.proofs.TwoWay.{writes-octets, reads-back}
+use Rattle.format.proofs.Accepting.{written}
+use Rattle.cut.specs.declared.Sender.{Sender}
+use Rattle.cut.specs.Sending.{counterAt, countAt}
+use Rattle.cut.specs.Cutting.{single, chunk, packets, headerLength, countRefusal, flagsAt, bodyAt, packetAt, givenAt}
+use Rattle.cut.proofs.Packets.{packet-most}
+use Rattle.fewest.specs.Carrying.{bodyOf, Carried, Carries}
+use Rattle.fewest.specs.Cutting.{Lends, told, number, octetsAt, allPackets, Segment, Back, AllBack}
+use Rattle.fewest.proofs.Lists.{first-length, first-each, first-same, joined-first}
+use Rattle.fewest.proofs.Parts.{packets-one, two-at-least, piece-full, piece-some, piece-most, parts-joined}
+use Rattle.fewest.proofs.Numbers.{segment-is, flags-whole, flags-first, flags-last, flags-between, counter-of, count-mod, cuts-well, good-values, room, counters, packet-range}
+use Rattle.fewest.proofs.Fewest.{fewest}
+
+-- the body of a packet is the one that is told
+body-told : (s : Settings) (p : List ℕ) {u : Values} → told s p ≡ u → bodyOf s p ≡ u .body
+unfolding valuesOf
+body-told s p x = ap (λ (y : Values). y .body) x
+
+module _ (s : Settings) (P : ℕ) (v : HeaderValues) (t : Lent) (body : List ℕ) (d : Sender) (w : Lends v t) (o : Octets body)
+    (z : countRefusal s P v t (length body) d .number ≡ 0) where
+  abbrev H : ℕ
+  H = headerLength s v t
+
+  abbrev B : ℕ
+  B = length body
+
+  -- what a packet of these values tells, where cutting is needed
+  segment-back :
+      (i : ℕ) (p : List ℕ) → i < packets P H B → told s p ≡ givenAt s P v t body d i → segmented p ≡ true → single P H B ≡ false →
+      Segment s P v t body d i p
+  unfolding packetAt bodyAt
+  segment-back i p l x q e =
+      let f : told s p .flags ≡ flagsAt P H B i = ap (λ (u : Values). u .flags) x in
+      let k = counters s P v t body d z e in
+      let h = room s P v t body d z e in
+      let c : told s p .counter ≡ k .start .0 + i =
+      ap (λ (u : Values). u .counter) x ∙ ap (λ (b : Bool). pick b 0 (counterAt (d .next) i)) e ∙ counter-of (d .next) (k .start) i (k .starts) in
+      let y : bodyOf s p ≡ part body (i * chunk P H) (chunk P H) =
+      body-told s p x ∙ ap (λ (b : Bool). pick b body (part body (i * chunk P H) (chunk P H))) e in
+      let n = ap length y in
+      record {
+        is-segment = q;
+        first = λ u. f ∙ flags-first P H B i e u;
+        last = λ u. f ∙ flags-last P H B i e (λ j. omega (arith, two-at-least P H B e h)) u;
+        between = λ j u. f ∙ flags-between P H B i e j u;
+        start = k .start;
+        starts = k .starts;
+        counter = c;
+        counter-top = omega (arith, k .fit);
+        full-body = λ u. n ∙ piece-full P H B e h i body refl u;
+        body-some = omega (arith, piece-some P H B e h i body refl l);
+        body-top = omega (arith, piece-most P H B e h i body refl);
+      }
+
+  back : (i : ℕ) → i < packets P H B → Back s P v t body d i (octetsAt s P v t body d i)
+  unfolding packetAt
+  back i l =
+      let u = givenAt s P v t body d i in
+      let r = packet-range s P v t body d z w o i l in
+      let b = reads-back s u r in
+      let k = written s u r in
+      let q : segmented (octetsOf s u) ≡ not (single P H B) = k .segments ∙ segment-is P H B i in
+      let c : told s (octetsOf s u) .count ≡ countAt (d .count .0) i = ap (λ (y : Values). y .count) (b .1) in
+      record {
+        range = r;
+        octets = writes-octets s u r;
+        accepted = b .0;
+        values = b .1;
+        head = ap (λ (y : Values). y .head) (b .1);
+        key = k .key;
+        count = c;
+        count-wraps = c ∙ count-mod (d .count .0) i (good-values s P v t body d z .count);
+        limit = packet-most s P v t body d i (cuts-well s P v t body d z .some);
+        whole = λ e. (q ∙ ap not e, ap (λ (y : Values). y .flags) (b .1) ∙ flags-whole P H B i e);
+        segment = λ e. segment-back i (octetsOf s u) l (b .1) (q ∙ ap not e) e;
+      }
+
+  two : single P H B ≡ false → 2 ≤ packets P H B
+  two e = two-at-least P H B e (room s P v t body d z e)
+
+  some : 1 ≤ packets P H B
+  some = ⊎-elim (λ e. omega (arith, packets-one P H B e)) (λ e. omega (arith, two e)) (bool (single P H B))
+
+  body-back : (i : ℕ) → i < packets P H B → bodyOf s (octetsAt s P v t body d i) ≡ bodyAt P H body i
+  unfolding packetAt
+  body-back i l = body-told s (octetsAt s P v t body d i) (back i l .values)
+
+  all-bodies : joined (bodyOf s) (allPackets s P v t body d) ≡ body
+  all-bodies =
+      joined-first (bodyOf s) (octetsAt s P v t body d) (packets P H B)
+      ∙ ap (joined (λ (x : List ℕ). x))
+      (first-same (λ (i : ℕ). bodyOf s (octetsAt s P v t body d i)) (bodyAt P H body) (packets P H B)
+      body-back)
+      ∙ parts-joined P H body (cuts-well s P v t body d z .some)
+
+  counts-on :
+      (i : ℕ) → suc i < packets P H B →
+      told s (octetsAt s P v t body d (suc i)) .count ≡ nextCount (told s (octetsAt s P v t body d i) .count)
+  unfolding countAt
+  counts-on i l = back (suc i) l .count ∙ ap nextCount (sym (back i (omega arith) .count))
+
+  counter-told :
+      single P H B ≡ false → (i : ℕ) → i < packets P H B → told s (octetsAt s P v t body d i) .counter ≡ counterAt (d .next) i
+  unfolding packetAt
+  counter-told e i l =
+      ap (λ (u : Values). u .counter) (back i l .values) ∙ ap (λ (b : Bool). pick b 0 (counterAt (d .next) i)) e
+
+  counters-on :
+      single P H B ≡ false → (i : ℕ) → suc i < packets P H B →
+      told s (octetsAt s P v t body d (suc i)) .counter ≡ suc (told s (octetsAt s P v t body d i) .counter)
+  counters-on e i l =
+      let k = counters s P v t body d z e in
+      let a = counter-told e i (omega arith) ∙ counter-of (d .next) (k .start) i (k .starts) in
+      let b = counter-told e (suc i) l ∙ counter-of (d .next) (k .start) (suc i) (k .starts) in
+      omega arith
+
+  -- C-7
+  pub packets-read-back : AllBack s P v t body d
+  packets-read-back =
+      record { each = back; some = some; two = two; counts = counts-on; counters = counters-on; bodies = all-bodies }
+
+  -- and they carry the message
+  pub carries : Carries s (headOf v t) body P (allPackets s P v t body d)
+  carries =
+      record {
+        some = omega (arith, first-length (octetsAt s P v t body d) (packets P H B), some);
+        each =
+            first-each (Carried s (headOf v t) P) (octetsAt s P v t body d) (packets P H B)
+            (λ i l. let k = back i l in record { octets = k .octets; accepted = k .accepted; limit = k .limit; key = k .key });
+        kinds =
+            ⊎-elim
+            (λ e.
+            inl
+            (record {
+              one = first-length (octetsAt s P v t body d) (packets P H B) ∙ packets-one P H B e;
+              whole =
+                  first-each (λ (p : List ℕ). segmented p ≡ false) (octetsAt s P v t body d) (packets P H B)
+                  (λ i l. back i l .whole e .0);
+            }))
+            (λ e.
+            inr
+            (first-each (λ (p : List ℕ). segmented p ≡ true) (octetsAt s P v t body d) (packets P H B)
+            (λ i l. back i l .segment e .is-segment)))
+            (bool (single P H B));
+        bodies = all-bodies;
+      }
+
+  -- so the count is reached by the cutter's own packets, and by no fewer
+  pub count-exact :
+      (length (allPackets s P v t body d) ≡ packets P H B)
+      × ((ps : List (List ℕ)) → Carries s (headOf v t) body P ps → packets P H B ≤ length ps)
+  count-exact = (first-length (octetsAt s P v t body d) (packets P H B), λ ps c. fewest s (headOf v t) P body ps c)

@@ -1,0 +1,80 @@
+-- A run of messages of one sender, each counted by the numbers as the one before left them; refused ones may be among them.
+-- Assumes nothing: these are definitions.
+use Prim.Native.Nat.{ℕ, _+_, _≤_}
+use mathlib.Core.Path.{_≡_}
+use mathlib.Core.List.{List, [], _∷_, _++_, map}
+use lib.ListN.{length}
+use Rattle.walk.specs.declared.Settings.{Settings}
+use Rattle.fields.specs.Form.{joined}
+use Rattle.packet.specs.Format.{Values, segment, when}
+use Rattle.write.specs.declared.HeaderValues.{HeaderValues}
+use Rattle.write.specs.Given.{Lent, most32}
+use Rattle.cut.specs.declared.Sender.{Sender}
+use Rattle.cut.specs.declared.Next.{Next}
+use Rattle.cut.specs.declared.Next.the-variants.{At, NoneLeft}
+use Rattle.cut.specs.declared.Counted.{Counted}
+use Rattle.cut.specs.Sending.{countAt}
+use Rattle.cut.specs.Cutting.{countAnswer, givenAt}
+use Rattle.fewest.specs.Carrying.{firstOf}
+
+-- what a sender is asked to send, with its own settings and limit
+pub record Message : Type 0 where
+  pub settings : Settings
+  pub limit : ℕ
+  pub values : HeaderValues
+  pub texts : Lent
+  pub body : List ℕ
+
+-- what the count answers of it
+abbrev pub counted : Sender → Message → Counted
+counted d m = countAnswer (m .settings) (m .limit) (m .values) (m .texts) (length (m .body)) d
+
+-- its packets, as many as the count answers: none if it is refused
+abbrev pub packetsOf : Sender → Message → List Values
+packetsOf d m =
+    firstOf (givenAt (m .settings) (m .limit) (m .values) (m .texts) (m .body) d) (counted d m .count)
+
+-- the sender behind a run
+unfoldable pub afterRun : Sender → List Message → Sender
+afterRun d [] = d
+afterRun d (m ∷ ms) = afterRun (counted d m .sender) ms
+
+-- all packets of a run, in their order
+unfoldable pub sent : Sender → List Message → List Values
+sent d [] = []
+sent d (m ∷ ms) = packetsOf d m ++ sent (counted d m .sender) ms
+
+-- the sequence counts of packets
+abbrev pub countsOf : List Values → List ℕ
+countsOf l = map (λ (v : Values). v .count) l
+
+-- the counters of the segments among them
+abbrev pub counterIn : Values → List ℕ
+counterIn v = when (segment (v .flags)) (v .counter ∷ [])
+
+abbrev pub countersOf : List Values → List ℕ
+countersOf l = joined counterIn l
+
+-- the counter that the next segment gets; one past the last if none is left
+unfoldable pub place : Next → ℕ
+place (At c) = c .0
+place NoneLeft = 4294967296
+
+-- a counter of 32 bits, as its type has it
+abbrev pub Bits32 : Next → Type 0
+Bits32 (At c) = c .0 ≤ most32
+Bits32 NoneLeft = Unit {0}
+
+-- what a list of packets, sent between a sender and the one behind them, has
+pub record Goes (d : Sender) (l : List Values) (e : Sender) : Type 0 where
+  -- the sequence counts go on by one for each packet, from the sender's, with the wrap
+  pub counts : countsOf l ≡ firstOf (countAt (d .count .0)) (length l)
+  -- and the sender behind has the next
+  pub count : e .count .0 ≡ countAt (d .count .0) (length l)
+  -- the counters of the segments go on by one for each segment, from the sender's
+  pub counters : countersOf l ≡ firstOf (λ (i : ℕ). place (d .next) + i) (length (countersOf l))
+  -- the sender behind has the next, or none is left
+  pub next : place (e .next) ≡ place (d .next) + length (countersOf l)
+  pub bits : Bits32 (e .next)
+  -- none passes 4,294,967,295
+  pub top : place (e .next) ≤ 4294967296
