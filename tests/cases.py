@@ -6,7 +6,8 @@ buffers after it. The lines that must be printed are made from `expect`, never f
 is told in crates/vectors/src/main.rt; a call is added by a row of CALLS.
 
 To the cases of reading those of damaged() are added: figure 14 with each octet changed, cut and lengthened. Their answers are
-those of tests/model.py, which must agree with the file on every case of its own.
+those of tests/model.py, which must agree with the file on every case of its own. To the cases of writing and cutting are added
+figure 14 written, and numbers one above what the type of their field holds, which are refused by 22 and never cut to the width.
 """
 
 import itertools
@@ -112,6 +113,34 @@ def read_line(a):
     return line(numbers + part(a["authentication"]) + [a["H"]] + part(a["body"]))
 
 
+HEADER_NUMBERS = (
+    "packet_type apid sdu area service operation area_version error qos session secondary_apid qualifier transaction has_source "
+    "has_destination has_priority has_timestamp has_zone has_session_name has_domain has_authentication source destination priority"
+).split()
+
+TEXTS = "timestamp zone session_name domain authentication".split()
+
+
+def header(row):
+    """The numbers of a header to write; the domain's lengths stand elsewhere, behind all other numbers."""
+    return [row["header"][name] for name in HEADER_NUMBERS]
+
+
+def lengths(row):
+    return row["header"]["domain_lengths"]
+
+
+def texts(row):
+    """The texts of a header to write."""
+    return [(READABLE, octets(row["header"][name])) for name in TEXTS]
+
+
+def sender(numbers):
+    """A sender's numbers: sequence count, counter, and whether one is left."""
+    counter = numbers["counter"]
+    return [numbers["seq"], 0, 0] if counter is None else [numbers["seq"], counter, 1]
+
+
 def answer(row):
     return row["expect"]["answer"]
 
@@ -145,6 +174,26 @@ CALLS = {
         lambda row: [(READABLE, octets(row["packet"]))],
         lambda row: read_line(answer(row)),
     ),
+    "write": Call(
+        4,
+        lambda row: [row["T"]] + header(row) + [row["flags"], row["seq"], row["counter"]] + lengths(row),
+        lambda row: texts(row) + [(READABLE, octets(row["body"])), (OUTPUT, octets(row["out"]))],
+        lambda row: line([answer(row)["refusal"], answer(row)["length"]], octets(row["expect"]["out"])),
+    ),
+    "count": Call(
+        5,
+        lambda row: [row["T"], row["P"]] + header(row) + [row["body_length"]] + sender(row["sender"]) + lengths(row),
+        texts,
+        lambda row: line([answer(row)["refusal"], answer(row)["count"]] + sender(answer(row)["sender"])),
+    ),
+    "packet": Call(
+        6,
+        lambda row: [row["T"], row["P"]] + header(row) + sender(row["sender"]) + [row["i"]] + lengths(row),
+        lambda row: texts(row) + [(READABLE, octets(row["body"])), (OUTPUT, octets(row["out"]))],
+        lambda row: line(
+            [answer(row)["refusal"], answer(row)["length"]] + sender(answer(row)["sender"]), octets(row["expect"]["out"])
+        ),
+    ),
 }
 
 
@@ -168,6 +217,49 @@ def read_rows():
         yield {"call": "read", "T": 8, "packet": packet.hex(), "expect": {"answer": model.read(8, packet)}}
 
 
+HEADER_14 = {name: 0 for name in HEADER_NUMBERS} | {name: "" for name in TEXTS}
+HEADER_14 |= {"packet_type": 1, "apid": 5, "area": 1, "service": 2, "operation": 3, "area_version": 1, "qos": 1}
+HEADER_14 |= {"secondary_apid": 6, "qualifier": 7, "transaction": 9, "domain_lengths": []}
+
+TOO_WIDE = (
+    {name: 1 << 8 for name in "packet_type sdu error qos session".split()}
+    | {name: 1 << 16 for name in "apid area_version secondary_apid source destination".split()}
+    | {name: 1 << 32 for name in "area service operation qualifier".split()}
+    | {name: 2 for name in HEADER_NUMBERS if name.startswith("has_")}
+)
+OUT_14 = "ff*28"
+
+
+def write_row(changed, refusal):
+    """Figure 14 written into 28 octets, with some values changed."""
+    head = HEADER_14 | {name: value for name, value in changed.items() if name in HEADER_14}
+    row = {"T": 8, "flags": 3, "seq": 0, "counter": 0, "body": "", "out": OUT_14, "header": head}
+    row |= {name: value for name, value in changed.items() if name not in HEADER_14}
+    written = FIGURE_14.hex() + "ff" if refusal == 0 else OUT_14
+    return row | {"expect": {"answer": {"refusal": refusal, "length": 0 if refusal else 27}, "out": written}}
+
+
+def wide_write_rows():
+    for name, value in (TOO_WIDE | {"flags": 1 << 8, "seq": 1 << 16, "counter": 1 << 32}).items():
+        yield write_row({name: value}, 22)
+    yield write_row({"apid": 1 << 16, "T": 0}, 15)
+
+
+def wide_cut_rows():
+    """Figure 14's header and a body of 6 octets cut at P 32, with a number too wide; the sender is handed back as given."""
+    for name, value in TOO_WIDE.items():
+        yield cut_row({name: value}, {"seq": 5, "counter": 7}, 32, 22)
+    yield cut_row({}, {"seq": 1 << 16, "counter": 7}, 32, 22)
+    yield cut_row({}, {"seq": 5, "counter": 1 << 32}, 32, 22)
+    yield cut_row({}, {"seq": 1 << 16, "counter": 7}, 26, 15)
+
+
+def cut_row(changed, numbers, most, refusal):
+    row = {"T": 8, "P": most, "header": HEADER_14 | changed, "sender": numbers, "body_length": 6, "body": "01*6", "i": 0}
+    told = {"refusal": refusal, "count": 0, "length": 0, "sender": numbers}
+    return row | {"out": OUT_14, "expect": {"answer": told, "out": OUT_14}}
+
+
 def rows(vectors, call):
     """The cases of a call in its file."""
     with open(vectors / f"{call}.jsonl", encoding="ascii") as file:
@@ -189,6 +281,12 @@ def cases(vectors):
             yield name, call, row
     for row in read_rows():
         yield "figure 14 damaged", CALLS["read"], row
+    yield "figure 14 written", CALLS["write"], write_row({}, 0)
+    for row in wide_write_rows():
+        yield "numbers too wide", CALLS["write"], row
+    for row in wide_cut_rows():
+        yield "numbers too wide", CALLS["count"], row
+        yield "numbers too wide", CALLS["packet"], row
 
 
 def main(arguments):

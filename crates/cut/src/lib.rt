@@ -89,10 +89,10 @@ impl Sender {
     pub fn after_packet(self) -> Sender
         ensures { λ r. ⌜ r ≡ afterPacket self ⌝ }
     {
-        let count = packet::next_sequence_count(self.count);
+        let later = packet::next_sequence_count(self.count);
         let next = self.next;
         Sender {
-            count: count,
+            count: later,
             next: next,
         }
     }

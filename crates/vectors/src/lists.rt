@@ -32,6 +32,14 @@ pub fn tell2(answer: &mut [u64], a: u64, b: u64) -> usize {
     2
 }
 
+// The numbers from a place on, none past the end.
+pub fn from(list: &[u64], k: usize) -> &[u64] {
+    if k <= list.len() {
+        return &list[k..];
+    }
+    &list[0..0]
+}
+
 // String k, no octets where there is none.
 pub fn part<'a, 'b>(strings: &'a [u8], ends: &'b [u64], k: usize) -> &'a [u8] {
     if k < ends.len() {

@@ -20,11 +20,14 @@
 // calls have a module each. A call takes what it needs of the numbers, the strings and the two buffers, and puts its answers into
 // a list, so that a new one is a line of `run` and a function beside the others.
 mod case;
+mod cuts;
+mod headers;
 mod input;
 mod lists;
 mod print;
 mod reads;
 mod varints;
+mod writes;
 
 use case::Case;
 use input::Input;
@@ -37,6 +40,12 @@ const VARINT_WRITE: u8 = 2;
 
 const READ: u8 = 3;
 
+const WRITE: u8 = 4;
+
+const COUNT: u8 = 5;
+
+const PACKET: u8 = 6;
+
 // The sizes of the buffers: input and text are emptied as the run goes, the others hold one case.
 const INPUT: usize = 65536;
 
@@ -48,7 +57,7 @@ const ENDS: usize = 33;
 
 const ANSWERS: usize = 128;
 
-const READ_ONLY: usize = 131072;
+const READ_ONLY: usize = 2097152;
 
 const STORE: usize = 32768;
 
@@ -89,6 +98,15 @@ fn run(
     }
     if tag == READ {
         return reads::read(numbers, lists::part(strings, ends, 0), answer);
+    }
+    if tag == WRITE {
+        return writes::write(numbers, strings, ends, out, answer);
+    }
+    if tag == COUNT {
+        return cuts::count(numbers, strings, ends, answer);
+    }
+    if tag == PACKET {
+        return cuts::packet(numbers, strings, ends, out, answer);
     }
     0
 }
