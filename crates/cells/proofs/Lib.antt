@@ -4,3 +4,4 @@ pub mod Counters
 pub mod SameKeys
 pub mod Carries
 pub mod Apart
+pub mod Ordered

@@ -15,7 +15,7 @@ ghost use Rattle.cells.specs.Inner.{heldRowTest, kindOf, placeIn, counte
 ghost use mathlib.Core.Bool.{true};
 ghost use Rattle.packet.specs.Reading.{readPacket};
 ghost use Rattle.packet.specs.Key.{keyOf};
-ghost use Rattle.cells.specs.Order.{lowest, lengthFits, sound, isSound, carriesIn, newTo, newAt};
+ghost use Rattle.cells.specs.Order.{lowest, lengthFits, sound, isSound, carriesIn, newTo, newAt, distinct, inOrder, countIn};
 use walk::Settings;
 
 // The most cells that a store has.
@@ -252,4 +252,39 @@ fn is_apart(s: Settings, store: &[u8], i: usize, row: &[u8], zero: &[u8]) -> boo
     let ids = g.ids;
     let counter = ids.counter;
     is_new(s, store, i, zero, q, body.at, counter.0)
+}
+
+// Whether no two of the first n cells, all sound, have equal key and counter.
+pub fn all_apart(s: Settings, store: &[u8], n: usize, zero: &[u8]) -> bool
+    requires { ⌜ now zero ≡ zeroRow (length (now zero)) ⌝ }
+    requires { ⌜ n * length (now zero) ≤ length (now store) ⌝ }
+    requires { ⌜ sound s (length (now zero)) (now store) n ≡ true ⌝ }
+    ensures { λ r. ⌜ r ≡ distinct s (length (now (zero .entry))) (now (store .entry)) n ⌝ }
+{
+    let z = zero.len();
+    let mut so_far = true;
+    let mut i: usize = 0;
+    while i < n {
+        so_far = and(so_far, is_apart(s, store, i, row(store, z, i), zero));
+        i += 1;
+    }
+    so_far
+}
+
+// How many cells a store in order has; 0 where it is not in order.
+pub fn in_order(s: Settings, store: &[u8], zero: &[u8]) -> usize
+    requires { ⌜ now zero ≡ zeroRow (length (now zero)) ⌝ }
+    ensures { λ r. ⌜ r ≡ pick (inOrder s (length (now (zero .entry))) (now (store .entry))) (countIn (length (now (zero .entry))) (now (store .entry))) 0 ⌝ }
+{
+    let n = count(store.len(), zero.len());
+    if n == 0 {
+        return 0;
+    }
+    if !all_sound(s, store, n, zero) {
+        return 0;
+    }
+    if !all_apart(s, store, n, zero) {
+        return 0;
+    }
+    n
 }
