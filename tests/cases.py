@@ -180,6 +180,12 @@ CALLS = {
         lambda row: texts(row) + [(READABLE, octets(row["body"])), (OUTPUT, octets(row["out"]))],
         lambda row: line([answer(row)["refusal"], answer(row)["length"]], octets(row["expect"]["out"])),
     ),
+    "in_order": Call(
+        7,
+        lambda row: [row["T"]],
+        lambda row: [(READABLE, octets(row["store"]))],
+        lambda row: line([answer(row)["refusal"], 0 if answer(row)["refusal"] else len(octets(row["store"])) // 1024]),
+    ),
     "count": Call(
         5,
         lambda row: [row["T"], row["P"]] + header(row) + [row["body_length"]] + sender(row["sender"]) + lengths(row),

@@ -288,3 +288,11 @@ pub fn in_order(s: Settings, store: &[u8], zero: &[u8]) -> usize
     }
     n
 }
+
+// The same for cells of 1,024 octets, beside a zero cell made by repetition.
+pub fn order(s: Settings, store: &[u8]) -> usize
+    ensures { λ r. ⌜ r ≡ pick (inOrder s 1024 (now (store .entry))) (countIn 1024 (now (store .entry))) 0 ⌝ }
+{
+    let zero = [0u8; 1024];
+    in_order(s, store, &zero)
+}

@@ -24,6 +24,7 @@ mod cuts;
 mod headers;
 mod input;
 mod lists;
+mod orders;
 mod print;
 mod reads;
 mod varints;
@@ -46,6 +47,8 @@ const COUNT: u8 = 5;
 
 const PACKET: u8 = 6;
 
+const IN_ORDER: u8 = 7;
+
 // The sizes of the buffers: input and text are emptied as the run goes, the others hold one case.
 const INPUT: usize = 65536;
 
@@ -57,7 +60,7 @@ const ENDS: usize = 33;
 
 const ANSWERS: usize = 128;
 
-const READ_ONLY: usize = 2097152;
+const READ_ONLY: usize = 4300800;
 
 const STORE: usize = 32768;
 
@@ -107,6 +110,9 @@ fn run(
     }
     if tag == PACKET {
         return cuts::packet(numbers, strings, ends, out, answer);
+    }
+    if tag == IN_ORDER {
+        return orders::call(numbers, lists::part(strings, ends, 0), answer);
     }
     0
 }
