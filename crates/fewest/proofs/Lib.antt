@@ -1,6 +1,5 @@
 pub mod Lists
 pub mod Fewest
-pub mod Headers
 pub mod Parts
 pub mod Numbers
 pub mod ReadBack

@@ -29,8 +29,10 @@ use Rattle.cut.specs.Cutting.{single, chunk, packets, headerLength, countRefusa
 use Rattle.cut.proofs.Counting.{count-is}
 use Rattle.cut.proofs.Plans.{before, Good, good, Cuts, cuts}
 use Rattle.cut.proofs.Packets.{counter-flag, packet-most}
+use Rattle.two_way.specs.Writable.{LentOctets}
+use Rattle.two_way.proofs.Headers.{checks-range}
+use Rattle.two_way.proofs.Texts.{lent-texts}
 use Rattle.fewest.specs.Cutting.{Lends}
-use Rattle.fewest.proofs.Headers.{checks-range}
 use Rattle.fewest.proofs.Parts.{piece-some}
 
 -- ---- the flags
@@ -158,7 +160,7 @@ module _ (s : Settings) (P : ℕ) (v : HeaderValues) (t : Lent) (body : List ℕ
       let c = count-is (d .count .0) i (k .count) in
       record {
         settings = settings-range;
-        head = checks-range s v t (k .checks) (k .parts) w;
+        head = checks-range s v t (k .checks) (k .parts) (w .transaction) (lent-texts v t body lends);
         flags = flags-top P H B i;
         count = omega arith;
         counter =
@@ -171,6 +173,17 @@ module _ (s : Settings) (P : ℕ) (v : HeaderValues) (t : Lent) (body : List ℕ
         some = λ e. body-some i l (single P H B) refl (sym g ∙ e);
       }
     where
+      lends : LentOctets t body
+      lends =
+          record {
+            timestamp = w .timestamp;
+            zone = w .zone;
+            name = w .name;
+            domain = w .domain;
+            authentication = w .authentication;
+            body = o;
+          }
+
       four : (b : Bool) → H + pick b 0 4 ≡ pick b H (H + 4)
       four true = omega arith
       four false = refl
