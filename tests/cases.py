@@ -266,6 +266,38 @@ def cut_row(changed, numbers, most, refusal):
     return row | {"out": OUT_14, "expect": {"answer": told, "out": OUT_14}}
 
 
+def varint_figures():
+    """Figures 1 to 6: four numbers written and read, and two writings that are refused by 10."""
+    for number, writing in ((127, "7f"), (128, "8001"), (300, "ac02"), (4294967295, "ffffffff0f")):
+        long = len(writing) // 2
+        told = {"answer": {"refusal": 0, "length": long}, "out": f"{writing},00*{6 - long}"}
+        yield CALLS["varint_write"], {"value": number, "out": "00*6", "expect": told}
+        yield CALLS["varint_read"], {"octets": writing, "at": 0, "expect": {"answer": {"refusal": 0, "value": number, "next": long}}}
+    for writing in ("8000", "ffffffff1f"):
+        yield CALLS["varint_read"], {"octets": writing, "at": 0, "expect": {"answer": {"refusal": 10, "value": 0, "next": 0}}}
+
+
+def cutting_figures():
+    """Figures 7 to 12: figure 14's header, H 21; the count of packets and the sender behind them, its sequence count wrapping."""
+    for most, body, start, refusal, count in (
+        (64, 37, 0, 0, 1),
+        (64, 38, 0, 0, 2),
+        (64, 99, 0, 0, 3),
+        (64, 100, 0, 0, 4),
+        (31, 4, 0, 0, 1),
+        (31, 5, 0, 24, 0),
+        (64, 38, 4294967294, 0, 2),
+        (64, 38, 4294967295, 25, 0),
+    ):
+        before = after = {"seq": 16383, "counter": start}
+        if refusal == 0:
+            last = start + count if count > 1 else start
+            after = {"seq": (16383 + count) % 16384, "counter": last if last < 1 << 32 else None}
+        row = {"T": 8, "P": most, "header": HEADER_14, "body_length": body, "body": f"5a*{body}"}
+        told = {"refusal": refusal, "count": count, "sender": after}
+        yield CALLS["count"], row | {"sender": before, "expect": {"answer": told}}
+
+
 def rows(vectors, call):
     """The cases of a call in its file."""
     with open(vectors / f"{call}.jsonl", encoding="ascii") as file:
@@ -285,6 +317,8 @@ def cases(vectors):
     for name, call in CALLS.items():
         for row in rows(vectors, name):
             yield name, call, row
+    for call, row in itertools.chain(varint_figures(), cutting_figures()):
+        yield "figures 1 to 12", call, row
     for row in read_rows():
         yield "figure 14 damaged", CALLS["read"], row
     yield "figure 14 written", CALLS["write"], write_row({}, 0)
