@@ -72,3 +72,7 @@ sound s Z st n = allTo (λ i. isSound (cellAt s Z st i)) n
 
 unfoldable pub inOrder : Settings → ℕ → List ℕ → Bool
 inOrder s Z st = both (lengthFits Z (length st)) (both (sound s Z st (countIn Z st)) (distinct s Z st (countIn Z st)))
+
+-- the lowest of the first n cells with this key and counter; n where there is none
+unfoldable pub foundIn : Settings → ℕ → List ℕ → ℕ → List ℕ → ℕ → ℕ
+foundIn s Z st n k c = lowest (λ j. carriesIn k c (cellAt s Z st j)) n 0

@@ -9,13 +9,14 @@ ghost use Prim.Native.Nat.{_+_, _-_, _*_, _/_, _≤_};
 ghost use lib.ListN.{drop};
 ghost use lib.ListN.{length};
 ghost use Rattle.octets.specs.Octets.{pick, part, number, alike};
+ghost use lib.Dec.{eqb};
 ghost use Rattle.cells.specs.Segments.{both};
 ghost use Rattle.cells.specs.Rows.{rowAt, zeroRow, cellOf};
 ghost use Rattle.cells.specs.Inner.{heldRowTest, kindOf, placeIn, counterIn, spansAlike, Asked};
 ghost use mathlib.Core.Bool.{true};
 ghost use Rattle.packet.specs.Reading.{readPacket};
 ghost use Rattle.packet.specs.Key.{keyOf};
-ghost use Rattle.cells.specs.Order.{lowest, lengthFits, sound, isSound, carriesIn, newTo, newAt, distinct, inOrder, countIn};
+ghost use Rattle.cells.specs.Order.{lowest, lengthFits, sound, isSound, carriesIn, newTo, newAt, distinct, inOrder, countIn, foundIn};
 use walk::Settings;
 
 // The most cells that a store has.
@@ -295,4 +296,50 @@ pub fn order(s: Settings, store: &[u8]) -> usize
 {
     let zero = [0u8; 1024];
     in_order(s, store, &zero)
+}
+
+// The lowest of the first n cells, all sound, that carries the key and counter of the one that is looked for; n where there is none.
+pub fn find(
+    s: Settings,
+    store: &[u8],
+    n: usize,
+    zero: &[u8],
+    q: &[u8],
+    stop: usize,
+    c: u32,
+) -> usize
+    requires { ⌜ now zero ≡ zeroRow (length (now zero)) ⌝ }
+    requires { ⌜ n * length (now zero) ≤ length (now store) ⌝ }
+    requires { ⌜ sound s (length (now zero)) (now store) n ≡ true ⌝ }
+    requires { ⌜ Asked s (now q) stop c ⌝ }
+    ensures { λ r. ⌜ r ≡ foundIn s (length (now (zero .entry))) (now (store .entry)) n (keyOf (now (q .entry)) (readPacket s (now (q .entry)))) c ⌝ }
+{
+    let z = zero.len();
+    let mut j: usize = 0;
+    while j < n {
+        if carries_at(s, row(store, z, j), zero, q, stop, c) {
+            return j;
+        }
+        j += 1;
+    }
+    n
+}
+
+// Whether the packets of two segments, with what reading answered of them, have the same flags and body.
+pub fn same_rest(
+    p: &[u8],
+    flags: u8,
+    at: usize,
+    long: usize,
+    q: &[u8],
+    marks: u8,
+    from: usize,
+    wide: usize,
+) -> bool
+    ensures { λ r. ⌜ r ≡ both (eqb flags marks) (alike (part (now (p .entry)) at long) (part (now (q .entry)) from wide)) ⌝ }
+{
+    and(
+        flags == marks,
+        octets::same(span(p, at, long), span(q, from, wide)),
+    )
 }

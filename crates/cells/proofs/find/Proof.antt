@@ -1,0 +1,63 @@
+-- `cells::find` meets its contract. The loop's invariant: none of the cells passed carries them.
+-- Assumes nothing.
+use Prim.Native.Nat.{ℕ, _-_}
+use borrow.Author.Needs.{needs}
+use denote.Ref.{now}
+use lib.ListN.{length}
+use mathlib.Core.List.{List}
+use mathlib.Core.Path.{ap, sym, _∙_}
+use Rattle.cells.proofs.Apart.{sound-at}
+use Rattle.cells.proofs.Scans.{row-long, Seeking, seeking-first, seeking-turn, seeking-found, seeking-none}
+use Rattle.cells.proofs.find.Statement.{statement}
+use Rattle.cells.proofs.find.Tie as tie
+use Rattle.cells.specs.Order.{carriesIn, cellAt, foundIn}
+use Rattle.cells.specs.Rows.{cellOf}
+use Rattle.packet.specs.Key.{keyOf}
+use Rattle.packet.specs.Reading.{readPacket}
+
+abbrev Inv-loop : tie.InvT-loop
+Inv-loop s store n zero q stop c z j₀ j = Seeking (λ k. carriesIn (keyOf q (readPacket s q)) c (cellAt s (length zero) store k)) n j
+
+abbrev μ-loop : tie.MeasureT-loop
+μ-loop s store n zero q stop c z j₀ j = n - j
+
+loop-holds : tie.Need-loop-holds Inv-loop μ-loop
+loop-holds c = seeking-first _ _
+
+row-requires : tie.Need-row-requires Inv-loop μ-loop
+row-requires c κs = search needs
+
+carries-at-requires : tie.Need-carries-at-requires Inv-loop μ-loop
+carries-at-requires c κs = (c .before .before .before .before .before .before .pre .0, (ap length (c .row .ensures) ∙ row-long _ _ _ _ (c .before .loop-test .taken) (c .before .before .before .before .before .before .pre .1 .0), (sound-at (c .before .before .before .before .before .before .args .s) (length (now (c .before .before .before .before .before .before .args .zero))) (now (c .before .before .before .before .before .before .args .store)) (c .before .before .before .before .before .before .args .n) (c .before .before .loop .j) (c .before .before .before .before .before .before .pre .1 .1 .0) (c .before .loop-test .taken) (c .row .ensures), c .before .before .before .before .before .before .pre .1 .1 .1)))
+
+returns : tie.Need-returns Inv-loop μ-loop
+unfolding foundIn
+returns c = seeking-found (c .before .before .before .before .loop .inv) (c .before .before .before .loop-test .taken) (sym (c .before .carries-at .ensures ∙ ap (λ (r : List ℕ). carriesIn (keyOf (now (c .before .before .before .before .before .before .before .before .args .q)) (readPacket (c .before .before .before .before .before .before .before .before .args .s) (now (c .before .before .before .before .before .before .before .before .args .q)))) (c .before .before .before .before .before .before .before .before .args .c) (cellOf (c .before .before .before .before .before .before .before .before .args .s) (length (now (c .before .before .before .before .before .before .before .before .args .zero))) r)) (c .before .before .row .ensures)) ∙ c .if1 .taken)
+
+add-j : tie.Need-add-j Inv-loop μ-loop
+add-j c = search needs
+
+loop-less : tie.Need-loop-less Inv-loop μ-loop
+loop-less c = search needs
+
+loop-again : tie.Need-loop-again Inv-loop μ-loop
+loop-again c = seeking-turn (c .before .before .before .before .loop .inv) (c .before .before .before .loop-test .taken) (sym (c .before .carries-at .ensures ∙ ap (λ (r : List ℕ). carriesIn (keyOf (now (c .before .before .before .before .before .before .before .before .args .q)) (readPacket (c .before .before .before .before .before .before .before .before .args .s) (now (c .before .before .before .before .before .before .before .before .args .q)))) (c .before .before .before .before .before .before .before .before .args .c) (cellOf (c .before .before .before .before .before .before .before .before .args .s) (length (now (c .before .before .before .before .before .before .before .before .args .zero))) r)) (c .before .before .row .ensures)) ∙ c .if1 .left)
+
+returns-2 : tie.Need-returns-2 Inv-loop μ-loop
+unfolding foundIn
+returns-2 c = seeking-none (c .before .loop .inv) (c .loop-test .left)
+
+pub find-spec : {M : Type 1} → statement M
+find-spec =
+    tie.close
+    (tie.spec
+    Inv-loop
+    μ-loop
+    loop-holds
+    row-requires
+    carries-at-requires
+    returns
+    add-j
+    loop-less
+    loop-again
+    returns-2)
