@@ -73,7 +73,7 @@ row-same Z k (x ∷ y ∷ q) e =
 -- ---- a held cell
 
 -- the flags that reading answers are the packet's, where it refuses nothing
-flags-same : (s : Settings) (p : List ℕ) → readPacket s p .refusal .number ≡ 0 → readPacket s p .primary .flags ≡ octetAt p 2 / 64
+pub flags-same : (s : Settings) (p : List ℕ) → readPacket s p .refusal .number ≡ 0 → readPacket s p .primary .flags ≡ octetAt p 2 / 64
 unfolding acceptedHeader primaryOf
 flags-same s p z = ap (λ (h : Header). h .primary .flags) (answer s p z)
 

@@ -5,3 +5,5 @@ pub mod SameKeys
 pub mod Carries
 pub mod Apart
 pub mod Ordered
+pub mod Putting
+pub mod Laid

@@ -7,6 +7,8 @@
 ghost use mathlib.Core.Path.{_≡_};
 ghost use Prim.Native.Nat.{_+_, _-_, _*_, _/_, _≤_};
 ghost use lib.ListN.{drop};
+ghost use lib.Seq.{sets};
+ghost use mathlib.Core.List.{_∷_};
 ghost use lib.ListN.{length};
 ghost use Rattle.octets.specs.Octets.{pick, part, number, alike};
 ghost use lib.Dec.{eqb};
@@ -342,4 +344,14 @@ pub fn same_rest(
         flags == marks,
         octets::same(span(p, at, long), span(q, from, wide)),
     )
+}
+
+// The mark and a packet into cell i, where they lie inside the store.
+pub fn put_cell(store: &mut [u8], z: usize, i: usize, p: &[u8])
+    requires { ⌜ i * z + (2 + length (now p)) ≤ length (now store) ⌝ }
+    ensures { λ r. ⌜ now (store .exit) ≡ sets (now (store .entry)) (i * z) (0x4d ∷ 0x53 ∷ now (p .entry)) ⌝ }
+{
+    let at = octets::place(store.len(), z, i);
+    let behind = octets::lay_number(store, at, 2, 0x4d53);
+    octets::lay(store, behind, p);
 }
