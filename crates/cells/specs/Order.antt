@@ -10,7 +10,7 @@ use lib.Dec.{leb, eqb}
 use Rattle.octets.specs.Octets.{pick}
 use Rattle.walk.specs.declared.Settings.{Settings}
 use Rattle.cells.specs.Segments.{Seg, carries, both}
-use Rattle.cells.specs.Rows.{Cell, free, held, broken, rowAt, cellOf, cellsTo}
+use Rattle.cells.specs.Rows.{Cell, free, held, broken, rowAt, cellOf}
 
 -- 1 to 4,096 cells
 abbrev pub cellsMost : ℕ

@@ -2,8 +2,8 @@
 -- Document 01, "The store": "Each record has a two-byte mark before it: 4D 53 held, 00 00 free. A held cell is the mark, one segmented
 -- packet of at most 1,022 octets as it arrived, and zeros. A free cell is all zeros."
 -- Assumes nothing: these are definitions.
-use Prim.Native.Nat.{ℕ, zero, suc, _+_, _-_, _*_}
-use mathlib.Core.List.{List, [], _∷_, _++_}
+use Prim.Native.Nat.{ℕ, _+_, _-_, _*_}
+use mathlib.Core.List.{List, _∷_, _++_}
 use mathlib.Core.Bool.{Bool, true, false}
 use lib.ListN.{length, take, drop, replicate}
 use lib.Dec.{leb, eqb}
@@ -48,8 +48,3 @@ unfoldable pub cellOf : Settings → ℕ → List ℕ → Cell
 cellOf s Z r =
     pick (alike r (zeroRow Z)) free
     (pick (holds s Z r) (held (segOf (packetIn Z r) (readPacket s (packetIn Z r)))) broken)
-
--- the first n cells of the store, on any octets
-unfoldable pub cellsTo : Settings → ℕ → ℕ → List ℕ → List Cell
-cellsTo s Z zero st = []
-cellsTo s Z (suc n) st = cellsTo s Z n st ++ (cellOf s Z (rowAt Z st n) ∷ [])

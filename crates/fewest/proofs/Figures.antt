@@ -3,7 +3,6 @@
 -- Assumes nothing.
 use Prim.Native.Nat.{ℕ, zero, suc}
 use mathlib.Core.Path.{_≡_, refl, ap, _∙_}
-use mathlib.Core.Bool.{false}
 use mathlib.Core.List.{List, [], _∷_, map}
 use native.Mathlib.Omega.{arith}
 use lib.ListN.{length, replicate}
@@ -14,9 +13,9 @@ use Rattle.walk.specs.Walk.{begun, check, octets, unless}
 use Rattle.fields.specs.Form.{joined, split}
 use Rattle.packet.specs.Format.{presence, identification, fixedOctets, frontOctets, counterOctets, backOctets, headerOctets, secondaryOctets, dataOctets, octetsOf}
 use Rattle.packet.specs.Reading.{primaryTests, primaryOf, afterSdu, afterArea, afterService, afterOperation, afterVersion, afterSession, afterSecondary, afterQualifier, afterTransaction, afterPresence, fixedOf, flagsOf, presentOf, idsOf, textsOf, bodyTest, wideField, acceptedHeader, readPacket}
-use Rattle.write.specs.declared.HeaderValues.{HeaderValues}
-use Rattle.write.specs.Given.{Lent, lent, headOf, sum, nameChecks, routingChecks, idChecks, textChecks, headerChecks, unlessAll}
+use Rattle.write.specs.Given.{headOf, sum, nameChecks, routingChecks, idChecks, textChecks, headerChecks, unlessAll}
 use Rattle.write.specs.Writing.{settingsTest, partsTest}
+use Rattle.two_way.proofs.Figures.{header as values, texts}
 use Rattle.cut.specs.declared.Sender.{Sender}
 use Rattle.cut.specs.declared.Counted.{Counted}
 use Rattle.cut.specs.declared.Next.the-variants.{At, NoneLeft}
@@ -28,41 +27,6 @@ use Rattle.fewest.proofs.ReadBack.{packets-read-back, carries}
 
 abbrev pub settings : Settings
 settings = record { t = 8 }
-
-abbrev pub values : HeaderValues
-values =
-    record {
-      kind = 1;
-      apid = record { 0 = 5 };
-      sdu = 0;
-      area = 1;
-      service = 2;
-      operation = 3;
-      version = 1;
-      error = 0;
-      qos = 1;
-      session = 0;
-      second = record { 0 = 6 };
-      qualifier = 7;
-      transaction = 9;
-      has =
-          record {
-            source = false;
-            destination = false;
-            priority = false;
-            timestamp = false;
-            zone = false;
-            session = false;
-            domain = false;
-            authentication = false;
-          };
-      source = 0;
-      destination = 0;
-      priority = 0;
-    }
-
-abbrev pub texts : Lent
-texts = lent [] [] [] [] [] []
 
 abbrev pub sender : ℕ → Sender
 sender c = record { count = record { 0 = 0 }; next = At (record { 0 = c }) }
