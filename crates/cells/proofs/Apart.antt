@@ -46,14 +46,13 @@ module _ (s : Settings) (st r z : List ℕ) (i : ℕ) (ez : z ≡ zeroRow (lengt
     there : Holding s (length z) r
     there = holding s (length z) r g (ap (alike r) (sym ez) ∙ sym eb ∙ no)
 
-    pub asked : Asked s q (h .body .at) (h .ids .counter .0)
+    pub asked : Asked s q (h .body .at)
     asked =
         record {
           octets = rw eq (octets-part r 2 (number 2 r 6 + 7) o);
           accepted = rw eq (there .accepted);
           segment = rw eq (there .segment);
           body = ap (λ (x : Header). x .body .at) eh;
-          counter = ap (λ (x : Header). x .ids .counter .0) eh;
         }
 
     pub apart-held : {t : Bool} → t ≡ newTo s (length z) st i (keyOf q (readPacket s q)) (h .ids .counter .0) → t ≡ newAt s (length z) st i (cellOf s (length z) r)

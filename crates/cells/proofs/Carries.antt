@@ -1,6 +1,6 @@
 -- Whether a sound cell carries a key and a counter, as the code tests it.
 -- Assumes nothing.
-use Prim.Native.Nat.{ℕ, _+_}
+use Prim.Native.Nat.{ℕ, zero, suc, _+_, _≤_}
 use mathlib.Core.Path.{_≡_, refl, ap, ap₂, sym, _∙_}
 use mathlib.Core.Logic.{⊎-elim}
 use mathlib.Core.Bool.{Bool, true, false}
@@ -8,8 +8,8 @@ use mathlib.Core.List.{List, [], _∷_}
 use native.Mathlib.Omega.{arith}
 use lib.ListN.{length}
 use lib.Dec.{eqb, leb}
-use borrow.Author.Tests.{eqb-true, eq-eqb, ne-eqb}
-use Rattle.octets.specs.Octets.{pick, Octets, part, number, alike}
+use borrow.Author.Tests.{eqb-true, leb-true, eq-eqb, ne-eqb}
+use Rattle.octets.specs.Octets.{pick, Octets, octetAt, part, number, alike}
 use Rattle.octets.proofs.Has.{octets-part}
 use Rattle.octets.proofs.Lists.{bool, alike-self, alike-true}
 use Rattle.walk.specs.declared.Settings.{Settings}
@@ -29,6 +29,8 @@ pub record Holding (s : Settings) (Z : ℕ) (r : List ℕ) : Type 0 where
   pub accepted : readPacket s (packetIn Z r) .refusal .number ≡ 0
   pub segment : segmented (packetIn Z r) ≡ true
   pub cell : cellOf s Z r ≡ held (segOf (packetIn Z r) (readPacket s (packetIn Z r)))
+  pub row : r ≡ heldRow Z (packetIn Z r)
+  pub fits : 2 + length (packetIn Z r) ≤ Z
 
 pub free-cell : (s : Settings) (Z : ℕ) (r : List ℕ) → alike r (zeroRow Z) ≡ true → cellOf s Z r ≡ free
 unfolding cellOf
@@ -48,7 +50,13 @@ made s Z r a b =
     let x = both-true (alike r (heldRow Z (packetIn Z r))) (mayHold s Z (packetIn Z r)) b in
     let y = both-true (leb (2 + length (packetIn Z r)) Z) (both (eqb (readPacket s (packetIn Z r) .refusal .number) 0) (segmented (packetIn Z r))) (x .1) in
     let w = both-true (eqb (readPacket s (packetIn Z r) .refusal .number) 0) (segmented (packetIn Z r)) (y .1) in
-    record { accepted = eqb-true (readPacket s (packetIn Z r) .refusal .number) 0 (w .0); segment = w .1; cell = held-cell s Z r a b }
+    record {
+      accepted = eqb-true (readPacket s (packetIn Z r) .refusal .number) 0 (w .0);
+      segment = w .1;
+      cell = held-cell s Z r a b;
+      row = alike-true r (heldRow Z (packetIn Z r)) (x .0);
+      fits = leb-true (2 + length (packetIn Z r)) Z (y .0);
+    }
 
 pub holding : (s : Settings) (Z : ℕ) (r : List ℕ) → isSound (cellOf s Z r) ≡ true → alike r (zeroRow Z) ≡ false → Holding s Z r
 holding s Z r g a = ⊎-elim yes-it no-it (bool (holds s Z r))
@@ -59,6 +67,23 @@ holding s Z r g a = ⊎-elim yes-it no-it (bool (holds s Z r))
     no-it : holds s Z r ≡ false → Holding s Z r
     no-it b = let e : isSound broken ≡ true = ap isSound (sym (broken-cell s Z r a b)) ∙ g in let z : _≡_ {A = ℕ} 0 1 = cc in absurd (omega arith)
 
+-- a sound cell is free exactly if its first octet is 0
+zeros-first : (Z : ℕ) → octetAt (zeroRow Z) 0 ≡ 0
+zeros-first zero = refl
+zeros-first (suc Z) = refl
+
+pub first-free : (s : Settings) (Z : ℕ) (r : List ℕ) → isSound (cellOf s Z r) ≡ true → octetAt r 0 ≡ 0 → alike r (zeroRow Z) ≡ true
+first-free s Z r g e = ⊎-elim (λ t. t) held-it (bool (alike r (zeroRow Z)))
+  where
+    held-it : alike r (zeroRow Z) ≡ false → alike r (zeroRow Z) ≡ true
+    held-it a = let z : _≡_ {A = ℕ} 0x4d 0 = ap (λ (x : List ℕ). octetAt x 0) (sym (holding s Z r g a .row)) ∙ e in absurd (omega arith)
+
+pub first-held : (Z : ℕ) (r : List ℕ) → (octetAt r 0 ≡ 0 → ⊥) → alike r (zeroRow Z) ≡ false
+first-held Z r h = ⊎-elim free-it (λ t. t) (bool (alike r (zeroRow Z)))
+  where
+    free-it : alike r (zeroRow Z) ≡ true → alike r (zeroRow Z) ≡ false
+    free-it a = absurd (h (ap (λ (x : List ℕ). octetAt x 0) (alike-true r (zeroRow Z) a) ∙ zeros-first Z))
+
 alike-turned : (a b : List ℕ) → alike a b ≡ alike b a
 alike-turned a b =
     same-test (alike a b) (alike b a)
@@ -67,19 +92,19 @@ alike-turned a b =
 
 -- ---- as the code tests it
 
-module _ (s : Settings) (r z q : List ℕ) (stop c : ℕ) (ez : z ≡ zeroRow (length z)) (o : Octets r) (g : isSound (cellOf s (length z) r) ≡ true) (a : Asked s q stop c) where
+module _ (s : Settings) (r z q : List ℕ) (stop c : ℕ) (ez : z ≡ zeroRow (length z)) (o : Octets r) (g : isSound (cellOf s (length z) r) ≡ true) (a : Asked s q stop) where
   abbrev k : List ℕ
   k = keyOf q (readPacket s q)
 
-  pub carries-free : {b : Bool} → b ≡ alike r z → b ≡ true → false ≡ carriesIn k c (cellOf s (length z) r)
-  carries-free e t = rw (free-cell s (length z) r (ap (alike r) (sym ez) ∙ sym e ∙ t)) refl
+  pub carries-free : {b : ℕ} → b ≡ octetAt r 0 → b ≡ 0 → false ≡ carriesIn k c (cellOf s (length z) r)
+  carries-free e t = rw (free-cell s (length z) r (first-free s (length z) r g (sym e ∙ t))) refl
 
-  module _ {b : Bool} (eb : b ≡ alike r z) (no : b ≡ false) where
+  module _ {b : ℕ} (eb : b ≡ octetAt r 0) (no : b ≡ 0 → ⊥) where
     abbrev p : List ℕ
     p = packetIn (length z) r
 
     there : Holding s (length z) r
-    there = holding s (length z) r g (ap (alike r) (sym ez) ∙ sym eb ∙ no)
+    there = holding s (length z) r g (first-held (length z) r (λ y. no (eb ∙ y)))
 
     plain : Octets p
     plain = octets-part r 2 (number 2 r 6 + 7) o

@@ -38,10 +38,9 @@ kindOf free = 0
 kindOf (held t) = 1
 kindOf broken = 2
 
--- a segment that is looked for: what reading answered of it, where its body begins, its counter
-pub record Asked (s : Settings) (q : List ℕ) (stop c : ℕ) : Type 0 where
+-- a segment whose key is looked for: what reading answered of it, and where its body begins
+pub record Asked (s : Settings) (q : List ℕ) (stop : ℕ) : Type 0 where
   pub octets : Octets q
   pub accepted : readPacket s q .refusal .number ≡ 0
   pub segment : segmented q ≡ true
   pub body : stop ≡ readPacket s q .body .at
-  pub counter : c ≡ readPacket s q .ids .counter .0

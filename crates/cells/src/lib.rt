@@ -193,18 +193,18 @@ pub fn count(len: usize, z: usize) -> usize
 }
 
 // Whether a sound cell holds a segment with the key and counter of the one that is looked for.
-pub fn carries_at(s: Settings, row: &[u8], zero: &[u8], q: &[u8], stop: usize, c: u32) -> bool
+pub fn carries_at(s: Settings, row: &[u8], zero: &[u8], q: &[u8], stop: usize, c: u64) -> bool
     requires { ⌜ now zero ≡ zeroRow (length (now zero)) ⌝ }
     requires { ⌜ length (now row) ≡ length (now zero) ⌝ }
     requires { ⌜ isSound (cellOf s (length (now zero)) (now row)) ≡ true ⌝ }
-    requires { ⌜ Asked s (now q) stop c ⌝ }
+    requires { ⌜ Asked s (now q) stop ⌝ }
     ensures { λ r. ⌜ r ≡ carriesIn (keyOf (now (q .entry)) (readPacket s (now (q .entry)))) c (cellOf s (length (now (zero .entry))) (now (row .entry))) ⌝ }
 {
-    if octets::same(row, zero) {
+    if octets::octet(row, 0) == 0 {
         return false;
     }
     let p = packet_in(row);
-    if counter_in(p) != c {
+    if counter_in(p) as u64 != c {
         return false;
     }
     let h = packet::read(s, p);
@@ -220,12 +220,12 @@ pub fn is_new(
     zero: &[u8],
     q: &[u8],
     stop: usize,
-    c: u32,
+    c: u64,
 ) -> bool
     requires { ⌜ now zero ≡ zeroRow (length (now zero)) ⌝ }
     requires { ⌜ n * length (now zero) ≤ length (now store) ⌝ }
     requires { ⌜ sound s (length (now zero)) (now store) n ≡ true ⌝ }
-    requires { ⌜ Asked s (now q) stop c ⌝ }
+    requires { ⌜ Asked s (now q) stop ⌝ }
     ensures { λ r. ⌜ r ≡ newTo s (length (now (zero .entry))) (now (store .entry)) n (keyOf (now (q .entry)) (readPacket s (now (q .entry)))) c ⌝ }
 {
     let z = zero.len();
@@ -254,7 +254,7 @@ fn is_apart(s: Settings, store: &[u8], i: usize, row: &[u8], zero: &[u8]) -> boo
     let body = g.body;
     let ids = g.ids;
     let counter = ids.counter;
-    is_new(s, store, i, zero, q, body.at, counter.0)
+    is_new(s, store, i, zero, q, body.at, counter.0 as u64)
 }
 
 // Whether no two of the first n cells, all sound, have equal key and counter.
@@ -308,12 +308,12 @@ pub fn find(
     zero: &[u8],
     q: &[u8],
     stop: usize,
-    c: u32,
+    c: u64,
 ) -> usize
     requires { ⌜ now zero ≡ zeroRow (length (now zero)) ⌝ }
     requires { ⌜ n * length (now zero) ≤ length (now store) ⌝ }
     requires { ⌜ sound s (length (now zero)) (now store) n ≡ true ⌝ }
-    requires { ⌜ Asked s (now q) stop c ⌝ }
+    requires { ⌜ Asked s (now q) stop ⌝ }
     ensures { λ r. ⌜ r ≡ foundIn s (length (now (zero .entry))) (now (store .entry)) n (keyOf (now (q .entry)) (readPacket s (now (q .entry)))) c ⌝ }
 {
     let z = zero.len();

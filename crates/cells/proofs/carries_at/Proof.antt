@@ -6,11 +6,11 @@ use Rattle.cells.proofs.Carries.{carries-free, carries-other, carries-s
 use Rattle.cells.proofs.carries_at.Statement.{statement}
 use Rattle.cells.proofs.carries_at.Tie as tie
 
-same-requires : tie.Need-same-requires
-same-requires c κs = search needs
+octet-requires : tie.Need-octet-requires
+octet-requires c κs = search needs
 
 returns : tie.Need-returns
-returns c = carries-free (c .before .before .before .before .before .args .s) (now (c .before .before .before .before .before .args .row)) (now (c .before .before .before .before .before .args .zero)) (now (c .before .before .before .before .before .args .q)) (c .before .before .before .before .before .args .stop) (c .before .before .before .before .before .args .c) (c .before .before .before .before .before .pre .0) (λ i. c .before .before .before .before .shared-slice-known .given i .fits) (c .before .before .before .before .before .pre .1 .1 .0) (c .before .before .before .before .before .pre .1 .1 .1) (c .before .same .ensures) (c .if1 .taken)
+returns c = carries-free (c .before .before .before .before .before .args .s) (now (c .before .before .before .before .before .args .row)) (now (c .before .before .before .before .before .args .zero)) (now (c .before .before .before .before .before .args .q)) (c .before .before .before .before .before .args .stop) (c .before .before .before .before .before .args .c) (c .before .before .before .before .before .pre .0) (λ i. c .before .before .before .before .shared-slice-known .given i .fits) (c .before .before .before .before .before .pre .1 .1 .0) (c .before .before .before .before .before .pre .1 .1 .1) (c .before .octet .ensures) (c .if1 .taken)
 
 packet-in-requires : tie.Need-packet-in-requires
 packet-in-requires c κs = search needs
@@ -18,8 +18,11 @@ packet-in-requires c κs = search needs
 counter-in-requires : tie.Need-counter-in-requires
 counter-in-requires c κs = search needs
 
+cast-if2 : tie.Need-cast-if2
+cast-if2 c = search needs
+
 returns-2 : tie.Need-returns-2
-returns-2 c = carries-other (c .before .before .before .before .before .before .before .before .args .s) (now (c .before .before .before .before .before .before .before .before .args .row)) (now (c .before .before .before .before .before .before .before .before .args .zero)) (now (c .before .before .before .before .before .before .before .before .args .q)) (c .before .before .before .before .before .before .before .before .args .stop) (c .before .before .before .before .before .before .before .before .args .c) (c .before .before .before .before .before .before .before .before .pre .0) (λ i. c .before .before .before .before .before .before .before .shared-slice-known .given i .fits) (c .before .before .before .before .before .before .before .before .pre .1 .1 .0) (c .before .before .before .before .before .before .before .before .pre .1 .1 .1) (c .before .before .before .before .same .ensures) (c .before .before .before .if1 .left) (c .before .before .packet-in .ensures) (c .before .counter-in .ensures) (c .if2 .taken)
+returns-2 c = carries-other (c .before .before .before .before .before .before .before .before .args .s) (now (c .before .before .before .before .before .before .before .before .args .row)) (now (c .before .before .before .before .before .before .before .before .args .zero)) (now (c .before .before .before .before .before .before .before .before .args .q)) (c .before .before .before .before .before .before .before .before .args .stop) (c .before .before .before .before .before .before .before .before .args .c) (c .before .before .before .before .before .before .before .before .pre .0) (λ i. c .before .before .before .before .before .before .before .shared-slice-known .given i .fits) (c .before .before .before .before .before .before .before .before .pre .1 .1 .0) (c .before .before .before .before .before .before .before .before .pre .1 .1 .1) (c .before .before .before .before .octet .ensures) (c .before .before .before .if1 .left) (c .before .before .packet-in .ensures) (c .before .counter-in .ensures) (c .if2 .taken)
 
 read-requires : tie.Need-read-requires
 read-requires c κs = search needs
@@ -28,16 +31,17 @@ same-key-requires : tie.Need-same-key-requires
 same-key-requires c κs = search needs
 
 returns-3 : tie.Need-returns-3
-returns-3 c = carries-same (c .before .before .before .before .before .before .before .before .before .before .before .args .s) (now (c .before .before .before .before .before .before .before .before .before .before .before .args .row)) (now (c .before .before .before .before .before .before .before .before .before .before .before .args .zero)) (now (c .before .before .before .before .before .before .before .before .before .before .before .args .q)) (c .before .before .before .before .before .before .before .before .before .before .before .args .stop) (c .before .before .before .before .before .before .before .before .before .before .before .args .c) (c .before .before .before .before .before .before .before .before .before .before .before .pre .0) (λ i. c .before .before .before .before .before .before .before .before .before .before .shared-slice-known .given i .fits) (c .before .before .before .before .before .before .before .before .before .before .before .pre .1 .1 .0) (c .before .before .before .before .before .before .before .before .before .before .before .pre .1 .1 .1) (c .before .before .before .before .before .before .before .same .ensures) (c .before .before .before .before .before .before .if1 .left) (c .before .before .before .before .before .packet-in .ensures) (c .before .before .before .before .counter-in .ensures) (c .before .before .before .if2 .left) (c .before .before .read .ensures .0) (c .same-key .ensures)
+returns-3 c = carries-same (c .before .before .before .before .before .before .before .before .before .before .before .args .s) (now (c .before .before .before .before .before .before .before .before .before .before .before .args .row)) (now (c .before .before .before .before .before .before .before .before .before .before .before .args .zero)) (now (c .before .before .before .before .before .before .before .before .before .before .before .args .q)) (c .before .before .before .before .before .before .before .before .before .before .before .args .stop) (c .before .before .before .before .before .before .before .before .before .before .before .args .c) (c .before .before .before .before .before .before .before .before .before .before .before .pre .0) (λ i. c .before .before .before .before .before .before .before .before .before .before .shared-slice-known .given i .fits) (c .before .before .before .before .before .before .before .before .before .before .before .pre .1 .1 .0) (c .before .before .before .before .before .before .before .before .before .before .before .pre .1 .1 .1) (c .before .before .before .before .before .before .before .octet .ensures) (c .before .before .before .before .before .before .if1 .left) (c .before .before .before .before .before .packet-in .ensures) (c .before .before .before .before .counter-in .ensures) (c .before .before .before .if2 .left) (c .before .before .read .ensures .0) (c .same-key .ensures)
 
 pub carries-at-spec : {M : Type 1} → statement M
 carries-at-spec =
     tie.close
     (tie.spec
-    same-requires
+    octet-requires
     returns
     packet-in-requires
     counter-in-requires
+    cast-if2
     returns-2
     read-requires
     same-key-requires
