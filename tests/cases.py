@@ -141,6 +141,9 @@ def sender(numbers):
     return [numbers["seq"], 0, 0] if counter is None else [numbers["seq"], counter, 1]
 
 
+KINDS = ["", "whole", "stored", "held"]
+
+
 def answer(row):
     return row["expect"]["answer"]
 
@@ -183,8 +186,14 @@ CALLS = {
     "in_order": Call(
         7,
         lambda row: [row["T"]],
-        lambda row: [(READABLE, octets(row["store"]))],
-        lambda row: line([answer(row)["refusal"], 0 if answer(row)["refusal"] else len(octets(row["store"])) // 1024]),
+        lambda row: [(STORE, octets(row["store"]))],
+        lambda row: line([answer(row)["refusal"], 0 if answer(row)["refusal"] else len(octets(row["store"])) // 1024], octets(row["store"])),
+    ),
+    "arrive": Call(
+        8,
+        lambda row: [row["T"]],
+        lambda row: [(READABLE, octets(row["packet"])), (STORE, octets(row["store"]))],
+        lambda row: line([answer(row)["refusal"], KINDS.index(answer(row)["kind"])], octets(row["expect"]["store"])),
     ),
     "count": Call(
         5,

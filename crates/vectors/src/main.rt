@@ -24,9 +24,9 @@ mod cuts;
 mod headers;
 mod input;
 mod lists;
-mod orders;
 mod print;
 mod reads;
+mod stores;
 mod varints;
 mod writes;
 
@@ -49,6 +49,8 @@ const PACKET: u8 = 6;
 
 const IN_ORDER: u8 = 7;
 
+const ARRIVE: u8 = 8;
+
 // The sizes of the buffers: input and text are emptied as the run goes, the others hold one case.
 const INPUT: usize = 65536;
 
@@ -60,9 +62,9 @@ const ENDS: usize = 33;
 
 const ANSWERS: usize = 128;
 
-const READ_ONLY: usize = 4300800;
+const READ_ONLY: usize = 2097152;
 
-const STORE: usize = 32768;
+const STORE: usize = 4300800;
 
 const OUTPUT: usize = 131072;
 
@@ -112,7 +114,10 @@ fn run(
         return cuts::packet(numbers, strings, ends, out, answer);
     }
     if tag == IN_ORDER {
-        return orders::call(numbers, lists::part(strings, ends, 0), answer);
+        return stores::order(numbers, store, answer);
+    }
+    if tag == ARRIVE {
+        return stores::arrive(numbers, store, lists::part(strings, ends, 0), answer);
     }
     0
 }

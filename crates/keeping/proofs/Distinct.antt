@@ -1,0 +1,100 @@
+-- Cells apart (S-4): `distinct` holds exactly if no two different cells hold segments with equal key and counter; then `look` finds
+-- each segment that is held.
+-- Assumes nothing.
+use Prim.Native.Nat.{ℕ, zero, suc, _<_}
+use mathlib.Core.Path.{_≡_, refl, ap, sym, _∙_}
+use mathlib.Core.Logic.{⊎-elim, _↔_}
+use mathlib.Core.Bool.{Bool, true, false, not}
+use mathlib.Core.List.{List}
+use mathlib.Core.Option.{Option, none, some}
+use native.Mathlib.Omega.{arith}
+use borrow.Author.Tests.{not-true}
+use Rattle.octets.proofs.Lists.{bool, below-or}
+use Rattle.walk.specs.declared.Settings.{Settings}
+use Rattle.cells.specs.Segments.{Seg, carries}
+use Rattle.cells.specs.Rows.{Cell, free, held, broken}
+use Rattle.cells.specs.Order.{carriesIn, cellAt, allTo, newTo, newAt, distinct}
+use Rattle.cells.proofs.Apart.{all-at}
+use Rattle.store.specs.Messages.{cellsOf, look}
+use Rattle.keeping.proofs.Listed.{among-below}
+use Rattle.keeping.proofs.Looking.{carries-true, carries-yes, look-none, look-some}
+
+-- what holds of each holds of all
+pub all-to : (f : ℕ → Bool) (n : ℕ) → ((i : ℕ) → i < n → f i ≡ true) → allTo f n ≡ true
+unfolding allTo
+all-to f zero h = refl
+all-to f (suc n) h = rw (all-to f n (λ i l. h i (omega arith))) (h n (omega arith))
+
+-- no two different cells of the first n hold segments with equal key and counter
+abbrev pub Apart : Settings → ℕ → List ℕ → ℕ → Type 0
+Apart s Z st n =
+    (i j : ℕ) (t u : Seg) → i < n → j < n → cellAt s Z st i ≡ held t → cellAt s Z st j ≡ held u → t .key ≡ u .key → t .counter ≡ u .counter → i ≡ j
+
+module _ (s : Settings) (Z : ℕ) (st : List ℕ) where
+  new-at : (i : ℕ) (x : Cell) (u : Seg) → x ≡ held u → newAt s Z st i x ≡ newTo s Z st i (u .key) (u .counter)
+  unfolding newAt
+  new-at i x u e = ap (newAt s Z st i) e
+
+  -- a lower cell has another key or counter
+  lower : (n i j : ℕ) (t u : Seg) → distinct s Z st n ≡ true → i < j → j < n → cellAt s Z st i ≡ held t → cellAt s Z st j ≡ held u → carries (u .key) (u .counter) t ≡ false
+  unfolding distinct newTo
+  lower n i j t u d h l a b =
+      let e : newTo s Z st j (u .key) (u .counter) ≡ true = sym (new-at j (cellAt s Z st j) u b) ∙ all-at (λ m. newAt s Z st m (cellAt s Z st m)) n j d l in
+      let f : not (carriesIn (u .key) (u .counter) (cellAt s Z st i)) ≡ true = all-at (λ m. not (carriesIn (u .key) (u .counter) (cellAt s Z st m))) j i e h in
+      sym (ap (carriesIn (u .key) (u .counter)) a) ∙ not-true (carriesIn (u .key) (u .counter) (cellAt s Z st i)) f
+
+  pub distinct-apart : (n : ℕ) → distinct s Z st n ≡ true → Apart s Z st n
+  distinct-apart n d i j t u h l a b p q = ⊎-elim below (λ m. ⊎-elim above (λ k. omega arith) (below-or j i)) (below-or i j)
+    where
+      clash : {x y : Bool} → x ≡ y → x ≡ true → y ≡ false → i ≡ j
+      clash e f g = let z : _≡_ {A = ℕ} 0 1 = cc in absurd (omega arith)
+
+      below : i < j → i ≡ j
+      below m = clash refl (carries-yes (u .key) (u .counter) t (sym p) (sym q)) (lower n i j t u d m l a b)
+
+      above : j < i → i ≡ j
+      above m = clash refl (carries-yes (t .key) (t .counter) u p q) (lower n j i u t d m h b a)
+
+  pub apart-distinct : (n : ℕ) → Apart s Z st n → distinct s Z st n ≡ true
+  unfolding distinct newAt newTo
+  apart-distinct n h = all-to (λ i. newAt s Z st i (cellAt s Z st i)) n (λ i l. one i l (cellAt s Z st i) refl)
+    where
+      other : (i j : ℕ) (u : Seg) → i < n → j < i → cellAt s Z st i ≡ held u → (x : Cell) → cellAt s Z st j ≡ x → not (carriesIn (u .key) (u .counter) x) ≡ true
+      other i j u l m e free d = refl
+      other i j u l m e broken d = refl
+      other i j u l m e (held t) d = ⊎-elim same (λ b. ap not b) (bool (carries (u .key) (u .counter) t))
+        where
+          same : carries (u .key) (u .counter) t ≡ true → not (carries (u .key) (u .counter) t) ≡ true
+          same b =
+              let a = carries-true (u .key) (u .counter) t b in
+              let k : i ≡ j = h i j u t l (omega arith) e d (a .0) (a .1) in
+              absurd (omega arith)
+
+      one : (i : ℕ) → i < n → (x : Cell) → cellAt s Z st i ≡ x → newAt s Z st i x ≡ true
+      one i l free e = refl
+      one i l broken e = refl
+      one i l (held u) e = all-to (λ j. not (carriesIn (u .key) (u .counter) (cellAt s Z st j))) i (λ j m. other i j u l m e (cellAt s Z st j) refl)
+
+  -- exactly
+  pub distinct-exactly : (n : ℕ) → distinct s Z st n ≡ true ↔ Apart s Z st n
+  distinct-exactly n = (distinct-apart n, apart-distinct n)
+
+  -- what is held is found
+  pub look-finds : (n : ℕ) → Apart s Z st n → (i : ℕ) (t : Seg) → i < n → cellAt s Z st i ≡ held t → look (cellsOf s Z st n) (t .key) (t .counter) ≡ some t
+  look-finds n h i t l e = go (look (cellsOf s Z st n) (t .key) (t .counter)) refl
+    where
+      clash : carriesIn (t .key) (t .counter) (cellAt s Z st i) ≡ false → none ≡ some t
+      clash a =
+          let b : carries (t .key) (t .counter) t ≡ true = carries-yes (t .key) (t .counter) t refl refl in
+          let d : carries (t .key) (t .counter) t ≡ false = sym (ap (carriesIn (t .key) (t .counter)) e) ∙ a in
+          let z : _≡_ {A = ℕ} 0 1 = cc in absurd (omega arith)
+
+      go : (o : Option Seg) → look (cellsOf s Z st n) (t .key) (t .counter) ≡ o → o ≡ some t
+      go none d = clash (look-none (cellAt s Z st) (t .key) (t .counter) n 0 d i (among-below l))
+      go (some u) d =
+          let a = look-some (cellAt s Z st) (t .key) (t .counter) n 0 u d in
+          let c = carries-true (t .key) (t .counter) u (a .3) in
+          let k : i ≡ a .0 = h i (a .0) t u l (omega (arith, a .1 .top)) e (a .2) (c .0) (c .1) in
+          let f : held t ≡ held u = sym e ∙ ap (cellAt s Z st) k ∙ a .2 in
+          let g : u ≡ t = cc f in
+          ap some g

@@ -1,0 +1,15 @@
+pub mod Picking
+pub mod Rows
+pub mod Opens
+pub mod HeldRow
+pub mod Listed
+pub mod After
+pub mod Looking
+pub mod Distinct
+pub mod Order
+pub mod Empty
+pub mod Keeps
+pub mod Members
+pub mod Untouched
+pub mod Zeroed
+pub mod Repeats

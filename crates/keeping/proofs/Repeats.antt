@@ -1,0 +1,94 @@
+-- After a taking its cells are used again (S-13): none of its segments is held any more, some cell is free, and so a late repeat, or
+-- any other new segment, is stored, in the lowest free cell.
+-- Assumes nothing.
+use Prim.Native.Nat.{ℕ, _+_, _/_, _≤_, _<_}
+use mathlib.Core.Path.{_≡_, refl, ap, _∙_}
+use mathlib.Core.Logic.{_⊎_, inl, inr}
+use mathlib.Core.Bool.{Bool, true, false}
+use mathlib.Core.List.{List, List·Memᴰ·head}
+use mathlib.Core.Option.{none}
+use native.Mathlib.Omega.{arith}
+use lib.ListN.{length}
+use lib.Dec.{eqb}
+use Rattle.octets.specs.Octets.{pick}
+use Rattle.octets.proofs.Lists.{bool}
+use Rattle.walk.specs.declared.Settings.{Settings}
+use Rattle.walk.specs.Walk.{begun}
+use Rattle.packet.specs.Reading.{readPacket, segmented}
+use Rattle.cells.specs.Segments.{Seg, carries}
+use Rattle.cells.specs.Rows.{Cell, free, held, broken}
+use Rattle.cells.specs.Order.{isFree, carriesIn, cellAt, countIn, inOrder}
+use Rattle.store.specs.Messages.{cellsOf, look, Run, segments, among}
+use Rattle.store.specs.Arriving.{stored, lowestFree, arrivedIn, arrived}
+use Rattle.store.specs.Taking.{message, took}
+use Rattle.keeping.specs.Cells.{freed}
+use Rattle.keeping.proofs.Picking.{pick-yes}
+use Rattle.keeping.proofs.Listed.{among-below, Lowest, lowest-is, lowest-some}
+use Rattle.keeping.proofs.Looking.{carries-true, look-empty}
+use Rattle.keeping.proofs.Members.{In, among-yes}
+use Rattle.keeping.proofs.Order.{cells-inside}
+use Rattle.keeping.proofs.After.{segment, Stored, stored-told, cell-taken}
+use Rattle.keeping.proofs.Keeps.{take-long, taken-keeps}
+use Rattle.keeping.proofs.Zeroed.{after, taken-tells, segment-held, zeroed-free}
+
+-- a cell freed of some segments holds none of them
+freed-gone : (us : List Seg) (t : Seg) → In t us → (x : Cell) → carriesIn (t .key) (t .counter) (freed us x) ≡ false
+freed-gone us t m free = refl
+freed-gone us t m broken = refl
+freed-gone us t m (held u) = go (among us u) refl (bool (carries (t .key) (t .counter) u))
+  where
+    go : (b : Bool) → among us u ≡ b → (carries (t .key) (t .counter) u ≡ true) ⊎ (carries (t .key) (t .counter) u ≡ false) →
+        carriesIn (t .key) (t .counter) (pick b free (held u)) ≡ false
+    go true d c = refl
+    go false d (inr c) = c
+    go false d (inl c) =
+        let a = carries-true (t .key) (t .counter) u c in
+        let f : among us u ≡ true = among-yes us t u m (a .0) (a .1) in
+        let z : _≡_ {A = ℕ} 0 1 = cc in absurd (omega arith)
+
+module _ (s : Settings) (Z : ℕ) (st : List ℕ) (long : ℕ) (r : Run) (e : took s Z st long ≡ message r) where
+  -- S-13: no segment of the message is held any more
+  pub segment-gone : (t : Seg) → In t (segments r) → look (cellsOf s Z (after s Z st r) (countIn Z st)) (t .key) (t .counter) ≡ none
+  segment-gone t m =
+      look-empty (cellAt s Z (after s Z st r)) (t .key) (t .counter) (countIn Z st) 0
+      (λ j a.
+      ap (carriesIn (t .key) (t .counter)) (cell-taken s Z st (countIn Z st) r (cells-inside Z st) j (omega (arith, a .top)))
+      ∙ freed-gone (segments r) t m (cellAt s Z st j))
+
+  -- some cell is free, since the message's cells are; so the lowest free one is there
+  pub room : Lowest (λ j. isFree (cellAt s Z (after s Z st r) j)) (countIn Z st) 0 (lowestFree s Z (after s Z st r) (countIn Z st))
+  room =
+      let a = segment-held s Z st long r e (r .head) (List·Memᴰ·head refl) in
+      let b = zeroed-free s Z st long r e (a .0) (a .1) (r .head) (List·Memᴰ·head refl) (a .2) in
+      let c = lowest-some (λ j. isFree (cellAt s Z (after s Z st r) j)) (countIn Z st) 0 (a .0) (among-below (a .1)) (ap isFree b) in
+      lowest-is (λ j. isFree (cellAt s Z (after s Z st r) j)) (countIn Z st) 0 (omega (arith, a .1))
+
+  module _ (p : List ℕ) (accepted : readPacket s p .refusal .number ≡ 0) (segs : segmented p ≡ true) (fits : 2 + length p ≤ Z) where
+    -- S-13: freed cells are used again: a new segment goes to the lowest free cell
+    pub new-stored :
+        look (cellsOf s Z (after s Z st r) (countIn Z st)) (segment s p .key) (segment s p .counter) ≡ none →
+        (lowestFree s Z (after s Z st r) (countIn Z st) < countIn Z st)
+        × (arrived s Z (after s Z st r) p ≡ stored (lowestFree s Z (after s Z st r) (countIn Z st)))
+    unfolding arrived
+    new-stored new =
+        let i : ℕ = lowestFree s Z (after s Z st r) (countIn Z st) in
+        let h : Stored s Z (after s Z st r) (countIn Z st) p i = record { accepted = accepted; segmented = segs; fits = fits; new = new; place = room } in
+        let t = taken-tells s Z st long r e in
+        let n : countIn Z (after s Z st r) ≡ countIn Z st = ap (λ (k : ℕ). k / Z) (take-long Z st s (countIn Z st) (message r)) in (
+          omega (arith, room .there .top),
+          pick-yes (eqb (begun s .refusal .number) 0) _ _ (t .settings)
+              ∙ pick-yes (inOrder s Z (after s Z st r)) _ _ (taken-keeps s Z st r (t .order))
+              ∙ ap (λ (k : ℕ). arrivedIn s Z (after s Z st r) k p) n
+              ∙ stored-told s Z (after s Z st r) (countIn Z st) p i h,
+        )
+
+    -- S-13: a late repeat of a segment of the message is a new one
+    pub repeat-stored :
+        (t : Seg) → In t (segments r) → segment s p .key ≡ t .key → segment s p .counter ≡ t .counter →
+        (lowestFree s Z (after s Z st r) (countIn Z st) < countIn Z st)
+        × (arrived s Z (after s Z st r) p ≡ stored (lowestFree s Z (after s Z st r) (countIn Z st)))
+    repeat-stored t m k c =
+        new-stored
+        (ap (λ (x : List ℕ). look (cellsOf s Z (after s Z st r) (countIn Z st)) x (segment s p .counter)) k
+        ∙ ap (look (cellsOf s Z (after s Z st r) (countIn Z st)) (t .key)) c
+        ∙ segment-gone t m)

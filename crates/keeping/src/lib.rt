@@ -1,0 +1,1 @@
+// Laws of the store: what arrival and taking keep. No code.

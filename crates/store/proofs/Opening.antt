@@ -1,0 +1,169 @@
+-- Settings and order are checked first: 15, then 16; and what a store in order has.
+-- Assumes nothing.
+use Prim.Native.Nat.{ℕ, zero, suc, _+_, _*_, _/_, _%_, _≤_, _<_}
+use mathlib.Core.Path.{_≡_, refl, ap, ap₂, sym, _∙_}
+use mathlib.Core.Logic.{⊎-elim}
+use mathlib.Core.Bool.{Bool, true, false}
+use mathlib.Core.List.{List}
+use native.Mathlib.Omega.{arith}
+use native.Mathlib.Nat.{div-mul-le-self}
+use lib.ListN.{length}
+use lib.Dec.{leb, eqb}
+use borrow.Author.Tests.{leb-true, eqb-true, eq-eqb, ne-eqb, le-leb, lt-leb}
+use Rattle.octets.specs.Octets.{pick}
+use Rattle.octets.proofs.Lists.{bool, below-or}
+use Rattle.walk.specs.declared.Settings.{Settings}
+use Rattle.walk.specs.declared.Refusal.{Refusal}
+use Rattle.walk.specs.declared.Walk.{Walk}
+use Rattle.walk.specs.Walk.{begun, check, goes, refusal, timestampLeast, timestampMost}
+use Rattle.walk.specs.Inner.{asWalk}
+use Rattle.cells.specs.Segments.{both}
+use Rattle.cells.specs.Order.{cellsMost, lengthFits, countIn, sound, distinct, inOrder}
+use Rattle.cells.proofs.Held.{both-true}
+use Rattle.store.specs.declared.Opened.{Opened}
+use Rattle.store.specs.Arriving.{Arrived, refused, arrivedIn, arrived}
+use Rattle.store.specs.Taking.{Took, unable, tookIn, took}
+use Rattle.store.specs.Inner.{gate, openedOf}
+
+module _ (s : Settings) (Z : ℕ) (st : List ℕ) where
+  pub order-has : inOrder s Z st ≡ true → (1 ≤ countIn Z st) × (sound s Z st (countIn Z st) ≡ true)
+  unfolding inOrder lengthFits
+  order-has e =
+      let a = both-true (lengthFits Z (length st)) (both (sound s Z st (countIn Z st)) (distinct s Z st (countIn Z st))) e in
+      let b = both-true (eqb (length st % Z) 0) (both (leb 1 (countIn Z st)) (leb (countIn Z st) cellsMost)) (a .0) in
+      let d = both-true (leb 1 (countIn Z st)) (leb (countIn Z st) cellsMost) (b .1) in
+      (leb-true 1 (countIn Z st) (d .0), both-true (sound s Z st (countIn Z st)) (distinct s Z st (countIn Z st)) (a .1) .0)
+
+  pub cells-inside : countIn Z st * Z ≤ length st
+  cells-inside = div-mul-le-self (length st) Z
+
+  -- ---- what is tested first
+
+  shut-by : {b : Bool} → eqb (begun s .refusal .number) 0 ≡ true → inOrder s Z st ≡ b → gate s Z st ≡ pick b 0 16
+  unfolding gate
+  shut-by e f = rw (e, f) refl
+
+  shut-15 : eqb (begun s .refusal .number) 0 ≡ false → gate s Z st ≡ 15
+  unfolding gate
+  shut-15 e = rw e refl
+
+  shut-as : {k : ℕ} → gate s Z st ≡ k → (k ≡ 0 → ⊥) → record { refusal = refusal k; cells = 0 } ≡ openedOf s Z st
+  unfolding openedOf
+  shut-as {k} e h = rw (e, ne-eqb k 0 h) refl
+
+  open-as : gate s Z st ≡ 0 → record { refusal = refusal 0; cells = countIn Z st } ≡ openedOf s Z st
+  unfolding openedOf
+  open-as e = rw e refl
+
+  module _ {w : Walk} (ew : w ≡ asWalk (begun s)) where
+    number-is : w .refusal .number ≡ begun s .refusal .number
+    number-is = ap (λ (x : Walk). x .refusal .number) ew
+
+    -- T outside its range
+    told-15 : (a b : Bool) {r : ℕ} → r ≡ pick (eqb (pick a 0 15) 0) (pick b (pick a 0 15) 15) (pick a 0 15) → (r ≡ 0 → ⊥) → r ≡ 15
+    told-15 true true e h = absurd (h e)
+    told-15 true false e h = e
+    told-15 false b e h = e
+
+    refusal-15 : (w .refusal .number ≡ 0 → ⊥) → w .refusal .number ≡ 15
+    unfolding begun check
+    refusal-15 h = told-15 (leb timestampLeast (s .t)) (leb (s .t) timestampMost) (number-is ∙ split (leb timestampLeast (s .t)) (leb (s .t) timestampMost)) h
+      where
+        split : (a b : Bool) → check b 15 (check a 15 (goes 6)) .refusal .number ≡ pick (eqb (pick a 0 15) 0) (pick b (pick a 0 15) 15) (pick a 0 15)
+        split true true = refl
+        split true false = refl
+        split false b = refl
+
+    pub open-t : (w .refusal .number ≡ 0 → ⊥) → record { refusal = w .refusal; cells = 0 } ≡ openedOf s Z st
+    open-t h =
+        ap (λ (x : ℕ). record { refusal = refusal x; cells = 0 }) (refusal-15 h)
+        ∙ shut-as (shut-15 (ne-eqb (begun s .refusal .number) 0 (λ x. h (number-is ∙ x)))) (λ x. omega arith)
+
+    module _ (h : w .refusal .number ≡ 0) {n : ℕ} (en : n ≡ pick (inOrder s Z st) (countIn Z st) 0) where
+      fine : eqb (begun s .refusal .number) 0 ≡ true
+      fine = eq-eqb (begun s .refusal .number) 0 (sym number-is ∙ h)
+
+      pub open-order : n ≡ 0 → record { refusal = refusal 16; cells = 0 } ≡ openedOf s Z st
+      open-order z = ⊎-elim in-it out-of-it (bool (inOrder s Z st))
+        where
+          in-it : inOrder s Z st ≡ true → record { refusal = refusal 16; cells = 0 } ≡ openedOf s Z st
+          in-it e = absurd (omega (arith, order-has e .0, en ∙ ap (λ (b : Bool). pick b (countIn Z st) 0) e))
+
+          out-of-it : inOrder s Z st ≡ false → record { refusal = refusal 16; cells = 0 } ≡ openedOf s Z st
+          out-of-it e = let g : gate s Z st ≡ 16 = shut-by fine e in shut-as g (λ x. omega arith)
+
+      pub open-held : (n ≡ 0 → ⊥) → record { refusal = w .refusal; cells = n } ≡ openedOf s Z st
+      open-held k = ⊎-elim in-it out-of-it (bool (inOrder s Z st))
+        where
+          in-it : inOrder s Z st ≡ true → record { refusal = w .refusal; cells = n } ≡ openedOf s Z st
+          in-it e =
+              let g : gate s Z st ≡ 0 = shut-by fine e in
+              let m : n ≡ countIn Z st = en ∙ ap (λ (b : Bool). pick b (countIn Z st) 0) e in
+              ap₂ (λ (x y : ℕ). record { refusal = refusal x; cells = y }) h m ∙ open-as g
+
+          out-of-it : inOrder s Z st ≡ false → record { refusal = w .refusal; cells = n } ≡ openedOf s Z st
+          out-of-it e = absurd (k (en ∙ ap (λ (b : Bool). pick b (countIn Z st) 0) e))
+
+-- ---- the calls behind it
+
+module _ (s : Settings) (Z : ℕ) (st : List ℕ) where
+  open-true : gate s Z st ≡ 0 → (eqb (begun s .refusal .number) 0 ≡ true) × (inOrder s Z st ≡ true)
+  unfolding gate
+  open-true g = told (eqb (begun s .refusal .number) 0) (inOrder s Z st) g
+    where
+      told : (a b : Bool) → _≡_ {A = ℕ} (pick a (pick b 0 16) 15) 0 → (a ≡ true) × (b ≡ true)
+      told true true e = (refl, refl)
+      told true false e = absurd (omega arith)
+      told false b e = absurd (omega arith)
+
+  -- a store that was opened is in order
+  pub opened-order : gate s Z st ≡ 0 → inOrder s Z st ≡ true
+  opened-order g = open-true g .1
+
+  module _ (p : List ℕ) where
+    pub arrived-open : gate s Z st ≡ 0 → arrivedIn s Z st (countIn Z st) p ≡ arrived s Z st p
+    unfolding arrived
+    arrived-open g = sym (rw (open-true g .0, open-true g .1) refl)
+
+    pub arrived-shut : (gate s Z st ≡ 0 → ⊥) → arrived s Z st p ≡ refused (gate s Z st)
+    unfolding arrived gate
+    arrived-shut h = told (eqb (begun s .refusal .number) 0) (inOrder s Z st) (arrivedIn s Z st (countIn Z st) p) h
+      where
+        told : (a b : Bool) (x : Arrived) → (_≡_ {A = ℕ} (pick a (pick b 0 16) 15) 0 → ⊥) → pick a (pick b x (refused 16)) (refused 15) ≡ refused (pick a (pick b 0 16) 15)
+        told true true x k = absurd (k refl)
+        told true false x k = refl
+        told false b x k = refl
+
+  module _ (long : ℕ) where
+    pub took-open : gate s Z st ≡ 0 → tookIn s Z st (countIn Z st) long ≡ took s Z st long
+    unfolding took
+    took-open g = sym (rw (open-true g .0, open-true g .1) refl)
+
+    pub took-shut : (gate s Z st ≡ 0 → ⊥) → took s Z st long ≡ unable (gate s Z st)
+    unfolding took gate
+    took-shut h = told (eqb (begun s .refusal .number) 0) (inOrder s Z st) (tookIn s Z st (countIn Z st) long) h
+      where
+        told : (a b : Bool) (x : Took) → (_≡_ {A = ℕ} (pick a (pick b 0 16) 15) 0 → ⊥) → pick a (pick b x (unable 16)) (unable 15) ≡ unable (pick a (pick b 0 16) 15)
+        told true true x k = absurd (k refl)
+        told true false x k = refl
+        told false b x k = refl
+
+  -- what an opened store is told by
+  module _ {o : Opened} (eo : o ≡ openedOf s Z st) where
+    pub opened-number : o .refusal .number ≡ gate s Z st
+    unfolding openedOf
+    opened-number = ap (λ (x : Opened). x .refusal .number) eo
+
+    module _ (h : o .refusal .number ≡ 0) where
+      pub opened-gate : gate s Z st ≡ 0
+      opened-gate = sym opened-number ∙ h
+
+      pub opened-cells : o .cells ≡ countIn Z st
+      unfolding openedOf
+      opened-cells = ap (λ (x : Opened). x .cells) eo ∙ ap (λ (b : Bool). pick b (countIn Z st) 0) (eq-eqb (gate s Z st) 0 opened-gate)
+
+      pub opened-inside : o .cells * Z ≤ length st
+      opened-inside = rw opened-cells (cells-inside s Z st)
+
+      pub opened-sound : sound s Z st (o .cells) ≡ true
+      opened-sound = ap (sound s Z st) opened-cells ∙ order-has s Z st (opened-order opened-gate) .1

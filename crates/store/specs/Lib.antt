@@ -1,0 +1,5 @@
+pub mod Messages
+pub mod Arriving
+pub mod Taking
+pub mod Told
+pub mod Inner

@@ -1,0 +1,56 @@
+-- What the two calls answer: document 01's number and values for each case of an answer, and the answer for what a call comes to.
+-- Document 01, "Refusal numbers": "A refusal answers its number, every other answer zero".
+-- Assumes nothing: these are definitions.
+use Prim.Native.Nat.{ℕ, _-_}
+use lib.ListN.{length}
+use Rattle.walk.specs.declared.Refusal.{Refusal}
+use Rattle.store.specs.declared.Kind.{Kind}
+use Rattle.store.specs.declared.Kind.the-variants.{Whole, Stored, Held}
+use Rattle.store.specs.declared.Arrival.{Arrival}
+use Rattle.store.specs.declared.Arrival.the-variants.{Answer, Refused}
+use Rattle.store.specs.declared.Taken.{Taken}
+use Rattle.store.specs.Messages.{Run, bodyOf}
+use Rattle.store.specs.Arriving.{Arrived, whole, stored, again, refused}
+use Rattle.store.specs.Taking.{Took, message, unable}
+
+-- document 01's words for an arrival, and none where it is refused
+pub data Word : Type 0 where
+  silent : Word
+  said-whole : Word
+  said-stored : Word
+  said-held : Word
+
+pub record Said : Type 0 where
+  pub number : ℕ
+  pub word : Word
+
+abbrev pub wordOf : Kind → Word
+wordOf Whole = said-whole
+wordOf Stored = said-stored
+wordOf Held = said-held
+
+-- the number and the word of each case of an arrival
+abbrev pub said : Arrival → Said
+said (Answer k) = record { number = 0; word = wordOf k }
+said (Refused r) = record { number = r .number; word = silent }
+
+abbrev pub refusalOf : ℕ → Refusal
+refusalOf k = record { number = k }
+
+-- the case for what an arrival comes to
+abbrev pub arrivalOf : Arrived → Arrival
+arrivalOf whole = Answer Whole
+arrivalOf (stored i) = Answer Stored
+arrivalOf again = Answer Held
+arrivalOf (refused k) = Refused (refusalOf k)
+
+-- H, B and c of a message; the key is the two octets of identification and H octets of header
+abbrev pub takenOf : Took → Taken
+takenOf (message r) =
+    record {
+      refusal = refusalOf 0;
+      header = length (r .head .key) - 2;
+      body = length (bodyOf r);
+      counter = record { 0 = r .head .counter };
+    }
+takenOf (unable k) = record { refusal = refusalOf k; header = 0; body = 0; counter = record { 0 = 0 } }
