@@ -2,6 +2,7 @@ pub mod Held
 pub mod Scans
 pub mod Counters
 pub mod SameKeys
+pub mod Transactions
 pub mod Carries
 pub mod Apart
 pub mod Ordered

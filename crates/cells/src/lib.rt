@@ -24,6 +24,9 @@ use walk::Settings;
 // The most cells that a store has.
 pub const CELLS_MOST: usize = 4096;
 
+// Where the transaction id of a packet stands.
+const TRANSACTION_PLACE: usize = 18;
+
 // The octets of cell i, as far as they are there.
 pub fn row(store: &[u8], z: usize, i: usize) -> &[u8]
     ensures { λ r. ⌜ now r ≡ rowAt z (now (store .entry)) i ⌝ }
@@ -192,7 +195,8 @@ pub fn count(len: usize, z: usize) -> usize
     n
 }
 
-// Whether a sound cell holds a segment with the key and counter of the one that is looked for.
+// Whether a sound cell holds a segment with the key and counter of the one that is looked for. The cheap tests come first: the header is
+// read only where counter and transaction id agree.
 pub fn carries_at(s: Settings, row: &[u8], zero: &[u8], q: &[u8], stop: usize, c: u64) -> bool
     requires { ⌜ now zero ≡ zeroRow (length (now zero)) ⌝ }
     requires { ⌜ length (now row) ≡ length (now zero) ⌝ }
@@ -205,6 +209,9 @@ pub fn carries_at(s: Settings, row: &[u8], zero: &[u8], q: &[u8], stop: usize, c
     }
     let p = packet_in(row);
     if counter_in(p) as u64 != c {
+        return false;
+    }
+    if octets::be64(p, TRANSACTION_PLACE) != octets::be64(q, TRANSACTION_PLACE) {
         return false;
     }
     let h = packet::read(s, p);
