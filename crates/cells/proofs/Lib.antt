@@ -3,6 +3,7 @@ pub mod Scans
 pub mod Counters
 pub mod SameKeys
 pub mod Transactions
+pub mod Mixing
 pub mod Carries
 pub mod Apart
 pub mod Ordered

@@ -19,10 +19,17 @@ ghost use mathlib.Core.Bool.{true};
 ghost use Rattle.packet.specs.Reading.{readPacket};
 ghost use Rattle.packet.specs.Key.{keyOf};
 ghost use Rattle.cells.specs.Order.{lowest, lengthFits, sound, isSound, carriesIn, newTo, newAt, distinct, inOrder, countIn, foundIn};
+ghost use Rattle.cells.specs.Chains.{mixIn, mixed, chainIn, bucketOf, keyIn};
+ghost use Prim.Native.Nat.{_<_, _%_};
 use walk::Settings;
 
 // The most cells that a store has.
 pub const CELLS_MOST: usize = 4096;
+
+// How many chains lead through a store, and what the mixing of a key begins with.
+const CHAINS: usize = 4096;
+
+const MIX_START: u32 = 2166136261;
 
 // Where the transaction id of a packet stands.
 const TRANSACTION_PLACE: usize = 18;
@@ -361,4 +368,50 @@ pub fn put_cell(store: &mut [u8], z: usize, i: usize, p: &[u8])
     let at = octets::place(store.len(), z, i);
     let behind = octets::lay_number(store, at, 2, 0x4d53);
     octets::lay(store, behind, p);
+}
+
+// A number mixed into another.
+fn mix_in(m: u32, x: u32) -> u32
+    ensures { λ r. ⌜ r ≡ mixIn m x ⌝ }
+{
+    ((m as u64 * 16777619 + x as u64) % 4294967296) as u32
+}
+
+// An octet as a wide number.
+fn widened(x: u8) -> u32
+    ensures { λ r. ⌜ r ≡ x ⌝ }
+{
+    x as u32
+}
+
+// The octets of a slice mixed into a number, one after the other.
+fn mix(start: u32, x: &[u8]) -> u32
+    ensures { λ r. ⌜ r ≡ mixed start (now (x .entry)) ⌝ }
+{
+    let mut m = start;
+    let mut i: usize = 0;
+    while i < x.len() {
+        m = mix_in(m, widened(x[i]));
+        i += 1;
+    }
+    m
+}
+
+// The chain by a mixed number and a counter.
+fn chain(m: u32, c: u64) -> usize
+    ensures { λ r. ⌜ r ≡ chainIn (mixIn m (c % 4294967296)) ⌝ }
+{
+    let x = mix_in(m, (c % 4294967296) as u32) as usize;
+    (x / 65536 + x) % CHAINS
+}
+
+// The chain of the key of a segment, told where its body begins, beside a counter.
+pub fn bucket(q: &[u8], stop: usize, c: u64) -> usize
+    ensures { λ r. ⌜ r ≡ bucketOf (keyIn (now (q .entry)) stop) c ⌝ }
+{
+    let d = counter_place(q);
+    let ids = mix(MIX_START, span(q, 0, 2));
+    let fore = mix(ids, span(q, 6, d - 6));
+    let aft = mix(fore, span(q, d + 4, less(stop, d + 4)));
+    chain(aft, c)
 }
