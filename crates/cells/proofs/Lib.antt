@@ -6,6 +6,10 @@ pub mod Transactions
 pub mod Mixing
 pub mod Carries
 pub mod Apart
+pub mod Lowest
+pub mod Chaining
+pub mod Walking
+pub mod Finding
 pub mod Ordered
 pub mod Putting
 pub mod Laid

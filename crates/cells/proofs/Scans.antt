@@ -67,7 +67,7 @@ pub record Seeking (f : ℕ → Bool) (n i : ℕ) : Type 0 where
 pub seeking-first : (f : ℕ → Bool) (n : ℕ) → Seeking f n 0
 seeking-first f n = let e : n - 0 ≡ n = omega arith in record { most = omega arith; same = ap (λ (k : ℕ). lowest f k 0) e }
 
-one-more : (f : ℕ → Bool) (n i : ℕ) → i < n → lowest f (n - i) i ≡ pick (f i) i (lowest f (n - suc i) (suc i))
+pub one-more : (f : ℕ → Bool) (n i : ℕ) → i < n → lowest f (n - i) i ≡ pick (f i) i (lowest f (n - suc i) (suc i))
 unfolding lowest
 one-more f n i h = let e : n - i ≡ suc (n - suc i) = omega arith in ap (λ (k : ℕ). lowest f k i) e
 

@@ -41,3 +41,32 @@ bucketOf k c = chainIn (mixIn (mixed mixStart k) (c % 4294967296))
 -- the key of a segment by its octets, told where its body begins
 unfoldable pub keyIn : List ℕ → ℕ → List ℕ
 keyIn p end = part p 0 2 ++ (part p 6 (placeIn p - 6) ++ part p (placeIn p + 4) (end - (placeIn p + 4)))
+
+-- ---- the chains
+
+-- the chain of a cell: none for one that holds no segment
+abbrev pub bucketIn : Cell → ℕ
+bucketIn free = chainsAll
+bucketIn (held t) = bucketOf (t .key) (t .counter)
+bucketIn broken = chainsAll
+
+unfoldable pub bucketAt : Settings → ℕ → List ℕ → ℕ → ℕ
+bucketAt s Z st i = bucketIn (cellAt s Z st i)
+
+-- The first i cells, cell k on chain b k, are linked: a number in a table is 0, for none, or a cell and one more. A head is the highest
+-- cell of its chain, a link the next lower one.
+pub record Chained (b : ℕ → ℕ) (heads links : List ℕ) (i : ℕ) : Type 0 where
+  -- there is room for all of them
+  pub most : i ≤ chainsAll
+  pub heads-long : length heads ≡ chainsAll
+  pub links-long : length links ≡ chainsAll
+  -- a head is one of these cells, of the head's chain
+  pub low : (x : ℕ) → x < chainsAll → getD heads x 0 ≤ i
+  pub home : (x k : ℕ) → x < chainsAll → getD heads x 0 ≡ suc k → b k ≡ x
+  -- no cell of a chain is above its head
+  pub all : (k : ℕ) → k < i → b k < chainsAll → k < getD heads (b k) 0
+  -- a link leads down, along the chain
+  pub down : (j : ℕ) → j < i → b j < chainsAll → getD links j 0 ≤ j
+  pub back : (j k : ℕ) → j < i → b j < chainsAll → getD links j 0 ≡ suc k → b k ≡ b j
+  -- and leaves out no cell of it
+  pub between : (j k : ℕ) → j < i → k < j → b j < chainsAll → b k ≡ b j → k < getD links j 0

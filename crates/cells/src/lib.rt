@@ -6,7 +6,7 @@
 // Every function takes any octets. The zero cell is lent as a slice, and its length is the cell size Z.
 ghost use mathlib.Core.Path.{_≡_};
 ghost use Prim.Native.Nat.{_+_, _-_, _*_, _/_, _≤_};
-ghost use lib.ListN.{drop};
+ghost use lib.ListN.{drop, getD, set};
 ghost use lib.Seq.{sets};
 ghost use mathlib.Core.List.{_∷_};
 ghost use lib.ListN.{length};
@@ -19,7 +19,7 @@ ghost use mathlib.Core.Bool.{true};
 ghost use Rattle.packet.specs.Reading.{readPacket};
 ghost use Rattle.packet.specs.Key.{keyOf};
 ghost use Rattle.cells.specs.Order.{lowest, lengthFits, sound, isSound, carriesIn, newTo, newAt, distinct, inOrder, countIn, foundIn};
-ghost use Rattle.cells.specs.Chains.{mixIn, mixed, chainIn, bucketOf, keyIn};
+ghost use Rattle.cells.specs.Chains.{mixIn, mixed, chainIn, bucketOf, keyIn, bucketAt, Chained};
 ghost use Prim.Native.Nat.{_<_, _%_};
 use walk::Settings;
 
@@ -414,4 +414,72 @@ pub fn bucket(q: &[u8], stop: usize, c: u64) -> usize
     let fore = mix(ids, span(q, 6, d - 6));
     let aft = mix(fore, span(q, d + 4, less(stop, d + 4)));
     chain(aft, c)
+}
+
+// The same as `find` by a walk along chain b, which is that of the key and counter: links lead down, so the last one met is the lowest.
+fn find_on(
+    s: Settings,
+    store: &[u8],
+    n: usize,
+    zero: &[u8],
+    q: &[u8],
+    stop: usize,
+    c: u64,
+    b: usize,
+    heads: &[u16; 4096],
+    links: &[u16; 4096],
+) -> usize
+    requires { ⌜ now zero ≡ zeroRow (length (now zero)) ⌝ }
+    requires { ⌜ n * length (now zero) ≤ length (now store) ⌝ }
+    requires { ⌜ sound s (length (now zero)) (now store) n ≡ true ⌝ }
+    requires { ⌜ Asked s (now q) stop ⌝ }
+    requires { ⌜ Chained (bucketAt s (length (now zero)) (now store)) (now heads) (now links) n ⌝ }
+    requires { ⌜ b ≡ bucketOf (keyIn (now q) stop) c ⌝ }
+    ensures { λ r. ⌜ r ≡ foundIn s (length (now (zero .entry))) (now (store .entry)) n (keyOf (now (q .entry)) (readPacket s (now (q .entry)))) c ⌝ }
+{
+    let z = zero.len();
+    let mut best = n;
+    let mut cur = heads[b] as usize;
+    while 0 < cur {
+        let j = cur - 1;
+        if carries_at(s, row(store, z, j), zero, q, stop, c) {
+            best = j;
+        }
+        cur = links[j] as usize;
+    }
+    best
+}
+
+// The same as `find` by a walk along one chain.
+pub fn find_by(
+    s: Settings,
+    store: &[u8],
+    n: usize,
+    zero: &[u8],
+    q: &[u8],
+    stop: usize,
+    c: u64,
+    heads: &[u16; 4096],
+    links: &[u16; 4096],
+) -> usize
+    requires { ⌜ now zero ≡ zeroRow (length (now zero)) ⌝ }
+    requires { ⌜ n * length (now zero) ≤ length (now store) ⌝ }
+    requires { ⌜ sound s (length (now zero)) (now store) n ≡ true ⌝ }
+    requires { ⌜ Asked s (now q) stop ⌝ }
+    requires { ⌜ Chained (bucketAt s (length (now zero)) (now store)) (now heads) (now links) n ⌝ }
+    ensures { λ r. ⌜ r ≡ foundIn s (length (now (zero .entry))) (now (store .entry)) n (keyOf (now (q .entry)) (readPacket s (now (q .entry)))) c ⌝ }
+{
+    let b = bucket(q, stop, c);
+    find_on(s, store, n, zero, q, stop, c, b, heads, links)
+}
+
+// Cell i becomes the head of chain b, and the head that was its link.
+fn push(i: usize, b: usize, heads: &mut [u16; 4096], links: &mut [u16; 4096])
+    requires { ⌜ i < 4096 ⌝ }
+    requires { ⌜ b < 4096 ⌝ }
+    ensures { λ r. ⌜ now (heads .exit) ≡ set (now (heads .entry)) b (i + 1) ⌝ }
+    ensures { λ r. ⌜ now (links .exit) ≡ set (now (links .entry)) i (getD (now (heads .entry)) b 0) ⌝ }
+{
+    links[i] = heads[b];
+    heads[b] = (i + 1) as u16;
 }
