@@ -1,18 +1,19 @@
 -- Chains of cells: none at first, a cell on no chain, a cell put on its chain.
 -- Assumes nothing.
-use Prim.Native.Nat.{ℕ, zero, suc, _+_, _≤_, _<_}
-use mathlib.Core.Path.{_≡_, refl, ap, sym, _∙_}
+use Prim.Native.Nat.{ℕ, suc, _+_, _≤_, _<_}
+use mathlib.Core.Path.{_≡_, ap, sym, _∙_}
 use mathlib.Core.Logic.{_⊎_, inl, inr, ⊎-elim, _≢_}
 use mathlib.Core.List.{List}
 use native.Mathlib.Omega.{arith}
 use lib.ListN.{length, getD, set, replicate, getD-replicate, length-replicate, length-set}
 use lib.Seq.{getD-set-same, getD-set-other}
 use Rattle.octets.proofs.Lists.{below-or}
+use Rattle.cells.specs.Order.{cellsMost}
 use Rattle.cells.specs.Chains.{chainsAll, Chained}
 use Rattle.cells.proofs.Lowest.{same-or}
 
 -- heads of zeros lead nowhere
-pub chained-none : (b : ℕ → ℕ) (links : List ℕ) → length links ≡ chainsAll → Chained b (replicate chainsAll 0) links 0
+pub chained-none : (b : ℕ → ℕ) (links : List ℕ) → length links ≡ cellsMost → Chained b (replicate chainsAll 0) links 0
 chained-none b links l =
     record {
       most = omega arith;
@@ -30,7 +31,7 @@ chained-none b links l =
 below : (i k : ℕ) → k < i + 1 → k ≢ i → k < i
 below i k l d = ⊎-elim (λ q. q) (λ q. absurd (d (omega arith))) (below-or k i)
 
-module _ {b : ℕ → ℕ} {H L : List ℕ} {i : ℕ} (c : Chained b H L i) (room : i < chainsAll) where
+module _ {b : ℕ → ℕ} {H L : List ℕ} {i : ℕ} (c : Chained b H L i) (room : i < cellsMost) where
   -- a cell on no chain changes nothing
   pub chained-skip : chainsAll ≤ b i → Chained b H L (i + 1)
   chained-skip none =

@@ -1,17 +1,17 @@
 -- The walk along the chain of a key and a counter, beside what the code has read.
 -- Assumes nothing.
-use Prim.Native.Nat.{ℕ, suc, _+_, _-_, _≤_, _<_}
-use mathlib.Core.Path.{_≡_, refl, ap, sym, _∙_}
+use Prim.Native.Nat.{ℕ, suc, _-_, _≤_, _<_}
+use mathlib.Core.Path.{_≡_, ap, sym, _∙_}
 use mathlib.Core.Logic.{_⊎_, inl, inr, ⊎-elim}
 use mathlib.Core.Bool.{Bool, true, false}
 use mathlib.Core.List.{List}
 use native.Mathlib.Omega.{arith}
-use lib.ListN.{length, getD}
+use lib.ListN.{getD}
 use Rattle.walk.specs.declared.Settings.{Settings}
 use Rattle.packet.specs.Reading.{readPacket}
 use Rattle.packet.specs.Key.{keyOf}
 use Rattle.cells.specs.Rows.{rowAt, cellOf}
-use Rattle.cells.specs.Order.{carriesIn, cellAt, foundIn}
+use Rattle.cells.specs.Order.{cellsMost, carriesIn, cellAt, foundIn}
 use Rattle.cells.specs.Inner.{Asked}
 use Rattle.cells.specs.Chains.{chainsAll, bucketOf, keyIn, bucketAt, Chained}
 use Rattle.cells.proofs.Mixing.{bucket-low, key-asked}
@@ -36,7 +36,7 @@ module _ (s : Settings) (st : List ℕ) (Z : ℕ) (q : List ℕ) (stop c n : ℕ
   only : (j : ℕ) → asks s st Z q c j ≡ true → bucketAt s Z st j ≡ b
   only j e = cell-chain s Z st (keyOf q (readPacket s q)) c j chain-is e
 
-  pub head-small : getD H b 0 ≤ chainsAll
+  pub head-small : getD H b 0 ≤ cellsMost
   head-small = omega (arith, ch .low b chain-low, ch .most)
 
   pub finding-first : Finding s st Z q c n b (getD H b 0) n
@@ -51,7 +51,7 @@ module _ (s : Settings) (st : List ℕ) (Z : ℕ) (q : List ℕ) (stop c n : ℕ
       pub finding-inside : cur - 1 < n
       finding-inside = omega (arith, w .low)
 
-      pub finding-small : cur - 1 < chainsAll
+      pub finding-small : cur - 1 < cellsMost
       finding-small = omega (arith, w .low, ch .most)
 
       before : cur ≡ suc (cur - 1)

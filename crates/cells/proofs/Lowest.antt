@@ -7,9 +7,7 @@ use mathlib.Core.Bool.{Bool, true, false, not}
 use native.Mathlib.Omega.{arith}
 use Rattle.octets.specs.Octets.{pick}
 use Rattle.octets.proofs.Lists.{bool, below-or}
-use Rattle.cells.specs.Segments.{both}
 use Rattle.cells.specs.Order.{lowest, allTo}
-use Rattle.cells.proofs.Held.{same-test}
 use Rattle.cells.proofs.Scans.{one-more}
 use Rattle.cells.proofs.Apart.{all-at}
 

@@ -1,7 +1,7 @@
 -- The walk along a chain: it meets every cell that can pass a test, the lowest one last.
 -- Assumes nothing.
-use Prim.Native.Nat.{ℕ, zero, suc, _+_, _-_, _≤_, _<_}
-use mathlib.Core.Path.{_≡_, refl, ap, sym, _∙_}
+use Prim.Native.Nat.{ℕ, suc, _-_, _≤_, _<_}
+use mathlib.Core.Path.{_≡_, ap, sym, _∙_}
 use mathlib.Core.Logic.{_⊎_, inl, inr, ⊎-elim}
 use mathlib.Core.Bool.{Bool, true, false}
 use mathlib.Core.List.{List}
@@ -12,7 +12,7 @@ use borrow.Author.Tests.{eqb-true}
 use Rattle.octets.specs.Octets.{alike}
 use Rattle.octets.proofs.Lists.{bool, alike-true}
 use Rattle.walk.specs.declared.Settings.{Settings}
-use Rattle.cells.specs.Segments.{Seg, carries, both}
+use Rattle.cells.specs.Segments.{carries}
 use Rattle.cells.specs.Rows.{Cell, free, held, broken}
 use Rattle.cells.specs.Order.{lowest, carriesIn, cellAt}
 use Rattle.cells.specs.Chains.{chainsAll, bucketOf, bucketIn, bucketAt, Chained}

@@ -1,14 +1,14 @@
 -- The chains of a store's cells: which chain a key and a counter belong to, and two tables of numbers that lead along each chain.
 -- No public promise speaks of them: they make searches short.
 -- Assumes nothing: these are definitions.
-use Prim.Native.Nat.{ℕ, zero, suc, _+_, _-_, _*_, _/_, _%_, _≤_, _<_}
+use Prim.Native.Nat.{ℕ, suc, _+_, _-_, _*_, _/_, _%_, _≤_, _<_}
 use mathlib.Core.Path.{_≡_}
 use mathlib.Core.List.{List, [], _∷_, _++_}
 use lib.ListN.{length, getD}
 use Rattle.octets.specs.Octets.{part}
 use Rattle.walk.specs.declared.Settings.{Settings}
 use Rattle.cells.specs.Rows.{Cell, free, held, broken}
-use Rattle.cells.specs.Order.{cellAt}
+use Rattle.cells.specs.Order.{cellsMost, cellAt}
 use Rattle.cells.specs.Inner.{placeIn}
 
 -- how many chains there are
@@ -57,9 +57,9 @@ bucketAt s Z st i = bucketIn (cellAt s Z st i)
 -- cell of its chain, a link the next lower one.
 pub record Chained (b : ℕ → ℕ) (heads links : List ℕ) (i : ℕ) : Type 0 where
   -- there is room for all of them
-  pub most : i ≤ chainsAll
+  pub most : i ≤ cellsMost
   pub heads-long : length heads ≡ chainsAll
-  pub links-long : length links ≡ chainsAll
+  pub links-long : length links ≡ cellsMost
   -- a head is one of these cells, of the head's chain
   pub low : (x : ℕ) → x < chainsAll → getD heads x 0 ≤ i
   pub home : (x k : ℕ) → x < chainsAll → getD heads x 0 ≡ suc k → b k ≡ x
