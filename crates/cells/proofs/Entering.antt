@@ -36,20 +36,20 @@ fewer-inside i Z n h = let l : i ≤ i + 1 = omega arith in le-trans (mul-le-mul
 abbrev kind : Judged → ℕ
 kind t = t .kind
 
-told-broken : (at : ℕ) (d : Cell) {t : Judged} → t ≡ judgedOf at d → t .kind ≡ 2 → d ≡ broken
-told-broken at free e h = let z : _≡_ {A = ℕ} 0 2 = sym (ap kind e) ∙ h in absurd (omega arith)
-told-broken at (held u) e h = let z : _≡_ {A = ℕ} 1 2 = sym (ap kind e) ∙ h in absurd (omega arith)
-told-broken at broken e h = refl
+is-broken : (at : ℕ) (d : Cell) {t : Judged} → t ≡ judgedOf at d → t .kind ≡ 2 → d ≡ broken
+is-broken at free e h = let z : _≡_ {A = ℕ} 0 2 = sym (ap kind e) ∙ h in absurd (omega arith)
+is-broken at (held u) e h = let z : _≡_ {A = ℕ} 1 2 = sym (ap kind e) ∙ h in absurd (omega arith)
+is-broken at broken e h = refl
 
-told-free : (at : ℕ) (d : Cell) {t : Judged} → t ≡ judgedOf at d → t .kind ≡ 0 → d ≡ free
-told-free at free e h = refl
-told-free at (held u) e h = let z : _≡_ {A = ℕ} 1 0 = sym (ap kind e) ∙ h in absurd (omega arith)
-told-free at broken e h = let z : _≡_ {A = ℕ} 2 0 = sym (ap kind e) ∙ h in absurd (omega arith)
+is-free : (at : ℕ) (d : Cell) {t : Judged} → t ≡ judgedOf at d → t .kind ≡ 0 → d ≡ free
+is-free at free e h = refl
+is-free at (held u) e h = let z : _≡_ {A = ℕ} 1 0 = sym (ap kind e) ∙ h in absurd (omega arith)
+is-free at broken e h = let z : _≡_ {A = ℕ} 2 0 = sym (ap kind e) ∙ h in absurd (omega arith)
 
-told-sound : (at : ℕ) (d : Cell) {t : Judged} → t ≡ judgedOf at d → (t .kind ≡ 2 → ⊥) → isSound d ≡ true
-told-sound at free e h = refl
-told-sound at (held u) e h = refl
-told-sound at broken e h = absurd (h (ap kind e))
+is-sound : (at : ℕ) (d : Cell) {t : Judged} → t ≡ judgedOf at d → (t .kind ≡ 2 → ⊥) → isSound d ≡ true
+is-sound at free e h = refl
+is-sound at (held u) e h = refl
+is-sound at broken e h = absurd (h (ap kind e))
 
 module _ (s : Settings) (st : List ℕ) (Z i : ℕ) {r : List ℕ} (er : r ≡ rowAt Z st i) {t : Judged} (et : t ≡ judgedOf (bodyIn s Z r) (cellOf s Z r)) where
   cell-is : cellAt s Z st i ≡ cellOf s Z r
@@ -57,11 +57,11 @@ module _ (s : Settings) (st : List ℕ) (Z i : ℕ) {r : List ℕ} (er : r ≡ r
 
   pub enter-broken : t .kind ≡ 2 → false ≡ enters s Z st i
   unfolding enters
-  enter-broken h = sym (ap (λ (d : Cell). both (isSound d) (newAt s Z st i d)) (cell-is ∙ told-broken (bodyIn s Z r) (cellOf s Z r) et h))
+  enter-broken h = sym (ap (λ (d : Cell). both (isSound d) (newAt s Z st i d)) (cell-is ∙ is-broken (bodyIn s Z r) (cellOf s Z r) et h))
 
   module _ (h : t .kind ≡ 0) where
     nothing : cellAt s Z st i ≡ free
-    nothing = cell-is ∙ told-free (bodyIn s Z r) (cellOf s Z r) et h
+    nothing = cell-is ∙ is-free (bodyIn s Z r) (cellOf s Z r) et h
 
     pub enter-free : true ≡ enters s Z st i
     unfolding enters newAt
@@ -79,7 +79,7 @@ module _ (s : Settings) (st : List ℕ) (Z i : ℕ) {r : List ℕ} (er : r ≡ r
     not-free = ⊎-elim (λ e. absurd (some (ap kind et ∙ ap (λ (d : Cell). judgedOf (bodyIn s Z r) d .kind) (free-cell s Z r e)))) (λ e. e) (bool (alike r (zeroRow Z)))
 
     there : Holding s Z r
-    there = holding s Z r (told-sound (bodyIn s Z r) (cellOf s Z r) et sound) not-free
+    there = holding s Z r (is-sound (bodyIn s Z r) (cellOf s Z r) et sound) not-free
 
     judged : t ≡ judgedOf (bodyIn s Z r) (held (segOf p (readPacket s p)))
     judged = et ∙ ap (judgedOf (bodyIn s Z r)) (there .cell)
