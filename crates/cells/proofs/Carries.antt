@@ -11,7 +11,7 @@ use lib.Dec.{eqb, leb}
 use borrow.Author.Tests.{eqb-true, leb-true, eq-eqb, ne-eqb}
 use Rattle.octets.specs.Octets.{pick, Octets, octetAt, part, number, alike}
 use Rattle.octets.proofs.Has.{octets-part}
-use Rattle.octets.proofs.Lists.{bool, alike-self, alike-true}
+use Rattle.octets.proofs.Lists.{bool, pick-false, alike-self, alike-true}
 use Rattle.walk.specs.declared.Settings.{Settings}
 use Rattle.packet.specs.declared.Header.{Header}
 use Rattle.packet.specs.Reading.{readPacket, segmented}
@@ -23,6 +23,7 @@ use Rattle.cells.specs.Inner.{placeIn, counterIn, spansAlike, Asked}
 use Rattle.cells.proofs.Held.{both-true, same-test}
 use Rattle.cells.proofs.Counters.{counter-told}
 use Rattle.cells.proofs.SameKeys.{keys-same}
+use Rattle.cells.proofs.Transactions.{spans-transaction}
 
 -- what a row that is sound and not free holds
 pub record Holding (s : Settings) (Z : ℕ) (r : List ℕ) : Type 0 where
@@ -121,6 +122,23 @@ module _ (s : Settings) (r z q : List ℕ) (stop c : ℕ) (ez : z ≡ zeroRow (l
     carries-other {x} {n} ex en h =
         let e : n ≡ counterIn p = en ∙ ap counterIn ex in
         sym (told ∙ ap (λ (t : Bool). both t (alike k (keyOf p (readPacket s p)))) (ne-eqb c (counterIn p) (λ y. h (e ∙ sym y))))
+
+    -- another transaction id, another key
+    other-key : (number 8 p 18 ≡ number 8 q 18 → ⊥) → alike k (keyOf p (readPacket s p)) ≡ false
+    other-key h = ⊎-elim same-key (λ t. t) (bool (alike k (keyOf p (readPacket s p))))
+      where
+        spans : alike k (keyOf p (readPacket s p)) ≡ true → spansAlike q (readPacket s q .body .at) p (readPacket s p .body .at) ≡ true
+        spans t = keys-same s q p (a .octets) plain (a .accepted) (there .accepted) (a .segment) (there .segment) ∙ t
+
+        same-key : alike k (keyOf p (readPacket s p)) ≡ true → alike k (keyOf p (readPacket s p)) ≡ false
+        same-key t = absurd (h (sym (spans-transaction q p _ _ (spans t))))
+
+    pub carries-apart :
+        {x : List ℕ} {m n : ℕ} → x ≡ p → m ≡ number 8 x 18 → n ≡ number 8 q 18 → (m ≡ n → ⊥) → false ≡ carriesIn k c (cellOf s (length z) r)
+    carries-apart {x} {m} {n} ex em en h =
+        let e : m ≡ number 8 p 18 = em ∙ ap (λ (y : List ℕ). number 8 y 18) ex in
+        let f = other-key (λ y. h (e ∙ y ∙ sym en)) in
+        sym (told ∙ ap (both (eqb c (counterIn p))) f ∙ pick-false (eqb c (counterIn p)))
 
     pub carries-same :
         {x : List ℕ} {n : ℕ} {h : Header} {t : Bool} → x ≡ p → n ≡ counterIn x → n ≡ c → h ≡ readPacket s x → t ≡ spansAlike q stop x (h .body .at) →

@@ -17,9 +17,10 @@ use Rattle.walk.specs.declared.Settings.{Settings}
 use Rattle.packet.specs.declared.Header.{Header}
 use Rattle.packet.specs.Reading.{readPacket, segmented, acceptedHeader, primaryOf}
 use Rattle.format.proofs.Start.{answer}
+use Rattle.cells.specs.declared.Judged.{Judged}
 use Rattle.cells.specs.Segments.{Seg, segOf, both}
 use Rattle.cells.specs.Rows.{Cell, free, held, broken, zeroRow, heldRow, packetIn, mayHold, holds, cellOf}
-use Rattle.cells.specs.Inner.{heldRowTest, kindOf, placeIn}
+use Rattle.cells.specs.Inner.{heldRowTest, bodyIn, judgedOf, placeIn}
 
 pub both-true : (a b : Bool) → both a b ≡ true → (a ≡ true) × (b ≡ true)
 both-true true b e = (refl, e)
@@ -91,6 +92,10 @@ may-same s p =
 part-fits : (Z k : ℕ) (r : List ℕ) → length r ≡ Z → 2 ≤ Z → 2 + length (part r 2 k) ≤ Z
 part-fits Z k r e h = omega (arith, length-take k (drop 2 r), length-drop 2 r)
 
+-- what is told of a held row, by its packet's header
+abbrev noted : Header → Judged
+noted h = record { kind = 1; at = h .body .at; counter = h .ids .counter .0 }
+
 module _ (s : Settings) (Z : ℕ) (r : List ℕ) (long : length r ≡ Z) where
   abbrev p : List ℕ
   p = packetIn Z r
@@ -111,18 +116,18 @@ module _ (s : Settings) (Z : ℕ) (r : List ℕ) (long : length r ≡ Z) where
       (bool (alike r (heldRow Z p))))
 
   -- what the row is
-  pub kind-free : alike r (zeroRow Z) ≡ true → 0 ≡ kindOf (cellOf s Z r)
+  pub judged-free : alike r (zeroRow Z) ≡ true → record { kind = 0; at = 0; counter = 0 } ≡ judgedOf (bodyIn s Z r) (cellOf s Z r)
   unfolding cellOf
-  kind-free e = rw e refl
+  judged-free e = rw e refl
 
   module _ (no : alike r (zeroRow Z) ≡ false) where
-    pub kind-held : holds s Z r ≡ true → 1 ≡ kindOf (cellOf s Z r)
-    unfolding cellOf
-    kind-held e = rw (no, e) refl
+    pub judged-held : holds s Z r ≡ true → noted (readPacket s p) ≡ judgedOf (bodyIn s Z r) (cellOf s Z r)
+    unfolding cellOf segOf
+    judged-held e = rw (no, e) refl
 
-    pub kind-broken : holds s Z r ≡ false → 2 ≡ kindOf (cellOf s Z r)
+    pub judged-broken : holds s Z r ≡ false → record { kind = 2; at = 0; counter = 0 } ≡ judgedOf (bodyIn s Z r) (cellOf s Z r)
     unfolding cellOf
-    kind-broken e = rw (no, e) refl
+    judged-broken e = rw (no, e) refl
 
 -- ---- as the code has it
 
@@ -146,8 +151,8 @@ pub part-room : (r : List ℕ) (k : ℕ) {n : ℕ} → n ≡ length (part r 2 k)
 part-room r k e h = omega (arith, length-take k (drop 2 r), length-drop 2 r)
 
 module _ (s : Settings) (r z : List ℕ) (ez : z ≡ zeroRow (length z)) (el : length r ≡ length z) where
-  pub told-free : {b : Bool} → b ≡ alike r z → b ≡ true → 0 ≡ kindOf (cellOf s (length z) r)
-  told-free e t = kind-free s (length z) r el (ap (alike r) (sym ez) ∙ sym e ∙ t)
+  pub told-free : {b : Bool} → b ≡ alike r z → b ≡ true → record { kind = 0; at = 0; counter = 0 } ≡ judgedOf (bodyIn s (length z) r) (cellOf s (length z) r)
+  told-free e t = judged-free s (length z) r el (ap (alike r) (sym ez) ∙ sym e ∙ t)
 
   module _ {b m t : Bool} {p : List ℕ} {h : Header} (eb : b ≡ alike r z) (no : b ≡ false) (ep : p ≡ part r 2 (number 2 r 6 + 7)) (eh : h ≡ readPacket s p)
       (em : m ≡ heldRowTest r (2 + length p) z) (et : t ≡ both m (both (eqb (h .refusal .number) 0) (not (eqb (h .primary .flags) 3)))) where
@@ -167,11 +172,11 @@ module _ (s : Settings) (r z : List ℕ) (ez : z ≡ zeroRow (length z)) (el : l
         ep
         ∙ holds-same s (length z) r el
 
-    pub told-held : t ≡ true → 1 ≡ kindOf (cellOf s (length z) r)
-    told-held e = kind-held s (length z) r el row-free (sym row-holds ∙ e)
+    pub told-held : t ≡ true → noted h ≡ judgedOf (bodyIn s (length z) r) (cellOf s (length z) r)
+    told-held e = ap noted (eh ∙ ap (readPacket s) ep) ∙ judged-held s (length z) r el row-free (sym row-holds ∙ e)
 
-    pub told-broken : t ≡ false → 2 ≡ kindOf (cellOf s (length z) r)
-    told-broken e = kind-broken s (length z) r el row-free (sym row-holds ∙ e)
+    pub told-broken : t ≡ false → record { kind = 2; at = 0; counter = 0 } ≡ judgedOf (bodyIn s (length z) r) (cellOf s (length z) r)
+    told-broken e = judged-broken s (length z) r el row-free (sym row-holds ∙ e)
 
 -- a counter's place is one of three
 pub place-least : (p : List ℕ) → (27 ≤ placeIn p) × (placeIn p ≤ 29)

@@ -2,8 +2,16 @@ pub mod Held
 pub mod Scans
 pub mod Counters
 pub mod SameKeys
+pub mod Transactions
+pub mod Mixing
 pub mod Carries
 pub mod Apart
+pub mod Lowest
+pub mod Chaining
+pub mod Walking
+pub mod Finding
+pub mod Entering
+pub mod Ordering
 pub mod Ordered
 pub mod Putting
 pub mod Laid

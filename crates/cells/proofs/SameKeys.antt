@@ -37,7 +37,7 @@ both-all : {a b c : Bool} → a ≡ true → b ≡ true → c ≡ true → both 
 both-all e f k = rw (e, f, k) refl
 
 -- the key by the places
-key-told : (p : List ℕ) (h : Header) (c e : ℕ) → counterPlace h ≡ c → counterSize p ≡ 4 → h .body .at ≡ e →
+pub key-told : (p : List ℕ) (h : Header) (c e : ℕ) → counterPlace h ≡ c → counterSize p ≡ 4 → h .body .at ≡ e →
     keyOf p h ≡ part p 0 2 ++ (part p 6 (c - 6) ++ part p (c + 4) (e - (c + 4)))
 unfolding keyOf
 key-told p h c e a b d = rw (a, b, d) refl

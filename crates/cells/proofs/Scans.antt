@@ -1,24 +1,21 @@
--- The scans over the cells, on plain values: all of them sound, the lowest free one, the length.
+-- The scans over the cells, on plain values: the lowest free one, the length.
 -- Assumes nothing.
-use Prim.Native.Nat.{ℕ, zero, suc, _+_, _-_, _*_, _/_, _%_, _≤_, _<_}
+use Prim.Native.Nat.{ℕ, suc, _+_, _-_, _*_, _/_, _%_, _≤_, _<_}
 use mathlib.Core.Path.{_≡_, refl, ap, sym, _∙_}
-use mathlib.Core.Bool.{Bool, true, false, not}
+use mathlib.Core.Bool.{Bool, true, false}
 use mathlib.Core.List.{List}
 use native.Mathlib.Numerals.{add-one}
 use native.Mathlib.Omega.{arith}
 use native.Mathlib.Nat.{mul-le-mul-right, suc-mul, div-zero}
 use lib.ListN.{length}
-use lib.Dec.{leb, eqb}
 use borrow.Author.Tests.{le-leb, lt-leb, eq-eqb, ne-eqb}
 use Rattle.octets.specs.Octets.{pick, alike}
 use Rattle.octets.proofs.Has.{part-length}
-use Rattle.octets.proofs.Lists.{bool}
 use Rattle.walk.specs.declared.Settings.{Settings}
 use Rattle.packet.specs.Reading.{readPacket}
-use Rattle.cells.specs.Segments.{Seg, segOf, both}
-use Rattle.cells.specs.Rows.{Cell, free, held, broken, rowAt, zeroRow, packetIn, holds, cellOf}
-use Rattle.cells.specs.Order.{isFree, isSound, lowest, cellAt, allTo, sound, lengthFits, cellsMost}
-use Rattle.cells.specs.Inner.{kindOf}
+use Rattle.cells.specs.Segments.{Seg, segOf}
+use Rattle.cells.specs.Rows.{free, held, broken, rowAt, zeroRow, packetIn, holds, cellOf}
+use Rattle.cells.specs.Order.{isFree, lowest, lengthFits, cellsMost}
 
 -- a row inside the store has its whole length
 pub row-long : (Z n i : ℕ) (st : List ℕ) → i < n → n * Z ≤ length st → length (rowAt Z st i) ≡ Z
@@ -35,29 +32,6 @@ pub free-is : (s : Settings) (Z : ℕ) (r : List ℕ) → isFree (cellOf s Z r) 
 unfolding cellOf
 free-is s Z r = told (alike r (zeroRow Z)) (holds s Z r) (segOf (packetIn Z r) (readPacket s (packetIn Z r)))
 
-pub sound-is : (c : Cell) {k : ℕ} → k ≡ kindOf c → not (eqb k 2) ≡ isSound c
-sound-is free e = rw e refl
-sound-is (held t) e = rw e refl
-sound-is broken e = rw e refl
-
--- ---- all of the first i
-
-pub record Passing (f : ℕ → Bool) (n : ℕ) (so-far : Bool) (i : ℕ) : Type 0 where
-  pub most : i ≤ n
-  pub told : so-far ≡ allTo f i
-
-pub passing-first : (f : ℕ → Bool) (n : ℕ) → Passing f n true 0
-unfolding allTo
-passing-first f n = record { most = omega arith; told = refl }
-
-pub passing-turn : {f : ℕ → Bool} {n i : ℕ} {b t c : Bool} → Passing f n b i → i < n → t ≡ f i → c ≡ both b t → Passing f n c (i + 1)
-unfolding allTo
-passing-turn {f} {n} {i} {b} {t} {c} p h e g =
-    record { most = omega arith; told = rw (add-one i) (g ∙ ap (λ (x : Bool). both x t) (p .told) ∙ ap (both (allTo f i)) e) }
-
-pub passing-done : {f : ℕ → Bool} {n i : ℕ} {b : Bool} → Passing f n b i → n ≤ i → b ≡ allTo f n
-passing-done {f} {n} {i} p h = let e : i ≡ n = omega (arith, p .most) in p .told ∙ ap (allTo f) e
-
 -- ---- the lowest
 
 pub record Seeking (f : ℕ → Bool) (n i : ℕ) : Type 0 where
@@ -67,7 +41,7 @@ pub record Seeking (f : ℕ → Bool) (n i : ℕ) : Type 0 where
 pub seeking-first : (f : ℕ → Bool) (n : ℕ) → Seeking f n 0
 seeking-first f n = let e : n - 0 ≡ n = omega arith in record { most = omega arith; same = ap (λ (k : ℕ). lowest f k 0) e }
 
-one-more : (f : ℕ → Bool) (n i : ℕ) → i < n → lowest f (n - i) i ≡ pick (f i) i (lowest f (n - suc i) (suc i))
+pub one-more : (f : ℕ → Bool) (n i : ℕ) → i < n → lowest f (n - i) i ≡ pick (f i) i (lowest f (n - suc i) (suc i))
 unfolding lowest
 one-more f n i h = let e : n - i ≡ suc (n - suc i) = omega arith in ap (λ (k : ℕ). lowest f k i) e
 
@@ -84,10 +58,6 @@ seeking-none {f} {n} {i} p h =
     let e : i ≡ n = omega (arith, p .most) in
     let z : n - i ≡ 0 = omega arith in
     sym e ∙ ap (λ (k : ℕ). lowest f k i) (sym z) ∙ p .same
-
--- a cell of the store, by its row
-pub cell-sound : (s : Settings) (st z : List ℕ) (i : ℕ) {r : List ℕ} {k : ℕ} → r ≡ rowAt (length z) st i → k ≡ kindOf (cellOf s (length z) r) → not (eqb k 2) ≡ isSound (cellAt s (length z) st i)
-cell-sound s st z i e h = sound-is (cellAt s (length z) st i) (h ∙ ap (λ (r : List ℕ). kindOf (cellOf s (length z) r)) e)
 
 -- the lowest free cell is the lowest row of zeros
 pub row-free : (st z : List ℕ) (i : ℕ) {r : List ℕ} {b c : Bool} → r ≡ rowAt (length z) st i → b ≡ alike r z → b ≡ c → alike (rowAt (length z) st i) z ≡ c

@@ -10,7 +10,8 @@ use Rattle.octets.specs.Octets.{Octets, octetAt, part, number, alike}
 use Rattle.walk.specs.declared.Settings.{Settings}
 use Rattle.packet.specs.Reading.{readPacket, segmented}
 use Rattle.cells.specs.Segments.{both}
-use Rattle.cells.specs.Rows.{Cell, free, held, broken}
+use Rattle.cells.specs.declared.Judged.{Judged}
+use Rattle.cells.specs.Rows.{Cell, free, held, broken, packetIn}
 
 -- a row begins with the mark, and from n on is as the zero cell
 unfoldable pub heldRowTest : List ℕ → ℕ → List ℕ → Bool
@@ -32,11 +33,15 @@ spansAlike p end q stop =
     (both (alike (part p 6 (placeIn p - 6)) (part q 6 (placeIn q - 6)))
     (alike (part p (placeIn p + 4) (end - (placeIn p + 4))) (part q (placeIn q + 4) (stop - (placeIn q + 4))))))
 
--- a cell as a number: 0 free, 1 held, 2 broken
-abbrev pub kindOf : Cell → ℕ
-kindOf free = 0
-kindOf (held t) = 1
-kindOf broken = 2
+-- where the body begins in the packet of a row, by reading it
+abbrev pub bodyIn : Settings → ℕ → List ℕ → ℕ
+bodyIn s Z r = readPacket s (packetIn Z r) .body .at
+
+-- a cell told in numbers, with the place of its body: 0 free, 1 held, 2 broken
+abbrev pub judgedOf : ℕ → Cell → Judged
+judgedOf at free = record { kind = 0; at = 0; counter = 0 }
+judgedOf at (held t) = record { kind = 1; at = at; counter = t .counter }
+judgedOf at broken = record { kind = 2; at = 0; counter = 0 }
 
 -- a segment whose key is looked for: what reading answered of it, and where its body begins
 pub record Asked (s : Settings) (q : List ℕ) (stop : ℕ) : Type 0 where

@@ -2,3 +2,4 @@ pub mod Segments
 pub mod Rows
 pub mod Order
 pub mod Inner
+pub mod Chains

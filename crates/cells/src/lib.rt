@@ -4,25 +4,36 @@
 //   free   zeros
 //
 // Every function takes any octets. The zero cell is lent as a slice, and its length is the cell size Z.
+//
+// Chains lead through the held cells, so that a key and a counter are found without a look at every cell: a number mixed from both
+// chooses the chain, `heads` has the highest cell of each chain and `links` the next lower one of each cell; 0 is none, and cell i is i + 1.
 ghost use mathlib.Core.Path.{_≡_};
-ghost use Prim.Native.Nat.{_+_, _-_, _*_, _/_, _≤_};
-ghost use lib.ListN.{drop};
+ghost use Prim.Native.Nat.{_+_, _-_, _*_, _/_, _%_, _≤_, _<_};
+ghost use lib.ListN.{length, getD, drop, set};
 ghost use lib.Seq.{sets};
 ghost use mathlib.Core.List.{_∷_};
-ghost use lib.ListN.{length};
 ghost use Rattle.octets.specs.Octets.{pick, part, number, alike};
 ghost use lib.Dec.{eqb};
 ghost use Rattle.cells.specs.Segments.{both};
 ghost use Rattle.cells.specs.Rows.{rowAt, zeroRow, cellOf};
-ghost use Rattle.cells.specs.Inner.{heldRowTest, kindOf, placeIn, counterIn, spansAlike, Asked};
+ghost use Rattle.cells.specs.Inner.{heldRowTest, judgedOf, bodyIn, placeIn, counterIn, spansAlike, Asked};
 ghost use mathlib.Core.Bool.{true};
 ghost use Rattle.packet.specs.Reading.{readPacket};
 ghost use Rattle.packet.specs.Key.{keyOf};
-ghost use Rattle.cells.specs.Order.{lowest, lengthFits, sound, isSound, carriesIn, newTo, newAt, distinct, inOrder, countIn, foundIn};
+ghost use Rattle.cells.specs.Order.{cellsMost, lowest, lengthFits, sound, isSound, carriesIn, enters, distinct, inOrder, countIn, foundIn};
+ghost use Rattle.cells.specs.Chains.{mixIn, mixed, chainIn, bucketOf, keyIn, chainsAll, bucketAt, Chained};
 use walk::Settings;
 
 // The most cells that a store has.
 pub const CELLS_MOST: usize = 4096;
+
+// How many chains lead through a store, and what the mixing of a key begins with.
+pub const CHAINS: usize = 4096;
+
+const MIX_START: u32 = 2166136261;
+
+// Where the transaction id of a packet stands.
+const TRANSACTION_PLACE: usize = 18;
 
 // The octets of cell i, as far as they are there.
 pub fn row(store: &[u8], z: usize, i: usize) -> &[u8]
@@ -121,40 +132,46 @@ fn is_held_row(row: &[u8], n: usize, zero: &[u8]) -> bool
     and(first, and(second, and(long, rest)))
 }
 
-// What a row is, beside a zero cell of its size: 0 free, 1 held, 2 broken.
-pub fn kind(s: Settings, row: &[u8], zero: &[u8]) -> u8
+// What a row is: 0 free, 1 held, 2 broken; of a held one where the body begins, and the segment counter.
+pub struct Judged {
+    pub kind: u8,
+    pub at: usize,
+    pub counter: u32,
+}
+
+// What a row is, beside a zero cell of its size, by one reading of its packet.
+pub fn judge(s: Settings, row: &[u8], zero: &[u8]) -> Judged
     requires { ⌜ now zero ≡ zeroRow (length (now zero)) ⌝ }
     requires { ⌜ length (now row) ≡ length (now zero) ⌝ }
-    ensures { λ r. ⌜ r ≡ kindOf (cellOf s (length (now (zero .entry))) (now (row .entry))) ⌝ }
+    ensures { λ r. ⌜ r ≡ judgedOf (bodyIn s (length (now (zero .entry))) (now (row .entry))) (cellOf s (length (now (zero .entry))) (now (row .entry))) ⌝ }
 {
     if octets::same(row, zero) {
-        return 0;
+        return Judged {
+            kind: 0,
+            at: 0,
+            counter: 0,
+        };
     }
     let p = packet_in(row);
     let h = packet::read(s, p);
     let refusal = h.refusal;
     let primary = h.primary;
+    let body = h.body;
+    let ids = h.ids;
+    let counter = ids.counter;
     let marked = is_held_row(row, 2 + p.len(), zero);
     if and(marked, and(refusal.number == 0, primary.flags != 3)) {
-        return 1;
+        return Judged {
+            kind: 1,
+            at: body.at,
+            counter: counter.0,
+        };
     }
-    2
-}
-
-// Whether every one of the first n cells is free or held.
-pub fn all_sound(s: Settings, store: &[u8], n: usize, zero: &[u8]) -> bool
-    requires { ⌜ now zero ≡ zeroRow (length (now zero)) ⌝ }
-    requires { ⌜ n * length (now zero) ≤ length (now store) ⌝ }
-    ensures { λ r. ⌜ r ≡ sound s (length (now (zero .entry))) (now (store .entry)) n ⌝ }
-{
-    let z = zero.len();
-    let mut so_far = true;
-    let mut i: usize = 0;
-    while i < n {
-        so_far = and(so_far, kind(s, row(store, z, i), zero) != 2);
-        i += 1;
+    Judged {
+        kind: 2,
+        at: 0,
+        counter: 0,
     }
-    so_far
 }
 
 // The lowest free cell of the first n; n where there is none.
@@ -192,7 +209,8 @@ pub fn count(len: usize, z: usize) -> usize
     n
 }
 
-// Whether a sound cell holds a segment with the key and counter of the one that is looked for.
+// Whether a sound cell holds a segment with the key and counter of the one that is looked for. The cheap tests come first: the header is
+// read only where counter and transaction id agree.
 pub fn carries_at(s: Settings, row: &[u8], zero: &[u8], q: &[u8], stop: usize, c: u64) -> bool
     requires { ⌜ now zero ≡ zeroRow (length (now zero)) ⌝ }
     requires { ⌜ length (now row) ≡ length (now zero) ⌝ }
@@ -207,97 +225,12 @@ pub fn carries_at(s: Settings, row: &[u8], zero: &[u8], q: &[u8], stop: usize, c
     if counter_in(p) as u64 != c {
         return false;
     }
+    if octets::be64(p, TRANSACTION_PLACE) != octets::be64(q, TRANSACTION_PLACE) {
+        return false;
+    }
     let h = packet::read(s, p);
     let body = h.body;
     same_key(q, stop, p, body.at)
-}
-
-// Whether none of the first n cells, all sound, carries the key and counter of the one that is looked for.
-pub fn is_new(
-    s: Settings,
-    store: &[u8],
-    n: usize,
-    zero: &[u8],
-    q: &[u8],
-    stop: usize,
-    c: u64,
-) -> bool
-    requires { ⌜ now zero ≡ zeroRow (length (now zero)) ⌝ }
-    requires { ⌜ n * length (now zero) ≤ length (now store) ⌝ }
-    requires { ⌜ sound s (length (now zero)) (now store) n ≡ true ⌝ }
-    requires { ⌜ Asked s (now q) stop ⌝ }
-    ensures { λ r. ⌜ r ≡ newTo s (length (now (zero .entry))) (now (store .entry)) n (keyOf (now (q .entry)) (readPacket s (now (q .entry)))) c ⌝ }
-{
-    let z = zero.len();
-    let mut so_far = true;
-    let mut j: usize = 0;
-    while j < n {
-        so_far = and(so_far, !carries_at(s, row(store, z, j), zero, q, stop, c));
-        j += 1;
-    }
-    so_far
-}
-
-// Whether no cell below i carries the key and counter of cell i; both are sound.
-fn is_apart(s: Settings, store: &[u8], i: usize, row: &[u8], zero: &[u8]) -> bool
-    requires { ⌜ now zero ≡ zeroRow (length (now zero)) ⌝ }
-    requires { ⌜ i * length (now zero) ≤ length (now store) ⌝ }
-    requires { ⌜ sound s (length (now zero)) (now store) i ≡ true ⌝ }
-    requires { ⌜ isSound (cellOf s (length (now zero)) (now row)) ≡ true ⌝ }
-    ensures { λ r. ⌜ r ≡ newAt s (length (now (zero .entry))) (now (store .entry)) i (cellOf s (length (now (zero .entry))) (now (row .entry))) ⌝ }
-{
-    if octets::same(row, zero) {
-        return true;
-    }
-    let q = packet_in(row);
-    let g = packet::read(s, q);
-    let body = g.body;
-    let ids = g.ids;
-    let counter = ids.counter;
-    is_new(s, store, i, zero, q, body.at, counter.0 as u64)
-}
-
-// Whether no two of the first n cells, all sound, have equal key and counter.
-pub fn all_apart(s: Settings, store: &[u8], n: usize, zero: &[u8]) -> bool
-    requires { ⌜ now zero ≡ zeroRow (length (now zero)) ⌝ }
-    requires { ⌜ n * length (now zero) ≤ length (now store) ⌝ }
-    requires { ⌜ sound s (length (now zero)) (now store) n ≡ true ⌝ }
-    ensures { λ r. ⌜ r ≡ distinct s (length (now (zero .entry))) (now (store .entry)) n ⌝ }
-{
-    let z = zero.len();
-    let mut so_far = true;
-    let mut i: usize = 0;
-    while i < n {
-        so_far = and(so_far, is_apart(s, store, i, row(store, z, i), zero));
-        i += 1;
-    }
-    so_far
-}
-
-// How many cells a store in order has; 0 where it is not in order.
-pub fn in_order(s: Settings, store: &[u8], zero: &[u8]) -> usize
-    requires { ⌜ now zero ≡ zeroRow (length (now zero)) ⌝ }
-    ensures { λ r. ⌜ r ≡ pick (inOrder s (length (now (zero .entry))) (now (store .entry))) (countIn (length (now (zero .entry))) (now (store .entry))) 0 ⌝ }
-{
-    let n = count(store.len(), zero.len());
-    if n == 0 {
-        return 0;
-    }
-    if !all_sound(s, store, n, zero) {
-        return 0;
-    }
-    if !all_apart(s, store, n, zero) {
-        return 0;
-    }
-    n
-}
-
-// The same for cells of 1,024 octets, beside a zero cell made by repetition.
-pub fn order(s: Settings, store: &[u8]) -> usize
-    ensures { λ r. ⌜ r ≡ pick (inOrder s 1024 (now (store .entry))) (countIn 1024 (now (store .entry))) 0 ⌝ }
-{
-    let zero = [0u8; 1024];
-    in_order(s, store, &zero)
 }
 
 // The lowest of the first n cells, all sound, that carries the key and counter of the one that is looked for; n where there is none.
@@ -354,4 +287,221 @@ pub fn put_cell(store: &mut [u8], z: usize, i: usize, p: &[u8])
     let at = octets::place(store.len(), z, i);
     let behind = octets::lay_number(store, at, 2, 0x4d53);
     octets::lay(store, behind, p);
+}
+
+// A number mixed into another.
+fn mix_in(m: u32, x: u32) -> u32
+    ensures { λ r. ⌜ r ≡ mixIn m x ⌝ }
+{
+    ((m as u64 * 16777619 + x as u64) % 4294967296) as u32
+}
+
+// An octet as a wide number.
+fn widened(x: u8) -> u32
+    ensures { λ r. ⌜ r ≡ x ⌝ }
+{
+    x as u32
+}
+
+// The octets of a slice mixed into a number, one after the other.
+fn mix(start: u32, x: &[u8]) -> u32
+    ensures { λ r. ⌜ r ≡ mixed start (now (x .entry)) ⌝ }
+{
+    let mut m = start;
+    let mut i: usize = 0;
+    while i < x.len() {
+        m = mix_in(m, widened(x[i]));
+        i += 1;
+    }
+    m
+}
+
+// The chain by a mixed number and a counter.
+fn chain(m: u32, c: u64) -> usize
+    ensures { λ r. ⌜ r ≡ chainIn (mixIn m (c % 4294967296)) ⌝ }
+{
+    let x = mix_in(m, (c % 4294967296) as u32) as usize;
+    (x / 65536 + x) % CHAINS
+}
+
+// The chain of the key of a segment, told where its body begins, beside a counter.
+pub fn bucket(q: &[u8], stop: usize, c: u64) -> usize
+    ensures { λ r. ⌜ r ≡ bucketOf (keyIn (now (q .entry)) stop) c ⌝ }
+{
+    let d = counter_place(q);
+    let ids = mix(MIX_START, span(q, 0, 2));
+    let fore = mix(ids, span(q, 6, d - 6));
+    let aft = mix(fore, span(q, d + 4, less(stop, d + 4)));
+    chain(aft, c)
+}
+
+// The same as `find` by a walk along chain b, which is that of the key and counter: links lead down, so the last one met is the lowest.
+fn find_on(
+    s: Settings,
+    store: &[u8],
+    n: usize,
+    zero: &[u8],
+    q: &[u8],
+    stop: usize,
+    c: u64,
+    b: usize,
+    heads: &[u16; CHAINS],
+    links: &[u16; CELLS_MOST],
+) -> usize
+    requires { ⌜ now zero ≡ zeroRow (length (now zero)) ⌝ }
+    requires { ⌜ n * length (now zero) ≤ length (now store) ⌝ }
+    requires { ⌜ sound s (length (now zero)) (now store) n ≡ true ⌝ }
+    requires { ⌜ Asked s (now q) stop ⌝ }
+    requires { ⌜ Chained (bucketAt s (length (now zero)) (now store)) (now heads) (now links) n ⌝ }
+    requires { ⌜ b ≡ bucketOf (keyIn (now q) stop) c ⌝ }
+    ensures { λ r. ⌜ r ≡ foundIn s (length (now (zero .entry))) (now (store .entry)) n (keyOf (now (q .entry)) (readPacket s (now (q .entry)))) c ⌝ }
+{
+    let z = zero.len();
+    let mut best = n;
+    let mut cur = heads[b] as usize;
+    while 0 < cur {
+        let j = cur - 1;
+        if carries_at(s, row(store, z, j), zero, q, stop, c) {
+            best = j;
+        }
+        cur = links[j] as usize;
+    }
+    best
+}
+
+// The same as `find` by a walk along one chain.
+pub fn find_by(
+    s: Settings,
+    store: &[u8],
+    n: usize,
+    zero: &[u8],
+    q: &[u8],
+    stop: usize,
+    c: u64,
+    heads: &[u16; CHAINS],
+    links: &[u16; CELLS_MOST],
+) -> usize
+    requires { ⌜ now zero ≡ zeroRow (length (now zero)) ⌝ }
+    requires { ⌜ n * length (now zero) ≤ length (now store) ⌝ }
+    requires { ⌜ sound s (length (now zero)) (now store) n ≡ true ⌝ }
+    requires { ⌜ Asked s (now q) stop ⌝ }
+    requires { ⌜ Chained (bucketAt s (length (now zero)) (now store)) (now heads) (now links) n ⌝ }
+    ensures { λ r. ⌜ r ≡ foundIn s (length (now (zero .entry))) (now (store .entry)) n (keyOf (now (q .entry)) (readPacket s (now (q .entry)))) c ⌝ }
+{
+    let b = bucket(q, stop, c);
+    find_on(s, store, n, zero, q, stop, c, b, heads, links)
+}
+
+// Cell i becomes the head of chain b, and the head that was its link.
+fn push(i: usize, b: usize, heads: &mut [u16; CHAINS], links: &mut [u16; CELLS_MOST])
+    requires { ⌜ i < cellsMost ⌝ }
+    requires { ⌜ b < chainsAll ⌝ }
+    ensures { λ r. ⌜ now (heads .exit) ≡ set (now (heads .entry)) b (i + 1) ⌝ }
+    ensures { λ r. ⌜ now (links .exit) ≡ set (now (links .entry)) i (getD (now (heads .entry)) b 0) ⌝ }
+{
+    links[i] = heads[b];
+    heads[b] = (i + 1) as u16;
+}
+
+// Whether cell i is free or held, and no cell below it has its key and counter; a held one then goes onto its chain.
+fn enter(
+    s: Settings,
+    store: &[u8],
+    i: usize,
+    zero: &[u8],
+    heads: &mut [u16; CHAINS],
+    links: &mut [u16; CELLS_MOST],
+) -> bool
+    requires { ⌜ now zero ≡ zeroRow (length (now zero)) ⌝ }
+    requires { ⌜ (i + 1) * length (now zero) ≤ length (now store) ⌝ }
+    requires { ⌜ sound s (length (now zero)) (now store) i ≡ true ⌝ }
+    requires { ⌜ i < cellsMost ⌝ }
+    requires { ⌜ Chained (bucketAt s (length (now zero)) (now store)) (now heads) (now links) i ⌝ }
+    ensures { λ r. ⌜ r ≡ enters s (length (now (zero .entry))) (now (store .entry)) i ⌝ }
+    ensures { λ r. ⌜ (r ≡ true → Chained (bucketAt s (length (now (zero .entry))) (now (store .entry))) (now (heads .exit)) (now (links .exit)) (i + 1)) ⌝ }
+{
+    let r = row(store, zero.len(), i);
+    let t = judge(s, r, zero);
+    if t.kind == 2 {
+        return false;
+    }
+    if t.kind == 0 {
+        return true;
+    }
+    let q = packet_in(r);
+    let stop = t.at;
+    let c = t.counter as u64;
+    let b = bucket(q, stop, c);
+    if find_on(s, store, i, zero, q, stop, c, b, heads, links) != i {
+        return false;
+    }
+    push(i, b, heads, links);
+    true
+}
+
+// Whether the first n cells are all free or held, and no two have equal key and counter; they then stand on their chains. One pass.
+pub fn order_by(
+    s: Settings,
+    store: &[u8],
+    n: usize,
+    zero: &[u8],
+    heads: &mut [u16; CHAINS],
+    links: &mut [u16; CELLS_MOST],
+) -> bool
+    requires { ⌜ now zero ≡ zeroRow (length (now zero)) ⌝ }
+    requires { ⌜ n * length (now zero) ≤ length (now store) ⌝ }
+    requires { ⌜ n ≤ cellsMost ⌝ }
+    requires { ⌜ Chained (bucketAt s (length (now zero)) (now store)) (now heads) (now links) 0 ⌝ }
+    ensures { λ r. ⌜ r ≡ both (sound s (length (now (zero .entry))) (now (store .entry)) n) (distinct s (length (now (zero .entry))) (now (store .entry)) n) ⌝ }
+    ensures { λ r. ⌜ (r ≡ true → Chained (bucketAt s (length (now (zero .entry))) (now (store .entry))) (now (heads .exit)) (now (links .exit)) n) ⌝ }
+{
+    let mut i: usize = 0;
+    while i < n {
+        if !enter(s, store, i, zero, heads, links) {
+            return false;
+        }
+        i += 1;
+    }
+    true
+}
+
+// How many cells a store in order has, which then stand on their chains; 0 where it is not in order.
+pub fn in_order_by(
+    s: Settings,
+    store: &[u8],
+    zero: &[u8],
+    heads: &mut [u16; CHAINS],
+    links: &mut [u16; CELLS_MOST],
+) -> usize
+    requires { ⌜ now zero ≡ zeroRow (length (now zero)) ⌝ }
+    requires { ⌜ Chained (bucketAt s (length (now zero)) (now store)) (now heads) (now links) 0 ⌝ }
+    ensures { λ r. ⌜ r ≡ pick (inOrder s (length (now (zero .entry))) (now (store .entry))) (countIn (length (now (zero .entry))) (now (store .entry))) 0 ⌝ }
+    ensures { λ r. ⌜ ((r ≡ 0 → ⊥) → Chained (bucketAt s (length (now (zero .entry))) (now (store .entry))) (now (heads .exit)) (now (links .exit)) r) ⌝ }
+{
+    let n = count(store.len(), zero.len());
+    if n == 0 {
+        return 0;
+    }
+    if !order_by(s, store, n, zero, heads, links) {
+        return 0;
+    }
+    n
+}
+
+// How many cells a store in order has; 0 where it is not in order.
+pub fn in_order(s: Settings, store: &[u8], zero: &[u8]) -> usize
+    requires { ⌜ now zero ≡ zeroRow (length (now zero)) ⌝ }
+    ensures { λ r. ⌜ r ≡ pick (inOrder s (length (now (zero .entry))) (now (store .entry))) (countIn (length (now (zero .entry))) (now (store .entry))) 0 ⌝ }
+{
+    let mut heads = [0u16; CHAINS];
+    let mut links = [0u16; CELLS_MOST];
+    in_order_by(s, store, zero, &mut heads, &mut links)
+}
+
+// The same for cells of 1,024 octets, beside a zero cell made by repetition.
+pub fn order(s: Settings, store: &[u8]) -> usize
+    ensures { λ r. ⌜ r ≡ pick (inOrder s 1024 (now (store .entry))) (countIn 1024 (now (store .entry))) 0 ⌝ }
+{
+    let zero = [0u8; 1024];
+    in_order(s, store, &zero)
 }

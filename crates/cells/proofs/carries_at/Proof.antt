@@ -2,7 +2,7 @@
 -- Assumes nothing.
 use borrow.Author.Needs.{needs}
 use denote.Ref.{now}
-use Rattle.cells.proofs.Carries.{carries-free, carries-other, carries-same}
+use Rattle.cells.proofs.Carries.{carries-free, carries-other, carries-apart, carries-same}
 use Rattle.cells.proofs.carries_at.Statement.{statement}
 use Rattle.cells.proofs.carries_at.Tie as tie
 
@@ -24,14 +24,23 @@ cast-if2 c = search needs
 returns-2 : tie.Need-returns-2
 returns-2 c = carries-other (c .before .before .before .before .before .before .before .before .args .s) (now (c .before .before .before .before .before .before .before .before .args .row)) (now (c .before .before .before .before .before .before .before .before .args .zero)) (now (c .before .before .before .before .before .before .before .before .args .q)) (c .before .before .before .before .before .before .before .before .args .stop) (c .before .before .before .before .before .before .before .before .args .c) (c .before .before .before .before .before .before .before .before .pre .0) (λ i. c .before .before .before .before .before .before .before .shared-slice-known .given i .fits) (c .before .before .before .before .before .before .before .before .pre .1 .1 .0) (c .before .before .before .before .before .before .before .before .pre .1 .1 .1) (c .before .before .before .before .octet .ensures) (c .before .before .before .if1 .left) (c .before .before .packet-in .ensures) (c .before .counter-in .ensures) (c .if2 .taken)
 
+be64-requires : tie.Need-be64-requires
+be64-requires c κs = search needs
+
+be64-requires-2 : tie.Need-be64-requires-2
+be64-requires-2 c κs = search needs
+
+returns-3 : tie.Need-returns-3
+returns-3 c = carries-apart (c .before .before .before .before .before .before .before .before .before .before .before .args .s) (now (c .before .before .before .before .before .before .before .before .before .before .before .args .row)) (now (c .before .before .before .before .before .before .before .before .before .before .before .args .zero)) (now (c .before .before .before .before .before .before .before .before .before .before .before .args .q)) (c .before .before .before .before .before .before .before .before .before .before .before .args .stop) (c .before .before .before .before .before .before .before .before .before .before .before .args .c) (c .before .before .before .before .before .before .before .before .before .before .before .pre .0) (λ i. c .before .before .before .before .before .before .before .before .before .before .shared-slice-known .given i .fits) (c .before .before .before .before .before .before .before .before .before .before .before .pre .1 .1 .0) (c .before .before .before .before .before .before .before .before .before .before .before .pre .1 .1 .1) (c .before .before .before .before .before .before .before .octet .ensures) (c .before .before .before .before .before .before .if1 .left) (c .before .before .before .before .before .packet-in .ensures) (c .before .before .be64 .ensures) (c .before .be642 .ensures) (c .if3 .taken)
+
 read-requires : tie.Need-read-requires
 read-requires c κs = search needs
 
 same-key-requires : tie.Need-same-key-requires
 same-key-requires c κs = search needs
 
-returns-3 : tie.Need-returns-3
-returns-3 c = carries-same (c .before .before .before .before .before .before .before .before .before .before .before .args .s) (now (c .before .before .before .before .before .before .before .before .before .before .before .args .row)) (now (c .before .before .before .before .before .before .before .before .before .before .before .args .zero)) (now (c .before .before .before .before .before .before .before .before .before .before .before .args .q)) (c .before .before .before .before .before .before .before .before .before .before .before .args .stop) (c .before .before .before .before .before .before .before .before .before .before .before .args .c) (c .before .before .before .before .before .before .before .before .before .before .before .pre .0) (λ i. c .before .before .before .before .before .before .before .before .before .before .shared-slice-known .given i .fits) (c .before .before .before .before .before .before .before .before .before .before .before .pre .1 .1 .0) (c .before .before .before .before .before .before .before .before .before .before .before .pre .1 .1 .1) (c .before .before .before .before .before .before .before .octet .ensures) (c .before .before .before .before .before .before .if1 .left) (c .before .before .before .before .before .packet-in .ensures) (c .before .before .before .before .counter-in .ensures) (c .before .before .before .if2 .left) (c .before .before .read .ensures .0) (c .same-key .ensures)
+returns-4 : tie.Need-returns-4
+returns-4 c = carries-same (c .before .before .before .before .before .before .before .before .before .before .before .before .before .before .args .s) (now (c .before .before .before .before .before .before .before .before .before .before .before .before .before .before .args .row)) (now (c .before .before .before .before .before .before .before .before .before .before .before .before .before .before .args .zero)) (now (c .before .before .before .before .before .before .before .before .before .before .before .before .before .before .args .q)) (c .before .before .before .before .before .before .before .before .before .before .before .before .before .before .args .stop) (c .before .before .before .before .before .before .before .before .before .before .before .before .before .before .args .c) (c .before .before .before .before .before .before .before .before .before .before .before .before .before .before .pre .0) (λ i. c .before .before .before .before .before .before .before .before .before .before .before .before .before .shared-slice-known .given i .fits) (c .before .before .before .before .before .before .before .before .before .before .before .before .before .before .pre .1 .1 .0) (c .before .before .before .before .before .before .before .before .before .before .before .before .before .before .pre .1 .1 .1) (c .before .before .before .before .before .before .before .before .before .before .octet .ensures) (c .before .before .before .before .before .before .before .before .before .if1 .left) (c .before .before .before .before .before .before .before .before .packet-in .ensures) (c .before .before .before .before .before .before .before .counter-in .ensures) (c .before .before .before .before .before .before .if2 .left) (c .before .before .read .ensures .0) (c .same-key .ensures)
 
 pub carries-at-spec : {M : Type 1} → statement M
 carries-at-spec =
@@ -43,6 +52,9 @@ carries-at-spec =
     counter-in-requires
     cast-if2
     returns-2
+    be64-requires
+    be64-requires-2
+    returns-3
     read-requires
     same-key-requires
-    returns-3)
+    returns-4)

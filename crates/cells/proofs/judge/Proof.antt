@@ -1,0 +1,57 @@
+-- `cells::judge` meets its contract, case by case.
+-- Assumes nothing.
+use Prim.Native.Nat.{_+_}
+use borrow.Author.Needs.{needs}
+use denote.Ref.{now}
+use lib.ListN.{length}
+use mathlib.Core.Path.{ap}
+use native.Mathlib.Omega.{arith}
+use Rattle.cells.proofs.Held.{part-room, told-free, told-held, told-broken}
+use Rattle.cells.proofs.judge.Statement.{statement}
+use Rattle.cells.proofs.judge.Tie as tie
+use Rattle.octets.specs.Octets.{number}
+
+same-requires : tie.Need-same-requires
+same-requires c κs = search needs
+
+returns : tie.Need-returns
+returns c = told-free (c .before .before .before .before .args .s) (now (c .before .before .before .before .args .row)) (now (c .before .before .before .before .args .zero)) (c .before .before .before .before .pre .0) (c .before .before .before .before .pre .1) (c .before .same .ensures) (c .if1 .taken)
+
+packet-in-requires : tie.Need-packet-in-requires
+packet-in-requires c κs = search needs
+
+read-requires : tie.Need-read-requires
+read-requires c κs = search needs
+
+add-is-held-row : tie.Need-add-is-held-row
+add-is-held-row c = record { fits = part-room (now (c .before .before .before .before .before .before .before .before .before .before .before .args .row)) (number 2 (now (c .before .before .before .before .before .before .before .before .before .before .before .args .row)) 6 + 7) (ap length (c .before .before .before .before .before .before .packet-in .ensures)) (omega arith) }
+
+is-held-row-requires : tie.Need-is-held-row-requires
+is-held-row-requires c κs = search needs
+
+and-requires : tie.Need-and-requires
+and-requires c κs = search needs
+
+and-requires-2 : tie.Need-and-requires-2
+and-requires-2 c κs = search needs
+
+returns-2 : tie.Need-returns-2
+returns-2 c = told-held (c .before .before .before .before .before .before .before .before .before .before .before .before .before .before .before .before .before .args .s) (now (c .before .before .before .before .before .before .before .before .before .before .before .before .before .before .before .before .before .args .row)) (now (c .before .before .before .before .before .before .before .before .before .before .before .before .before .before .before .before .before .args .zero)) (c .before .before .before .before .before .before .before .before .before .before .before .before .before .before .before .before .before .pre .0) (c .before .before .before .before .before .before .before .before .before .before .before .before .before .before .before .before .before .pre .1) (c .before .before .before .before .before .before .before .before .before .before .before .before .before .before .same .ensures) (c .before .before .before .before .before .before .before .before .before .before .before .before .before .if1 .left) (c .before .before .before .before .before .before .before .before .before .before .before .before .packet-in .ensures) (c .before .before .before .before .before .before .before .before .before .before .before .read .ensures .0) (c .before .before .before .before .before .is-held-row .ensures) (rw (c .before .before .and .ensures) at (c .before .and2 .ensures)) (c .if2 .taken)
+
+returns-3 : tie.Need-returns-3
+returns-3 c = told-broken (c .before .before .before .before .before .before .before .before .before .before .before .before .before .before .before .before .before .args .s) (now (c .before .before .before .before .before .before .before .before .before .before .before .before .before .before .before .before .before .args .row)) (now (c .before .before .before .before .before .before .before .before .before .before .before .before .before .before .before .before .before .args .zero)) (c .before .before .before .before .before .before .before .before .before .before .before .before .before .before .before .before .before .pre .0) (c .before .before .before .before .before .before .before .before .before .before .before .before .before .before .before .before .before .pre .1) (c .before .before .before .before .before .before .before .before .before .before .before .before .before .before .same .ensures) (c .before .before .before .before .before .before .before .before .before .before .before .before .before .if1 .left) (c .before .before .before .before .before .before .before .before .before .before .before .before .packet-in .ensures) (c .before .before .before .before .before .before .before .before .before .before .before .read .ensures .0) (c .before .before .before .before .before .is-held-row .ensures) (rw (c .before .before .and .ensures) at (c .before .and2 .ensures)) (c .if2 .left)
+
+pub judge-spec : {M : Type 1} → statement M
+judge-spec =
+    tie.close
+    (tie.spec
+    same-requires
+    returns
+    packet-in-requires
+    read-requires
+    add-is-held-row
+    is-held-row-requires
+    and-requires
+    and-requires-2
+    returns-2
+    returns-3)
