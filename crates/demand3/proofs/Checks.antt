@@ -1,0 +1,103 @@
+-- The hypotheses of demand 3 about a given list of events, told by tests that compute.
+-- Assumes nothing.
+use Prim.Native.Nat.{ℕ, _+_}
+use mathlib.Core.Path.{_≡_, sym, _∙_, ap}
+use mathlib.Core.Logic.{_≢_, _⊎_, inl, inr}
+use mathlib.Core.Bool.{Bool, true, not, false≢true}
+use mathlib.Core.Option.{Option, none, some}
+use mathlib.Core.List.{List, [], _∷_, _++_, List·Memᴰ, List·Memᴰ·cases-cons, List·Memᴰ·not-nil}
+use native.Mathlib.Omega.{arith}
+use Rattle.cells.specs.Segments.{Seg, carries, both}
+use Rattle.cells.specs.Rows.{Cell}
+use Rattle.cells.proofs.Held.{both-true}
+use Rattle.store.specs.Messages.{look}
+use Rattle.store.specs.Taking.{Took, message, unable}
+use Rattle.keeping.specs.Cells.{hasFree}
+use Rattle.demand3.specs.Traffic.{Sent, Event, arrives, passes, takes, takenFrom, stepped, after, Room}
+use Rattle.demand3.specs.Promise.{Untaken}
+use Rattle.demand3.proofs.Looks.{carries-yes}
+
+-- ---- every segment that arrives
+
+abbrev pub Each : (Seg → Type 0) → List Event → Type 0
+Each F [] = Unit {0}
+Each F (arrives t ∷ es) = F t × Each F es
+Each F (passes ∷ es) = Each F es
+Each F (takes long ∷ es) = Each F es
+
+pub each-arrives : (F : Seg → Type 0) (es : List Event) → Each F es → (t : Seg) → List·Memᴰ (arrives t) es → F t
+each-arrives F [] w t m = absurd (List·Memᴰ·not-nil m)
+each-arrives F (arrives u ∷ es) w t m = go (each-arrives F es (w .1) t) (List·Memᴰ·cases-cons m)
+  where
+    go : (List·Memᴰ (arrives t) es → F t) → (arrives t ≡ arrives u) ⊎ List·Memᴰ (arrives t) es → F t
+    go ih (inl e) = let q : t ≡ u = cc e in rw q (w .0)
+    go ih (inr k) = ih k
+each-arrives F (passes ∷ es) w t m = go (each-arrives F es w t) (List·Memᴰ·cases-cons m)
+  where
+    go : (List·Memᴰ (arrives t) es → F t) → (arrives t ≡ passes) ⊎ List·Memᴰ (arrives t) es → F t
+    go ih (inl e) = absurd (let z : _≡_ {A = ℕ} 0 1 = cc in omega arith)
+    go ih (inr k) = ih k
+each-arrives F (takes long ∷ es) w t m = go (each-arrives F es w t) (List·Memᴰ·cases-cons m)
+  where
+    go : (List·Memᴰ (arrives t) es → F t) → (arrives t ≡ takes long) ⊎ List·Memᴰ (arrives t) es → F t
+    go ih (inl e) = absurd (let z : _≡_ {A = ℕ} 0 1 = cc in omega arith)
+    go ih (inr k) = ih k
+
+-- ---- room, and whether a message is taken
+
+abbrev roomBeside : Option Seg → List Cell → Bool
+roomBeside none cs = hasFree cs
+roomBeside (some u) cs = true
+
+abbrev roomAt : List Cell → Event → Bool
+roomAt cs (arrives t) = roomBeside (look cs (t .key) (t .counter)) cs
+roomAt cs passes = true
+roomAt cs (takes long) = true
+
+abbrev otherThan : Sent → Took → Bool
+otherThan m (message r) = not (carries (m .key) (m .start) (r .head))
+otherThan m (unable k) = true
+
+module _ (next : ℕ → ℕ) (span : ℕ) where
+  abbrev leftAt : Sent → List Cell → Event → Bool
+  leftAt m cs (arrives t) = true
+  leftAt m cs passes = true
+  leftAt m cs (takes long) = otherThan m (takenFrom next span cs long)
+
+  -- whenever a new segment arrives, a cell is free
+  unfoldable pub roomIn : List Cell → List Event → Bool
+  roomIn cs [] = true
+  roomIn cs (e ∷ es) = both (roomAt cs e) (roomIn (stepped next span cs e) es)
+
+  -- none of the takings takes the message
+  unfoldable pub leftIn : Sent → List Cell → List Event → Bool
+  leftIn m cs [] = true
+  leftIn m cs (e ∷ es) = both (leftAt m cs e) (leftIn m (stepped next span cs e) es)
+
+  room-at : (p q : List Event) (t : Seg) (cs : List Cell) → roomIn cs (p ++ arrives t ∷ q) ≡ true →
+      roomAt (after next span cs p) (arrives t) ≡ true
+  unfolding roomIn after
+  room-at [] q t cs e = both-true (roomAt cs (arrives t)) (roomIn (stepped next span cs (arrives t)) q) e .0
+  room-at (x ∷ p) q t cs e =
+      room-at p q t (stepped next span cs x) (both-true (roomAt cs x) (roomIn (stepped next span cs x) (p ++ arrives t ∷ q)) e .1)
+
+  pub room-by : (cs : List Cell) (es : List Event) → roomIn cs es ≡ true → Room next span cs es
+  room-by cs es r p q t d n =
+      let e : roomIn cs (p ++ arrives t ∷ q) ≡ true = ap (roomIn cs) (sym d) ∙ r in
+      let g : roomBeside (look (after next span cs p) (t .key) (t .counter)) (after next span cs p) ≡ true = room-at p q t cs e in
+      rw n at g
+
+  left-at : (m : Sent) (p q : List Event) (long : ℕ) (cs : List Cell) → leftIn m cs (p ++ takes long ∷ q) ≡ true →
+      leftAt m (after next span cs p) (takes long) ≡ true
+  unfolding leftIn after
+  left-at m [] q long cs e = both-true (leftAt m cs (takes long)) (leftIn m (stepped next span cs (takes long)) q) e .0
+  left-at m (x ∷ p) q long cs e =
+      left-at m p q long (stepped next span cs x)
+      (both-true (leftAt m cs x) (leftIn m (stepped next span cs x) (p ++ takes long ∷ q)) e .1)
+
+  pub untaken-by : (m : Sent) (cs : List Cell) (es : List Event) → leftIn m cs es ≡ true → Untaken next span m cs es
+  untaken-by m cs es l p q long r d g i =
+      let e : leftIn m cs (p ++ takes long ∷ q) ≡ true = ap (leftIn m cs) (sym d) ∙ l in
+      let f : otherThan m (takenFrom next span (after next span cs p) long) ≡ true = left-at m p q long cs e in
+      let h : not (carries (m .key) (m .start) (r .head)) ≡ true = ap (otherThan m) (sym g) ∙ f in
+      false≢true (ap not (sym (carries-yes (m .key) (m .start) (r .head) (sym (i .0)) (sym (i .1)))) ∙ h)

@@ -1,0 +1,16 @@
+pub mod Looks
+pub mod Links
+pub mod Finds
+pub mod Distinct
+pub mod Exactly
+pub mod Beside
+pub mod Takings
+pub mod Keeps
+pub mod Lasts
+pub mod Progress
+pub mod Rooms
+pub mod Runs
+pub mod Demand
+pub mod Base
+pub mod Checks
+pub mod Example
