@@ -7,7 +7,8 @@ is told in crates/vectors/src/main.rt; a call is added by a row of CALLS.
 
 To the cases of reading those of damaged() are added: figure 14 with each octet changed, cut and lengthened. Their answers are
 those of tests/model.py, which must agree with the file on every case of its own. To the cases of writing and cutting are added
-figure 14 written, and numbers one above what the type of their field holds, which are refused by 22 and never cut to the width.
+figure 14 written, and numbers one above what the type of their field holds, which are refused by 22 and never cut to the width. To
+those of the view are added views of no buffer.
 """
 
 import itertools
@@ -141,11 +142,31 @@ def sender(numbers):
     return [numbers["seq"], 0, 0] if counter is None else [numbers["seq"], counter, 1]
 
 
-KINDS = ["", "whole", "stored", "held"]
-
-
 def answer(row):
     return row["expect"]["answer"]
+
+
+KINDS = ["", "whole", "stored", "held"]
+TAKEN = "refusal H B c".split()
+WHICH = ["", "packet", "joined"]
+
+
+def join_line(row):
+    """The line of an answer of joining."""
+    a = answer(row)
+    numbers = [a["refusal"], WHICH.index(a["which"])] + part(a) + [a["H"], a["B"], a["c"]]
+    return line(numbers, octets(row["expect"]["store"]), octets(row["expect"]["out"]))
+
+
+def view_out(row):
+    """The output of a view: as long as the longer one of its buffers."""
+    return bytes([0xA5]) * max(len(octets(row["packet"])), len(octets(row["joined"])))
+
+
+def view_line(row):
+    """The line of a view: the part's length, and the part laid over the front of the output."""
+    seen = octets(answer(row)["part"])
+    return line([len(seen)], seen + view_out(row)[len(seen) :])
 
 
 class Call:
@@ -194,6 +215,24 @@ CALLS = {
         lambda row: [row["T"]],
         lambda row: [(READABLE, octets(row["packet"])), (STORE, octets(row["store"]))],
         lambda row: line([answer(row)["refusal"], KINDS.index(answer(row)["kind"])], octets(row["expect"]["store"])),
+    ),
+    "take": Call(
+        9,
+        lambda row: [row["T"]],
+        lambda row: [(STORE, octets(row["store"])), (OUTPUT, octets(row["out"]))],
+        lambda row: line([answer(row)[name] for name in TAKEN], octets(row["expect"]["store"]), octets(row["expect"]["out"])),
+    ),
+    "join": Call(
+        10,
+        lambda row: [row["T"]],
+        lambda row: [(READABLE, octets(row["packet"])), (STORE, octets(row["store"])), (OUTPUT, octets(row["out"]))],
+        join_line,
+    ),
+    "view": Call(
+        11,
+        lambda row: [WHICH.index(row["which"]), row["place"], row["length"]],
+        lambda row: [(READABLE, octets(row["packet"])), (READABLE, octets(row["joined"])), (OUTPUT, view_out(row))],
+        view_line,
     ),
     "count": Call(
         5,
@@ -307,6 +346,32 @@ def cutting_figures():
         yield CALLS["count"], row | {"sender": before, "expect": {"answer": told}}
 
 
+def view_rows():
+    """Views of no buffer: an empty part, whatever place and length are."""
+    for place, length in ((0, 0), (0, 1), (1, 0), (1, (1 << 64) - 1)):
+        yield {"packet": "01", "joined": "0203", "which": "", "place": place, "length": length, "expect": {"answer": {"part": ""}}}
+
+
+def segment(flags, count, counter, body):
+    """A segment of figure 14's header, as it stands in a packet."""
+    data = FIGURE_14[6:] + big(counter, 4) + body
+    return FIGURE_14[:2] + big(flags << 14 | count, 2) + big(len(data) - 1, 2) + data
+
+
+def taking_figure():
+    """Figure 13: the message of figure 8, its last segment in the lower cell, is taken into 61 octets and more; into 60 it is not."""
+    body = bytes(range(38))
+    cells = [b"MS" + segment(2, 1, 8, body[33:]), b"", b"MS" + segment(1, 0, 7, body[:33])]
+    store = b"".join(cell.ljust(1024, b"\0") for cell in cells)
+    written = FIGURE_14[:2] + FIGURE_14[6:] + body
+    for long in (60, 61, 70):
+        out = b"\xff" * long
+        told = {"refusal": 21, "H": 0, "B": 0, "c": 0} if long < 61 else {"refusal": 0, "H": 21, "B": 38, "c": 7}
+        after = {"store": store, "out": out} if long < 61 else {"store": bytes(3072), "out": written + out[61:]}
+        row = {"T": 8, "store": store.hex(), "out": out.hex()}
+        yield CALLS["take"], row | {"expect": {"answer": told} | {name: s.hex() for name, s in after.items()}}
+
+
 def rows(vectors, call):
     """The cases of a call in its file."""
     with open(vectors / f"{call}.jsonl", encoding="ascii") as file:
@@ -326,8 +391,8 @@ def cases(vectors):
     for name, call in CALLS.items():
         for row in rows(vectors, name):
             yield name, call, row
-    for call, row in itertools.chain(varint_figures(), cutting_figures()):
-        yield "figures 1 to 12", call, row
+    for call, row in itertools.chain(varint_figures(), cutting_figures(), taking_figure()):
+        yield "figures 1 to 13", call, row
     for row in read_rows():
         yield "figure 14 damaged", CALLS["read"], row
     yield "figure 14 written", CALLS["write"], write_row({}, 0)
@@ -336,6 +401,8 @@ def cases(vectors):
     for row in wide_cut_rows():
         yield "numbers too wide", CALLS["count"], row
         yield "numbers too wide", CALLS["packet"], row
+    for row in view_rows():
+        yield "views of no buffer", CALLS["view"], row
 
 
 def main(arguments):

@@ -24,8 +24,9 @@ use Rattle.keeping.specs.Cells.{freed}
 use Rattle.keeping.proofs.Picking.{pick-tells}
 use Rattle.keeping.proofs.Rows.{cleared-long}
 use Rattle.keeping.proofs.Listed.{among-below}
-use Rattle.keeping.proofs.Looking.{carries-yes, look-none}
-use Rattle.keeping.proofs.Distinct.{Apart}
+use Rattle.store.proofs.Distinct.{carries-yes}
+use Rattle.keeping.proofs.Looking.{look-none}
+use Rattle.store.proofs.Distinct.{Apart}
 use Rattle.keeping.proofs.Order.{cells-inside, Ordered, order-tells, order-same}
 use Rattle.keeping.proofs.After.{segment, Stored, not-refused, stored-tells, cell-kept, cell-stored, cell-taken}
 

@@ -5,7 +5,7 @@ pub mod HeldRow
 pub mod Listed
 pub mod After
 pub mod Looking
-pub mod Distinct
+pub mod Finds
 pub mod Order
 pub mod Empty
 pub mod Keeps

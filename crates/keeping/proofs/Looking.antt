@@ -7,28 +7,12 @@ use mathlib.Core.Bool.{Bool, true, false}
 use mathlib.Core.List.{List}
 use mathlib.Core.Option.{Option, none, some}
 use native.Mathlib.Omega.{arith}
-use lib.Dec.{eqb}
-use borrow.Author.Tests.{eqb-true, eq-eqb}
-use Rattle.octets.specs.Octets.{pick, alike}
-use Rattle.octets.proofs.Lists.{alike-true, alike-self}
+use Rattle.octets.specs.Octets.{pick}
 use Rattle.cells.specs.Segments.{Seg, carries}
 use Rattle.cells.specs.Rows.{Cell, free, held, broken}
 use Rattle.cells.specs.Order.{carriesIn}
-use Rattle.cells.proofs.Held.{both-true}
 use Rattle.store.specs.Messages.{listed, orElse, heldAs, look}
 use Rattle.keeping.proofs.Listed.{Among, among-first, among-more, among-cases}
-
--- ---- a key and a counter
-
-pub carries-true : (k : List ℕ) (c : ℕ) (t : Seg) → carries k c t ≡ true → (k ≡ t .key) × (c ≡ t .counter)
-unfolding carries
-carries-true k c t e =
-    let a = both-true (eqb c (t .counter)) (alike k (t .key)) e in
-    (alike-true k (t .key) (a .1), eqb-true c (t .counter) (a .0))
-
-pub carries-yes : (k : List ℕ) (c : ℕ) (t : Seg) → k ≡ t .key → c ≡ t .counter → carries k c t ≡ true
-unfolding carries
-carries-yes k c t e d = rw (eq-eqb c (t .counter) d, e) (alike-self (t .key))
 
 -- ---- one cell
 

@@ -12,7 +12,8 @@ use Rattle.cells.specs.Segments.{Seg, carries}
 use Rattle.cells.specs.Rows.{Cell, free, held, broken}
 use Rattle.store.specs.Messages.{listed, look, Role, first, middle, last, roleOf, Run, segments, linkBy, link, opensBy, chain, runFrom, runIn, pickIn, or, among}
 use Rattle.keeping.proofs.Listed.{Among, among-first, among-more}
-use Rattle.keeping.proofs.Looking.{carries-true, carries-yes, or-some, look-some}
+use Rattle.store.proofs.Distinct.{carries-true, carries-yes}
+use Rattle.keeping.proofs.Looking.{or-some, look-some}
 
 -- a segment is one of these
 abbrev pub In : Seg → List Seg → Type 0

@@ -24,7 +24,8 @@ use Rattle.store.specs.Taking.{message, took}
 use Rattle.keeping.specs.Cells.{freed}
 use Rattle.keeping.proofs.Picking.{pick-yes}
 use Rattle.keeping.proofs.Listed.{among-below, Lowest, lowest-is, lowest-some}
-use Rattle.keeping.proofs.Looking.{carries-true, look-empty}
+use Rattle.store.proofs.Distinct.{carries-true}
+use Rattle.keeping.proofs.Looking.{look-empty}
 use Rattle.keeping.proofs.Members.{In, among-yes}
 use Rattle.keeping.proofs.Order.{cells-inside}
 use Rattle.keeping.proofs.After.{segment, Stored, stored-told, cell-taken}

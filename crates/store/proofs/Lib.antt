@@ -1,3 +1,17 @@
 pub mod Looks
+pub mod Found
 pub mod Arrivals
 pub mod Opening
+pub mod Following
+pub mod Counting
+pub mod Running
+pub mod Picks
+pub mod Clearing
+pub mod Copying
+pub mod Bodies
+pub mod Heads
+pub mod Distinct
+pub mod Drawing
+pub mod Marks
+pub mod Drawn
+pub mod Takings

@@ -18,7 +18,7 @@ use Rattle.walk.specs.declared.Walk.{Walk}
 use Rattle.walk.specs.Walk.{begun, check, goes, refusal, timestampLeast, timestampMost}
 use Rattle.walk.specs.Inner.{asWalk}
 use Rattle.cells.specs.Segments.{both}
-use Rattle.cells.specs.Order.{cellsMost, lengthFits, countIn, sound, distinct, inOrder}
+use Rattle.cells.specs.Order.{cellsMost, lengthFits, countIn, sound as allSound, distinct, inOrder}
 use Rattle.cells.proofs.Held.{both-true}
 use Rattle.store.specs.declared.Opened.{Opened}
 use Rattle.store.specs.Arriving.{Arrived, refused, arrivedIn, arrived}
@@ -26,13 +26,21 @@ use Rattle.store.specs.Taking.{Took, unable, tookIn, took}
 use Rattle.store.specs.Inner.{gate, openedOf}
 
 module _ (s : Settings) (Z : ℕ) (st : List ℕ) where
-  pub order-has : inOrder s Z st ≡ true → (1 ≤ countIn Z st) × (sound s Z st (countIn Z st) ≡ true)
+  -- what a store in order has
+  pub record Ordered : Type 0 where
+    pub least : 1 ≤ countIn Z st
+    pub most : countIn Z st ≤ cellsMost
+    pub sound : allSound s Z st (countIn Z st) ≡ true
+    pub apart : distinct s Z st (countIn Z st) ≡ true
+
+  pub order-has : inOrder s Z st ≡ true → Ordered
   unfolding inOrder lengthFits
   order-has e =
-      let a = both-true (lengthFits Z (length st)) (both (sound s Z st (countIn Z st)) (distinct s Z st (countIn Z st))) e in
+      let a = both-true (lengthFits Z (length st)) (both (allSound s Z st (countIn Z st)) (distinct s Z st (countIn Z st))) e in
       let b = both-true (eqb (length st % Z) 0) (both (leb 1 (countIn Z st)) (leb (countIn Z st) cellsMost)) (a .0) in
       let d = both-true (leb 1 (countIn Z st)) (leb (countIn Z st) cellsMost) (b .1) in
-      (leb-true 1 (countIn Z st) (d .0), both-true (sound s Z st (countIn Z st)) (distinct s Z st (countIn Z st)) (a .1) .0)
+      let c = both-true (allSound s Z st (countIn Z st)) (distinct s Z st (countIn Z st)) (a .1) in
+      record { least = leb-true 1 (countIn Z st) (d .0); most = leb-true (countIn Z st) cellsMost (d .1); sound = c .0; apart = c .1 }
 
   pub cells-inside : countIn Z st * Z ≤ length st
   cells-inside = div-mul-le-self (length st) Z
@@ -87,7 +95,7 @@ module _ (s : Settings) (Z : ℕ) (st : List ℕ) where
       open-order z = ⊎-elim in-it out-of-it (bool (inOrder s Z st))
         where
           in-it : inOrder s Z st ≡ true → record { refusal = refusal 16; cells = 0 } ≡ openedOf s Z st
-          in-it e = absurd (omega (arith, order-has e .0, en ∙ ap (λ (b : Bool). pick b (countIn Z st) 0) e))
+          in-it e = absurd (omega (arith, order-has e .least, en ∙ ap (λ (b : Bool). pick b (countIn Z st) 0) e))
 
           out-of-it : inOrder s Z st ≡ false → record { refusal = refusal 16; cells = 0 } ≡ openedOf s Z st
           out-of-it e = let g : gate s Z st ≡ 16 = shut-by fine e in shut-as g (λ x. omega arith)
@@ -165,5 +173,5 @@ module _ (s : Settings) (Z : ℕ) (st : List ℕ) where
       pub opened-inside : o .cells * Z ≤ length st
       opened-inside = rw opened-cells (cells-inside s Z st)
 
-      pub opened-sound : sound s Z st (o .cells) ≡ true
-      opened-sound = ap (sound s Z st) opened-cells ∙ order-has s Z st (opened-order opened-gate) .1
+      pub opened-sound : allSound s Z st (o .cells) ≡ true
+      opened-sound = ap (allSound s Z st) opened-cells ∙ order-has s Z st (opened-order opened-gate) .sound

@@ -3,3 +3,4 @@ pub mod Arriving
 pub mod Taking
 pub mod Told
 pub mod Inner
+pub mod Follow

@@ -5,17 +5,24 @@
 // pays for the check once.
 ghost use mathlib.Core.Path.{_≡_};
 ghost use mathlib.Core.Bool.{true};
-ghost use Prim.Native.Nat.{_+_, _*_, _≤_};
+ghost use mathlib.Core.List.{_∷_, _++_};
+ghost use Prim.Native.Nat.{suc, _+_, _*_, _≤_, _<_};
 ghost use lib.ListN.{length};
-ghost use Rattle.octets.specs.Octets.{alike};
+ghost use lib.Seq.{sets};
+ghost use lib.Dec.{eqb};
+ghost use Rattle.octets.specs.Octets.{octetAt, part, alike};
 ghost use Rattle.packet.specs.Reading.{readPacket};
+ghost use Rattle.packet.specs.Key.{keyOf};
 ghost use Rattle.cells.specs.Segments.{sameRest};
-ghost use Rattle.cells.specs.Rows.{rowAt, zeroRow, packetIn};
-ghost use Rattle.cells.specs.Order.{lowest, sound};
+ghost use Rattle.cells.specs.Rows.{rowAt, zeroRow, packetIn, held};
+ghost use Rattle.cells.specs.Order.{lowest, sound, cellAt, inOrder, countIn};
 ghost use Rattle.cells.specs.Inner.{Asked};
+ghost use Rattle.store.specs.Messages.{cellsOf, runIn, picked, top};
 ghost use Rattle.store.specs.Arriving.{refused as refusedBy, placed, segmentArrived, arrivedIn, arrived, storeWith};
-ghost use Rattle.store.specs.Told.{arrivalOf};
+ghost use Rattle.store.specs.Taking.{unable, tookIn, took, outWith, clearedTo, storeLess};
+ghost use Rattle.store.specs.Told.{arrivalOf, takenOf};
 ghost use Rattle.store.specs.Inner.{segWith, segIn, pieceOf, openedOf};
+ghost use Rattle.store.specs.Follow.{segAt, follow as followed, placesFrom, bodiesAt, total, answer, opensAt, pickedOf, marked, toldOf, Ready, Opens};
 use packet::SegmentCounter;
 use walk::Refusal;
 use walk::Settings;
@@ -41,6 +48,12 @@ pub struct Taken {
     pub header: usize,
     pub body: usize,
     pub counter: SegmentCounter,
+}
+
+// A message that was picked: the cell of its first segment, and one more than the octets of its body; 0 where none is complete.
+struct Picked {
+    cell: usize,
+    body: usize,
 }
 
 // A segment in its cell: its flags, and where its body stands in its packet.
@@ -207,4 +220,321 @@ pub fn arrive(s: Settings, store: &mut [u8], p: &[u8]) -> Arrival
         return Arrival::Refused(refusal);
     }
     arrive_in(s, store, o.cells, &zero, p)
+}
+
+// The one place where a taking is refused.
+fn not_taken(k: u8) -> Taken
+    ensures { λ r. ⌜ r ≡ takenOf (unable k) ⌝ }
+{
+    Taken {
+        refusal: Refusal { number: k },
+        header: 0,
+        body: 0,
+        counter: SegmentCounter(0),
+    }
+}
+
+// The segments with the key of q from a counter on, up to a last: one more than the octets of their bodies and b, or 0 where the
+// run is not complete.
+fn follow(
+    s: Settings,
+    store: &[u8],
+    n: usize,
+    zero: &[u8],
+    q: &[u8],
+    stop: usize,
+    from: u64,
+    b: usize,
+) -> usize
+    requires { ⌜ now zero ≡ zeroRow (length (now zero)) ⌝ }
+    requires { ⌜ n * length (now zero) ≤ length (now store) ⌝ }
+    requires { ⌜ sound s (length (now zero)) (now store) n ≡ true ⌝ }
+    requires { ⌜ Asked s (now q) stop ⌝ }
+    requires { ⌜ (from ≤ 4294967296) × (b ≤ 65542) ⌝ }
+    ensures { λ r. ⌜ r ≡ total s (length (now (zero .entry))) (now (store .entry)) b (followed s (length (now (zero .entry))) (now (store .entry)) n (keyOf (now (q .entry)) (readPacket s (now (q .entry)))) 4294967295 from) ⌝ }
+{
+    let z = zero.len();
+    let mut c = from;
+    let mut left: u64 = 4294967295;
+    let mut sum = b;
+    while 0 < left {
+        let j = cells::find(s, store, n, zero, q, stop, c);
+        if n <= j {
+            return 0;
+        }
+        let t = piece_in(s, cells::row(store, z, j));
+        sum += t.length;
+        if t.flags == 1 {
+            return 0;
+        }
+        if t.flags == 2 {
+            return sum + 1;
+        }
+        c += 1;
+        left -= 1;
+    }
+    0
+}
+
+// One more than the octets of the body of the message that opens in cell i, or 0 where none does that is complete.
+fn run_at(s: Settings, store: &[u8], n: usize, zero: &[u8], i: usize) -> usize
+    requires { ⌜ now zero ≡ zeroRow (length (now zero)) ⌝ }
+    requires { ⌜ n * length (now zero) ≤ length (now store) ⌝ }
+    requires { ⌜ sound s (length (now zero)) (now store) n ≡ true ⌝ }
+    requires { ⌜ i < n ⌝ }
+    ensures { λ r. ⌜ r ≡ answer (runIn suc top (cellsOf s (length (now (zero .entry))) (now (store .entry)) n) (cellAt s (length (now (zero .entry))) (now (store .entry)) i)) ⌝ }
+{
+    let r = cells::row(store, zero.len(), i);
+    if octets::octet(r, 0) == 0 {
+        return 0;
+    }
+    let q = cells::packet_in(r);
+    let h = packet::read(s, q);
+    let primary = h.primary;
+    let body = h.body;
+    let ids = h.ids;
+    let counter = ids.counter;
+    if primary.flags != 1 {
+        return 0;
+    }
+    follow(
+        s,
+        store,
+        n,
+        zero,
+        q,
+        body.at,
+        counter.0 as u64 + 1,
+        body.length,
+    )
+}
+
+// The complete message whose first lies in the lowest cell.
+fn pick_message(s: Settings, store: &[u8], n: usize, zero: &[u8]) -> Picked
+    requires { ⌜ now zero ≡ zeroRow (length (now zero)) ⌝ }
+    requires { ⌜ n * length (now zero) ≤ length (now store) ⌝ }
+    requires { ⌜ sound s (length (now zero)) (now store) n ≡ true ⌝ }
+    ensures { λ r. ⌜ r ≡ pickedOf s (length (now (zero .entry))) (now (store .entry)) n ⌝ }
+{
+    let mut i: usize = 0;
+    while i < n {
+        let b = run_at(s, store, n, zero, i);
+        if b != 0 {
+            return Picked { cell: i, body: b };
+        }
+        i += 1;
+    }
+    Picked { cell: n, body: 0 }
+}
+
+// The key of a segment, told where its body begins, to the front of the output. The place behind it.
+fn put_key(s: Settings, out: &mut [u8], q: &[u8], stop: usize) -> usize
+    requires { ⌜ Asked s (now q) stop ⌝ }
+    requires { ⌜ length (keyOf (now q) (readPacket s (now q))) ≤ length (now out) ⌝ }
+    ensures { λ r. ⌜ r ≡ length (keyOf (now (q .entry)) (readPacket s (now (q .entry)))) ⌝ }
+    ensures { λ r. ⌜ now (out .exit) ≡ sets (now (out .entry)) 0 (keyOf (now (q .entry)) (readPacket s (now (q .entry)))) ⌝ }
+{
+    let c = cells::counter_place(q);
+    let ids = octets::lay(out, 0, cells::span(q, 0, 2));
+    let fore = octets::lay(out, ids, cells::span(q, 6, c - 6));
+    octets::lay(out, fore, cells::span(q, c + 4, stop - (c + 4)))
+}
+
+// The body of the segment in a row to a place of the output. The place behind it.
+fn put_body(out: &mut [u8], at: usize, row: &[u8], t: Piece) -> usize
+    requires { ⌜ at + length (part (packetIn 0 (now row)) (t .at) (t .length)) ≤ length (now out) ⌝ }
+    ensures { λ r. ⌜ r ≡ at + length (part (packetIn 0 (now (row .entry))) (t .at) (t .length)) ⌝ }
+    ensures { λ r. ⌜ now (out .exit) ≡ sets (now (out .entry)) at (part (packetIn 0 (now (row .entry))) (t .at) (t .length)) ⌝ }
+{
+    let p = cells::packet_in(row);
+    octets::lay(out, at, cells::span(p, t.at, t.length))
+}
+
+// The bodies of a complete run from a counter on to a place of the output, and a mark for each of their cells.
+fn copy_rest(
+    s: Settings,
+    store: &[u8],
+    n: usize,
+    zero: &[u8],
+    q: &[u8],
+    stop: usize,
+    start: u64,
+    out: &mut [u8],
+    place: usize,
+    marks: &mut [u8],
+)
+    requires { ⌜ now zero ≡ zeroRow (length (now zero)) ⌝ }
+    requires { ⌜ n * length (now zero) ≤ length (now store) ⌝ }
+    requires { ⌜ sound s (length (now zero)) (now store) n ≡ true ⌝ }
+    requires { ⌜ Asked s (now q) stop ⌝ }
+    requires { ⌜ start ≤ 4294967296 ⌝ }
+    requires { ⌜ Ready s (length (now zero)) (now store) n (keyOf (now q) (readPacket s (now q))) start place (now out) ⌝ }
+    ensures { λ r. ⌜ now (out .exit) ≡ sets (now (out .entry)) place (bodiesAt s (length (now (zero .entry))) (now (store .entry)) (placesFrom s (length (now (zero .entry))) (now (store .entry)) n (keyOf (now (q .entry)) (readPacket s (now (q .entry)))) start)) ⌝ }
+    ensures { λ r. ⌜ now (marks .exit) ≡ marked (now (marks .entry)) (placesFrom s (length (now (zero .entry))) (now (store .entry)) n (keyOf (now (q .entry)) (readPacket s (now (q .entry)))) start) ⌝ }
+{
+    let z = zero.len();
+    let mut c = start;
+    let mut left: u64 = 4294967295;
+    let mut at = place;
+    while 0 < left {
+        let j = cells::find(s, store, n, zero, q, stop, c);
+        let r = cells::row(store, z, j);
+        let t = piece_in(s, r);
+        at = put_body(out, at, r, t);
+        octets::put_octet(marks, j, 1);
+        if t.flags == 2 {
+            return;
+        }
+        c += 1;
+        left -= 1;
+    }
+}
+
+// The message that opens in cell i to the output, and a mark for each of its cells; H and the first's counter.
+fn copy_message(
+    s: Settings,
+    store: &[u8],
+    n: usize,
+    zero: &[u8],
+    i: usize,
+    out: &mut [u8],
+    marks: &mut [u8],
+) -> Taken
+    requires { ⌜ now zero ≡ zeroRow (length (now zero)) ⌝ }
+    requires { ⌜ n * length (now zero) ≤ length (now store) ⌝ }
+    requires { ⌜ sound s (length (now zero)) (now store) n ≡ true ⌝ }
+    requires { ⌜ (i < n) × (cellAt s (length (now zero)) (now store) i ≡ held (segAt s (length (now zero)) (now store) i)) ⌝ }
+    requires { ⌜ Opens s (length (now zero)) (now store) n i (now out) ⌝ }
+    ensures { λ r. ⌜ r ≡ toldOf (segAt s (length (now (zero .entry))) (now (store .entry)) i) ⌝ }
+    ensures { λ r. ⌜ now (out .exit) ≡ sets (now (out .entry)) 0 (segAt s (length (now (zero .entry))) (now (store .entry)) i .key ++ bodiesAt s (length (now (zero .entry))) (now (store .entry)) (i ∷ placesFrom s (length (now (zero .entry))) (now (store .entry)) n (segAt s (length (now (zero .entry))) (now (store .entry)) i .key) (suc (segAt s (length (now (zero .entry))) (now (store .entry)) i .counter)))) ⌝ }
+    ensures { λ r. ⌜ now (marks .exit) ≡ marked (now (marks .entry)) (i ∷ placesFrom s (length (now (zero .entry))) (now (store .entry)) n (segAt s (length (now (zero .entry))) (now (store .entry)) i .key) (suc (segAt s (length (now (zero .entry))) (now (store .entry)) i .counter))) ⌝ }
+{
+    let r = cells::row(store, zero.len(), i);
+    let q = cells::packet_in(r);
+    let h = packet::read(s, q);
+    let ids = h.ids;
+    let counter = ids.counter;
+    let stop = h.body;
+    let t = piece_in(s, r);
+    let key = put_key(s, out, q, stop.at);
+    let at = put_body(out, key, r, t);
+    octets::put_octet(marks, i, 1);
+    copy_rest(
+        s,
+        store,
+        n,
+        zero,
+        q,
+        stop.at,
+        counter.0 as u64 + 1,
+        out,
+        at,
+        marks,
+    );
+    Taken {
+        refusal: Refusal { number: 0 },
+        header: h.h,
+        body: 0,
+        counter: counter,
+    }
+}
+
+// The zero cell goes over cell i.
+fn put_zero(store: &mut [u8], i: usize, zero: &[u8])
+    ensures { λ r. ⌜ now (store .exit) ≡ sets (now (store .entry)) (i * length (now (zero .entry))) (now (zero .entry)) ⌝ }
+{
+    let at = octets::place(store.len(), zero.len(), i);
+    octets::copy(store, at, zero);
+}
+
+// The marked ones of the first n cells are made zero.
+fn clear(store: &mut [u8], n: usize, zero: &[u8], marks: &[u8])
+    requires { ⌜ now zero ≡ zeroRow (length (now zero)) ⌝ }
+    ensures { λ r. ⌜ now (store .exit) ≡ clearedTo (λ i. eqb (octetAt (now (marks .entry)) i) 1) (length (now (zero .entry))) n (now (store .entry)) ⌝ }
+{
+    let z = zero.len();
+    let mut i: usize = 0;
+    while i < n {
+        if octets::octet(marks, i) == 1 {
+            put_zero(store, i, zero);
+        }
+        i += 1;
+    }
+}
+
+// The message that opens in cell i, with b octets of body, to the output; just its cells are made zero.
+fn draw(
+    s: Settings,
+    store: &mut [u8],
+    n: usize,
+    zero: &[u8],
+    i: usize,
+    b: usize,
+    out: &mut [u8],
+) -> Taken
+    requires { ⌜ now zero ≡ zeroRow (length (now zero)) ⌝ }
+    requires { ⌜ inOrder s (length (now zero)) (now store) ≡ true ⌝ }
+    requires { ⌜ n ≡ countIn (length (now zero)) (now store) ⌝ }
+    requires { ⌜ i ≡ lowest (opensAt s (length (now zero)) (now store) n) n 0 ⌝ }
+    requires { ⌜ (i < n) × (suc b ≡ answer (picked suc top (cellsOf s (length (now zero)) (now store) n))) ⌝ }
+    requires { ⌜ length (segAt s (length (now zero)) (now store) i .key) + b ≤ length (now out) ⌝ }
+    ensures { λ r. ⌜ r ≡ takenOf (tookIn s (length (now (zero .entry))) (now (store .entry)) n (length (now (out .entry)))) ⌝ }
+    ensures { λ r. ⌜ now (out .exit) ≡ outWith (now (out .entry)) (tookIn s (length (now (zero .entry))) (now (store .entry)) n (length (now (out .entry)))) ⌝ }
+    ensures { λ r. ⌜ now (store .exit) ≡ storeLess s (length (now (zero .entry))) (now (store .entry)) n (tookIn s (length (now (zero .entry))) (now (store .entry)) n (length (now (out .entry)))) ⌝ }
+{
+    let mut marks = [0u8; 4096];
+    let t = copy_message(s, store, n, zero, i, out, &mut marks);
+    let refusal = t.refusal;
+    let counter = t.counter;
+    clear(store, n, zero, &marks);
+    Taken {
+        refusal: refusal,
+        header: t.header,
+        body: b,
+        counter: counter,
+    }
+}
+
+// Taking from the first n cells of a store that is in order.
+pub fn take_in(s: Settings, store: &mut [u8], n: usize, zero: &[u8], out: &mut [u8]) -> Taken
+    requires { ⌜ now zero ≡ zeroRow (length (now zero)) ⌝ }
+    requires { ⌜ inOrder s (length (now zero)) (now store) ≡ true ⌝ }
+    requires { ⌜ n ≡ countIn (length (now zero)) (now store) ⌝ }
+    ensures { λ r. ⌜ r ≡ takenOf (tookIn s (length (now (zero .entry))) (now (store .entry)) n (length (now (out .entry)))) ⌝ }
+    ensures { λ r. ⌜ now (out .exit) ≡ outWith (now (out .entry)) (tookIn s (length (now (zero .entry))) (now (store .entry)) n (length (now (out .entry)))) ⌝ }
+    ensures { λ r. ⌜ now (store .exit) ≡ storeLess s (length (now (zero .entry))) (now (store .entry)) n (tookIn s (length (now (zero .entry))) (now (store .entry)) n (length (now (out .entry)))) ⌝ }
+{
+    let m = pick_message(s, store, n, zero);
+    let cell = m.cell;
+    if m.body == 0 {
+        return not_taken(20);
+    }
+    let b = m.body - 1;
+    let h = packet::read(s, cells::packet_in(cells::row(store, zero.len(), cell)));
+    let long = out.len();
+    if long < 2 {
+        return not_taken(21);
+    }
+    if long - 2 < h.h {
+        return not_taken(21);
+    }
+    if long - 2 - h.h < b {
+        return not_taken(21);
+    }
+    draw(s, store, n, zero, cell, b, out)
+}
+
+// The complete message whose first lies in the lowest cell is taken out.
+pub fn take(s: Settings, store: &mut [u8], out: &mut [u8]) -> Taken
+    ensures { λ r. ⌜ r ≡ takenOf (took s 1024 (now (store .entry)) (length (now (out .entry)))) ⌝ }
+    ensures { λ r. ⌜ now (out .exit) ≡ outWith (now (out .entry)) (took s 1024 (now (store .entry)) (length (now (out .entry)))) ⌝ }
+    ensures { λ r. ⌜ now (store .exit) ≡ storeLess s 1024 (now (store .entry)) (countIn 1024 (now (store .entry))) (took s 1024 (now (store .entry)) (length (now (out .entry)))) ⌝ }
+{
+    let zero = [0u8; CELL];
+    let o = check(s, store, &zero);
+    let refusal = o.refusal;
+    if refusal.number != 0 {
+        return not_taken(refusal.number);
+    }
+    take_in(s, store, o.cells, &zero, out)
 }

@@ -23,6 +23,7 @@ mod case;
 mod cuts;
 mod headers;
 mod input;
+mod joins;
 mod lists;
 mod print;
 mod reads;
@@ -50,6 +51,12 @@ const PACKET: u8 = 6;
 const IN_ORDER: u8 = 7;
 
 const ARRIVE: u8 = 8;
+
+const TAKE: u8 = 9;
+
+const JOIN: u8 = 10;
+
+const VIEW: u8 = 11;
 
 // The sizes of the buffers: input and text are emptied as the run goes, the others hold one case.
 const INPUT: usize = 65536;
@@ -118,6 +125,21 @@ fn run(
     }
     if tag == ARRIVE {
         return stores::arrive(numbers, store, lists::part(strings, ends, 0), answer);
+    }
+    if tag == TAKE {
+        return stores::take(numbers, store, out, answer);
+    }
+    if tag == JOIN {
+        return joins::join(numbers, store, lists::part(strings, ends, 0), out, answer);
+    }
+    if tag == VIEW {
+        return joins::view(
+            numbers,
+            lists::part(strings, ends, 0),
+            lists::part(strings, ends, 1),
+            out,
+            answer,
+        );
     }
     0
 }

@@ -48,3 +48,15 @@ pub fn arrive(numbers: &[u64], store: &mut [u8], packet: &[u8], answer: &mut [u6
         Arrival::Refused(r) => lists::tell2(answer, r.number as u64, 0),
     }
 }
+
+// Answers: the refusal, H, the octets of the body, the first's counter.
+pub fn take(numbers: &[u64], store: &mut [u8], out: &mut [u8], answer: &mut [u64]) -> usize {
+    let got = store::take(settings(numbers), store, out);
+    let refusal = got.refusal;
+    let counter = got.counter;
+    lists::set(answer, 0, refusal.number as u64);
+    lists::set(answer, 1, got.header as u64);
+    lists::set(answer, 2, got.body as u64);
+    lists::set(answer, 3, counter.0 as u64);
+    4
+}

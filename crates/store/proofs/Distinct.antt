@@ -1,23 +1,35 @@
--- Cells apart (S-4): `distinct` holds exactly if no two different cells hold segments with equal key and counter; then `look` finds
--- each segment that is held.
+-- Cells apart (S-4): `distinct` holds exactly if no two different cells hold segments with equal key and counter.
 -- Assumes nothing.
 use Prim.Native.Nat.{ℕ, zero, suc, _<_}
 use mathlib.Core.Path.{_≡_, refl, ap, sym, _∙_}
 use mathlib.Core.Logic.{⊎-elim, _↔_}
 use mathlib.Core.Bool.{Bool, true, false, not}
 use mathlib.Core.List.{List}
-use mathlib.Core.Option.{Option, none, some}
 use native.Mathlib.Omega.{arith}
-use borrow.Author.Tests.{not-true}
-use Rattle.octets.proofs.Lists.{bool, below-or}
+use lib.Dec.{eqb}
+use borrow.Author.Tests.{not-true, eqb-true, eq-eqb}
+use Rattle.octets.specs.Octets.{alike}
+use Rattle.octets.proofs.Lists.{bool, below-or, alike-true, alike-self}
 use Rattle.walk.specs.declared.Settings.{Settings}
 use Rattle.cells.specs.Segments.{Seg, carries}
 use Rattle.cells.specs.Rows.{Cell, free, held, broken}
 use Rattle.cells.specs.Order.{carriesIn, cellAt, allTo, newTo, newAt, distinct}
+use Rattle.cells.proofs.Held.{both-true}
 use Rattle.cells.proofs.Apart.{all-at}
-use Rattle.store.specs.Messages.{cellsOf, look}
-use Rattle.keeping.proofs.Listed.{among-below}
-use Rattle.keeping.proofs.Looking.{carries-true, carries-yes, look-none, look-some}
+
+-- ---- a key and a counter
+
+pub carries-true : (k : List ℕ) (c : ℕ) (t : Seg) → carries k c t ≡ true → (k ≡ t .key) × (c ≡ t .counter)
+unfolding carries
+carries-true k c t e =
+    let a = both-true (eqb c (t .counter)) (alike k (t .key)) e in
+    (alike-true k (t .key) (a .1), eqb-true c (t .counter) (a .0))
+
+pub carries-yes : (k : List ℕ) (c : ℕ) (t : Seg) → k ≡ t .key → c ≡ t .counter → carries k c t ≡ true
+unfolding carries
+carries-yes k c t e d = rw (eq-eqb c (t .counter) d, e) (alike-self (t .key))
+
+-- ---- cells apart
 
 -- what holds of each holds of all
 pub all-to : (f : ℕ → Bool) (n : ℕ) → ((i : ℕ) → i < n → f i ≡ true) → allTo f n ≡ true
@@ -78,23 +90,3 @@ module _ (s : Settings) (Z : ℕ) (st : List ℕ) where
   -- exactly
   pub distinct-exactly : (n : ℕ) → distinct s Z st n ≡ true ↔ Apart s Z st n
   distinct-exactly n = (distinct-apart n, apart-distinct n)
-
-  -- what is held is found
-  pub look-finds : (n : ℕ) → Apart s Z st n → (i : ℕ) (t : Seg) → i < n → cellAt s Z st i ≡ held t → look (cellsOf s Z st n) (t .key) (t .counter) ≡ some t
-  look-finds n h i t l e = go (look (cellsOf s Z st n) (t .key) (t .counter)) refl
-    where
-      clash : carriesIn (t .key) (t .counter) (cellAt s Z st i) ≡ false → none ≡ some t
-      clash a =
-          let b : carries (t .key) (t .counter) t ≡ true = carries-yes (t .key) (t .counter) t refl refl in
-          let d : carries (t .key) (t .counter) t ≡ false = sym (ap (carriesIn (t .key) (t .counter)) e) ∙ a in
-          let z : _≡_ {A = ℕ} 0 1 = cc in absurd (omega arith)
-
-      go : (o : Option Seg) → look (cellsOf s Z st n) (t .key) (t .counter) ≡ o → o ≡ some t
-      go none d = clash (look-none (cellAt s Z st) (t .key) (t .counter) n 0 d i (among-below l))
-      go (some u) d =
-          let a = look-some (cellAt s Z st) (t .key) (t .counter) n 0 u d in
-          let c = carries-true (t .key) (t .counter) u (a .3) in
-          let k : i ≡ a .0 = h i (a .0) t u l (omega (arith, a .1 .top)) e (a .2) (c .0) (c .1) in
-          let f : held t ≡ held u = sym e ∙ ap (cellAt s Z st) k ∙ a .2 in
-          let g : u ≡ t = cc f in
-          ap some g

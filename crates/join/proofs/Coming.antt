@@ -1,0 +1,152 @@
+-- What an arrival and a taking tell a joining: where the body of a packet stands that came whole; and that taking refuses by no
+-- zero, and tells an H that fits its output.
+-- Assumes nothing.
+use Prim.Native.Nat.{ℕ, suc, _+_, _-_, _≤_, _<_}
+use mathlib.Core.Path.{_≡_, refl, ap, sym, _∙_}
+use mathlib.Core.Logic.{_⊎_, inl, inr}
+use mathlib.Core.Bool.{Bool, true, false}
+use mathlib.Core.List.{List}
+use mathlib.Core.Option.{Option, none, some}
+use native.Mathlib.Omega.{arith}
+use lib.ListN.{length, length-append}
+use lib.Dec.{leb, ltb, eqb}
+use borrow.Author.Tests.{eqb-true, leb-true, eq-eqb, ne-eqb}
+use Rattle.octets.specs.Octets.{pick, Octets}
+use Rattle.octets.proofs.Lists.{bool}
+use Rattle.walk.specs.declared.Settings.{Settings}
+use Rattle.walk.specs.Walk.{begun}
+use Rattle.packet.specs.Reading.{readPacket, segmented, counterSize}
+use Rattle.format.proofs.Accepting.{accepted}
+use Rattle.cells.specs.Segments.{Seg, segOf, sameRest}
+use Rattle.cells.specs.Order.{inOrder, countIn}
+use Rattle.store.specs.Messages.{Run, bodyOf, cellsOf, look, picked, top}
+use Rattle.store.specs.Arriving.{whole, stored, again, refused, placed, beside, lowestFree, segmentArrived, arrivedIn, arrived}
+use Rattle.store.specs.Taking.{message, unable, writing, drawn, tookIn, took}
+use Rattle.store.specs.declared.Taken.{Taken}
+use Rattle.store.specs.Told.{refusalOf, takenOf}
+use Rattle.join.specs.declared.Which.the-variants.{Joined as InJoined}
+use Rattle.join.specs.Joining.{bodyFrom, tookAs, unjoined}
+use Rattle.join.specs.Told.{taken, joinedOf}
+use Rattle.join.specs.Inner.{takenAs}
+
+-- ---- whole
+
+module _ (s : Settings) (Z : ℕ) (st p : List ℕ) where
+  -- a segment does not come whole
+  segment-not : (n : ℕ) (t : Seg) → segmentArrived s Z st n t ≡ whole → ⊥
+  unfolding segmentArrived placed
+  segment-not n t e = told (look (cellsOf s Z st n) (t .key) (t .counter)) (ltb (lowestFree s Z st n) n) e
+    where
+      same : (b : Bool) → pick b again (refused 18) ≡ whole → ⊥
+      same true d = let z : _≡_ {A = ℕ} 0 1 = cc in omega arith
+      same false d = let z : _≡_ {A = ℕ} 0 1 = cc in omega arith
+
+      told : (o : Option Seg) (b : Bool) → beside o t (pick b (stored (lowestFree s Z st n)) (refused 19)) ≡ whole → ⊥
+      told none true d = let z : _≡_ {A = ℕ} 0 1 = cc in omega arith
+      told none false d = let z : _≡_ {A = ℕ} 0 1 = cc in omega arith
+      told (some u) b d = same (sameRest u t) d
+
+  whole-in : (n : ℕ) → arrivedIn s Z st n p ≡ whole → (readPacket s p .refusal .number ≡ 0) × (segmented p ≡ false)
+  unfolding arrivedIn
+  whole-in n e =
+      told (bool (eqb (readPacket s p .refusal .number) 0)) (bool (segmented p)) (bool (leb (2 + length p) Z))
+    where
+      told :
+          (eqb (readPacket s p .refusal .number) 0 ≡ true) ⊎ (eqb (readPacket s p .refusal .number) 0 ≡ false) →
+          (segmented p ≡ true) ⊎ (segmented p ≡ false) → (leb (2 + length p) Z ≡ true) ⊎ (leb (2 + length p) Z ≡ false) →
+          (readPacket s p .refusal .number ≡ 0) × (segmented p ≡ false)
+      told (inl a) (inr b) c = (eqb-true _ 0 a, b)
+      told (inl a) (inl b) (inl c) = absurd (segment-not n (segOf p (readPacket s p)) (rw (a, b, c) at e))
+      told (inl a) (inl b) (inr c) = let d : refused 17 ≡ whole = rw (a, b, c) at e in let z : _≡_ {A = ℕ} 0 1 = cc in absurd (omega arith)
+      told (inr a) b c =
+          let d : refused (readPacket s p .refusal .number) ≡ whole = rw a at e in let z : _≡_ {A = ℕ} 0 1 = cc in absurd (omega arith)
+
+  pub whole-tells : arrived s Z st p ≡ whole → (readPacket s p .refusal .number ≡ 0) × (segmented p ≡ false)
+  unfolding arrived
+  whole-tells e = told (eqb (begun s .refusal .number) 0) (inOrder s Z st) e
+    where
+      told :
+          (a b : Bool) → pick a (pick b (arrivedIn s Z st (countIn Z st) p) (refused 16)) (refused 15) ≡ whole →
+          (readPacket s p .refusal .number ≡ 0) × (segmented p ≡ false)
+      told true true d = whole-in (countIn Z st) d
+      told true false d = let z : _≡_ {A = ℕ} 0 1 = cc in absurd (omega arith)
+      told false b d = let z : _≡_ {A = ℕ} 0 1 = cc in absurd (omega arith)
+
+-- the body of an accepted unsegmented packet stands behind 6 + H octets and goes to the packet's end
+pub whole-place :
+    (s : Settings) (p : List ℕ) → Octets p → readPacket s p .refusal .number ≡ 0 → segmented p ≡ false →
+    (readPacket s p .body .at ≡ bodyFrom s p) × (readPacket s p .body .length ≡ length p - bodyFrom s p)
+whole-place s p o z u =
+    let k = accepted s p o z in
+    let c : counterSize p ≡ 0 = ap (λ (b : Bool). pick b 4 0) u in
+    let a : readPacket s p .body .at ≡ bodyFrom s p = omega (arith, k .body-place, c) in
+    (a, omega (arith, k .body-end, a))
+
+-- ---- taking
+
+-- what the code makes of taking's answer
+module _ (t : Taken) where
+  pub as-refused : (t .refusal .number ≡ 0 → ⊥) → joinedOf (unjoined (t .refusal .number)) ≡ takenAs t
+  unfolding takenAs
+  as-refused h =
+      ap (λ (b : Bool). pick b (taken t) (joinedOf (unjoined (t .refusal .number)))) (sym (ne-eqb (t .refusal .number) 0 h))
+
+  pub as-taken :
+      t .refusal .number ≡ 0 →
+      record { refusal = t .refusal; which = InJoined; place = 2 + t .header; length = t .body; header = t .header; body = t .body; counter = t .counter }
+      ≡ takenAs t
+  unfolding takenAs
+  as-taken e =
+      ap (λ (k : ℕ). record { refusal = refusalOf k; which = InJoined; place = 2 + t .header; length = t .body; header = t .header; body = t .body; counter = t .counter }) e
+      ∙ ap (λ (b : Bool). pick b (taken t) (joinedOf (unjoined (t .refusal .number)))) (sym (eq-eqb (t .refusal .number) 0 e))
+
+module _ (long : ℕ) where
+  drawn-as : (o : Option Run) → takenAs (takenOf (drawn o long)) ≡ joinedOf (tookAs (drawn o long))
+  unfolding takenAs
+  drawn-as none = refl
+  drawn-as (some r) = told (leb (length (writing r)) long)
+    where
+      told : (b : Bool) → takenAs (takenOf (pick b (message r) (unable 21))) ≡ joinedOf (tookAs (pick b (message r) (unable 21)))
+      told true = refl
+      told false = refl
+
+  drawn-fits : (o : Option Run) → takenOf (drawn o long) .header ≤ long - 2
+  drawn-fits none = omega arith
+  drawn-fits (some r) = told (leb (length (writing r)) long) refl
+    where
+      told : (b : Bool) → leb (length (writing r)) long ≡ b → takenOf (pick b (message r) (unable 21)) .header ≤ long - 2
+      told true e = omega (arith, leb-true (length (writing r)) long e, length-append (r .head .key) (bodyOf r))
+      told false e = omega arith
+
+  module _ (s : Settings) (Z : ℕ) (x : List ℕ) where
+    -- taking's answer is joining's
+    pub took-as : takenAs (takenOf (took s Z x long)) ≡ joinedOf (tookAs (took s Z x long))
+    unfolding took tookIn takenAs
+    took-as = told (eqb (begun s .refusal .number) 0) (inOrder s Z x)
+      where
+        told :
+            (a b : Bool) →
+            takenAs (takenOf (pick a (pick b (drawn (picked suc top (cellsOf s Z x (countIn Z x))) long) (unable 16)) (unable 15)))
+            ≡ joinedOf (tookAs (pick a (pick b (drawn (picked suc top (cellsOf s Z x (countIn Z x))) long) (unable 16)) (unable 15)))
+        told true true = drawn-as (picked suc top (cellsOf s Z x (countIn Z x)))
+        told true false = refl
+        told false b = refl
+
+    -- H, where it is told, leaves room for the two octets of identification
+    pub took-fits : takenOf (took s Z x long) .header ≤ long - 2
+    unfolding took tookIn
+    took-fits = told (eqb (begun s .refusal .number) 0) (inOrder s Z x)
+      where
+        told :
+            (a b : Bool) →
+            takenOf (pick a (pick b (drawn (picked suc top (cellsOf s Z x (countIn Z x))) long) (unable 16)) (unable 15)) .header
+            ≤ long - 2
+        told true true = drawn-fits (picked suc top (cellsOf s Z x (countIn Z x)))
+        told true false = omega arith
+        told false b = omega arith
+
+-- so the place of the body is a number that an output's length can be
+pub place-fits :
+    (s : Settings) (Z long : ℕ) {x y : List ℕ} {t : Taken} → x ≡ y → t ≡ takenOf (took s Z x long) → long < 18446744073709551616 →
+    t .header < 18446744073709551614
+place-fits s Z long {x} ex e h = omega (arith, took-fits long s Z x, ap (λ (t : Taken). t .header) e)

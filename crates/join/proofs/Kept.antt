@@ -1,0 +1,80 @@
+-- Joining keeps a store in order and as long as it was, so that whoever joins packet after packet pays for the check once.
+-- Assumes nothing.
+use Prim.Native.Nat.{ℕ, _/_}
+use mathlib.Core.Path.{_≡_, refl, ap, sym, _∙_}
+use mathlib.Core.Bool.{Bool, true, false}
+use mathlib.Core.List.{List}
+use native.Mathlib.Omega.{arith}
+use lib.ListN.{length}
+use lib.Seq.{length-sets}
+use lib.Dec.{eqb}
+use Rattle.octets.specs.Octets.{pick}
+use Rattle.walk.specs.declared.Settings.{Settings}
+use Rattle.walk.specs.Walk.{begun}
+use Rattle.cells.specs.Order.{countIn, inOrder}
+use Rattle.store.specs.Arriving.{Arrived, whole, stored, again, refused, arrived, storeWith}
+use Rattle.store.specs.Taking.{Took, message, unable, writing, took, outWith}
+use Rattle.store.specs.Inner.{gate}
+use Rattle.store.proofs.Opening.{opened-order}
+use Rattle.keeping.proofs.Keeps.{arrive-long, arrive-keeps, take-long, take-keeps}
+use Rattle.join.specs.Joining.{lessTaken, storeBy, outBy, storeJoined, outJoined}
+
+-- another store in order, the settings being the same
+pub gate-again : (s : Settings) (Z : ℕ) (st x : List ℕ) → gate s Z st ≡ 0 → inOrder s Z x ≡ true → gate s Z x ≡ 0
+unfolding gate
+gate-again s Z st x g o = told (eqb (begun s .refusal .number) 0) (inOrder s Z st) (inOrder s Z x) g o
+  where
+    told : (a b d : Bool) → _≡_ {A = ℕ} (pick a (pick b 0 16) 15) 0 → d ≡ true → _≡_ {A = ℕ} (pick a (pick d 0 16) 15) 0
+    told true b true e o = refl
+    told true b false e o = let z : _≡_ {A = ℕ} 0 1 = cc in absurd (omega arith)
+    told false b d e o = absurd (omega arith)
+
+-- an output is as long behind a taking as before
+out-long : (out : List ℕ) (t : Took) → length (outWith out t) ≡ length out
+unfolding outWith
+out-long out (message r) = length-sets out 0 (writing r)
+out-long out (unable k) = refl
+
+module _ (s : Settings) (Z : ℕ) (st p : List ℕ) where
+  module _ (long : ℕ) where
+    -- the arrival kept the order, and so does the taking
+    kept-by : (b : Arrived) → inOrder s Z (storeWith Z st p b) ≡ true → inOrder s Z (storeBy s Z st p long b) ≡ true
+    kept-by whole a = a
+    kept-by (stored i) a = take-keeps s Z (storeWith Z st p (stored i)) long a
+    kept-by again a = take-keeps s Z (storeWith Z st p again) long a
+    kept-by (refused k) a = a
+
+    less-long : (x : List ℕ) → length (lessTaken s Z x long) ≡ length x
+    less-long x = take-long Z x s (countIn Z x) (took s Z x long)
+
+    long-by : (b : Arrived) → length (storeBy s Z st p long b) ≡ length (storeWith Z st p b)
+    long-by whole = refl
+    long-by (stored i) = less-long (storeWith Z st p (stored i))
+    long-by again = less-long (storeWith Z st p again)
+    long-by (refused k) = refl
+
+    -- S-9 of joining
+    pub join-keeps : inOrder s Z st ≡ true → inOrder s Z (storeJoined s Z st p long) ≡ true
+    unfolding storeJoined
+    join-keeps w = kept-by (arrived s Z st p) (arrive-keeps s Z st p w)
+
+    pub join-long : length (storeJoined s Z st p long) ≡ length st
+    unfolding storeJoined
+    join-long = long-by (arrived s Z st p) ∙ arrive-long Z st p (arrived s Z st p)
+
+    -- what the next joining asks
+    pub join-gate : gate s Z st ≡ 0 → gate s Z (storeJoined s Z st p long) ≡ 0
+    join-gate g = gate-again s Z st (storeJoined s Z st p long) g (join-keeps (opened-order s Z st g))
+
+    pub join-count : {n : ℕ} → n ≡ countIn Z st → n ≡ countIn Z (storeJoined s Z st p long)
+    join-count e = e ∙ ap (λ (m : ℕ). m / Z) (sym join-long)
+
+  out-by : (out : List ℕ) (b : Arrived) → length (outBy s Z st p out b) ≡ length out
+  out-by out whole = refl
+  out-by out (stored i) = out-long out (took s Z (storeWith Z st p (stored i)) (length out))
+  out-by out again = out-long out (took s Z (storeWith Z st p again) (length out))
+  out-by out (refused k) = refl
+
+  pub join-output-long : (out : List ℕ) → length (outJoined s Z st p out) ≡ length out
+  unfolding outJoined
+  join-output-long out = out-by out (arrived s Z st p)

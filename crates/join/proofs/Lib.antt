@@ -1,0 +1,8 @@
+mod Parts
+mod Coming
+mod Joins
+pub mod Kept
+mod Inner
+mod Calls
+pub mod Views
+pub mod Untouched

@@ -1,0 +1,68 @@
+-- Joining.
+-- Document 01, "Refusal numbers": "Joining is arrival, answering "whole" with the body's place, or else taking's answer. If arrival
+-- refuses, so does joining; if taking refuses, the arrived segment stays stored, and this is the one call where a refusal (20 or 21)
+-- leaves the store changed, by that arrival alone." And "The store": "For a packet that came whole the joining buffer isn't touched
+-- and may be empty."
+-- Assumes nothing: these are definitions.
+use Prim.Native.Nat.{ℕ, _+_, _-_}
+use mathlib.Core.List.{List}
+use lib.ListN.{length}
+use Rattle.walk.specs.declared.Settings.{Settings}
+use Rattle.packet.specs.Reading.{readPacket}
+use Rattle.cells.specs.Order.{countIn}
+use Rattle.store.specs.Messages.{Run}
+use Rattle.store.specs.Arriving.{Arrived, whole, stored, again, refused, arrived, storeWith}
+use Rattle.store.specs.Taking.{Took, message, unable, took, storeLess, outWith}
+
+-- what joining comes to: a body at a place of the arrived packet, with its length; a message that was taken; or a refusal
+pub data Joining : Type 0 where
+  inPacket : ℕ → ℕ → Joining
+  inOutput : Run → Joining
+  unjoined : ℕ → Joining
+
+-- where the body of a packet begins that came whole: behind the primary header and the H octets of the secondary one
+abbrev pub bodyFrom : Settings → List ℕ → ℕ
+bodyFrom s p = 6 + readPacket s p .h
+
+-- taking's answer
+abbrev pub tookAs : Took → Joining
+tookAs (message r) = inOutput r
+tookAs (unable k) = unjoined k
+
+-- the store behind a taking from any octets
+abbrev pub lessTaken : Settings → ℕ → List ℕ → ℕ → List ℕ
+lessTaken s Z x long = storeLess s Z x (countIn Z x) (took s Z x long)
+
+-- by what the arrival comes to: after "stored" and "held" there is a taking from the store behind the arrival; `long` is the
+-- length of the output
+abbrev pub joinedBy : Settings → ℕ → List ℕ → List ℕ → ℕ → Arrived → Joining
+joinedBy s Z st p long whole = inPacket (bodyFrom s p) (length p - bodyFrom s p)
+joinedBy s Z st p long (stored i) = tookAs (took s Z (storeWith Z st p (stored i)) long)
+joinedBy s Z st p long again = tookAs (took s Z (storeWith Z st p again) long)
+joinedBy s Z st p long (refused k) = unjoined k
+
+-- the store then: the arrived segment is in it, and the message that was taken is not
+abbrev pub storeBy : Settings → ℕ → List ℕ → List ℕ → ℕ → Arrived → List ℕ
+storeBy s Z st p long whole = storeWith Z st p whole
+storeBy s Z st p long (stored i) = lessTaken s Z (storeWith Z st p (stored i)) long
+storeBy s Z st p long again = lessTaken s Z (storeWith Z st p again) long
+storeBy s Z st p long (refused k) = storeWith Z st p (refused k)
+
+-- the output then
+abbrev pub outBy : Settings → ℕ → List ℕ → List ℕ → List ℕ → Arrived → List ℕ
+outBy s Z st p out whole = out
+outBy s Z st p out (stored i) = outWith out (took s Z (storeWith Z st p (stored i)) (length out))
+outBy s Z st p out again = outWith out (took s Z (storeWith Z st p again) (length out))
+outBy s Z st p out (refused k) = out
+
+-- a packet p is joined at a store st, with an output of some length
+unfoldable pub joining : Settings → ℕ → List ℕ → List ℕ → ℕ → Joining
+joining s Z st p long = joinedBy s Z st p long (arrived s Z st p)
+
+-- the store behind it
+unfoldable pub storeJoined : Settings → ℕ → List ℕ → List ℕ → ℕ → List ℕ
+storeJoined s Z st p long = storeBy s Z st p long (arrived s Z st p)
+
+-- the output behind it
+unfoldable pub outJoined : Settings → ℕ → List ℕ → List ℕ → List ℕ → List ℕ
+outJoined s Z st p out = outBy s Z st p out (arrived s Z st p)

@@ -1,0 +1,4 @@
+pub mod Viewing
+pub mod Joining
+pub mod Told
+pub mod Inner

@@ -1,0 +1,176 @@
+// Joining: a packet arrives, and where it came whole its body is told, else what is complete is taken out; and the view of a body.
+//
+// Joining tells which buffer holds the body, its place and its length; the view hands that part out, read only. For a packet that
+// came whole neither the store nor the output is touched. If taking refuses, the arrived segment stays in the store.
+ghost use mathlib.Core.Path.{_≡_};
+ghost use Prim.Native.Nat.{_<_};
+ghost use lib.ListN.{length};
+ghost use Rattle.packet.specs.Reading.{readPacket};
+ghost use Rattle.cells.specs.Rows.{zeroRow};
+ghost use Rattle.cells.specs.Order.{countIn};
+ghost use Rattle.store.specs.Inner.{gate};
+ghost use Rattle.join.specs.Viewing.{inside, viewed};
+ghost use Rattle.join.specs.Joining.{unjoined, joining, storeJoined, outJoined};
+ghost use Rattle.join.specs.Told.{joinedOf};
+ghost use Rattle.join.specs.Inner.{refusalIn, bodyIn, takenAs};
+use packet::SegmentCounter;
+use store::Arrival;
+use store::Kind;
+use store::Taken;
+use walk::Refusal;
+use walk::Settings;
+
+// Which buffer holds a body: the packet as it arrived, or the one where it was joined; nothing where there is no body.
+pub enum Which {
+    Packet,
+    Joined,
+    Nothing,
+}
+
+// What joining answers: the buffer, place and length of the body; and H, the octets of the body and the first segment's counter of a
+// message that was taken.
+pub struct Joined {
+    pub refusal: Refusal,
+    pub which: Which,
+    pub place: usize,
+    pub length: usize,
+    pub header: usize,
+    pub body: usize,
+    pub counter: SegmentCounter,
+}
+
+// The part of a buffer at a place, empty where it does not lie inside.
+fn part_inside(x: &[u8], place: usize, long: usize) -> &[u8]
+    ensures { λ r. ⌜ now r ≡ inside (now (x .entry)) place long ⌝ }
+{
+    if x.len() < place {
+        return &x[0..0];
+    }
+    if x.len() - place < long {
+        return &x[0..0];
+    }
+    let to = place + long;
+    &x[place..to]
+}
+
+// The part of the named buffer at a place.
+pub fn view<'a>(
+    packet: &'a [u8],
+    joined: &'a [u8],
+    which: Which,
+    place: usize,
+    long: usize,
+) -> &'a [u8]
+    ensures { λ r. ⌜ now r ≡ viewed which (now (packet .entry)) (now (joined .entry)) place long ⌝ }
+{
+    match which {
+        Which::Packet => part_inside(packet, place, long),
+        Which::Joined => part_inside(joined, place, long),
+        Which::Nothing => &packet[0..0],
+    }
+}
+
+// The one place where a joining is refused.
+fn refused(r: Refusal) -> Joined
+    ensures { λ x. ⌜ x ≡ joinedOf (unjoined (r .number)) ⌝ }
+{
+    Joined {
+        refusal: r,
+        which: Which::Nothing,
+        place: 0,
+        length: 0,
+        header: 0,
+        body: 0,
+        counter: SegmentCounter(0),
+    }
+}
+
+// The refusal of an arrival.
+fn refusal_of(a: Arrival) -> Refusal
+    ensures { λ r. ⌜ r ≡ refusalIn a ⌝ }
+{
+    match a {
+        Arrival::Answer(_) => Refusal { number: 0 },
+        Arrival::Refused(r) => r,
+    }
+}
+
+// The body of a packet that came whole, where it stands.
+fn in_packet(s: Settings, p: &[u8]) -> Joined
+    ensures { λ r. ⌜ r ≡ bodyIn (readPacket s (now (p .entry))) ⌝ }
+{
+    let h = packet::read(s, p);
+    let body = h.body;
+    Joined {
+        refusal: Refusal { number: 0 },
+        which: Which::Packet,
+        place: body.at,
+        length: body.length,
+        header: 0,
+        body: 0,
+        counter: SegmentCounter(0),
+    }
+}
+
+// What taking answered.
+fn in_output(t: Taken) -> Joined
+    requires { ⌜ t .header < 18446744073709551614 ⌝ }
+    ensures { λ r. ⌜ r ≡ takenAs t ⌝ }
+{
+    let refusal = t.refusal;
+    let counter = t.counter;
+    if refusal.number != 0 {
+        return refused(refusal);
+    }
+    Joined {
+        refusal: refusal,
+        which: Which::Joined,
+        place: 2 + t.header,
+        length: t.body,
+        header: t.header,
+        body: t.body,
+        counter: counter,
+    }
+}
+
+// Joining at the n cells of a store whose settings and order were checked.
+pub fn join_in(
+    s: Settings,
+    store: &mut [u8],
+    n: usize,
+    zero: &[u8],
+    p: &[u8],
+    out: &mut [u8],
+) -> Joined
+    requires { ⌜ now zero ≡ zeroRow (length (now zero)) ⌝ }
+    requires { ⌜ gate s (length (now zero)) (now store) ≡ 0 ⌝ }
+    requires { ⌜ n ≡ countIn (length (now zero)) (now store) ⌝ }
+    ensures { λ r. ⌜ r ≡ joinedOf (joining s (length (now (zero .entry))) (now (store .entry)) (now (p .entry)) (length (now (out .entry)))) ⌝ }
+    ensures { λ r. ⌜ now (store .exit) ≡ storeJoined s (length (now (zero .entry))) (now (store .entry)) (now (p .entry)) (length (now (out .entry))) ⌝ }
+    ensures { λ r. ⌜ now (out .exit) ≡ outJoined s (length (now (zero .entry))) (now (store .entry)) (now (p .entry)) (now (out .entry)) ⌝ }
+{
+    let got = store::arrive_in(s, store, n, zero, p);
+    let Arrival::Answer(kind) = got else {
+        return refused(refusal_of(got));
+    };
+    if let Kind::Whole = kind {
+        return in_packet(s, p);
+    }
+    in_output(store::take_in(s, store, n, zero, out))
+}
+
+// A packet arrives; its body is told where it came whole, else the complete message whose first lies in the lowest cell is taken out.
+pub fn join(s: Settings, store: &mut [u8], p: &[u8], out: &mut [u8]) -> Joined
+    ensures { λ r. ⌜ r ≡ joinedOf (joining s 1024 (now (store .entry)) (now (p .entry)) (length (now (out .entry)))) ⌝ }
+    ensures { λ r. ⌜ now (store .exit) ≡ storeJoined s 1024 (now (store .entry)) (now (p .entry)) (length (now (out .entry))) ⌝ }
+    ensures { λ r. ⌜ now (out .exit) ≡ outJoined s 1024 (now (store .entry)) (now (p .entry)) (now (out .entry)) ⌝ }
+{
+    let got = store::arrive(s, store, p);
+    let Arrival::Answer(kind) = got else {
+        return refused(refusal_of(got));
+    };
+    if let Kind::Whole = kind {
+        return in_packet(s, p);
+    }
+    in_output(store::take(s, store, out))
+}
