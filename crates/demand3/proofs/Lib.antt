@@ -14,3 +14,8 @@ pub mod Demand
 pub mod Base
 pub mod Checks
 pub mod Example
+pub mod ReadAs
+pub mod Sents
+pub mod Steps
+pub mod Events
+pub mod Simulates
