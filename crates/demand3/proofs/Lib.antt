@@ -19,3 +19,6 @@ pub mod Sents
 pub mod Steps
 pub mod Events
 pub mod Simulates
+pub mod Carried
+pub mod Delivers
+pub mod Whole

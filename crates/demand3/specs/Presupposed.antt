@@ -70,10 +70,9 @@ module _ (s : Settings) (Z : ℕ) where
 
 -- ---- the store
 
--- T, and the store: "1 to 4,096 of them"
-pub record InUse (s : Settings) (Z n : ℕ) : Type 0 where
+-- "one timestamp length", 1 to 16; "1 to 4,096" cells
+pub record InUse (s : Settings) (n : ℕ) : Type 0 where
   pub settings : SettingsInRange s
-  pub cell : 1 ≤ Z
   pub some : 1 ≤ n
   pub most : n ≤ cellsMost
 

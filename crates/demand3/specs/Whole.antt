@@ -21,6 +21,10 @@ use Rattle.demand3.specs.Calls.{Call, taking, goesOn, outOf, arrivedStor
 use Rattle.demand3.specs.Sendings.{Sending, manyOf, segmentAt, identificationOf, headerOf, keyIn, headerSize, bodySize, startOf, endOf}
 use Rattle.demand3.specs.Presupposed.{InUse, emptyStore, storeBehind, cellsIn, AllCame, MayCome, Traffic, Given, Its, Untaken, Anew}
 
+-- "Cells of 1,024 octets"
+abbrev pub cellSize : ℕ
+cellSize = 1024
+
 module _ (s : Settings) (Z n : ℕ) where
   -- "for one key, there is a first at counter c, a last at d, c < d, and continuations at each number between"
   abbrev pub IsComplete : Sending → List ℕ → Type 0
@@ -90,20 +94,20 @@ module _ (s : Settings) (Z n : ℕ) where
 
 -- demand 3 for cells of Z octets
 abbrev pub WholeDemand3 : ℕ → Type 0
-WholeDemand3 Z = (s : Settings) (n : ℕ) → InUse s Z n → (ms : List Sending) (before since : List Call) → Given s Z n ms (before ++ since) →
+WholeDemand3 Z = (s : Settings) (n : ℕ) → InUse s n → (ms : List Sending) (before since : List Call) → Given s Z n ms (before ++ since) →
     (m : Sending) → List·Memᴰ m ms → Anew s Z n m before → Untaken s Z m (storeBehind s Z n before) since →
     Promise s Z n ms m before since
 
 -- without the room, also where segments were refused since no cell was free: a message is complete only when all its segments have
 -- arrived, and its taking gives the original
 abbrev pub WholeSoundness : ℕ → Type 0
-WholeSoundness Z = (s : Settings) (n : ℕ) → InUse s Z n → (ms : List Sending) (before since : List Call) → Traffic s Z ms (before ++ since) →
+WholeSoundness Z = (s : Settings) (n : ℕ) → InUse s n → (ms : List Sending) (before since : List Call) → Traffic s Z ms (before ++ since) →
     (m : Sending) → List·Memᴰ m ms → Anew s Z n m before →
     (IsComplete s Z n m (storeBehind s Z n (before ++ since)) → AllCame s m since) ×
     Delivery s Z n ms m (storeBehind s Z n (before ++ since))
 
 -- and whatever a call of the run, a taking or a joining, hands out under a message's key is one of the messages of that key, whole
 abbrev pub WholeGenuine : ℕ → Type 0
-WholeGenuine Z = (s : Settings) (n : ℕ) → InUse s Z n → (ms : List Sending) (x y : List Call) (c : Call) → Traffic s Z ms (x ++ c ∷ y) →
+WholeGenuine Z = (s : Settings) (n : ℕ) → InUse s n → (ms : List Sending) (x y : List Call) (c : Call) → Traffic s Z ms (x ++ c ∷ y) →
     (r : Run) → tookBy s Z (storeBehind s Z n x) c ≡ some (message r) → (m : Sending) → List·Memᴰ m ms → r .head .key ≡ keyIn s m →
     (w : Sending) × List·Memᴰ w ms × (keyIn s w ≡ keyIn s m) × Delivers s Z n w (storeAt s Z (storeBehind s Z n x) c) (outOf c)

@@ -1,0 +1,273 @@
+-- Demand 3 over the store's octets, from demand 3 over its cells; and what of it holds without the room.
+-- Assumes nothing.
+use Prim.Native.Nat.{ℕ, suc, _≤_}
+use mathlib.Core.Path.{_≡_, refl, ap, sym, _∙_, subst}
+use mathlib.Core.Logic.{_⊎_, inl, inr}
+use mathlib.Core.Bool.{true}
+use mathlib.Core.Option.{some}
+use mathlib.Core.List.{List, [], _∷_, _++_, map, append-assoc, List·Memᴰ, List·Memᴰ·head, List·Memᴰ·cases-cons, List·Memᴰ·not-nil, Memᴰ·append-left, Memᴰ·append-right, List·Memᴰ·append-cases, Memᴰ·map, Memᴰ·of-map}
+use native.Mathlib.Omega.{arith}
+use lib.ListN.{length}
+use Rattle.octets.specs.Octets.{Octets}
+use Rattle.walk.specs.declared.Settings.{Settings}
+use Rattle.cells.specs.Segments.{Seg}
+use Rattle.cells.specs.Rows.{Cell}
+use Rattle.store.specs.Messages.{Run, top}
+use Rattle.store.specs.Taking.{message, took}
+use Rattle.demand3.specs.Traffic.{Sent, Event, arrives, empty, takenFrom, after, Room as CellRoom}
+use Rattle.demand3.specs.Promise.{Original, Gives, Output, Handed as CellHanded, AllCame as CellAllCame, Untaken as CellUntaken, Delivery as CellDelivery, Promise as CellPromise}
+use Rattle.demand3.specs.Base.{CompleteFrom, Done01, Traffic01}
+use Rattle.demand3.specs.Calls.{Call, arrival, joining, Brings, Handed, outOf, arrivedStore, storeAt, tookBy, storeBy, storeAfter, draws}
+use Rattle.demand3.specs.Sendings.{Sending, keyIn, startOf, endOf, IsCut}
+use Rattle.demand3.specs.Presupposed.{AllCame, MayCome, Traffic, Untaken, InUse, emptyStore, storeBehind, cellsIn, Anew, Given}
+use Rattle.demand3.specs.Whole.{IsComplete, Delivers, Takes, HandsOut, Delivery, Promise, cellSize, WholeDemand3, WholeSoundness, WholeGenuine}
+use Rattle.demand3.proofs.Keeps.{after-append}
+use Rattle.demand3.proofs.Base.{demand3·01, soundness01, genuine01}
+use Rattle.demand3.proofs.Sents.{sentOf, end-is}
+use Rattle.demand3.proofs.Steps.{Kept}
+use Rattle.demand3.proofs.Events.{before, drawing, eventsIn, store-append, outs-append, events-append}
+use Rattle.demand3.proofs.Simulates.{at-keeps, took-by, by-took, run-keeps, run-cells}
+use Rattle.demand3.proofs.Carried.{traffic-of, came-all, all-came, untaken-of, behind-cells, behind-keeps, room-of, anew-of}
+use Rattle.demand3.proofs.Delivers.{delivers, takes-of, hands-of}
+
+-- a packet handed over by some calls or by one more
+handed-more : (l : List Call) (p q : List ℕ) → Handed q (l ++ arrival p ∷ []) → Handed q l ⊎ (q ≡ p)
+handed-more l p q h = go (List·Memᴰ·append-cases l (h .1))
+  where
+    same : arrival p ≡ h .0 → Brings q (h .0) → q ≡ p
+    same e (inl d) = let f : arrival p ≡ arrival q = e ∙ d in cc f
+    same e (inr d) =
+        let f : arrival p ≡ joining q (d .0) = e ∙ d .1 in
+        let z : _≡_ {A = ℕ} 0 1 = cc f in
+        absurd (omega arith)
+
+    only : (h .0 ≡ arrival p) ⊎ List·Memᴰ (h .0) [] → q ≡ p
+    only (inl e) = same (sym e) (h .2)
+    only (inr k) = absurd (List·Memᴰ·not-nil k)
+
+    go : List·Memᴰ (h .0) l ⊎ List·Memᴰ (h .0) (arrival p ∷ []) → Handed q l ⊎ (q ≡ p)
+    go (inl k) = inl (h .0, k, h .2)
+    go (inr k) = inr (only (List·Memᴰ·cases-cons k))
+
+module _ (Z : ℕ) (one : 1 ≤ Z) (s : Settings) (n : ℕ) (u : InUse s n) where
+  abbrev zeros : List ℕ
+  zeros = emptyStore Z n
+
+  -- complete by the cutter's last counter, and by the segments'
+  done-of : (m : Sending) → IsCut s Z m → (l : List Cell) → CompleteFrom l (keyIn s m) (startOf s m) (endOf s m) → Done01 (sentOf s m) l
+  done-of m k l d = subst (CompleteFrom l (keyIn s m) (startOf s m)) (sym (end-is s Z m k)) d
+
+  of-done : (m : Sending) → IsCut s Z m → (l : List Cell) → Done01 (sentOf s m) l → CompleteFrom l (keyIn s m) (startOf s m) (endOf s m)
+  of-done m k l d = subst (CompleteFrom l (keyIn s m) (startOf s m)) (end-is s Z m k) d
+
+  module _ (ms : List Sending) (m : Sending) (h : List·Memᴰ m ms) (first : List Call) (a : Anew s Z n m first) where
+    module _ (since : List Call) where
+      abbrev now : List ℕ
+      now = storeBehind s Z n (first ++ since)
+
+      abbrev es : List Event
+      es = eventsIn s Z zeros first ++ eventsIn s Z (storeBehind s Z n first) since
+
+      events-are : eventsIn s Z zeros (first ++ since) ≡ es
+      events-are = events-append s Z first since zeros
+
+      cells-are : cellsIn s Z n now ≡ after suc top (empty n) es
+      cells-are = behind-cells s Z n one u (first ++ since) ∙ ap (after suc top (empty n)) events-are
+
+      pub kept-now : Kept s Z n now
+      kept-now = behind-keeps s Z n one u (first ++ since)
+
+      module _ (g : Traffic s Z ms (first ++ since)) where
+        pub traffic-now : Traffic01 (map (sentOf s) ms) es
+        traffic-now =
+            traffic-of s Z ms (first ++ since) g zeros es (λ t k. subst (List·Memᴰ (arrives t)) (sym events-are) k)
+
+        -- without the room
+        pub sound-now : (Done01 (sentOf s m) (cellsIn s Z n now) → CellAllCame suc (sentOf s m) (eventsIn s Z (storeBehind s Z n first) since)) ×
+            CellDelivery suc top (Done01 (sentOf s m)) n (sentOf s m) (cellsIn s Z n now)
+        sound-now =
+            subst
+            (λ (l : List Cell). (Done01 (sentOf s m) l → CellAllCame suc (sentOf s m) (eventsIn s Z (storeBehind s Z n first) since)) ×
+            CellDelivery suc top (Done01 (sentOf s m)) n (sentOf s m) l)
+            (sym cells-are)
+            (soundness01 n (map (sentOf s) ms) (eventsIn s Z zeros first) (eventsIn s Z (storeBehind s Z n first) since) traffic-now (sentOf s m)
+            (Memᴰ·map (sentOf s) h) (anew-of s Z n one u m first a))
+
+        -- with it
+        pub promise-now : CellRoom suc top (empty n) (eventsIn s Z zeros (first ++ since)) → Untaken s Z m (storeBehind s Z n first) since →
+            CellPromise suc top (Done01 (sentOf s m)) n (sentOf s m) (eventsIn s Z (storeBehind s Z n first) since) (cellsIn s Z n now)
+        promise-now r w =
+            subst
+            (CellPromise suc top (Done01 (sentOf s m)) n (sentOf s m) (eventsIn s Z (storeBehind s Z n first) since))
+            (sym cells-are)
+            (demand3·01 n (map (sentOf s) ms) (eventsIn s Z zeros first) (eventsIn s Z (storeBehind s Z n first) since)
+            (record { traffic = traffic-now; room = subst (CellRoom suc top (empty n)) events-are r })
+            (sentOf s m) (Memᴰ·map (sentOf s) h) (anew-of s Z n one u m first a)
+            (subst
+            (λ (l : List Cell). CellUntaken suc top (sentOf s m) l (eventsIn s Z (storeBehind s Z n first) since))
+            (behind-cells s Z n one u first)
+            (untaken-of s Z n m (storeBehind s Z n first) since (behind-keeps s Z n one u first) w)))
+
+    -- one packet more
+    traffic-more : (since : List Call) → Traffic s Z ms (first ++ since) → (p : List ℕ) → Octets p → MayCome s Z ms p →
+        Traffic s Z ms (first ++ (since ++ arrival p ∷ []))
+    traffic-more since g p o c =
+        subst (Traffic s Z ms) (append-assoc first since (arrival p ∷ []))
+        (record {
+          cut = g .cut;
+          apart = g .apart;
+          octets = λ q k. octets′ q (handed-more (first ++ since) p q k);
+          packets = λ q k. packets′ q (handed-more (first ++ since) p q k);
+        })
+      where
+        octets′ : (q : List ℕ) → Handed q (first ++ since) ⊎ (q ≡ p) → Octets q
+        octets′ q (inl k) = g .octets q k
+        octets′ q (inr e) = subst Octets (sym e) o
+
+        packets′ : (q : List ℕ) → Handed q (first ++ since) ⊎ (q ≡ p) → MayCome s Z ms q
+        packets′ q (inl k) = g .packets q k
+        packets′ q (inr e) = subst (MayCome s Z ms) (sym e) c
+
+    store-more : (since : List Call) (p : List ℕ) →
+        storeBehind s Z n (first ++ (since ++ arrival p ∷ [])) ≡ arrivedStore s Z (storeBehind s Z n (first ++ since)) p
+    unfolding storeAfter storeBy
+    store-more since p =
+        ap (storeBehind s Z n) (sym (append-assoc first since (arrival p ∷ [])))
+        ∙ store-append s Z (first ++ since) (arrival p ∷ []) zeros
+
+    -- its taking
+    delivery-now : (since : List Call) → Traffic s Z ms (first ++ since) → Delivery s Z n ms m (storeBehind s Z n (first ++ since))
+    delivery-now since g =
+        record {
+          takes = takes-of s Z n m k st kept (v .gives) (v .output);
+          joins = joins′;
+          handed = λ d. hands-of s Z n m k st kept (v .handed (done-of m k (cellsIn s Z n st) d));
+          lasts = lasts′;
+        }
+      where
+        k : IsCut s Z m
+        k = g .cut m h
+
+        st : List ℕ
+        st = storeBehind s Z n (first ++ since)
+
+        kept : Kept s Z n st
+        kept = kept-now since
+
+        v : CellDelivery suc top (Done01 (sentOf s m)) n (sentOf s m) (cellsIn s Z n st)
+        v = sound-now since g .1
+
+        joins′ : (p : List ℕ) → Octets p → MayCome s Z ms p → Takes s Z n m (arrivedStore s Z st p)
+        joins′ p o c =
+            let w = sound-now (since ++ arrival p ∷ []) (traffic-more since g p o c) .1 in
+            subst (Takes s Z n m) (store-more since p)
+            (takes-of s Z n m k (storeBehind s Z n (first ++ (since ++ arrival p ∷ []))) (kept-now (since ++ arrival p ∷ [])) (w .gives) (w .output))
+
+        lasts′ : IsComplete s Z n m st → (more : List Call) → Untaken s Z m st more →
+            IsComplete s Z n m (storeAfter s Z st more) × Takes s Z n m (storeAfter s Z st more) × HandsOut s Z n m (storeAfter s Z st more)
+        lasts′ d more w =
+            let then = storeAfter s Z st more in
+            let kept′ = run-keeps s Z n more st kept in
+            let c = run-cells s Z n more st kept in
+            let x = v .lasts (done-of m k (cellsIn s Z n st) d) (eventsIn s Z st more) (untaken-of s Z n m st more kept w) in (
+              of-done m k (cellsIn s Z n then) (subst (Done01 (sentOf s m)) (sym c) (x .0)),
+              takes-of s Z n m k then kept′ (subst (Gives suc top (sentOf s m)) (sym c) (x .1)) (subst (Output suc top (sentOf s m)) (sym c) (x .2)),
+              hands-of s Z n m k then kept′ (subst (CellHanded suc top n (sentOf s m)) (sym c) (x .3)),
+            )
+
+-- ---- the whole
+
+module _ (Z : ℕ) (one : 1 ≤ Z) where
+  -- demand 3
+  pub whole-demand3 : WholeDemand3 Z
+  whole-demand3 s n u ms first since g m h a w =
+      record {
+        complete = (
+          λ d. all-came s Z ms since (storeBehind s Z n first) m k (v .complete .0 (done-of Z one s n u m k (cellsIn s Z n st) d)),
+          λ f. of-done Z one s n u m k (cellsIn s Z n st)
+              (v .complete .1
+              (came-all s Z ms since (first ++ since) (g .traffic) (λ p x. (x .0, Memᴰ·append-right first (x .1), x .2)) (storeBehind s Z n first) m h f)),
+        );
+        delivery = delivery-now Z one s n u ms m h first a since (g .traffic);
+        stays = λ more. outs-append s Z (first ++ since) more (emptyStore Z n);
+      }
+    where
+      k : IsCut s Z m
+      k = g .traffic .cut m h
+
+      st : List ℕ
+      st = storeBehind s Z n (first ++ since)
+
+      v : CellPromise suc top (Done01 (sentOf s m)) n (sentOf s m) (eventsIn s Z (storeBehind s Z n first) since) (cellsIn s Z n st)
+      v = promise-now Z one s n u ms m h first a since (g .traffic) (room-of s Z n one u (first ++ since) (g .room)) w
+
+  -- without the room
+  pub whole-soundness : WholeSoundness Z
+  whole-soundness s n u ms first since g m h a = (
+    λ d.
+        all-came s Z ms since (storeBehind s Z n first) m (g .cut m h)
+        (sound-now Z one s n u ms m h first a since g .0
+        (done-of Z one s n u m (g .cut m h) (cellsIn s Z n (storeBehind s Z n (first ++ since))) d)),
+    delivery-now Z one s n u ms m h first a since g,
+  )
+
+  -- whatever a call hands out under a message's key is one of the messages, whole
+  pub whole-genuine : WholeGenuine Z
+  unfolding eventsIn
+  whole-genuine s n u ms x y c g r e m h key =
+      let w = genuine01 n (map (sentOf s) ms) es tr (length (outOf c)) r taken (sentOf s m) (Memᴰ·map (sentOf s) h) key in
+      let v = Memᴰ·of-map (sentOf s) ms (w .1) in (
+        v .0,
+        v .1,
+        ap (λ (z : Sent). z .key) (v .2) ∙ w .2,
+        delivers s Z n (v .0) (g .cut (v .0) (v .1)) (storeAt s Z st c) (at-keeps s Z n st kept c) (outOf c) r (b .1)
+            (subst (λ (z : Sent). Original suc z r) (sym (v .2)) (w .3)),
+      )
+    where
+      st : List ℕ
+      st = storeBehind s Z n x
+
+      kept : Kept s Z n st
+      kept = behind-keeps s Z n one u x
+
+      es : List Event
+      es = eventsIn s Z (emptyStore Z n) x ++ before s Z c
+
+      b : (draws s Z st c ≡ true) × (took s Z (storeAt s Z st c) (length (outOf c)) ≡ message r)
+      b = by-took s Z n st kept c r e
+
+      cells-are : after suc top (empty n) es ≡ after suc top (cellsIn s Z n st) (before s Z c)
+      cells-are =
+          after-append suc top (empty n) (eventsIn s Z (emptyStore Z n) x) (before s Z c)
+          ∙ ap (λ (l : List Cell). after suc top l (before s Z c)) (sym (behind-cells s Z n one u x))
+
+      taken : takenFrom suc top (after suc top (empty n) es) (length (outOf c)) ≡ message r
+      taken =
+          let d : takenFrom suc top (after suc top (cellsIn s Z n st) (before s Z c)) (length (outOf c)) ≡ message r =
+          cc (sym (took-by s Z n st kept c (b .0)) ∙ e) in
+          ap (λ (l : List Cell). takenFrom suc top l (length (outOf c))) cells-are ∙ d
+
+      into : (t : Seg) → List·Memᴰ (arrives t) (eventsIn s Z (emptyStore Z n) x) ⊎ List·Memᴰ (arrives t) (before s Z c) →
+          List·Memᴰ (arrives t) (eventsIn s Z (emptyStore Z n) x ++ eventsIn s Z st (c ∷ y))
+      into t (inl k) = Memᴰ·append-left (eventsIn s Z st (c ∷ y)) k
+      into t (inr k) =
+          Memᴰ·append-right (eventsIn s Z (emptyStore Z n) x)
+          (Memᴰ·append-left (eventsIn s Z (storeBy s Z st c) y) (Memᴰ·append-left (drawing s Z (draws s Z st c) c) k))
+
+      tr : Traffic01 (map (sentOf s) ms) es
+      tr =
+          traffic-of s Z ms (x ++ c ∷ y) g (emptyStore Z n) es
+          (λ t k.
+          subst (List·Memᴰ (arrives t)) (sym (events-append s Z x (c ∷ y) (emptyStore Z n)))
+          (into t (List·Memᴰ·append-cases (eventsIn s Z (emptyStore Z n) x) k)))
+
+-- ---- cells of 1,024 octets
+
+pub demand3·whole : WholeDemand3 cellSize
+demand3·whole = whole-demand3 cellSize (omega arith)
+
+pub soundness·whole : WholeSoundness cellSize
+soundness·whole = whole-soundness cellSize (omega arith)
+
+pub genuine·whole : WholeGenuine cellSize
+genuine·whole = whole-genuine cellSize (omega arith)
