@@ -2,34 +2,31 @@
 -- message untaken and told anew.
 -- Assumes nothing.
 use Prim.Native.Nat.{ℕ, suc, _+_, _≤_, _<_}
-use mathlib.Core.Path.{_≡_, refl, ap, sym, _∙_, subst}
+use mathlib.Core.Path.{_≡_, ap, sym, _∙_, subst}
 use mathlib.Core.Logic.{_≢_, _⊎_, inl, inr}
-use mathlib.Core.Bool.{Bool, true, false}
+use mathlib.Core.Bool.{Bool}
 use mathlib.Core.Option.{none, some}
 use mathlib.Core.List.{List, [], _∷_, _++_, map, append-assoc, append-nil, List·Memᴰ, Memᴰ·map, Memᴰ·of-map}
 use native.Mathlib.Omega.{arith}
 use lib.ListN.{length}
-use Rattle.octets.specs.Octets.{pick}
 use Rattle.walk.specs.declared.Settings.{Settings}
-use Rattle.packet.specs.Reading.{readPacket, segmented}
-use Rattle.packet.specs.Key.{keyOf}
 use Rattle.cells.specs.Segments.{Seg, segOf}
 use Rattle.cells.specs.Rows.{Cell}
-use Rattle.store.specs.Messages.{cellsOf, Run, look, top}
-use Rattle.store.specs.Taking.{Took, message}
+use Rattle.store.specs.Messages.{cellsOf, look, top}
+use Rattle.store.specs.Taking.{message}
 use Rattle.keeping.specs.Cells.{hasFree}
 use Rattle.keeping.proofs.Empty.{empty-cells, empty-count, empty-order}
 use Rattle.demand3.specs.Traffic.{Sent, segmentsOf, Event, arrives, takes, empty, takenFrom, after, OneOf, Room as CellRoom}
 use Rattle.demand3.specs.Promise.{Anew as CellAnew, fresh as cell-fresh, retaken as cell-retaken, Untaken as CellUntaken, AllCame as CellAllCame}
 use Rattle.demand3.specs.Base.{final, Traffic01}
-use Rattle.demand3.specs.Calls.{Call, Handed, outOf, draws, storeAfter, tookBy}
+use Rattle.demand3.specs.Calls.{Call, Handed, outOf, storeAfter, tookBy}
 use Rattle.demand3.specs.Sendings.{Sending, ReadsAs, manyOf, segmentAt, keyIn, IsCut}
 use Rattle.demand3.specs.Presupposed.{AllCame, MayCome, own, unsegmented, malformed, over-long, other-keyed, Traffic, Untaken, InUse, emptyStore, storeBehind, Anew, fresh, retaken, Room}
 use Rattle.demand3.proofs.Keeps.{after-append}
 use Rattle.demand3.proofs.ReadAs.{own-fits}
 use Rattle.demand3.proofs.Sents.{sentOf, own-in, in-own, no-wrap}
 use Rattle.demand3.proofs.Steps.{eventOf, event-reads, reads-event, settings-go, Kept}
-use Rattle.demand3.proofs.Events.{before, drawing, eventsBy, eventsIn, events-append, events-one, by-arrives, by-takes, origin}
+use Rattle.demand3.proofs.Events.{before, drawing, eventsIn, events-append, events-one, by-arrives, by-takes, origin}
 use Rattle.demand3.proofs.Simulates.{took-by, by-took, run-keeps, run-cells, handed-in, in-handed}
 
 -- the empty store
@@ -186,7 +183,7 @@ module _ (s : Settings) (Z n : ℕ) where
     anew-of m cs (retaken x c t) =
         let st = storeBehind s Z n x in
         let k = behind-keeps x in
-        let b = by-took s Z n st k c (t .0) (t .1) in
+        let b = by-took s Z st c (t .0) (t .1) in
         let e : takenFrom suc top (after suc top (cellsOf s Z st n) (before s Z c)) (length (outOf c)) ≡ message (t .0) =
         cc (sym (took-by s Z n st k c (b .0)) ∙ t .1) in
         let a : after suc top (cellsOf s Z st n) (before s Z c) ≡ after suc top (empty n) (eventsIn s Z zeros x ++ before s Z c) =

@@ -3,34 +3,36 @@
 -- Assumes nothing.
 use Prim.Native.Nat.{ℕ, suc, _+_, _-_, _≤_, _<_}
 use mathlib.Core.Path.{_≡_, refl, ap, sym, _∙_, subst}
-use mathlib.Core.Logic.{_⊎_, inl, inr}
-use mathlib.Core.Option.{some}
+use mathlib.Core.Bool.{Bool, true}
+use mathlib.Core.Option.{none, some, Option·map}
 use mathlib.Core.List.{List, [], _∷_, _++_, map, List·Memᴰ}
 use native.Mathlib.Omega.{arith}
-use native.Mathlib.Nat.{add-zero, zero-add}
+use native.Mathlib.Nat.{add-zero}
 use lib.ListN.{length, drop, length-append, length-map}
 use lib.Seq.{sets-eq}
+use Rattle.octets.specs.Octets.{pick}
 use Rattle.walk.specs.declared.Settings.{Settings}
 use Rattle.cells.specs.Segments.{Seg}
 use Rattle.cells.specs.Rows.{Cell, held, rowAt, zeroRow}
 use Rattle.cells.specs.Order.{countIn, cellAt}
 use Rattle.store.specs.declared.Taken.{Taken}
-use Rattle.store.specs.Messages.{cellsOf, Run, bodyOf, segments, picked, top}
+use Rattle.store.specs.Messages.{Run, bodyOf, segments, picked, top}
 use Rattle.store.specs.Taking.{Took, message, unable, writing, took, outWith, storeLess}
 use Rattle.store.specs.Told.{refusalOf, takenOf}
+use Rattle.keeping.proofs.Picking.{pick-yes}
 use Rattle.keeping.proofs.Zeroed.{taken-tells, segment-held, zeroed-row, other-row}
 use Rattle.keeping.proofs.Untouched.{unable-same, unable-output}
-use Rattle.demand3.specs.Traffic.{bodyIn, segmentsOf, Event, takes, takenFrom, after}
+use Rattle.demand3.specs.Traffic.{bodyIn, takes, takenFrom, after}
 use Rattle.demand3.specs.Promise.{Original, Gives, Output, LongEnough as CellLongEnough, Handed}
-use Rattle.demand3.specs.Calls.{Call, taking, takenStore, storeAfter}
+use Rattle.demand3.specs.Calls.{Call, taking, outOf, takenStore, draws, storeAt, tookBy, storeBy, outBy, storeAfter}
 use Rattle.demand3.specs.Sendings.{Sending, manyOf, segmentAt, identificationOf, headerOf, keyIn, headerSize, bodySize, startOf, IsCut}
-use Rattle.demand3.specs.Presupposed.{Its, cellsIn}
-use Rattle.demand3.specs.Whole.{Holds, Delivers, Takes, LongEnough, HandsOut}
+use Rattle.demand3.specs.Presupposed.{cellsIn}
+use Rattle.demand3.specs.Whole.{Holds, Delivers, Picks, Takes, HandsOut}
 use Rattle.demand3.proofs.ReadAs.{segment-is-piece}
 use Rattle.demand3.proofs.Sents.{sentOf, own-in, in-own, body-is, key-long}
 use Rattle.demand3.proofs.Steps.{Kept, took-is}
-use Rattle.demand3.proofs.Events.{eventsIn, events-takings}
-use Rattle.demand3.proofs.Simulates.{run-keeps, run-cells}
+use Rattle.demand3.proofs.Events.{events-takings}
+use Rattle.demand3.proofs.Simulates.{by-took, run-keeps, run-cells}
 
 module _ {A B : Type 0} (f : A → B) where
   map-split : (l : List A) (x : List B) (e : B) (y : List B) → map f l ≡ x ++ e ∷ y →
@@ -64,10 +66,17 @@ module _ (s : Settings) (Z n : ℕ) (m : Sending) (k : IsCut s Z m) where
   all-long : length (keyIn s m ++ m .body) ≡ 2 + headerSize s m + bodySize s m
   all-long = length-append (keyIn s m) (m .body) ∙ ap (λ (x : ℕ). x + bodySize s m) (key-long s Z m k)
 
-  module _ (st : List ℕ) (c : Kept s Z n st) where
-    -- a taking of the original
-    pub delivers : (out : List ℕ) (r : Run) → took s Z st (length out) ≡ message r → Original suc (sentOf s m) r → Delivers s Z n m st out
-    delivers out r e o =
+  module _ (st : List ℕ) (c : Call) (kept : Kept s Z n (storeAt s Z st c)) where
+    abbrev at : List ℕ
+    at = storeAt s Z st c
+
+    abbrev long : ℕ
+    long = length (outOf c)
+
+    -- a call that takes the original
+    pub delivers : draws s Z st c ≡ true → (r : Run) → took s Z at long ≡ message r → Original suc (sentOf s m) r → Delivers s Z n m st c
+    unfolding tookBy storeBy outBy
+    delivers d r e o =
         record { told = tells; written = writes; there = held-there; zeroed = zeroes; others = leaves }
       where
         body-same : bodyOf r ≡ m .body
@@ -76,69 +85,85 @@ module _ (s : Settings) (Z n : ℕ) (m : Sending) (k : IsCut s Z m) where
         all-same : writing r ≡ keyIn s m ++ m .body
         all-same = ap (λ (x : List ℕ). x ++ bodyOf r) (o .key) ∙ ap (λ (x : List ℕ). keyIn s m ++ x) body-same
 
-        tells : takenOf (took s Z st (length out)) ≡
-            record { refusal = refusalOf 0; header = headerSize s m; body = bodySize s m; counter = record { 0 = startOf s m } }
+        tells : Option·map takenOf (tookBy s Z st c) ≡
+            some (record { refusal = refusalOf 0; header = headerSize s m; body = bodySize s m; counter = record { 0 = startOf s m } })
         tells =
             let l : length (r .head .key) ≡ 2 + headerSize s m = ap length (o .key) ∙ key-long s Z m k in
             let h : length (r .head .key) - 2 ≡ headerSize s m = omega arith in
-            ap takenOf e ∙ same-taken h (ap length body-same) (o .counter)
+            ap (λ (b : Bool). Option·map takenOf (pick b (some (took s Z at long)) none)) d
+            ∙ ap (λ (x : Took). some (takenOf x)) e
+            ∙ ap some (same-taken h (ap length body-same) (o .counter))
 
-        writes : outWith out (took s Z st (length out)) ≡
-            identificationOf s m ++ headerOf s m ++ m .body ++ drop (2 + headerSize s m + bodySize s m) out
+        writes : outBy s Z st c ≡
+            identificationOf s m ++ headerOf s m ++ m .body ++ drop (2 + headerSize s m + bodySize s m) (outOf c)
         writes =
-            ap (outWith out) e ∙ written-out out (keyIn s m ++ m .body) r all-same (taken-tells s Z st (length out) r e .fits)
-            ∙ ap (λ (x : ℕ). keyIn s m ++ m .body ++ drop x out) all-long
+            pick-yes (draws s Z st c) (outWith (outOf c) (took s Z at long)) (outOf c) d ∙ ap (outWith (outOf c)) e
+            ∙ written-out (outOf c) (keyIn s m ++ m .body) r all-same (taken-tells s Z at long r e .fits)
+            ∙ ap (λ (x : ℕ). keyIn s m ++ m .body ++ drop x (outOf c)) all-long
 
         mine : (i : ℕ) → i < manyOf s m → List·Memᴰ (segmentAt s m i) (segments r)
         mine i l = subst (List·Memᴰ (segmentAt s m i)) (sym (o .own)) (own-in s Z m k i l)
 
-        held-there : (i : ℕ) → i < manyOf s m → (j : ℕ) × (j < n) × (cellAt s Z st j ≡ held (segmentAt s m i))
+        held-there : (i : ℕ) → i < manyOf s m → (j : ℕ) × (j < n) × (cellAt s Z at j ≡ held (segmentAt s m i))
         held-there i l =
-            let v = segment-held s Z st (length out) r e (segmentAt s m i) (mine i l) in
-            (v .0, subst (λ (x : ℕ). v .0 < x) (c .count) (v .1), v .2)
+            let v = segment-held s Z at long r e (segmentAt s m i) (mine i l) in
+            (v .0, subst (λ (x : ℕ). v .0 < x) (kept .count) (v .1), v .2)
 
-        zeroes : (j : ℕ) → j < n → Holds s Z n m st j → rowAt Z (takenStore s Z st (length out)) j ≡ zeroRow Z
+        behind : (j : ℕ) → rowAt Z (storeBy s Z st c) j ≡ rowAt Z (storeLess s Z at (countIn Z at) (message r)) j
+        behind j =
+            ap (λ (x : List ℕ). rowAt Z x j) (pick-yes (draws s Z st c) (takenStore s Z at long) at d)
+            ∙ ap (λ (x : Took). rowAt Z (storeLess s Z at (countIn Z at) x) j) e
+
+        zeroes : (j : ℕ) → j < n → Holds s Z n m at j → rowAt Z (storeBy s Z st c) j ≡ zeroRow Z
         zeroes j l h =
-            ap (λ (x : Took). rowAt Z (storeLess s Z st (countIn Z st) x) j) e
-            ∙ zeroed-row s Z st (length out) r e j (subst (λ (x : ℕ). j < x) (sym (c .count)) l) (segmentAt s m (h .0)) (mine (h .0) (h .1)) (h .2)
+            behind j
+            ∙ zeroed-row s Z at long r e j (subst (λ (x : ℕ). j < x) (sym (kept .count)) l) (segmentAt s m (h .0)) (mine (h .0) (h .1)) (h .2)
 
-        leaves : (j : ℕ) → j < n → (Holds s Z n m st j → ⊥) → rowAt Z (takenStore s Z st (length out)) j ≡ rowAt Z st j
+        leaves : (j : ℕ) → j < n → (Holds s Z n m at j → ⊥) → rowAt Z (storeBy s Z st c) j ≡ rowAt Z at j
         leaves j l f =
-            ap (λ (x : Took). rowAt Z (storeLess s Z st (countIn Z st) x) j) e
-            ∙ other-row s Z st (length out) r e j (subst (λ (x : ℕ). j < x) (sym (c .count)) l)
-            (λ t h d.
+            behind j
+            ∙ other-row s Z at long r e j (subst (λ (x : ℕ). j < x) (sym (kept .count)) l)
+            (λ t h y.
             let v = in-own s Z m k t (subst (List·Memᴰ t) (o .own) h) in
-            f (v .0, v .1, d ∙ ap held (v .2)))
+            f (v .0, v .1, y ∙ ap held (v .2)))
 
     -- a taking at the cells is a taking at the octets
-    pub takes-of : Gives suc top (sentOf s m) (cellsIn s Z n st) → Output suc top (sentOf s m) (cellsIn s Z n st) → Takes s Z n m st
-    takes-of g u = record { gives = given; enough = long; short = brief }
+    pub takes-of : Gives suc top (sentOf s m) (cellsIn s Z n at) → Output suc top (sentOf s m) (cellsIn s Z n at) → Takes s Z n m st c
+    unfolding tookBy storeBy outBy
+    takes-of g u = record { gives = given; enough = plenty; short = brief }
       where
         size : length (keyIn s m) + length (bodyIn (sentOf s m)) ≡ 2 + headerSize s m + bodySize s m
         size = ap (λ (x : List ℕ). length (keyIn s m) + length x) (body-is s Z m k) ∙ ap (λ (x : ℕ). x + bodySize s m) (key-long s Z m k)
 
-        given : (out : List ℕ) (r : Run) → took s Z st (length out) ≡ message r → r .head .key ≡ keyIn s m →
-            (i : ℕ) → i < manyOf s m → r .head .counter ≡ segmentAt s m i .counter → Delivers s Z n m st out
-        given out r e a i l b =
-            delivers out r e
-            (g (length out) r (segmentAt s m i) (sym (took-is s Z n st c (length out)) ∙ e) (own-in s Z m k i l)
+        hit : draws s Z st c ≡ true → (r : Run) → took s Z at long ≡ message r → r .head .key ≡ keyIn s m →
+            (i : ℕ) → i < manyOf s m → r .head .counter ≡ segmentAt s m i .counter → Delivers s Z n m st c
+        hit d r e a i l b =
+            delivers d r e
+            (g long r (segmentAt s m i) (sym (took-is s Z n at kept long) ∙ e) (own-in s Z m k i l)
             (a ∙ sym (ap (λ (t : Seg). t .key) (segment-is-piece s Z m k i l))) b)
 
-        long : (r : Run) → picked suc top (cellsIn s Z n st) ≡ some r → Its s m r → (out : List ℕ) →
-            2 + headerSize s m + bodySize s m ≤ length out → Delivers s Z n m st out
-        long r e i out l =
-            let v = u .enough r e i (length out) (omega (arith, size)) in
+        given : (r : Run) → tookBy s Z st c ≡ some (message r) → r .head .key ≡ keyIn s m →
+            (i : ℕ) → i < manyOf s m → r .head .counter ≡ segmentAt s m i .counter → Delivers s Z n m st c
+        given r e = let b = by-took s Z st c r e in hit (b .0) r (b .1)
+
+        plenty : Picks s Z n m st c → 2 + headerSize s m + bodySize s m ≤ length (outOf c) → Delivers s Z n m st c
+        plenty p l =
+            let r = p .1 .0 in
+            let i = p .1 .2 in
+            let v = u .enough r (p .1 .1) i long (omega (arith, size)) in
             let z : 0 < manyOf s m = omega (arith, k .many) in
-            given out r (took-is s Z n st c (length out) ∙ v .0) (i .0) 0 z
+            hit (p .0) r (took-is s Z n at kept long ∙ v .0) (i .0) 0 z
             (i .1 ∙ sym (add-zero (startOf s m)) ∙ sym (ap (λ (t : Seg). t .counter) (segment-is-piece s Z m k 0 z)))
 
-        brief : (r : Run) → picked suc top (cellsIn s Z n st) ≡ some r → Its s m r → (out : List ℕ) →
-            length out < 2 + headerSize s m + bodySize s m →
-            (took s Z st (length out) ≡ unable 21) × (takenStore s Z st (length out) ≡ st) × (outWith out (took s Z st (length out)) ≡ out)
-        brief r e i out l =
-            let v = u .short r e i (length out) (omega (arith, size)) in
-            let w = took-is s Z n st c (length out) ∙ v .0 in
-            (w, unable-same s Z st (length out) 21 w, unable-output s Z st out (length out) 21 w)
+        brief : Picks s Z n m st c → length (outOf c) < 2 + headerSize s m + bodySize s m →
+            (tookBy s Z st c ≡ some (unable 21)) × (storeBy s Z st c ≡ at) × (outBy s Z st c ≡ outOf c)
+        brief p l =
+            let v = u .short (p .1 .0) (p .1 .1) (p .1 .2) long (omega (arith, size)) in
+            let w = took-is s Z n at kept long ∙ v .0 in (
+              pick-yes (draws s Z st c) (some (took s Z at long)) none (p .0) ∙ ap some w,
+              pick-yes (draws s Z st c) (takenStore s Z at long) at (p .0) ∙ unable-same s Z at long 21 w,
+              pick-yes (draws s Z st c) (outWith (outOf c) (took s Z at long)) (outOf c) (p .0) ∙ unable-output s Z at (outOf c) long 21 w,
+            )
 
   -- ---- takings one after the other
 
@@ -162,7 +187,7 @@ module _ (s : Settings) (Z n : ℕ) (m : Sending) (k : IsCut s Z m) where
         finish : ((x : List ℕ) × (long : ℕ) × (y : List ℕ) × (map length outs ≡ x ++ long ∷ y) ×
             ((r : Run) × (takenFrom suc top (after suc top (cellsIn s Z n st) (map takes x)) long ≡ message r) × Original suc (sentOf s m) r)) →
             (x : List (List ℕ)) × (out : List ℕ) × (y : List (List ℕ)) × (outs ≡ x ++ out ∷ y) ×
-            Delivers s Z n m (storeAfter s Z st (map taking x)) out
+            Delivers s Z n m (storeAfter s Z st (map taking x)) (taking out)
         finish a =
             let v = map-split length outs (a .0) (a .1) (a .2) (a .3) in
             let there = storeAfter s Z st (map taking (v .0)) in
@@ -173,4 +198,4 @@ module _ (s : Settings) (Z n : ℕ) (m : Sending) (k : IsCut s Z m) where
             took-is s Z n there kept (length (v .1)) ∙ ap (λ (z : List Cell). takenFrom suc top z (length (v .1))) w
             ∙ ap (takenFrom suc top (after suc top (cellsIn s Z n st) (map takes (a .0)))) (v .5)
             ∙ a .4 .1 in
-            (v .0, v .1, v .2, v .3, delivers there kept (v .1) (a .4 .0) t (a .4 .2))
+            (v .0, v .1, v .2, v .3, delivers there (taking (v .1)) kept refl (a .4 .0) t (a .4 .2))

@@ -19,7 +19,7 @@ use Rattle.demand3.proofs.Steps.{eventOf, event-no-take}
 
 module _ {A : Type 0} where
   -- where a thing in a list of two lists stands
-  append-split : (a b p : List A) (e : A) (q : List A) → a ++ b ≡ p ++ e ∷ q →
+  pub append-split : (a b p : List A) (e : A) (q : List A) → a ++ b ≡ p ++ e ∷ q →
       ((v : List A) × (a ≡ p ++ e ∷ v)) ⊎ ((w : List A) × (p ≡ a ++ w) × (b ≡ w ++ e ∷ q))
   append-split [] b p e q h = inr (p, refl, h)
   append-split (x ∷ a) b [] e q h = inl (a, let z : x ≡ e = cc in ap (λ (y : A). y ∷ a) z)
@@ -33,7 +33,7 @@ module _ {A : Type 0} where
       go z (inl v) = inl (v .0, cc (z, v .1))
       go z (inr w) = inr (w .0, cc (z, w .1), w .2)
 
-  one-split : (x e : A) (u v : List A) → x ∷ [] ≡ u ++ e ∷ v → (u ≡ []) × (x ≡ e)
+  pub one-split : (x e : A) (u v : List A) → x ∷ [] ≡ u ++ e ∷ v → (u ≡ []) × (x ≡ e)
   one-split x e [] v h = (refl, cc)
   one-split x e (y ∷ []) v h = let z : _≡_ {A = ℕ} 0 1 = cc in absurd (omega arith)
   one-split x e (y ∷ w ∷ u) v h = let z : _≡_ {A = ℕ} 0 1 = cc in absurd (omega arith)

@@ -2,7 +2,7 @@
 -- message's key, the counter `start + i`, the flags and part i of the body. A packet that reads as a segment is as long as that
 -- segment's own packet.
 -- Assumes nothing.
-use Prim.Native.Nat.{ℕ, _+_, _-_, _≤_, _<_, min}
+use Prim.Native.Nat.{ℕ, _+_, _-_, _≤_, _<_}
 use mathlib.Core.Path.{_≡_, refl, ap, sym, _∙_}
 use mathlib.Core.Logic.{⊎-elim}
 use mathlib.Core.Bool.{Bool, true, false, not}
@@ -13,22 +13,20 @@ use borrow.Author.Tests.{eq-eqb}
 use Rattle.octets.specs.Octets.{pick, part, Octets}
 use Rattle.octets.proofs.Lists.{bool}
 use Rattle.walk.specs.declared.Settings.{Settings}
-use Rattle.packet.specs.Format.{Values, segment, identification, counterOctets, headerOctets, secondaryOctets, dataOctets, octetsOf, packetMost, InRange}
+use Rattle.packet.specs.Format.{Values, segment, identification, counterOctets, headerOctets, secondaryOctets, dataOctets, octetsOf, InRange}
 use Rattle.packet.specs.Reading.{readPacket, segmented, counterSize}
 use Rattle.packet.specs.Key.{keyOf}
 use Rattle.format.specs.Told.{valuesOf}
 use Rattle.format.proofs.TwoWay.{writes-octets, reads-back}
 use Rattle.format.proofs.Frame.{identification-long, packet-long}
 use Rattle.format.proofs.Accepting.{accepted, written}
-use Rattle.write.specs.Given.{headOf}
-use Rattle.write.specs.Writing.{fine}
 use Rattle.cut.specs.Sending.{counterAt}
-use Rattle.cut.specs.Cutting.{single, packets, headerLength, countRefusal, countAnswer, flagsAt, bodyAt, packetAt, givenAt}
+use Rattle.cut.specs.Cutting.{single, packets, countRefusal, countAnswer, flagsAt, bodyAt, packetAt, givenAt}
 use Rattle.fewest.specs.Runs.{place}
 use Rattle.fewest.proofs.Parts.{packets-one}
 use Rattle.fewest.proofs.Numbers.{Starts, segment-is, counter-of, counters, packet-range}
 use Rattle.cells.specs.Segments.{Seg, segOf}
-use Rattle.demand3.specs.Sendings.{Sending, recounted, ReadsAs, countOf, manyOf, packetOf, packetWith, segmentAt, keyIn, headerSize, bodySize, startOf, IsCut}
+use Rattle.demand3.specs.Sendings.{Sending, recounted, ReadsAs, manyOf, packetOf, packetWith, segmentAt, keyIn, headerSize, bodySize, startOf, IsCut}
 
 -- ---- what reading tells of written values
 

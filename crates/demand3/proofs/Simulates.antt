@@ -5,8 +5,8 @@ use Prim.Native.Nat.{ℕ, suc}
 use mathlib.Core.Path.{_≡_, refl, ap, sym, _∙_}
 use mathlib.Core.Logic.{_⊎_, inl, inr}
 use mathlib.Core.Bool.{Bool, true, false}
-use mathlib.Core.Option.{Option, none, some}
-use mathlib.Core.List.{List, [], _∷_, _++_, append-nil, List·Memᴰ, List·Memᴰ·head, List·Memᴰ·tail, List·Memᴰ·cases-cons, List·Memᴰ·not-nil, Memᴰ·append-left, Memᴰ·append-right, List·Memᴰ·append-cases}
+use mathlib.Core.Option.{none, some}
+use mathlib.Core.List.{List, [], _∷_, _++_, List·Memᴰ, List·Memᴰ·head, List·Memᴰ·tail, List·Memᴰ·cases-cons, List·Memᴰ·not-nil, Memᴰ·append-left, Memᴰ·append-right, List·Memᴰ·append-cases}
 use native.Mathlib.Omega.{arith}
 use lib.ListN.{length}
 use Rattle.octets.specs.Octets.{pick}
@@ -14,12 +14,23 @@ use Rattle.walk.specs.declared.Settings.{Settings}
 use Rattle.cells.specs.Segments.{Seg}
 use Rattle.cells.specs.Rows.{Cell}
 use Rattle.store.specs.Messages.{cellsOf, Run, top}
-use Rattle.store.specs.Taking.{Took, message, took}
+use Rattle.store.specs.Taking.{message, took}
 use Rattle.demand3.specs.Traffic.{Event, arrives, takes, takenFrom, stepped, after}
 use Rattle.demand3.specs.Calls.{Call, arrival, taking, joining, Brings, Handed, outOf, takenStore, draws, storeAt, tookBy, storeBy, storeAfter}
 use Rattle.demand3.proofs.Keeps.{after-append}
 use Rattle.demand3.proofs.Steps.{eventOf, Kept, arrival-cells, arrival-keeps, took-is, taking-cells, taking-keeps}
 use Rattle.demand3.proofs.Events.{before, drawing, eventsBy, eventsIn}
+
+-- a call that takes a message
+pub by-took : (s : Settings) (Z : ℕ) (st : List ℕ) (c : Call) (r : Run) → tookBy s Z st c ≡ some (message r) →
+    (draws s Z st c ≡ true) × (took s Z (storeAt s Z st c) (length (outOf c)) ≡ message r)
+unfolding tookBy
+by-took s Z st c r e = go (draws s Z st c) e
+  where
+    go : (b : Bool) → pick b (some (took s Z (storeAt s Z st c) (length (outOf c)))) none ≡ some (message r) →
+        (b ≡ true) × (took s Z (storeAt s Z st c) (length (outOf c)) ≡ message r)
+    go true d = (refl, cc)
+    go false d = let z : _≡_ {A = ℕ} 0 1 = cc in absurd (omega arith)
 
 module _ (s : Settings) (Z n : ℕ) where
   -- ---- one call
@@ -49,17 +60,6 @@ module _ (s : Settings) (Z n : ℕ) where
         ∙ ap some
         (took-is s Z n (storeAt s Z st c) (at-keeps c) (length (outOf c))
         ∙ ap (λ (x : List Cell). takenFrom suc top x (length (outOf c))) (at-cells c))
-
-    -- where it takes a message
-    pub by-took : (c : Call) (r : Run) → tookBy s Z st c ≡ some (message r) →
-        (draws s Z st c ≡ true) × (took s Z (storeAt s Z st c) (length (outOf c)) ≡ message r)
-    unfolding tookBy
-    by-took c r e = go (draws s Z st c) e
-      where
-        go : (b : Bool) → pick b (some (took s Z (storeAt s Z st c) (length (outOf c)))) none ≡ some (message r) →
-            (b ≡ true) × (took s Z (storeAt s Z st c) (length (outOf c)) ≡ message r)
-        go true d = (refl, cc)
-        go false d = let z : _≡_ {A = ℕ} 0 1 = cc in absurd (omega arith)
 
     pub by-keeps : (c : Call) → Kept s Z n (storeBy s Z st c)
     unfolding storeBy

@@ -1,7 +1,7 @@
 -- A call on a store's octets is an event of its cells: a packet that may be held arrives as its segment, any other passes, a taking
 -- takes. A store in order stays in order, with as many cells.
 -- Assumes nothing.
-use Prim.Native.Nat.{ℕ, suc, _+_, _*_, _/_, _≤_, _<_}
+use Prim.Native.Nat.{ℕ, suc, _+_, _*_, _/_, _≤_}
 use mathlib.Core.Path.{_≡_, refl, ap, sym, _∙_, subst}
 use mathlib.Core.Logic.{_⊎_, inl, inr}
 use mathlib.Core.Bool.{Bool, true, false}
@@ -17,14 +17,14 @@ use Rattle.walk.specs.declared.Settings.{Settings}
 use Rattle.walk.specs.Walk.{timestampLeast, timestampMost, check, begun}
 use Rattle.packet.specs.Format.{SettingsInRange}
 use Rattle.packet.specs.Reading.{readPacket, segmented}
-use Rattle.cells.specs.Segments.{Seg, segOf, both, sameRest}
+use Rattle.cells.specs.Segments.{Seg, both, sameRest}
 use Rattle.cells.specs.Rows.{Cell, mayHold}
 use Rattle.cells.specs.Order.{inOrder, countIn}
 use Rattle.cells.proofs.Held.{both-true}
 use Rattle.store.specs.Messages.{cellsOf, look, top}
 use Rattle.store.specs.Arriving.{Arrived, whole, stored, again, refused, placed, beside, lowestFree, segmentArrived, arrivedIn, arrived, storeWith}
 use Rattle.store.specs.Taking.{Took, message, unable, tookIn, took, storeLess}
-use Rattle.keeping.specs.Cells.{put, hasFree}
+use Rattle.keeping.specs.Cells.{put}
 use Rattle.keeping.proofs.Picking.{pick-yes}
 use Rattle.keeping.proofs.Order.{cells-inside}
 use Rattle.keeping.proofs.After.{segment, cells-stored, has-free, cells-taken}

@@ -4,28 +4,28 @@ use Prim.Native.Nat.{ℕ, suc, _≤_}
 use mathlib.Core.Path.{_≡_, refl, ap, sym, _∙_, subst}
 use mathlib.Core.Logic.{_⊎_, inl, inr}
 use mathlib.Core.Bool.{true}
-use mathlib.Core.Option.{some}
-use mathlib.Core.List.{List, [], _∷_, _++_, map, append-assoc, List·Memᴰ, List·Memᴰ·head, List·Memᴰ·cases-cons, List·Memᴰ·not-nil, Memᴰ·append-left, Memᴰ·append-right, List·Memᴰ·append-cases, Memᴰ·map, Memᴰ·of-map}
+use mathlib.Core.Option.{none, some}
+use mathlib.Core.List.{List, [], _∷_, _++_, map, append-assoc, List·Memᴰ, List·Memᴰ·cases-cons, List·Memᴰ·not-nil, Memᴰ·append-left, Memᴰ·append-right, List·Memᴰ·append-cases, Memᴰ·map, Memᴰ·of-map}
 use native.Mathlib.Omega.{arith}
 use lib.ListN.{length}
 use Rattle.octets.specs.Octets.{Octets}
 use Rattle.walk.specs.declared.Settings.{Settings}
 use Rattle.cells.specs.Segments.{Seg}
 use Rattle.cells.specs.Rows.{Cell}
-use Rattle.store.specs.Messages.{Run, top}
+use Rattle.store.specs.Messages.{top}
 use Rattle.store.specs.Taking.{message, took}
 use Rattle.demand3.specs.Traffic.{Sent, Event, arrives, empty, takenFrom, after, Room as CellRoom}
 use Rattle.demand3.specs.Promise.{Original, Gives, Output, Handed as CellHanded, AllCame as CellAllCame, Untaken as CellUntaken, Delivery as CellDelivery, Promise as CellPromise}
 use Rattle.demand3.specs.Base.{CompleteFrom, Done01, Traffic01}
-use Rattle.demand3.specs.Calls.{Call, arrival, joining, Brings, Handed, outOf, arrivedStore, storeAt, tookBy, storeBy, storeAfter, draws}
+use Rattle.demand3.specs.Calls.{Call, arrival, taking, joining, Brings, Handed, outOf, arrivedStore, storeAt, tookBy, storeBy, storeAfter, draws}
 use Rattle.demand3.specs.Sendings.{Sending, keyIn, startOf, endOf, IsCut}
-use Rattle.demand3.specs.Presupposed.{AllCame, MayCome, Traffic, Untaken, InUse, emptyStore, storeBehind, cellsIn, Anew, Given}
-use Rattle.demand3.specs.Whole.{IsComplete, Delivers, Takes, HandsOut, Delivery, Promise, cellSize, WholeDemand3, WholeSoundness, WholeGenuine}
+use Rattle.demand3.specs.Presupposed.{MayCome, Traffic, Untaken, InUse, emptyStore, storeBehind, cellsIn, Anew}
+use Rattle.demand3.specs.Whole.{IsComplete, Takes, HandsOut, Delivery, cellSize, WholeDemand3, WholeSoundness, WholeGenuine}
 use Rattle.demand3.proofs.Keeps.{after-append}
 use Rattle.demand3.proofs.Base.{demand3·01, soundness01, genuine01}
 use Rattle.demand3.proofs.Sents.{sentOf, end-is}
 use Rattle.demand3.proofs.Steps.{Kept}
-use Rattle.demand3.proofs.Events.{before, drawing, eventsIn, store-append, outs-append, events-append}
+use Rattle.demand3.proofs.Events.{append-split, one-split, before, drawing, eventsIn, store-append, outs-append, events-append}
 use Rattle.demand3.proofs.Simulates.{at-keeps, took-by, by-took, run-keeps, run-cells}
 use Rattle.demand3.proofs.Carried.{traffic-of, came-all, all-came, untaken-of, behind-cells, behind-keeps, room-of, anew-of}
 use Rattle.demand3.proofs.Delivers.{delivers, takes-of, hands-of}
@@ -48,6 +48,28 @@ handed-more l p q h = go (List·Memᴰ·append-cases l (h .1))
     go : List·Memᴰ (h .0) l ⊎ List·Memᴰ (h .0) (arrival p ∷ []) → Handed q l ⊎ (q ≡ p)
     go (inl k) = inl (h .0, k, h .2)
     go (inr k) = inr (only (List·Memᴰ·cases-cons k))
+
+-- the store behind one arrival more
+arrived-more : (s : Settings) (Z : ℕ) (st : List ℕ) (l : List Call) (p : List ℕ) →
+    storeAfter s Z st (l ++ arrival p ∷ []) ≡ arrivedStore s Z (storeAfter s Z st l) p
+unfolding storeAfter storeBy
+arrived-more s Z st l p = store-append s Z l (arrival p ∷ []) st
+
+-- which takes nothing
+untaken-more : (s : Settings) (Z : ℕ) (m : Sending) (st : List ℕ) (l : List Call) (p : List ℕ) → Untaken s Z m st l →
+    Untaken s Z m st (l ++ arrival p ∷ [])
+unfolding tookBy
+untaken-more s Z m st l p u x y c e t = go (append-split l (arrival p ∷ []) x c y e)
+  where
+    nothing : (c′ : Call) → arrival p ≡ c′ → tookBy s Z (storeAfter s Z st x) c′ ≡ some (message (t .0)) → ⊥
+    nothing c′ d f =
+        let g : none ≡ some (message (t .0)) = ap (tookBy s Z (storeAfter s Z st x)) d ∙ f in
+        let z : _≡_ {A = ℕ} 0 1 = cc g in
+        omega arith
+
+    go : ((v : List Call) × (l ≡ x ++ c ∷ v)) ⊎ ((w : List Call) × (x ≡ l ++ w) × (arrival p ∷ [] ≡ w ++ c ∷ y)) → ⊥
+    go (inl v) = u x (v .0) c (v .1) t
+    go (inr w) = nothing c (one-split (arrival p) c (w .0) y (w .2) .1) (t .1)
 
 module _ (Z : ℕ) (one : 1 ≤ Z) (s : Settings) (n : ℕ) (u : InUse s n) where
   abbrev zeros : List ℕ
@@ -130,17 +152,14 @@ module _ (Z : ℕ) (one : 1 ≤ Z) (s : Settings) (n : ℕ) (u : InUse s n) wher
 
     store-more : (since : List Call) (p : List ℕ) →
         storeBehind s Z n (first ++ (since ++ arrival p ∷ [])) ≡ arrivedStore s Z (storeBehind s Z n (first ++ since)) p
-    unfolding storeAfter storeBy
     store-more since p =
-        ap (storeBehind s Z n) (sym (append-assoc first since (arrival p ∷ [])))
-        ∙ store-append s Z (first ++ since) (arrival p ∷ []) zeros
+        ap (storeBehind s Z n) (sym (append-assoc first since (arrival p ∷ []))) ∙ arrived-more s Z zeros (first ++ since) p
 
     -- its taking
     delivery-now : (since : List Call) → Traffic s Z ms (first ++ since) → Delivery s Z n ms m (storeBehind s Z n (first ++ since))
     delivery-now since g =
         record {
-          takes = takes-of s Z n m k st kept (v .gives) (v .output);
-          joins = joins′;
+          takes = takes′;
           handed = λ d. hands-of s Z n m k st kept (v .handed (done-of m k (cellsIn s Z n st) d));
           lasts = lasts′;
         }
@@ -157,22 +176,64 @@ module _ (Z : ℕ) (one : 1 ≤ Z) (s : Settings) (n : ℕ) (u : InUse s n) wher
         v : CellDelivery suc top (Done01 (sentOf s m)) n (sentOf s m) (cellsIn s Z n st)
         v = sound-now since g .1
 
-        joins′ : (p : List ℕ) → Octets p → MayCome s Z ms p → Takes s Z n m (arrivedStore s Z st p)
-        joins′ p o c =
-            let w = sound-now (since ++ arrival p ∷ []) (traffic-more since g p o c) .1 in
-            subst (Takes s Z n m) (store-more since p)
-            (takes-of s Z n m k (storeBehind s Z n (first ++ (since ++ arrival p ∷ []))) (kept-now (since ++ arrival p ∷ [])) (w .gives) (w .output))
+        -- behind one packet more
+        more-takes : (p : List ℕ) → Octets p × MayCome s Z ms p →
+            Gives suc top (sentOf s m) (cellsIn s Z n (arrivedStore s Z st p)) × Output suc top (sentOf s m) (cellsIn s Z n (arrivedStore s Z st p))
+        more-takes p o =
+            let w = sound-now (since ++ arrival p ∷ []) (traffic-more since g p (o .0) (o .1)) .1 in
+            subst (λ (x : List ℕ). Gives suc top (sentOf s m) (cellsIn s Z n x) × Output suc top (sentOf s m) (cellsIn s Z n x))
+            (store-more since p) (w .gives, w .output)
+
+        takes′ : (c : Call) → ((p : List ℕ) → Brings p c → Octets p × MayCome s Z ms p) → Takes s Z n m st c
+        takes′ (arrival p) f =
+            let w = more-takes p (f p (inl refl)) in
+            takes-of s Z n m k st (arrival p) (at-keeps s Z n st kept (arrival p)) (w .0) (w .1)
+        takes′ (taking out) f = takes-of s Z n m k st (taking out) kept (v .gives) (v .output)
+        takes′ (joining p out) f =
+            let w = more-takes p (f p (inr (out, refl))) in
+            takes-of s Z n m k st (joining p out) (at-keeps s Z n st kept (joining p out)) (w .0) (w .1)
+
+        -- behind more calls
+        done-then : IsComplete s Z n m st → (more : List Call) → Untaken s Z m st more →
+            Done01 (sentOf s m) (cellsIn s Z n (storeAfter s Z st more)) × Gives suc top (sentOf s m) (cellsIn s Z n (storeAfter s Z st more)) ×
+            Output suc top (sentOf s m) (cellsIn s Z n (storeAfter s Z st more)) ×
+            CellHanded suc top n (sentOf s m) (cellsIn s Z n (storeAfter s Z st more))
+        done-then d more w =
+            subst
+            (λ (l : List Cell). Done01 (sentOf s m) l × Gives suc top (sentOf s m) l × Output suc top (sentOf s m) l ×
+            CellHanded suc top n (sentOf s m) l)
+            (sym (run-cells s Z n more st kept))
+            (v .lasts (done-of m k (cellsIn s Z n st) d) (eventsIn s Z st more) (untaken-of s Z n m st more kept w))
+
+        takes-then : IsComplete s Z n m st → (more : List Call) → Untaken s Z m st more → (c : Call) → Takes s Z n m (storeAfter s Z st more) c
+        takes-then d more w c =
+            let then = storeAfter s Z st more in
+            let x = at-then c in
+            takes-of s Z n m k then c (at-keeps s Z n then (run-keeps s Z n more st kept) c) (x .0) (x .1)
+          where
+            with-packet : (p : List ℕ) →
+                Gives suc top (sentOf s m) (cellsIn s Z n (arrivedStore s Z (storeAfter s Z st more) p)) ×
+                Output suc top (sentOf s m) (cellsIn s Z n (arrivedStore s Z (storeAfter s Z st more) p))
+            with-packet p =
+                let y = done-then d (more ++ arrival p ∷ []) (untaken-more s Z m st more p w) in
+                subst (λ (x : List ℕ). Gives suc top (sentOf s m) (cellsIn s Z n x) × Output suc top (sentOf s m) (cellsIn s Z n x))
+                (arrived-more s Z st more p) (y .1, y .2)
+
+            at-then : (c′ : Call) →
+                Gives suc top (sentOf s m) (cellsIn s Z n (storeAt s Z (storeAfter s Z st more) c′)) ×
+                Output suc top (sentOf s m) (cellsIn s Z n (storeAt s Z (storeAfter s Z st more) c′))
+            at-then (arrival p) = with-packet p
+            at-then (taking out) = let y = done-then d more w in (y .1, y .2)
+            at-then (joining p out) = with-packet p
 
         lasts′ : IsComplete s Z n m st → (more : List Call) → Untaken s Z m st more →
-            IsComplete s Z n m (storeAfter s Z st more) × Takes s Z n m (storeAfter s Z st more) × HandsOut s Z n m (storeAfter s Z st more)
+            IsComplete s Z n m (storeAfter s Z st more) × ((c : Call) → Takes s Z n m (storeAfter s Z st more) c) ×
+            HandsOut s Z n m (storeAfter s Z st more)
         lasts′ d more w =
-            let then = storeAfter s Z st more in
-            let kept′ = run-keeps s Z n more st kept in
-            let c = run-cells s Z n more st kept in
-            let x = v .lasts (done-of m k (cellsIn s Z n st) d) (eventsIn s Z st more) (untaken-of s Z n m st more kept w) in (
-              of-done m k (cellsIn s Z n then) (subst (Done01 (sentOf s m)) (sym c) (x .0)),
-              takes-of s Z n m k then kept′ (subst (Gives suc top (sentOf s m)) (sym c) (x .1)) (subst (Output suc top (sentOf s m)) (sym c) (x .2)),
-              hands-of s Z n m k then kept′ (subst (CellHanded suc top n (sentOf s m)) (sym c) (x .3)),
+            let x = done-then d more w in (
+              of-done m k (cellsIn s Z n (storeAfter s Z st more)) (x .0),
+              takes-then d more w,
+              hands-of s Z n m k (storeAfter s Z st more) (run-keeps s Z n more st kept) (x .3),
             )
 
 -- ---- the whole
@@ -220,7 +281,7 @@ module _ (Z : ℕ) (one : 1 ≤ Z) where
         v .0,
         v .1,
         ap (λ (z : Sent). z .key) (v .2) ∙ w .2,
-        delivers s Z n (v .0) (g .cut (v .0) (v .1)) (storeAt s Z st c) (at-keeps s Z n st kept c) (outOf c) r (b .1)
+        delivers s Z n (v .0) (g .cut (v .0) (v .1)) st c (at-keeps s Z n st kept c) (b .0) r (b .1)
             (subst (λ (z : Sent). Original suc z r) (sym (v .2)) (w .3)),
       )
     where
@@ -234,7 +295,7 @@ module _ (Z : ℕ) (one : 1 ≤ Z) where
       es = eventsIn s Z (emptyStore Z n) x ++ before s Z c
 
       b : (draws s Z st c ≡ true) × (took s Z (storeAt s Z st c) (length (outOf c)) ≡ message r)
-      b = by-took s Z n st kept c r e
+      b = by-took s Z st c r e
 
       cells-are : after suc top (empty n) es ≡ after suc top (cellsIn s Z n st) (before s Z c)
       cells-are =
