@@ -22,3 +22,8 @@ pub mod Simulates
 pub mod Carried
 pub mod Delivers
 pub mod Whole
+pub mod Acts
+pub mod Day
+pub mod DayComes
+pub mod DayRun
+pub mod DayEnd

@@ -167,6 +167,9 @@ module _ (s : Settings) (Z : ℕ) (m : Sending) (k : IsCut s Z m) where
           let a = reads-values s (recounted given c) (recounted-range s given c h given-range) given-segment in
           record { accepted = a .accepted; segmented = a .segmented; segment = a .segment ∙ sym (given-reads .segment) }
 
+      pub repeat-octets : (c : ℕ) → c < 16384 → Octets (packetWith s m i c)
+      repeat-octets c h = writes-octets s (recounted given c) (recounted-range s given c h given-range)
+
 -- ---- lengths
 
 -- how long a packet is that reads as a segment

@@ -30,7 +30,7 @@ use Rattle.keeping.proofs.Order.{cells-inside}
 use Rattle.keeping.proofs.After.{segment, cells-stored, has-free, cells-taken}
 use Rattle.keeping.proofs.Keeps.{arrive-long, take-long, arrive-keeps, take-keeps}
 use Rattle.demand3.specs.Traffic.{Event, arrives, passes, takes, stowed, lessened, takenFrom, stepped}
-use Rattle.demand3.specs.Calls.{arrivedStore, takenStore}
+use Rattle.demand3.specs.Calls.{goesOn, arrivedStore, takenStore}
 use Rattle.demand3.specs.Sendings.{ReadsAs}
 use Rattle.demand3.proofs.Looks.{put-full}
 
@@ -108,7 +108,7 @@ module _ (s : Settings) (Z n : ℕ) (st : List ℕ) (k : Kept s Z n st) where
     abbrev low : ℕ
     low = lowestFree s Z st n
 
-    arrived-is : arrived s Z st p ≡ arrivedIn s Z st n p
+    pub arrived-is : arrived s Z st p ≡ arrivedIn s Z st n p
     unfolding arrived
     arrived-is =
         pick-yes (eqb (begun s .refusal .number) 0) _ _ (k .settings) ∙ pick-yes (inOrder s Z st) _ _ (k .order)
@@ -128,7 +128,21 @@ module _ (s : Settings) (Z n : ℕ) (st : List ℕ) (k : Kept s Z n st) where
         go true true false h = refl
         go true true true h = let z : _≡_ {A = ℕ} 0 1 = cc in absurd (omega arith)
 
-    segment-came : mayHold s Z p ≡ true → arrivedIn s Z st n p ≡ segmentArrived s Z st n (segment s p)
+    -- and no joining goes on from it
+    pub passed-on : mayHold s Z p ≡ false → goesOn (arrivedIn s Z st n p) ≡ false
+    unfolding arrivedIn mayHold
+    passed-on e = go (eqb (readPacket s p .refusal .number) 0) (segmented p) (leb (2 + length p) Z) e
+      where
+        go : (a b c : Bool) → both c (both a b) ≡ false →
+            goesOn
+            (pick a (pick b (pick c (segmentArrived s Z st n (segment s p)) (refused 17)) whole) (refused (readPacket s p .refusal .number)))
+            ≡ false
+        go false b c h = refl
+        go true false c h = refl
+        go true true false h = refl
+        go true true true h = let z : _≡_ {A = ℕ} 0 1 = cc in absurd (omega arith)
+
+    pub segment-came : mayHold s Z p ≡ true → arrivedIn s Z st n p ≡ segmentArrived s Z st n (segment s p)
     unfolding arrivedIn
     segment-came e =
         let a = may-hold s Z p e in
