@@ -15,6 +15,7 @@ pub mod Base
 pub mod Checks
 pub mod Example
 pub mod ReadAs
+pub mod OwnPackets
 pub mod Sents
 pub mod Steps
 pub mod Events
@@ -22,6 +23,7 @@ pub mod Simulates
 pub mod Carried
 pub mod Delivers
 pub mod Whole
+pub mod Bridges
 pub mod Acts
 pub mod Day
 pub mod DayComes

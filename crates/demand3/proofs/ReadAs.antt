@@ -31,7 +31,7 @@ use Rattle.demand3.specs.Sendings.{Sending, recounted, ReadsAs, manyOf, 
 -- ---- what reading tells of written values
 
 -- the segment of a packet's values
-abbrev segWith : Settings → Values → Seg
+abbrev pub segWith : Settings → Values → Seg
 segWith s v =
     record { key = identification (v .head) ++ headerOctets s (v .head); counter = v .counter; flags = v .flags; body = v .body }
 
@@ -142,14 +142,14 @@ module _ (s : Settings) (Z : ℕ) (m : Sending) (k : IsCut s Z m) where
     given-segment = segment-is P H B i ∙ ap not is-cut
 
     module _ (l : i < manyOf s m) where
-      given-range : InRange s given
+      pub given-range : InRange s given
       given-range =
           packet-range s P (m .values) (m .texts) (m .body) (m .sender) no-refusal (k .texts) (k .body) i (omega (arith, many-is))
 
       pub packet-octets : Octets (packetOf s m i)
       packet-octets = writes-octets s given given-range
 
-      given-reads : ReadsAs s (packetOf s m i) (segWith s given)
+      pub given-reads : ReadsAs s (packetOf s m i) (segWith s given)
       given-reads = reads-values s given given-range given-segment
 
       -- segment i has the message's key, its counter, flags and part of the body
