@@ -103,7 +103,7 @@ too-few =
     (is-eight 1 (omega arith)) lands-new
     ∙ ap some takes-short
 
-abbrev theRun : Run
+abbrev pub theRun : Run
 theRun =
     record { head = seg 7 1 (1 ∷ 2 ∷ 3 ∷ []); rest = seg 8 0 (4 ∷ 5 ∷ 6 ∷ []) ∷ seg 9 2 (7 ∷ 8 ∷ []) ∷ [] }
 
@@ -122,11 +122,11 @@ noon-took =
     (is-eight 79 (omega arith)) lands-again
     ∙ ap some takes-three
 
-the-key : theRun .head .key ≡ keyIn settings three
+pub the-key : theRun .head .key ≡ keyIn settings three
 unfolding headOf split identification headerOctets fixedOctets presence frontOctets backOctets wide
 the-key = refl
 
-the-start : theRun .head .counter ≡ startOf settings three
+pub the-start : theRun .head .counter ≡ startOf settings three
 unfolding place
 the-start = refl
 

@@ -130,7 +130,7 @@ noonActs = morningActs ++ meets eight 35 ∷ []
 pub noon-acts : map (actOf settings Z) noon ≡ noonActs
 noon-acts = ap₂ _++_ morning-acts (ap (λ (x : Event). meets x 35 ∷ []) (is-eight 79 (omega arith)))
 
-day-acts : map (actOf settings Z) (noon ++ evening) ≡ noonActs ++ eveningActs
+pub day-acts : map (actOf settings Z) (noon ++ evening) ≡ noonActs ++ eveningActs
 day-acts = ap₂ _++_ noon-acts evening-acts
 
 -- ---- the store

@@ -22,6 +22,7 @@ pub mod Events
 pub mod Simulates
 pub mod Carried
 pub mod Delivers
+pub mod Now
 pub mod Whole
 pub mod Bridges
 pub mod Acts
@@ -29,3 +30,4 @@ pub mod Day
 pub mod DayComes
 pub mod DayRun
 pub mod DayEnd
+pub mod Refuted

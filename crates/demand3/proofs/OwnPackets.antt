@@ -3,20 +3,19 @@
 use Prim.Native.Nat.{ℕ, _<_}
 use mathlib.Core.Path.{_≡_, ap, sym, _∙_, subst}
 use mathlib.Core.Logic.{_↔_}
-use mathlib.Core.List.{List, _++_}
+use mathlib.Core.List.{List}
 use native.Mathlib.Omega.{arith}
 use Rattle.octets.specs.Octets.{Octets}
 use Rattle.walk.specs.declared.Settings.{Settings}
-use Rattle.packet.specs.Format.{Head, Values, identification, headerOctets, octetsOf}
+use Rattle.packet.specs.Format.{Head, Values, octetsOf}
 use Rattle.packet.specs.Reading.{readPacket}
 use Rattle.format.specs.Told.{valuesOf}
 use Rattle.format.proofs.TwoWay.{only-writing}
 use Rattle.format.proofs.Accepting.{accepted}
 use Rattle.format.proofs.Keys.{one-head}
-use Rattle.write.specs.Given.{headOf}
-use Rattle.cut.specs.Cutting.{packetAt, givenAt}
+use Rattle.cut.specs.Cutting.{givenAt}
 use Rattle.cells.specs.Segments.{Seg, segOf}
-use Rattle.demand3.specs.Sendings.{Sending, recounted, ReadsAs, manyOf, packetWith, segmentAt, keyIn, IsCut}
+use Rattle.demand3.specs.Sendings.{Sending, recounted, ReadsAs, manyOf, packetWith, segmentAt, IsCut}
 use Rattle.demand3.proofs.ReadAs.{segWith, given-range, given-reads, repeat-reads}
 
 same-values : {h g : Head} {f e c d : ℕ} {b a : List ℕ} (n : ℕ) → h ≡ g → f ≡ e → c ≡ d → b ≡ a →

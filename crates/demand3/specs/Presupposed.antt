@@ -95,12 +95,15 @@ module _ (s : Settings) (Z n : ℕ) where
     retaken : (x : List Call) (c : Call) → TakesIt s Z m (storeBehind x) c → Anew m (x ++ c ∷ [])
 
   -- "whenever a new segment of any key arrives, a cell is free": a packet that reading accepts, segmented, that fits a cell, and whose
-  -- key and counter no cell has
-  abbrev pub Room : List Call → Type 0
-  Room cs = (x y : List Call) (c : Call) (p : List ℕ) → cs ≡ x ++ c ∷ y → Brings p c →
+  -- key and counter no cell has; where `run` tells the store behind some calls
+  abbrev pub RoomIn : (List Call → List ℕ) → List Call → Type 0
+  RoomIn run cs = (x y : List Call) (c : Call) (p : List ℕ) → cs ≡ x ++ c ∷ y → Brings p c →
       readPacket s p .refusal .number ≡ 0 → segmented p ≡ true → 2 + length p ≤ Z →
-      look (cellsIn (storeBehind x)) (segOf p (readPacket s p) .key) (segOf p (readPacket s p) .counter) ≡ none →
-      hasFree (cellsIn (storeBehind x)) ≡ true
+      look (cellsIn (run x)) (segOf p (readPacket s p) .key) (segOf p (readPacket s p) .counter) ≡ none →
+      hasFree (cellsIn (run x)) ≡ true
+
+  abbrev pub Room : List Call → Type 0
+  Room cs = RoomIn storeBehind cs
 
   pub record Given (ms : List Sending) (cs : List Call) : Type 0 where
     pub traffic : Traffic s Z ms cs
