@@ -32,9 +32,9 @@ use Rattle.demand3.proofs.Events.{eventsIn}
 use Rattle.demand3.proofs.Carried.{behind-keeps}
 use Rattle.demand3.proofs.Whole.{demand3·whole, soundness·whole}
 use Rattle.demand3.proofs.Acts.{comes, lands, actEvents, acts-are, untaken-told}
-use Rattle.demand3.proofs.Day.{settings, three, messages, of-three, header, three-many, three-cut, seg, is-eight, is-nine}
+use Rattle.demand3.proofs.Day.{settings, three, messages, of-three, header, three-many, three-cut, seg, stray, is-eight, is-nine}
 use Rattle.demand3.proofs.DayComes.{Fine, three-fine}
-use Rattle.demand3.proofs.DayRun.{lentOut, dawn, early, morning, atNoon, noon, evening, eight, nine, dawnActs, morningActs, noonActs, eveningActs, dawn-acts, morning-acts, noon-acts, evening-acts, in-use, one, cells-are, joined-takes, taking-takes, traffic, given}
+use Rattle.demand3.proofs.DayRun.{lentOut, dawn, early, morning, atNoon, noon, evening, eight, nine, dawnActs, morningActs, noonActs, eveningActs, dawn-acts, morning-acts, noon-acts, evening-acts, day-acts, in-use, one, cells-are, joined-takes, taking-takes, traffic, given}
 
 abbrev Z : ℕ
 Z = cellSize
@@ -74,6 +74,17 @@ freed = refl
 
 pub noon-cells : cellsIn settings Z 4 (storeBehind settings Z 4 noon) ≡ free ∷ cellTen ∷ free ∷ free ∷ []
 noon-cells = cells-are noon noonActs noon-acts ∙ freed
+
+-- in the evening they are used again: by another key, and by the message itself
+abbrev pub cellsAtEnd : List Cell
+cellsAtEnd = held stray ∷ cellEight ∷ cellNine ∷ cellSeven ∷ []
+
+used-again : after suc top (empty 4) (actEvents (empty 4) (noonActs ++ eveningActs)) ≡ cellsAtEnd
+unfolding actEvents after stepped takenFrom look carries sameRest alike put hasFree pickIn runFrom chain roleOf bodies among
+used-again = refl
+
+pub end-cells : cellsIn settings Z 4 (storeBehind settings Z 4 (noon ++ evening)) ≡ cellsAtEnd
+end-cells = cells-are (noon ++ evening) (noonActs ++ eveningActs) day-acts ∙ used-again
 
 -- ---- the takings
 

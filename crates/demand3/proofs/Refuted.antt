@@ -15,28 +15,27 @@ use Rattle.fields.specs.Form.{split}
 use Rattle.packet.specs.Format.{presence, identification, fixedOctets, frontOctets, backOctets, headerOctets}
 use Rattle.write.specs.Given.{headOf}
 use Rattle.fewest.specs.Runs.{place}
-use Rattle.cells.specs.Segments.{carries, sameRest}
-use Rattle.cells.specs.Rows.{Cell, held}
+use Rattle.cells.specs.Segments.{carries}
 use Rattle.store.specs.declared.Taken.{Taken}
-use Rattle.store.specs.Messages.{Run, look, roleOf, bodies, chain, runFrom, pickIn, picked, among, top}
+use Rattle.store.specs.Messages.{Run, look, roleOf, chain, runFrom, pickIn, picked, top}
 use Rattle.store.specs.Taking.{Took, message, unable}
 use Rattle.store.specs.Told.{refusalOf, takenOf}
-use Rattle.keeping.specs.Cells.{put, hasFree}
+use Rattle.keeping.specs.Cells.{hasFree}
 use Rattle.keeping.proofs.Empty.{empty-cells}
 use Rattle.demand3.specs.Complete.{Held}
-use Rattle.demand3.specs.Traffic.{empty, takenFrom, stepped, after}
+use Rattle.demand3.specs.Traffic.{empty, after}
 use Rattle.demand3.specs.Calls.{Call, arrival, taking, joining, Brings, tookBy, storeAfter}
 use Rattle.demand3.specs.Sendings.{segmentAt}
 use Rattle.demand3.specs.Presupposed.{Came, AllCame, Traffic, Untaken, emptyStore, storeBehind, cellsIn, fresh, RoomIn}
 use Rattle.demand3.specs.Whole.{cellSize, IsComplete}
 use Rattle.demand3.proofs.Takings.{held-empty}
 use Rattle.demand3.proofs.Whole.{demand3·whole}
-use Rattle.demand3.proofs.Acts.{EachPacket, each-packet, actEvents}
+use Rattle.demand3.proofs.Acts.{EachPacket, each-packet}
 use Rattle.demand3.proofs.ReadAs.{repeat-reads}
-use Rattle.demand3.proofs.Day.{settings, three, messages, of-three, three-many, three-cut, seg, stray}
+use Rattle.demand3.proofs.Day.{settings, three, messages, of-three, three-many, three-cut}
 use Rattle.demand3.proofs.DayComes.{Fine, three-fine}
-use Rattle.demand3.proofs.DayRun.{lentOut, morning, atNoon, noon, evening, noonActs, eveningActs, day-acts, in-use, cells-are, traffic}
-use Rattle.demand3.proofs.DayEnd.{theRun, the-key, the-start, promised}
+use Rattle.demand3.proofs.DayRun.{lentOut, morning, atNoon, noon, evening, in-use, traffic}
+use Rattle.demand3.proofs.DayEnd.{cellsAtEnd, end-cells, theRun, the-key, the-start, promised}
 
 abbrev Z : ℕ
 Z = cellSize
@@ -127,14 +126,6 @@ TakesAgain by = (out : List ℕ) → 31 ≤ length out →
 abbrev pub Once : (List Call → Call → Option Took) → Type 0
 Once by = (x y : List Call) (c d : Call) (r q : Run) → by x c ≡ some (message r) → by (x ++ c ∷ y) d ≡ some (message q) → ⊥
 
-abbrev cellsAtEnd : List Cell
-cellsAtEnd =
-    held stray ∷ held (seg 8 0 (4 ∷ 5 ∷ 6 ∷ [])) ∷ held (seg 9 2 (7 ∷ 8 ∷ [])) ∷ held (seg 7 1 (1 ∷ 2 ∷ 3 ∷ [])) ∷ []
-
-at-end : after suc top (empty 4) (actEvents (empty 4) (noonActs ++ eveningActs)) ≡ cellsAtEnd
-unfolding actEvents after stepped takenFrom look carries sameRest alike put hasFree pickIn runFrom chain roleOf bodies among
-at-end = refl
-
 picks-three : picked suc top cellsAtEnd ≡ some theRun
 unfolding look carries alike pickIn runFrom chain roleOf
 picks-three = refl
@@ -144,7 +135,7 @@ pub takes-again : TakesAgain (λ cs c. tookBy settings Z (storeBehind settings Z
 unfolding place headOf split identification headerOctets fixedOctets presence frontOctets backOctets wide
 takes-again out l =
     promised .delivery .takes (taking out) (λ p b. absurd (no-packet p b)) .enough
-    (refl, (theRun, ap (picked suc top) (cells-are (noon ++ evening) (noonActs ++ eveningActs) day-acts ∙ at-end) ∙ picks-three, (the-key, the-start))) l .told
+    (refl, (theRun, ap (picked suc top) end-cells ∙ picks-three, (the-key, the-start))) l .told
   where
     no-packet : (p : List ℕ) → Brings p (taking out) → ⊥
     no-packet p (inl e) = let z : _≡_ {A = ℕ} 0 1 = cc e in omega arith
