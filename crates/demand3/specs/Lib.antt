@@ -3,3 +3,7 @@ pub mod Traffic
 pub mod Promise
 pub mod Base
 pub mod Example
+pub mod Calls
+pub mod Sendings
+pub mod Presupposed
+pub mod Whole

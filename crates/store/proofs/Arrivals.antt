@@ -2,7 +2,6 @@
 -- Assumes nothing.
 use Prim.Native.Nat.{ℕ, zero, suc, _+_, _*_, _/_, _≤_, _<_}
 use mathlib.Core.Path.{_≡_, refl, ap, ap₂, sym, _∙_, subst}
-use mathlib.Core.Logic.{⊎-elim}
 use mathlib.Core.Bool.{Bool, true, false, not}
 use mathlib.Core.List.{List, [], _∷_}
 use mathlib.Core.Option.{Option, none, some}
@@ -13,7 +12,7 @@ use lib.Seq.{sets}
 use lib.Dec.{leb, ltb, eqb}
 use borrow.Author.Tests.{le-leb, lt-leb, eq-eqb, ne-eqb}
 use Rattle.octets.specs.Octets.{pick, Octets, octetAt, part, alike}
-use Rattle.octets.proofs.Lists.{bool, alike-true}
+use Rattle.octets.proofs.Lists.{alike-true}
 use Rattle.walk.specs.declared.Settings.{Settings}
 use Rattle.packet.specs.declared.Header.{Header}
 use Rattle.packet.specs.Reading.{readPacket, segmented}
@@ -24,14 +23,13 @@ use Rattle.cells.specs.Inner.{Asked}
 use Rattle.cells.specs.Order.{isFree, isSound, carriesIn, lowest, cellAt, sound, foundIn}
 use Rattle.cells.proofs.Scans.{free-is}
 use Rattle.cells.proofs.Held.{flags-same}
-use Rattle.cells.proofs.Carries.{free-cell, Holding, holding}
-use Rattle.cells.proofs.Apart.{sound-at}
 use Rattle.cells.proofs.Laid.{held-laid}
 use Rattle.store.specs.Messages.{cellsOf, look}
 use Rattle.store.specs.Arriving.{Arrived, whole, stored, again, refused, placed, beside, lowestFree, segmentArrived, arrivedIn}
 use Rattle.store.specs.declared.Piece.{Piece}
 use Rattle.store.specs.Inner.{segWith, segIn, pieceOf}
 use Rattle.store.proofs.Looks.{lowest-holds, lowest-same, look-found, look-none}
+use Rattle.store.proofs.Found.{found-held}
 
 -- ---- a new segment
 
@@ -85,29 +83,11 @@ module _ (s : Settings) (st z p : List ℕ) (n flags at long c : ℕ) (ez : z �
         ap₂ (λ (o : Option Seg) (i : ℕ). beside o t (placed n i)) (look-none (cellAt s Z st) k c n 0 m) free-low
 
     module _ (h : j < n) (g : sound s Z st n ≡ true) where
-      found-carries : carriesIn k c (cellAt s Z st j) ≡ true
-      unfolding foundIn
-      found-carries =
-          let m : foundIn s Z st n k c < 0 + n = omega arith in
-          ap (λ (i : ℕ). carriesIn k c (cellAt s Z st i)) e ∙ lowest-holds (λ i. carriesIn k c (cellAt s Z st i)) n 0 m
-
-      not-free : alike (rowAt Z st j) (zeroRow Z) ≡ false
-      not-free = ⊎-elim free-it (λ x. x) (bool (alike (rowAt Z st j) (zeroRow Z)))
-        where
-          free-it : alike (rowAt Z st j) (zeroRow Z) ≡ true → alike (rowAt Z st j) (zeroRow Z) ≡ false
-          free-it a =
-              let b : carriesIn k c free ≡ true = ap (carriesIn k c) (sym (free-cell s Z (rowAt Z st j) a)) ∙ found-carries in
-              let y : _≡_ {A = ℕ} 0 1 = cc in
-              absurd (omega arith)
-
-      found-held : cellAt s Z st j ≡ held (segIn s Z (rowAt Z st j))
-      found-held = holding s Z (rowAt Z st j) (sound-at s Z st n j g h refl) not-free .cell
-
       pub segment-beside : segmentArrived s Z st n t ≡ pick (sameRest (segIn s Z (rowAt Z st j)) t) again (refused 18)
       unfolding segmentArrived segWith foundIn
       segment-beside =
           let m : foundIn s Z st n k c < 0 + n = omega arith in
-          let o = look-found (cellAt s Z st) k c n 0 (segIn s Z (rowAt Z st j)) m (ap (cellAt s Z st) (sym e) ∙ found-held) in
+          let o = look-found (cellAt s Z st) k c n 0 (segIn s Z (rowAt Z st j)) m (ap (cellAt s Z st) (sym e) ∙ found-held s Z st n k c e h g .cell) in
           ap (λ (x : Option Seg). beside x t (placed n (lowestFree s Z st n))) o
 
       module _ {x : List ℕ} {b : Bool} (ex : x ≡ rowAt Z st j) (eb : b ≡ sameRest (segIn s 0 x) (segWith s p flags at long 0)) where

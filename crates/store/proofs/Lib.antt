@@ -15,3 +15,4 @@ pub mod Drawing
 pub mod Marks
 pub mod Drawn
 pub mod Takings
+pub mod Calls

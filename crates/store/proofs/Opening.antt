@@ -1,7 +1,7 @@
 -- Settings and order are checked first: 15, then 16; and what a store in order has.
 -- Assumes nothing.
 use Prim.Native.Nat.{ℕ, zero, suc, _+_, _*_, _/_, _%_, _≤_, _<_}
-use mathlib.Core.Path.{_≡_, refl, ap, ap₂, sym, _∙_}
+use mathlib.Core.Path.{_≡_, refl, ap, ap₂, sym, _∙_, subst}
 use mathlib.Core.Logic.{⊎-elim}
 use mathlib.Core.Bool.{Bool, true, false}
 use mathlib.Core.List.{List}
@@ -19,6 +19,7 @@ use Rattle.walk.specs.Walk.{begun, check, goes, refusal, timestampLeast, timest
 use Rattle.walk.specs.Inner.{asWalk}
 use Rattle.cells.specs.Segments.{both}
 use Rattle.cells.specs.Order.{cellsMost, lengthFits, countIn, sound as allSound, distinct, inOrder}
+use Rattle.cells.specs.Chains.{Chained, bucketAt}
 use Rattle.cells.proofs.Held.{both-true}
 use Rattle.store.specs.declared.Opened.{Opened}
 use Rattle.store.specs.Arriving.{Arrived, refused, arrivedIn, arrived}
@@ -175,3 +176,12 @@ module _ (s : Settings) (Z : ℕ) (st : List ℕ) where
 
       pub opened-sound : allSound s Z st (o .cells) ≡ true
       opened-sound = ap (allSound s Z st) opened-cells ∙ order-has s Z st (opened-order opened-gate) .sound
+
+-- the chains that were made for a store in order are those of all its cells
+pub chained-all :
+    (s : Settings) (Z : ℕ) (st heads links : List ℕ) {n r : ℕ} → inOrder s Z st ≡ true → n ≡ countIn Z st → r ≡ pick (inOrder s Z st) (countIn Z st) 0 →
+    ((r ≡ 0 → ⊥) → Chained (bucketAt s Z st) heads links r) → Chained (bucketAt s Z st) heads links n
+chained-all s Z st heads links {n} {r} o en er h =
+    let e : r ≡ n = er ∙ ap (λ (b : Bool). pick b (countIn Z st) 0) o ∙ sym en in
+    let k = order-has s Z st o .least in
+    subst (Chained (bucketAt s Z st) heads links) e (h (λ z. omega (arith, e)))

@@ -17,6 +17,7 @@ ghost use Rattle.cells.specs.Segments.{sameRest};
 ghost use Rattle.cells.specs.Rows.{rowAt, zeroRow, packetIn, held};
 ghost use Rattle.cells.specs.Order.{lowest, sound, cellAt, inOrder, countIn};
 ghost use Rattle.cells.specs.Inner.{Asked};
+ghost use Rattle.cells.specs.Chains.{Chained, bucketAt};
 ghost use Rattle.store.specs.Messages.{cellsOf, runIn, picked, top};
 ghost use Rattle.store.specs.Arriving.{refused as refusedBy, placed, segmentArrived, arrivedIn, arrived, storeWith};
 ghost use Rattle.store.specs.Taking.{unable, tookIn, took, outWith, clearedTo, storeLess};
@@ -29,6 +30,11 @@ use walk::Settings;
 
 // The octets of a cell.
 pub const CELL: usize = 1024;
+
+// The tables of the chains that searches of a taking go by.
+const CHAINS: usize = 4096;
+
+const CELLS_MOST: usize = 4096;
 
 // What an arrival that is not refused is answered.
 pub enum Kind {
@@ -69,10 +75,18 @@ struct Opened {
     cells: usize,
 }
 
-// T and the order of the store are checked.
-fn check(s: Settings, store: &[u8], zero: &[u8]) -> Opened
+// T and the order of the store are checked; the chains of its cells are made on the way.
+fn check_by(
+    s: Settings,
+    store: &[u8],
+    zero: &[u8],
+    heads: &mut [u16; CHAINS],
+    links: &mut [u16; CELLS_MOST],
+) -> Opened
     requires { ⌜ now zero ≡ zeroRow (length (now zero)) ⌝ }
+    requires { ⌜ Chained (bucketAt s (length (now zero)) (now store)) (now heads) (now links) 0 ⌝ }
     ensures { λ r. ⌜ r ≡ openedOf s (length (now (zero .entry))) (now (store .entry)) ⌝ }
+    ensures { λ r. ⌜ (r .refusal .number ≡ 0 → Chained (bucketAt s (length (now (zero .entry))) (now (store .entry))) (now (heads .exit)) (now (links .exit)) (r .cells)) ⌝ }
 {
     let w = walk::begin(s);
     let refusal = w.refusal;
@@ -82,7 +96,7 @@ fn check(s: Settings, store: &[u8], zero: &[u8]) -> Opened
             cells: 0,
         };
     }
-    let n = cells::in_order(s, store, zero);
+    let n = cells::in_order_by(s, store, zero, heads, links);
     if n == 0 {
         return Opened {
             refusal: Refusal { number: 16 },
@@ -93,6 +107,16 @@ fn check(s: Settings, store: &[u8], zero: &[u8]) -> Opened
         refusal: refusal,
         cells: n,
     }
+}
+
+// T and the order of the store are checked.
+fn check(s: Settings, store: &[u8], zero: &[u8]) -> Opened
+    requires { ⌜ now zero ≡ zeroRow (length (now zero)) ⌝ }
+    ensures { λ r. ⌜ r ≡ openedOf s (length (now (zero .entry))) (now (store .entry)) ⌝ }
+{
+    let mut heads = [0u16; CHAINS];
+    let mut links = [0u16; CELLS_MOST];
+    check_by(s, store, zero, &mut heads, &mut links)
 }
 
 // The one place where an arrival is refused.
@@ -245,7 +269,10 @@ fn follow(
     stop: usize,
     from: u64,
     b: usize,
+    heads: &[u16; CHAINS],
+    links: &[u16; CELLS_MOST],
 ) -> usize
+    requires { ⌜ Chained (bucketAt s (length (now zero)) (now store)) (now heads) (now links) n ⌝ }
     requires { ⌜ now zero ≡ zeroRow (length (now zero)) ⌝ }
     requires { ⌜ n * length (now zero) ≤ length (now store) ⌝ }
     requires { ⌜ sound s (length (now zero)) (now store) n ≡ true ⌝ }
@@ -258,7 +285,7 @@ fn follow(
     let mut left: u64 = 4294967295;
     let mut sum = b;
     while 0 < left {
-        let j = cells::find(s, store, n, zero, q, stop, c);
+        let j = cells::find_by(s, store, n, zero, q, stop, c, heads, links);
         if n <= j {
             return 0;
         }
@@ -277,7 +304,16 @@ fn follow(
 }
 
 // One more than the octets of the body of the message that opens in cell i, or 0 where none does that is complete.
-fn run_at(s: Settings, store: &[u8], n: usize, zero: &[u8], i: usize) -> usize
+fn run_at(
+    s: Settings,
+    store: &[u8],
+    n: usize,
+    zero: &[u8],
+    i: usize,
+    heads: &[u16; CHAINS],
+    links: &[u16; CELLS_MOST],
+) -> usize
+    requires { ⌜ Chained (bucketAt s (length (now zero)) (now store)) (now heads) (now links) n ⌝ }
     requires { ⌜ now zero ≡ zeroRow (length (now zero)) ⌝ }
     requires { ⌜ n * length (now zero) ≤ length (now store) ⌝ }
     requires { ⌜ sound s (length (now zero)) (now store) n ≡ true ⌝ }
@@ -306,11 +342,21 @@ fn run_at(s: Settings, store: &[u8], n: usize, zero: &[u8], i: usize) -> usize
         body.at,
         counter.0 as u64 + 1,
         body.length,
+        heads,
+        links,
     )
 }
 
 // The complete message whose first lies in the lowest cell.
-fn pick_message(s: Settings, store: &[u8], n: usize, zero: &[u8]) -> Picked
+fn pick_message(
+    s: Settings,
+    store: &[u8],
+    n: usize,
+    zero: &[u8],
+    heads: &[u16; CHAINS],
+    links: &[u16; CELLS_MOST],
+) -> Picked
+    requires { ⌜ Chained (bucketAt s (length (now zero)) (now store)) (now heads) (now links) n ⌝ }
     requires { ⌜ now zero ≡ zeroRow (length (now zero)) ⌝ }
     requires { ⌜ n * length (now zero) ≤ length (now store) ⌝ }
     requires { ⌜ sound s (length (now zero)) (now store) n ≡ true ⌝ }
@@ -318,7 +364,7 @@ fn pick_message(s: Settings, store: &[u8], n: usize, zero: &[u8]) -> Picked
 {
     let mut i: usize = 0;
     while i < n {
-        let b = run_at(s, store, n, zero, i);
+        let b = run_at(s, store, n, zero, i, heads, links);
         if b != 0 {
             return Picked { cell: i, body: b };
         }
@@ -362,7 +408,10 @@ fn copy_rest(
     out: &mut [u8],
     place: usize,
     marks: &mut [u8],
+    heads: &[u16; CHAINS],
+    links: &[u16; CELLS_MOST],
 )
+    requires { ⌜ Chained (bucketAt s (length (now zero)) (now store)) (now heads) (now links) n ⌝ }
     requires { ⌜ now zero ≡ zeroRow (length (now zero)) ⌝ }
     requires { ⌜ n * length (now zero) ≤ length (now store) ⌝ }
     requires { ⌜ sound s (length (now zero)) (now store) n ≡ true ⌝ }
@@ -377,7 +426,7 @@ fn copy_rest(
     let mut left: u64 = 4294967295;
     let mut at = place;
     while 0 < left {
-        let j = cells::find(s, store, n, zero, q, stop, c);
+        let j = cells::find_by(s, store, n, zero, q, stop, c, heads, links);
         let r = cells::row(store, z, j);
         let t = piece_in(s, r);
         at = put_body(out, at, r, t);
@@ -399,7 +448,10 @@ fn copy_message(
     i: usize,
     out: &mut [u8],
     marks: &mut [u8],
+    heads: &[u16; CHAINS],
+    links: &[u16; CELLS_MOST],
 ) -> Taken
+    requires { ⌜ Chained (bucketAt s (length (now zero)) (now store)) (now heads) (now links) n ⌝ }
     requires { ⌜ now zero ≡ zeroRow (length (now zero)) ⌝ }
     requires { ⌜ n * length (now zero) ≤ length (now store) ⌝ }
     requires { ⌜ sound s (length (now zero)) (now store) n ≡ true ⌝ }
@@ -430,6 +482,8 @@ fn copy_message(
         out,
         at,
         marks,
+        heads,
+        links,
     );
     Taken {
         refusal: Refusal { number: 0 },
@@ -471,7 +525,10 @@ fn draw(
     i: usize,
     b: usize,
     out: &mut [u8],
+    heads: &[u16; CHAINS],
+    links: &[u16; CELLS_MOST],
 ) -> Taken
+    requires { ⌜ Chained (bucketAt s (length (now zero)) (now store)) (now heads) (now links) n ⌝ }
     requires { ⌜ now zero ≡ zeroRow (length (now zero)) ⌝ }
     requires { ⌜ inOrder s (length (now zero)) (now store) ≡ true ⌝ }
     requires { ⌜ n ≡ countIn (length (now zero)) (now store) ⌝ }
@@ -483,7 +540,7 @@ fn draw(
     ensures { λ r. ⌜ now (store .exit) ≡ storeLess s (length (now (zero .entry))) (now (store .entry)) n (tookIn s (length (now (zero .entry))) (now (store .entry)) n (length (now (out .entry)))) ⌝ }
 {
     let mut marks = [0u8; 4096];
-    let t = copy_message(s, store, n, zero, i, out, &mut marks);
+    let t = copy_message(s, store, n, zero, i, out, &mut marks, heads, links);
     let refusal = t.refusal;
     let counter = t.counter;
     clear(store, n, zero, &marks);
@@ -495,8 +552,17 @@ fn draw(
     }
 }
 
-// Taking from the first n cells of a store that is in order.
-pub fn take_in(s: Settings, store: &mut [u8], n: usize, zero: &[u8], out: &mut [u8]) -> Taken
+// Taking from the n cells of a store in order, whose chains are made.
+fn take_by(
+    s: Settings,
+    store: &mut [u8],
+    n: usize,
+    zero: &[u8],
+    out: &mut [u8],
+    heads: &[u16; CHAINS],
+    links: &[u16; CELLS_MOST],
+) -> Taken
+    requires { ⌜ Chained (bucketAt s (length (now zero)) (now store)) (now heads) (now links) n ⌝ }
     requires { ⌜ now zero ≡ zeroRow (length (now zero)) ⌝ }
     requires { ⌜ inOrder s (length (now zero)) (now store) ≡ true ⌝ }
     requires { ⌜ n ≡ countIn (length (now zero)) (now store) ⌝ }
@@ -504,7 +570,7 @@ pub fn take_in(s: Settings, store: &mut [u8], n: usize, zero: &[u8], out: &mut [
     ensures { λ r. ⌜ now (out .exit) ≡ outWith (now (out .entry)) (tookIn s (length (now (zero .entry))) (now (store .entry)) n (length (now (out .entry)))) ⌝ }
     ensures { λ r. ⌜ now (store .exit) ≡ storeLess s (length (now (zero .entry))) (now (store .entry)) n (tookIn s (length (now (zero .entry))) (now (store .entry)) n (length (now (out .entry)))) ⌝ }
 {
-    let m = pick_message(s, store, n, zero);
+    let m = pick_message(s, store, n, zero, heads, links);
     let cell = m.cell;
     if m.body == 0 {
         return not_taken(20);
@@ -521,7 +587,22 @@ pub fn take_in(s: Settings, store: &mut [u8], n: usize, zero: &[u8], out: &mut [
     if long - 2 - h.h < b {
         return not_taken(21);
     }
-    draw(s, store, n, zero, cell, b, out)
+    draw(s, store, n, zero, cell, b, out, heads, links)
+}
+
+// The same, for a caller that has not made the chains.
+pub fn take_in(s: Settings, store: &mut [u8], n: usize, zero: &[u8], out: &mut [u8]) -> Taken
+    requires { ⌜ now zero ≡ zeroRow (length (now zero)) ⌝ }
+    requires { ⌜ inOrder s (length (now zero)) (now store) ≡ true ⌝ }
+    requires { ⌜ n ≡ countIn (length (now zero)) (now store) ⌝ }
+    ensures { λ r. ⌜ r ≡ takenOf (tookIn s (length (now (zero .entry))) (now (store .entry)) n (length (now (out .entry)))) ⌝ }
+    ensures { λ r. ⌜ now (out .exit) ≡ outWith (now (out .entry)) (tookIn s (length (now (zero .entry))) (now (store .entry)) n (length (now (out .entry)))) ⌝ }
+    ensures { λ r. ⌜ now (store .exit) ≡ storeLess s (length (now (zero .entry))) (now (store .entry)) n (tookIn s (length (now (zero .entry))) (now (store .entry)) n (length (now (out .entry)))) ⌝ }
+{
+    let mut heads = [0u16; CHAINS];
+    let mut links = [0u16; CELLS_MOST];
+    cells::in_order_by(s, store, zero, &mut heads, &mut links);
+    take_by(s, store, n, zero, out, &heads, &links)
 }
 
 // The complete message whose first lies in the lowest cell is taken out.
@@ -531,10 +612,12 @@ pub fn take(s: Settings, store: &mut [u8], out: &mut [u8]) -> Taken
     ensures { λ r. ⌜ now (store .exit) ≡ storeLess s 1024 (now (store .entry)) (countIn 1024 (now (store .entry))) (took s 1024 (now (store .entry)) (length (now (out .entry)))) ⌝ }
 {
     let zero = [0u8; CELL];
-    let o = check(s, store, &zero);
+    let mut heads = [0u16; CHAINS];
+    let mut links = [0u16; CELLS_MOST];
+    let o = check_by(s, store, &zero, &mut heads, &mut links);
     let refusal = o.refusal;
     if refusal.number != 0 {
         return not_taken(refusal.number);
     }
-    take_in(s, store, o.cells, &zero, out)
+    take_by(s, store, o.cells, &zero, out, &heads, &links)
 }

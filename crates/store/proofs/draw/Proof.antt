@@ -11,13 +11,13 @@ slice-aggregate-copy-message : tie.Need-slice-aggregate-copy-message
 slice-aggregate-copy-message c = search needs
 
 copy-message-requires : tie.Need-copy-message-requires
-copy-message-requires c κs = (c .before .before .before .before .before .before .pre .0, (draw-inside (c .before .before .before .before .before .before .args .s) (length (now (c .before .before .before .before .before .before .args .zero))) (now (c .before .before .before .before .before .before .args .store)) (now (c .before .before .before .before .before .before .args .out)) (c .before .before .before .before .before .before .args .n) (c .before .before .before .before .before .before .args .i) (c .before .before .before .before .before .before .args .b) (c .before .before .before .before .before .before .pre .1 .0) (c .before .before .before .before .before .before .pre .1 .1 .0) (c .before .before .before .before .before .before .pre .1 .1 .1 .0) (c .before .before .before .before .before .before .pre .1 .1 .1 .1 .0 .0) (c .before .before .before .before .before .before .pre .1 .1 .1 .1 .0 .1) (c .before .before .before .before .before .before .pre .1 .1 .1 .1 .1), (draw-sound (c .before .before .before .before .before .before .args .s) (length (now (c .before .before .before .before .before .before .args .zero))) (now (c .before .before .before .before .before .before .args .store)) (now (c .before .before .before .before .before .before .args .out)) (c .before .before .before .before .before .before .args .n) (c .before .before .before .before .before .before .args .i) (c .before .before .before .before .before .before .args .b) (c .before .before .before .before .before .before .pre .1 .0) (c .before .before .before .before .before .before .pre .1 .1 .0) (c .before .before .before .before .before .before .pre .1 .1 .1 .0) (c .before .before .before .before .before .before .pre .1 .1 .1 .1 .0 .0) (c .before .before .before .before .before .before .pre .1 .1 .1 .1 .0 .1) (c .before .before .before .before .before .before .pre .1 .1 .1 .1 .1), (draw-cell (c .before .before .before .before .before .before .args .s) (length (now (c .before .before .before .before .before .before .args .zero))) (now (c .before .before .before .before .before .before .args .store)) (now (c .before .before .before .before .before .before .args .out)) (c .before .before .before .before .before .before .args .n) (c .before .before .before .before .before .before .args .i) (c .before .before .before .before .before .before .args .b) (c .before .before .before .before .before .before .pre .1 .0) (c .before .before .before .before .before .before .pre .1 .1 .0) (c .before .before .before .before .before .before .pre .1 .1 .1 .0) (c .before .before .before .before .before .before .pre .1 .1 .1 .1 .0 .0) (c .before .before .before .before .before .before .pre .1 .1 .1 .1 .0 .1) (c .before .before .before .before .before .before .pre .1 .1 .1 .1 .1), draw-opens (c .before .before .before .before .before .before .args .s) (length (now (c .before .before .before .before .before .before .args .zero))) (now (c .before .before .before .before .before .before .args .store)) (now (c .before .before .before .before .before .before .args .out)) (c .before .before .before .before .before .before .args .n) (c .before .before .before .before .before .before .args .i) (c .before .before .before .before .before .before .args .b) (c .before .before .before .before .before .before .pre .1 .0) (c .before .before .before .before .before .before .pre .1 .1 .0) (c .before .before .before .before .before .before .pre .1 .1 .1 .0) (c .before .before .before .before .before .before .pre .1 .1 .1 .1 .0 .0) (c .before .before .before .before .before .before .pre .1 .1 .1 .1 .0 .1) (c .before .before .before .before .before .before .pre .1 .1 .1 .1 .1)))))
+copy-message-requires c κs = (c .before .before .before .before .before .before .pre .0, (c .before .before .before .before .before .before .pre .1 .0, (draw-inside (c .before .before .before .before .before .before .args .s) (length (now (c .before .before .before .before .before .before .args .zero))) (now (c .before .before .before .before .before .before .args .store)) (now (c .before .before .before .before .before .before .args .out)) (c .before .before .before .before .before .before .args .n) (c .before .before .before .before .before .before .args .i) (c .before .before .before .before .before .before .args .b) (c .before .before .before .before .before .before .pre .1 .1 .0) (c .before .before .before .before .before .before .pre .1 .1 .1 .0) (c .before .before .before .before .before .before .pre .1 .1 .1 .1 .0) (c .before .before .before .before .before .before .pre .1 .1 .1 .1 .1 .0 .0) (c .before .before .before .before .before .before .pre .1 .1 .1 .1 .1 .0 .1) (c .before .before .before .before .before .before .pre .1 .1 .1 .1 .1 .1), (draw-sound (c .before .before .before .before .before .before .args .s) (length (now (c .before .before .before .before .before .before .args .zero))) (now (c .before .before .before .before .before .before .args .store)) (now (c .before .before .before .before .before .before .args .out)) (c .before .before .before .before .before .before .args .n) (c .before .before .before .before .before .before .args .i) (c .before .before .before .before .before .before .args .b) (c .before .before .before .before .before .before .pre .1 .1 .0) (c .before .before .before .before .before .before .pre .1 .1 .1 .0) (c .before .before .before .before .before .before .pre .1 .1 .1 .1 .0) (c .before .before .before .before .before .before .pre .1 .1 .1 .1 .1 .0 .0) (c .before .before .before .before .before .before .pre .1 .1 .1 .1 .1 .0 .1) (c .before .before .before .before .before .before .pre .1 .1 .1 .1 .1 .1), (draw-cell (c .before .before .before .before .before .before .args .s) (length (now (c .before .before .before .before .before .before .args .zero))) (now (c .before .before .before .before .before .before .args .store)) (now (c .before .before .before .before .before .before .args .out)) (c .before .before .before .before .before .before .args .n) (c .before .before .before .before .before .before .args .i) (c .before .before .before .before .before .before .args .b) (c .before .before .before .before .before .before .pre .1 .1 .0) (c .before .before .before .before .before .before .pre .1 .1 .1 .0) (c .before .before .before .before .before .before .pre .1 .1 .1 .1 .0) (c .before .before .before .before .before .before .pre .1 .1 .1 .1 .1 .0 .0) (c .before .before .before .before .before .before .pre .1 .1 .1 .1 .1 .0 .1) (c .before .before .before .before .before .before .pre .1 .1 .1 .1 .1 .1), draw-opens (c .before .before .before .before .before .before .args .s) (length (now (c .before .before .before .before .before .before .args .zero))) (now (c .before .before .before .before .before .before .args .store)) (now (c .before .before .before .before .before .before .args .out)) (c .before .before .before .before .before .before .args .n) (c .before .before .before .before .before .before .args .i) (c .before .before .before .before .before .before .args .b) (c .before .before .before .before .before .before .pre .1 .1 .0) (c .before .before .before .before .before .before .pre .1 .1 .1 .0) (c .before .before .before .before .before .before .pre .1 .1 .1 .1 .0) (c .before .before .before .before .before .before .pre .1 .1 .1 .1 .1 .0 .0) (c .before .before .before .before .before .before .pre .1 .1 .1 .1 .1 .0 .1) (c .before .before .before .before .before .before .pre .1 .1 .1 .1 .1 .1))))))
 
 slice-aggregate-clear : tie.Need-slice-aggregate-clear
 slice-aggregate-clear c = search needs
 
 clear-requires : tie.Need-clear-requires
-clear-requires c κs = c .before .before .before .before .before .before .before .before .before .before .before .before .before .before .pre .0
+clear-requires c κs = c .before .before .before .before .before .before .before .before .before .before .before .before .before .before .pre .1 .0
 
 same-length : tie.Need-same-length
 same-length c = search needs
@@ -26,7 +26,7 @@ same-length-2 : tie.Need-same-length-2
 same-length-2 c = search needs
 
 returns : tie.Need-returns
-returns c = (draw-told (c .before .before .before .before .before .before .before .before .before .before .before .before .before .before .before .before .before .args .s) (length (now (c .before .before .before .before .before .before .before .before .before .before .before .before .before .before .before .before .before .args .zero))) (now (c .before .before .before .before .before .before .before .before .before .before .before .before .before .before .before .before .before .args .store)) (now (c .before .before .before .before .before .before .before .before .before .before .before .before .before .before .before .before .before .args .out)) (c .before .before .before .before .before .before .before .before .before .before .before .before .before .before .before .before .before .args .n) (c .before .before .before .before .before .before .before .before .before .before .before .before .before .before .before .before .before .args .i) (c .before .before .before .before .before .before .before .before .before .before .before .before .before .before .before .before .before .args .b) (c .before .before .before .before .before .before .before .before .before .before .before .before .before .before .before .before .before .pre .1 .0) (c .before .before .before .before .before .before .before .before .before .before .before .before .before .before .before .before .before .pre .1 .1 .0) (c .before .before .before .before .before .before .before .before .before .before .before .before .before .before .before .before .before .pre .1 .1 .1 .0) (c .before .before .before .before .before .before .before .before .before .before .before .before .before .before .before .before .before .pre .1 .1 .1 .1 .0 .0) (c .before .before .before .before .before .before .before .before .before .before .before .before .before .before .before .before .before .pre .1 .1 .1 .1 .0 .1) (c .before .before .before .before .before .before .before .before .before .before .before .before .before .before .before .before .before .pre .1 .1 .1 .1 .1) (c .before .before .before .before .before .before .before .before .before .before .copy-message .ensures .0), (draw-out (c .before .before .before .before .before .before .before .before .before .before .before .before .before .before .before .before .before .args .s) (length (now (c .before .before .before .before .before .before .before .before .before .before .before .before .before .before .before .before .before .args .zero))) (now (c .before .before .before .before .before .before .before .before .before .before .before .before .before .before .before .before .before .args .store)) (now (c .before .before .before .before .before .before .before .before .before .before .before .before .before .before .before .before .before .args .out)) (c .before .before .before .before .before .before .before .before .before .before .before .before .before .before .before .before .before .args .n) (c .before .before .before .before .before .before .before .before .before .before .before .before .before .before .before .before .before .args .i) (c .before .before .before .before .before .before .before .before .before .before .before .before .before .before .before .before .before .args .b) (c .before .before .before .before .before .before .before .before .before .before .before .before .before .before .before .before .before .pre .1 .0) (c .before .before .before .before .before .before .before .before .before .before .before .before .before .before .before .before .before .pre .1 .1 .0) (c .before .before .before .before .before .before .before .before .before .before .before .before .before .before .before .before .before .pre .1 .1 .1 .0) (c .before .before .before .before .before .before .before .before .before .before .before .before .before .before .before .before .before .pre .1 .1 .1 .1 .0 .0) (c .before .before .before .before .before .before .before .before .before .before .before .before .before .before .before .before .before .pre .1 .1 .1 .1 .0 .1) (c .before .before .before .before .before .before .before .before .before .before .before .before .before .before .before .before .before .pre .1 .1 .1 .1 .1) (c .before .before .before .before .before .before .before .before .before .before .copy-message .ensures .1 .0), draw-store (c .before .before .before .before .before .before .before .before .before .before .before .before .before .before .before .before .before .args .s) (length (now (c .before .before .before .before .before .before .before .before .before .before .before .before .before .before .before .before .before .args .zero))) (now (c .before .before .before .before .before .before .before .before .before .before .before .before .before .before .before .before .before .args .store)) (now (c .before .before .before .before .before .before .before .before .before .before .before .before .before .before .before .before .before .args .out)) (c .before .before .before .before .before .before .before .before .before .before .before .before .before .before .before .before .before .args .n) (c .before .before .before .before .before .before .before .before .before .before .before .before .before .before .before .before .before .args .i) (c .before .before .before .before .before .before .before .before .before .before .before .before .before .before .before .before .before .args .b) (c .before .before .before .before .before .before .before .before .before .before .before .before .before .before .before .before .before .pre .1 .0) (c .before .before .before .before .before .before .before .before .before .before .before .before .before .before .before .before .before .pre .1 .1 .0) (c .before .before .before .before .before .before .before .before .before .before .before .before .before .before .before .before .before .pre .1 .1 .1 .0) (c .before .before .before .before .before .before .before .before .before .before .before .before .before .before .before .before .before .pre .1 .1 .1 .1 .0 .0) (c .before .before .before .before .before .before .before .before .before .before .before .before .before .before .before .before .before .pre .1 .1 .1 .1 .0 .1) (c .before .before .before .before .before .before .before .before .before .before .before .before .before .before .before .before .before .pre .1 .1 .1 .1 .1) (c .before .before .before .before .before .before .before .before .before .before .copy-message .ensures .1 .1) (c .before .before .clear .ensures)))
+returns c = (draw-told (c .before .before .before .before .before .before .before .before .before .before .before .before .before .before .before .before .before .args .s) (length (now (c .before .before .before .before .before .before .before .before .before .before .before .before .before .before .before .before .before .args .zero))) (now (c .before .before .before .before .before .before .before .before .before .before .before .before .before .before .before .before .before .args .store)) (now (c .before .before .before .before .before .before .before .before .before .before .before .before .before .before .before .before .before .args .out)) (c .before .before .before .before .before .before .before .before .before .before .before .before .before .before .before .before .before .args .n) (c .before .before .before .before .before .before .before .before .before .before .before .before .before .before .before .before .before .args .i) (c .before .before .before .before .before .before .before .before .before .before .before .before .before .before .before .before .before .args .b) (c .before .before .before .before .before .before .before .before .before .before .before .before .before .before .before .before .before .pre .1 .1 .0) (c .before .before .before .before .before .before .before .before .before .before .before .before .before .before .before .before .before .pre .1 .1 .1 .0) (c .before .before .before .before .before .before .before .before .before .before .before .before .before .before .before .before .before .pre .1 .1 .1 .1 .0) (c .before .before .before .before .before .before .before .before .before .before .before .before .before .before .before .before .before .pre .1 .1 .1 .1 .1 .0 .0) (c .before .before .before .before .before .before .before .before .before .before .before .before .before .before .before .before .before .pre .1 .1 .1 .1 .1 .0 .1) (c .before .before .before .before .before .before .before .before .before .before .before .before .before .before .before .before .before .pre .1 .1 .1 .1 .1 .1) (c .before .before .before .before .before .before .before .before .before .before .copy-message .ensures .0), (draw-out (c .before .before .before .before .before .before .before .before .before .before .before .before .before .before .before .before .before .args .s) (length (now (c .before .before .before .before .before .before .before .before .before .before .before .before .before .before .before .before .before .args .zero))) (now (c .before .before .before .before .before .before .before .before .before .before .before .before .before .before .before .before .before .args .store)) (now (c .before .before .before .before .before .before .before .before .before .before .before .before .before .before .before .before .before .args .out)) (c .before .before .before .before .before .before .before .before .before .before .before .before .before .before .before .before .before .args .n) (c .before .before .before .before .before .before .before .before .before .before .before .before .before .before .before .before .before .args .i) (c .before .before .before .before .before .before .before .before .before .before .before .before .before .before .before .before .before .args .b) (c .before .before .before .before .before .before .before .before .before .before .before .before .before .before .before .before .before .pre .1 .1 .0) (c .before .before .before .before .before .before .before .before .before .before .before .before .before .before .before .before .before .pre .1 .1 .1 .0) (c .before .before .before .before .before .before .before .before .before .before .before .before .before .before .before .before .before .pre .1 .1 .1 .1 .0) (c .before .before .before .before .before .before .before .before .before .before .before .before .before .before .before .before .before .pre .1 .1 .1 .1 .1 .0 .0) (c .before .before .before .before .before .before .before .before .before .before .before .before .before .before .before .before .before .pre .1 .1 .1 .1 .1 .0 .1) (c .before .before .before .before .before .before .before .before .before .before .before .before .before .before .before .before .before .pre .1 .1 .1 .1 .1 .1) (c .before .before .before .before .before .before .before .before .before .before .copy-message .ensures .1 .0), draw-store (c .before .before .before .before .before .before .before .before .before .before .before .before .before .before .before .before .before .args .s) (length (now (c .before .before .before .before .before .before .before .before .before .before .before .before .before .before .before .before .before .args .zero))) (now (c .before .before .before .before .before .before .before .before .before .before .before .before .before .before .before .before .before .args .store)) (now (c .before .before .before .before .before .before .before .before .before .before .before .before .before .before .before .before .before .args .out)) (c .before .before .before .before .before .before .before .before .before .before .before .before .before .before .before .before .before .args .n) (c .before .before .before .before .before .before .before .before .before .before .before .before .before .before .before .before .before .args .i) (c .before .before .before .before .before .before .before .before .before .before .before .before .before .before .before .before .before .args .b) (c .before .before .before .before .before .before .before .before .before .before .before .before .before .before .before .before .before .pre .1 .1 .0) (c .before .before .before .before .before .before .before .before .before .before .before .before .before .before .before .before .before .pre .1 .1 .1 .0) (c .before .before .before .before .before .before .before .before .before .before .before .before .before .before .before .before .before .pre .1 .1 .1 .1 .0) (c .before .before .before .before .before .before .before .before .before .before .before .before .before .before .before .before .before .pre .1 .1 .1 .1 .1 .0 .0) (c .before .before .before .before .before .before .before .before .before .before .before .before .before .before .before .before .before .pre .1 .1 .1 .1 .1 .0 .1) (c .before .before .before .before .before .before .before .before .before .before .before .before .before .before .before .before .before .pre .1 .1 .1 .1 .1 .1) (c .before .before .before .before .before .before .before .before .before .before .copy-message .ensures .1 .1) (c .before .before .clear .ensures)))
 
 pub draw-spec : {M : Type 1} → statement M
 draw-spec =

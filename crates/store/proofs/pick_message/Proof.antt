@@ -10,16 +10,16 @@ use Rattle.store.proofs.pick_message.Statement.{statement}
 use Rattle.store.proofs.pick_message.Tie as tie
 
 abbrev Inv-loop : tie.InvT-loop
-Inv-loop s store n zero i₀ i = Picking s (length zero) store n i
+Inv-loop s store n zero heads links i₀ i = Picking s (length zero) store n i
 
 abbrev μ-loop : tie.MeasureT-loop
-μ-loop s store n zero i₀ i = n - i
+μ-loop s store n zero heads links i₀ i = n - i
 
 loop-holds : tie.Need-loop-holds Inv-loop μ-loop
 loop-holds c = picking-first (c .before .before .args .s) (length (now (c .before .before .args .zero))) (now (c .before .before .args .store)) (c .before .before .args .n)
 
 run-at-requires : tie.Need-run-at-requires Inv-loop μ-loop
-run-at-requires c κs = (c .before .before .before .before .pre .0, (c .before .before .before .before .pre .1 .0, (c .before .before .before .before .pre .1 .1, c .loop-test .taken)))
+run-at-requires c κs = (c .before .before .before .before .pre .0, (c .before .before .before .before .pre .1 .0, (c .before .before .before .before .pre .1 .1 .0, (c .before .before .before .before .pre .1 .1 .1, c .loop-test .taken))))
 
 returns : tie.Need-returns Inv-loop μ-loop
 returns c = picking-found (c .before .before .before .before .before .before .args .s) (length (now (c .before .before .before .before .before .before .args .zero))) (now (c .before .before .before .before .before .before .args .store)) (c .before .before .before .before .before .before .args .n) (c .before .before .before .loop .inv) (c .before .before .loop-test .taken) (c .before .run-at .ensures) (c .if1 .taken)

@@ -1,0 +1,209 @@
+-- Calls on a store's octets told by its cells alone: what each packet is to the store, and how long each output. So the hypotheses of
+-- demand 3 about a given list of calls are told by tests that compute over cells.
+-- Assumes nothing.
+use Prim.Native.Nat.{ℕ, suc, _+_, _≤_, _<_}
+use mathlib.Core.Path.{_≡_, refl, ap, ap₂, sym, _∙_}
+use mathlib.Core.Logic.{_⊎_, inl, inr}
+use mathlib.Core.Bool.{Bool, true, false}
+use mathlib.Core.Option.{Option, none, some}
+use mathlib.Core.List.{List, [], _∷_, _++_, map, append-assoc, List·Memᴰ, List·Memᴰ·cases-cons, List·Memᴰ·not-nil}
+use native.Mathlib.Omega.{arith}
+use lib.ListN.{length}
+use lib.Dec.{ltb}
+use Rattle.octets.specs.Octets.{pick}
+use Rattle.octets.proofs.Lists.{bool}
+use Rattle.walk.specs.declared.Settings.{Settings}
+use Rattle.packet.specs.Reading.{segmented}
+use Rattle.cells.specs.Segments.{Seg, sameRest}
+use Rattle.cells.specs.Rows.{Cell, mayHold}
+use Rattle.store.specs.Messages.{cellsOf, look, top}
+use Rattle.store.specs.Arriving.{stored, again, refused, placed, beside, lowestFree, segmentArrived, arrivedIn, arrived}
+use Rattle.store.specs.Taking.{message}
+use Rattle.keeping.specs.Cells.{hasFree}
+use Rattle.keeping.proofs.Picking.{pick-yes}
+use Rattle.keeping.proofs.After.{segment, has-free}
+use Rattle.demand3.specs.Traffic.{Event, arrives, passes, takes, empty, takenFrom, after, Room as CellRoom}
+use Rattle.demand3.specs.Promise.{Untaken as CellUntaken}
+use Rattle.demand3.specs.Calls.{Call, arrival, taking, joining, Brings, Handed, outOf, goesOn, draws, storeAfter, storeBy}
+use Rattle.demand3.specs.Sendings.{Sending, manyOf, packetWith, segmentAt, IsCut}
+use Rattle.demand3.specs.Presupposed.{Untaken, InUse, emptyStore, storeBehind, Room}
+use Rattle.demand3.proofs.Keeps.{after-append}
+use Rattle.demand3.proofs.ReadAs.{repeat-reads, repeat-octets, own-fits}
+use Rattle.demand3.proofs.Sents.{sentOf}
+use Rattle.demand3.proofs.Steps.{pick-no, eventOf, reads-event, Kept, arrived-is, passed-on, segment-came}
+use Rattle.demand3.proofs.Events.{before, drawing, eventsBy, eventsIn, events-append}
+use Rattle.demand3.proofs.Simulates.{took-by, by-took, by-keeps, by-cells, run-keeps, run-cells}
+use Rattle.demand3.proofs.Carried.{behind-cells}
+
+-- ---- every packet that is handed over
+
+abbrev pub EachPacket : (List ℕ → Type 0) → List Call → Type 0
+EachPacket F [] = Unit {0}
+EachPacket F (arrival p ∷ cs) = F p × EachPacket F cs
+EachPacket F (taking out ∷ cs) = EachPacket F cs
+EachPacket F (joining p out ∷ cs) = F p × EachPacket F cs
+
+pub each-packet : (F : List ℕ → Type 0) (cs : List Call) → EachPacket F cs → (p : List ℕ) → Handed p cs → F p
+each-packet F [] w p h = absurd (List·Memᴰ·not-nil (h .1))
+each-packet F (arrival q ∷ cs) w p h = go (λ k. each-packet F cs (w .1) p (h .0, k, h .2)) (List·Memᴰ·cases-cons (h .1))
+  where
+    at : arrival q ≡ h .0 → Brings p (h .0) → F p
+    at e (inl d) = let f : arrival q ≡ arrival p = e ∙ d in let g : p ≡ q = cc f in rw g (w .0)
+    at e (inr d) = let f : arrival q ≡ joining p (d .0) = e ∙ d .1 in let z : _≡_ {A = ℕ} 0 1 = cc f in absurd (omega arith)
+
+    go : (List·Memᴰ (h .0) cs → F p) → (h .0 ≡ arrival q) ⊎ List·Memᴰ (h .0) cs → F p
+    go ih (inl e) = at (sym e) (h .2)
+    go ih (inr k) = ih k
+each-packet F (taking out ∷ cs) w p h = go (λ k. each-packet F cs w p (h .0, k, h .2)) (List·Memᴰ·cases-cons (h .1))
+  where
+    at : taking out ≡ h .0 → Brings p (h .0) → F p
+    at e (inl d) = let f : taking out ≡ arrival p = e ∙ d in let z : _≡_ {A = ℕ} 0 1 = cc f in absurd (omega arith)
+    at e (inr d) = let f : taking out ≡ joining p (d .0) = e ∙ d .1 in let z : _≡_ {A = ℕ} 0 1 = cc f in absurd (omega arith)
+
+    go : (List·Memᴰ (h .0) cs → F p) → (h .0 ≡ taking out) ⊎ List·Memᴰ (h .0) cs → F p
+    go ih (inl e) = at (sym e) (h .2)
+    go ih (inr k) = ih k
+each-packet F (joining q out ∷ cs) w p h = go (λ k. each-packet F cs (w .1) p (h .0, k, h .2)) (List·Memᴰ·cases-cons (h .1))
+  where
+    at : joining q out ≡ h .0 → Brings p (h .0) → F p
+    at e (inl d) = let f : joining q out ≡ arrival p = e ∙ d in let z : _≡_ {A = ℕ} 0 1 = cc f in absurd (omega arith)
+    at e (inr d) = let f : joining q out ≡ joining p (d .0) = e ∙ d .1 in let g : p ≡ q = cc f in rw g (w .0)
+
+    go : (List·Memᴰ (h .0) cs → F p) → (h .0 ≡ joining q out) ⊎ List·Memᴰ (h .0) cs → F p
+    go ih (inl e) = at (sym e) (h .2)
+    go ih (inr k) = ih k
+
+-- a segment of a message, whatever its sequence count, arrives as that segment
+pub repeat-event : (s : Settings) (Z : ℕ) (m : Sending) → IsCut s Z m → (i : ℕ) → i < manyOf s m → (c : ℕ) → c < 16384 →
+    eventOf s Z (packetWith s m i c) ≡ arrives (segmentAt s m i)
+repeat-event s Z m k i l c h =
+    let r = repeat-reads s Z m k i l c h in
+    reads-event s Z (packetWith s m i c) (segmentAt s m i) r
+    (own-fits s Z m k i l (packetWith s m i c) (repeat-octets s Z m k i l c h) r)
+
+-- ---- calls by their events
+
+pub data Act : Type 0 where
+  comes : Event → Act
+  draw : ℕ → Act
+  meets : Event → ℕ → Act
+
+abbrev pub actOf : Settings → ℕ → Call → Act
+actOf s Z (arrival p) = comes (eventOf s Z p)
+actOf s Z (taking out) = draw (length out)
+actOf s Z (joining p out) = meets (eventOf s Z p) (length out)
+
+abbrev landsBeside : Option Seg → List Cell → Seg → Bool
+landsBeside none cs t = hasFree cs
+landsBeside (some u) cs t = sameRest u t
+
+-- a segment is stored, or held already
+abbrev pub lands : List Cell → Event → Bool
+lands cs (arrives t) = landsBeside (look cs (t .key) (t .counter)) cs t
+lands cs passes = false
+lands cs (takes long) = false
+
+abbrev pub eventsOf : List Cell → Act → List Event
+eventsOf cs (comes e) = e ∷ []
+eventsOf cs (draw long) = takes long ∷ []
+eventsOf cs (meets e long) = e ∷ pick (lands cs e) (takes long ∷ []) []
+
+unfoldable pub actEvents : List Cell → List Act → List Event
+actEvents cs [] = []
+actEvents cs (a ∷ l) = eventsOf cs a ++ actEvents (after suc top cs (eventsOf cs a)) l
+
+module _ (s : Settings) (Z n : ℕ) where
+  module _ (st : List ℕ) (k : Kept s Z n st) where
+    abbrev cs : List Cell
+    cs = cellsOf s Z st n
+
+    -- a joining goes on where the segment lands
+    pub goes-on : (p : List ℕ) → goesOn (arrived s Z st p) ≡ lands cs (eventOf s Z p)
+    unfolding segmentArrived placed
+    goes-on p = ap goesOn (arrived-is s Z n st k p) ∙ go (bool (mayHold s Z p))
+      where
+        new : (b : Bool) → goesOn (pick b (stored (lowestFree s Z st n)) (refused 19)) ≡ b
+        new true = refl
+        new false = refl
+
+        old : (b : Bool) → goesOn (pick b again (refused 18)) ≡ b
+        old true = refl
+        old false = refl
+
+        at : (o : Option Seg) → goesOn (beside o (segment s p) (placed n (lowestFree s Z st n))) ≡ landsBeside o cs (segment s p)
+        at none = new (ltb (lowestFree s Z st n) n) ∙ sym (has-free s Z st n)
+        at (some u) = old (sameRest u (segment s p))
+
+        go : (mayHold s Z p ≡ true) ⊎ (mayHold s Z p ≡ false) → goesOn (arrivedIn s Z st n p) ≡ lands cs (eventOf s Z p)
+        go (inl e) =
+            ap goesOn (segment-came s Z n st k p e) ∙ at (look cs (segment s p .key) (segment s p .counter))
+            ∙ ap (lands cs) (sym (pick-yes (mayHold s Z p) (arrives (segment s p)) passes e))
+        go (inr e) =
+            passed-on s Z n st k p e ∙ ap (lands cs) (sym (pick-no (mayHold s Z p) (arrives (segment s p)) passes e))
+
+    pub draws-by : (p out : List ℕ) → draws s Z st (joining p out) ≡ lands cs (eventOf s Z p)
+    draws-by p out = goes-on p
+
+    by-acts : (c : Call) → eventsBy s Z st c ≡ eventsOf cs (actOf s Z c)
+    by-acts (arrival p) = refl
+    by-acts (taking out) = refl
+    by-acts (joining p out) =
+        ap (λ (b : Bool). eventOf s Z p ∷ drawing s Z b (joining p out)) (goes-on p)
+
+  pub acts-are : (l : List Call) (st : List ℕ) → Kept s Z n st →
+      eventsIn s Z st l ≡ actEvents (cellsOf s Z st n) (map (actOf s Z) l)
+  unfolding eventsIn actEvents
+  acts-are [] st k = refl
+  acts-are (c ∷ l) st k =
+      ap₂ _++_ (by-acts st k c)
+      (acts-are l (storeBy s Z st c) (by-keeps s Z n st k c)
+      ∙ ap (λ (x : List Cell). actEvents x (map (actOf s Z) l))
+      (by-cells s Z n st k c ∙ ap (after suc top (cellsOf s Z st n)) (by-acts st k c)))
+
+  -- ---- the room and a message untaken, told by the events
+
+  abbrev zeros : List ℕ
+  zeros = emptyStore Z n
+
+  starts-with : (c : Call) (p : List ℕ) (st : List ℕ) → Brings p c →
+      (q : List Event) × (eventsBy s Z st c ≡ eventOf s Z p ∷ q)
+  starts-with c p st (inl e) = (drawing s Z (draws s Z st c) c, rw e refl)
+  starts-with c p st (inr e) = (drawing s Z (draws s Z st c) c, rw (e .1) refl)
+
+  pub room-told : (one : 1 ≤ Z) → InUse s n → (l : List Call) → CellRoom suc top (empty n) (eventsIn s Z zeros l) → Room s Z n l
+  unfolding eventsIn
+  room-told one u l r x y c p e b a g f new =
+      let t = segment s p in
+      let st = storeBehind s Z n x in
+      let v = starts-with c p st b in
+      let w : eventOf s Z p ≡ arrives t = reads-event s Z p t (record { accepted = a; segmented = g; segment = refl }) f in
+      let d : eventsIn s Z zeros l ≡ eventsIn s Z zeros x ++ arrives t ∷ (v .0 ++ eventsIn s Z (storeBy s Z st c) y) =
+      ap (eventsIn s Z zeros) e ∙ events-append s Z x (c ∷ y) zeros
+      ∙ ap (λ (z : List Event). eventsIn s Z zeros x ++ (z ++ eventsIn s Z (storeBy s Z st c) y)) (v .1)
+      ∙ ap (λ (z : Event). eventsIn s Z zeros x ++ z ∷ (v .0 ++ eventsIn s Z (storeBy s Z st c) y)) w in
+      let m = behind-cells s Z n one u x in
+      ap hasFree m
+      ∙ r (eventsIn s Z zeros x) (v .0 ++ eventsIn s Z (storeBy s Z st c) y) t d
+      (ap (λ (z : List Cell). look z (t .key) (t .counter)) (sym m) ∙ new)
+
+  pub untaken-told : (m : Sending) (st : List ℕ) (l : List Call) → Kept s Z n st →
+      CellUntaken suc top (sentOf s m) (cellsOf s Z st n) (eventsIn s Z st l) → Untaken s Z m st l
+  unfolding eventsIn
+  untaken-told m st l k r x y c e t =
+      let sx = storeAfter s Z st x in
+      let kx = run-keeps s Z n x st k in
+      let b = by-took s Z sx c (t .0) (t .1) in
+      let long = length (outOf c) in
+      let d : eventsIn s Z st l ≡ (eventsIn s Z st x ++ before s Z c) ++ takes long ∷ eventsIn s Z (storeBy s Z sx c) y =
+      ap (eventsIn s Z st) e ∙ events-append s Z x (c ∷ y) st
+      ∙ ap (λ (z : Bool). eventsIn s Z st x ++ ((before s Z c ++ drawing s Z z c) ++ eventsIn s Z (storeBy s Z sx c) y)) (b .0)
+      ∙ ap (λ (z : List Event). eventsIn s Z st x ++ z)
+      (append-assoc (before s Z c) (takes long ∷ []) (eventsIn s Z (storeBy s Z sx c) y))
+      ∙ sym (append-assoc (eventsIn s Z st x) (before s Z c) (takes long ∷ eventsIn s Z (storeBy s Z sx c) y)) in
+      let f : takenFrom suc top (after suc top (cellsOf s Z sx n) (before s Z c)) long ≡ message (t .0) =
+      cc (sym (took-by s Z n sx kx c (b .0)) ∙ t .1) in
+      let g : after suc top (cellsOf s Z st n) (eventsIn s Z st x ++ before s Z c) ≡ after suc top (cellsOf s Z sx n) (before s Z c) =
+      after-append suc top (cellsOf s Z st n) (eventsIn s Z st x) (before s Z c)
+      ∙ ap (λ (z : List Cell). after suc top z (before s Z c)) (sym (run-cells s Z n x st k)) in
+      r (eventsIn s Z st x ++ before s Z c) (eventsIn s Z (storeBy s Z sx c) y) long (t .0) d
+      (ap (λ (z : List Cell). takenFrom suc top z long) g ∙ f) (t .2)

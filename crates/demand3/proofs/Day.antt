@@ -1,0 +1,237 @@
+-- A run of calls that demand 3 speaks of: two messages of one key with neighbouring counters, five segments, arrive interleaved at four
+-- cells of 1,024 octets. The header is figure 14's. Here: the messages and the packets, and what each is to the store.
+-- Assumes nothing.
+use Prim.Native.Nat.{ℕ, _+_, _≤_, _<_}
+use mathlib.Core.Path.{_≡_, refl, ap, _∙_}
+use mathlib.Core.Bool.{Bool, true}
+use mathlib.Core.List.{List, [], _∷_, _++_}
+use native.Mathlib.Omega.{arith}
+use lib.ListN.{length, replicate}
+use lib.Dec.{ltb}
+use borrow.Author.Tests.{ltb-true}
+use Rattle.octets.specs.Octets.{Octets, wide, number as numberAt}
+use Rattle.octets.proofs.Has.{octets-nil, octets-one, octets-append}
+use Rattle.walk.specs.declared.Settings.{Settings}
+use Rattle.walk.specs.Walk.{begun, check, octets, unless}
+use Rattle.fields.specs.Form.{split}
+use Rattle.packet.specs.Format.{presence, identification, fixedOctets, frontOctets, backOctets, headerOctets}
+use Rattle.packet.specs.Reading.{primaryTests, primaryOf, octetField, wideField, sduField, afterSdu, afterArea, afterService, afterOperation, afterVersion, afterSession, afterSecondary, afterQualifier, afterTransaction, afterPresence, fixedOf, flagsOf, presentOf, idsOf, textsOf, bodyTest, refusedHeader, acceptedHeader, readPacket}
+use Rattle.packet.specs.Key.{counterPlace, keyOf}
+use Rattle.write.specs.Given.{headOf, sum, nameChecks, routingChecks, idChecks, textChecks, headerChecks, unlessAll}
+use Rattle.write.specs.Writing.{settingsTest, partsTest}
+use Rattle.two_way.proofs.Figures.{header as values, texts}
+use Rattle.cut.specs.declared.Next.the-variants.{At}
+use Rattle.cut.specs.Sending.{countersFit}
+use Rattle.cut.specs.Cutting.{packets, rounded, limitTest, valueTests, messageTests, countRefusal, countAnswer, flagsAt, bodyAt}
+use Rattle.cut.proofs.Packets.{packet-most}
+use Rattle.fewest.specs.Cutting.{Lends}
+use Rattle.fewest.specs.Runs.{place}
+use Rattle.fewest.proofs.Numbers.{cuts-well}
+use Rattle.cells.specs.Segments.{Seg, segOf, both}
+use Rattle.cells.specs.Rows.{mayHold}
+use Rattle.cells.proofs.Held.{both-true}
+use Rattle.demand3.specs.Traffic.{arrives, passes}
+use Rattle.demand3.specs.Sendings.{Sending, countOf, manyOf, packetOf, packetWith, IsCut}
+use Rattle.demand3.specs.Whole.{cellSize}
+use Rattle.demand3.proofs.ReadAs.{pieceOf, segment-is-piece}
+use Rattle.demand3.proofs.Steps.{eventOf}
+use Rattle.demand3.proofs.Acts.{repeat-event}
+
+abbrev pub settings : Settings
+settings = record { t = 8 }
+
+-- three segments, counters 7, 8 and 9
+abbrev pub three : Sending
+three =
+    record {
+      limit = 34;
+      values = values;
+      texts = texts;
+      body = 1 ∷ 2 ∷ 3 ∷ 4 ∷ 5 ∷ 6 ∷ 7 ∷ 8 ∷ [];
+      sender = record { count = record { 0 = 0 }; next = At (record { 0 = 7 }) };
+    }
+
+-- two segments, counters 10 and 11
+abbrev pub two : Sending
+two =
+    record {
+      limit = 36;
+      values = values;
+      texts = texts;
+      body = 21 ∷ 22 ∷ 23 ∷ 24 ∷ 25 ∷ 26 ∷ 27 ∷ 28 ∷ 29 ∷ 30 ∷ [];
+      sender = record { count = record { 0 = 3 }; next = At (record { 0 = 10 }) };
+    }
+
+abbrev pub messages : List Sending
+messages = three ∷ two ∷ []
+
+-- segment i of a message with a sequence count
+abbrev pub of-three : ℕ → ℕ → List ℕ
+of-three i c = packetWith settings three i c
+
+abbrev pub of-two : ℕ → ℕ → List ℕ
+of-two i c = packetWith settings two i c
+
+-- figure 14's 21 header octets
+abbrev pub header : List ℕ
+header = 0 ∷ 0 ∷ 1 ∷ 0 ∷ 2 ∷ 0 ∷ 3 ∷ 1 ∷ 0x20 ∷ 6 ∷ 0 ∷ 7 ∷ 0 ∷ 0 ∷ 0 ∷ 0 ∷ 0 ∷ 0 ∷ 0 ∷ 9 ∷ 0 ∷ []
+
+abbrev pub theKey : List ℕ
+theKey = 0x18 ∷ 5 ∷ header
+
+-- a whole packet
+abbrev pub single : List ℕ
+single = 0x18 ∷ 5 ∷ 0xC0 ∷ 0 ∷ 0 ∷ 0x14 ∷ header
+
+-- a packet of two octets
+abbrev pub stub : List ℕ
+stub = 0 ∷ 0 ∷ []
+
+-- a segment of 1,031 octets
+abbrev pub huge : List ℕ
+huge = 0x18 ∷ 5 ∷ 0x40 ∷ 0 ∷ 4 ∷ 0 ∷ header ++ (0 ∷ 0 ∷ 0 ∷ 12 ∷ replicate 1000 1)
+
+-- another key, with a counter of the first message
+abbrev pub other : List ℕ
+other = 0x18 ∷ 6 ∷ 0 ∷ 0 ∷ 0 ∷ 25 ∷ header ++ (0 ∷ 0 ∷ 0 ∷ 8 ∷ 4 ∷ [])
+
+-- ---- octets
+
+abbrev small : List ℕ → Bool
+small [] = true
+small (x ∷ l) = both (ltb x 256) (small l)
+
+octets-by : (l : List ℕ) → small l ≡ true → Octets l
+octets-by [] e = octets-nil
+octets-by (x ∷ l) e =
+    let a = both-true (ltb x 256) (small l) e in
+    octets-append (x ∷ []) l (octets-one x (ltb-true x 256 (a .0))) (octets-by l (a .1))
+
+pub single-octets : Octets single
+single-octets = octets-by single refl
+
+pub stub-octets : Octets stub
+stub-octets = octets-by stub refl
+
+pub huge-octets : Octets huge
+huge-octets = octets-by huge refl
+
+pub other-octets : Octets other
+other-octets = octets-by other refl
+
+-- ---- the messages are cut
+
+lends : Lends values texts
+lends =
+    record {
+      timestamp = octets-nil;
+      zone = octets-nil;
+      name = octets-nil;
+      domain = octets-nil;
+      authentication = octets-nil;
+      transaction = omega arith;
+    }
+
+three-counts : countOf settings three .refusal .number ≡ 0
+unfolding countAnswer countRefusal messageTests limitTest valueTests settingsTest partsTest unless unlessAll headerChecks nameChecks routingChecks idChecks textChecks sum packets rounded countersFit headOf split headerOctets fixedOctets frontOctets backOctets wide
+three-counts = refl
+
+pub three-many : manyOf settings three ≡ 3
+unfolding countAnswer countRefusal messageTests limitTest valueTests settingsTest partsTest unless unlessAll headerChecks nameChecks routingChecks idChecks textChecks sum packets rounded countersFit headOf split headerOctets fixedOctets frontOctets backOctets wide
+three-many = refl
+
+two-counts : countOf settings two .refusal .number ≡ 0
+unfolding countAnswer countRefusal messageTests limitTest valueTests settingsTest partsTest unless unlessAll headerChecks nameChecks routingChecks idChecks textChecks sum packets rounded countersFit headOf split headerOctets fixedOctets frontOctets backOctets wide
+two-counts = refl
+
+pub two-many : manyOf settings two ≡ 2
+unfolding countAnswer countRefusal messageTests limitTest valueTests settingsTest partsTest unless unlessAll headerChecks nameChecks routingChecks idChecks textChecks sum packets rounded countersFit headOf split headerOctets fixedOctets frontOctets backOctets wide
+two-many = refl
+
+-- a packet has at most P octets
+most : (m : Sending) → countOf settings m .refusal .number ≡ 0 → (i : ℕ) → length (packetOf settings m i) ≤ m .limit
+unfolding countAnswer
+most m z i =
+    packet-most settings (m .limit) (m .values) (m .texts) (m .body) (m .sender) i
+    (cuts-well settings (m .limit) (m .values) (m .texts) (m .body) (m .sender) z .some)
+
+pub three-cut : IsCut settings cellSize three
+three-cut =
+    record {
+      texts = lends;
+      body = octets-by (three .body) refl;
+      counts = three-counts;
+      many = omega (arith, three-many);
+      fits = λ i l. omega (arith, most three three-counts i);
+    }
+
+pub two-cut : IsCut settings cellSize two
+two-cut =
+    record {
+      texts = lends;
+      body = octets-by (two .body) refl;
+      counts = two-counts;
+      many = omega (arith, two-many);
+      fits = λ i l. omega (arith, most two two-counts i);
+    }
+
+-- ---- what the packets are to the store
+
+abbrev pub seg : ℕ → ℕ → List ℕ → Seg
+seg c f b = record { key = theKey; counter = c; flags = f; body = b }
+
+three-at : (i : ℕ) → i < 3 → (t : Seg) → pieceOf settings cellSize three three-cut i ≡ t → (c : ℕ) → c < 16384 →
+    eventOf settings cellSize (of-three i c) ≡ arrives t
+three-at i l t e c h =
+    let k : i < manyOf settings three = omega (arith, three-many) in
+    repeat-event settings cellSize three three-cut i k c h ∙ ap arrives (segment-is-piece settings cellSize three three-cut i k ∙ e)
+
+two-at : (i : ℕ) → i < 2 → (t : Seg) → pieceOf settings cellSize two two-cut i ≡ t → (c : ℕ) → c < 16384 →
+    eventOf settings cellSize (of-two i c) ≡ arrives t
+two-at i l t e c h =
+    let k : i < manyOf settings two = omega (arith, two-many) in
+    repeat-event settings cellSize two two-cut i k c h ∙ ap arrives (segment-is-piece settings cellSize two two-cut i k ∙ e)
+
+pub is-seven : (c : ℕ) → c < 16384 → eventOf settings cellSize (of-three 0 c) ≡ arrives (seg 7 1 (1 ∷ 2 ∷ 3 ∷ []))
+unfolding place flagsAt bodyAt packets rounded headOf split identification headerOctets fixedOctets presence frontOctets backOctets wide
+is-seven = three-at 0 (omega arith) (seg 7 1 (1 ∷ 2 ∷ 3 ∷ [])) refl
+
+pub is-eight : (c : ℕ) → c < 16384 → eventOf settings cellSize (of-three 1 c) ≡ arrives (seg 8 0 (4 ∷ 5 ∷ 6 ∷ []))
+unfolding place flagsAt bodyAt packets rounded headOf split identification headerOctets fixedOctets presence frontOctets backOctets wide
+is-eight = three-at 1 (omega arith) (seg 8 0 (4 ∷ 5 ∷ 6 ∷ [])) refl
+
+pub is-nine : (c : ℕ) → c < 16384 → eventOf settings cellSize (of-three 2 c) ≡ arrives (seg 9 2 (7 ∷ 8 ∷ []))
+unfolding place flagsAt bodyAt packets rounded headOf split identification headerOctets fixedOctets presence frontOctets backOctets wide
+is-nine = three-at 2 (omega arith) (seg 9 2 (7 ∷ 8 ∷ [])) refl
+
+pub is-ten : (c : ℕ) → c < 16384 → eventOf settings cellSize (of-two 0 c) ≡ arrives (seg 10 1 (21 ∷ 22 ∷ 23 ∷ 24 ∷ 25 ∷ []))
+unfolding place flagsAt bodyAt packets rounded headOf split identification headerOctets fixedOctets presence frontOctets backOctets wide
+is-ten = two-at 0 (omega arith) (seg 10 1 (21 ∷ 22 ∷ 23 ∷ 24 ∷ 25 ∷ [])) refl
+
+pub is-eleven : (c : ℕ) → c < 16384 → eventOf settings cellSize (of-two 1 c) ≡ arrives (seg 11 2 (26 ∷ 27 ∷ 28 ∷ 29 ∷ 30 ∷ []))
+unfolding place flagsAt bodyAt packets rounded headOf split identification headerOctets fixedOctets presence frontOctets backOctets wide
+is-eleven = two-at 1 (omega arith) (seg 11 2 (26 ∷ 27 ∷ 28 ∷ 29 ∷ 30 ∷ [])) refl
+
+abbrev pub stray : Seg
+stray = record { key = 0x18 ∷ 6 ∷ header; counter = 8; flags = 0; body = 4 ∷ [] }
+
+pub is-single : eventOf settings cellSize single ≡ passes
+unfolding mayHold readPacket refusedHeader acceptedHeader primaryTests begun check octets numberAt primaryOf octetField wideField sduField afterSdu afterArea afterService afterOperation afterVersion afterSession afterSecondary afterQualifier afterTransaction afterPresence fixedOf flagsOf presentOf idsOf textsOf bodyTest
+is-single = refl
+
+pub is-stub : eventOf settings cellSize stub ≡ passes
+unfolding mayHold readPacket refusedHeader acceptedHeader primaryTests begun check octets numberAt primaryOf octetField wideField sduField afterSdu afterArea afterService afterOperation afterVersion afterSession afterSecondary afterQualifier afterTransaction afterPresence fixedOf flagsOf presentOf idsOf textsOf bodyTest
+is-stub = refl
+
+pub is-huge : eventOf settings cellSize huge ≡ passes
+unfolding mayHold readPacket refusedHeader acceptedHeader primaryTests begun check octets numberAt primaryOf octetField wideField sduField afterSdu afterArea afterService afterOperation afterVersion afterSession afterSecondary afterQualifier afterTransaction afterPresence fixedOf flagsOf presentOf idsOf textsOf bodyTest
+is-huge = refl
+
+pub is-other : eventOf settings cellSize other ≡ arrives stray
+unfolding segOf keyOf counterPlace mayHold readPacket refusedHeader acceptedHeader primaryTests begun check octets numberAt primaryOf octetField wideField sduField afterSdu afterArea afterService afterOperation afterVersion afterSession afterSecondary afterQualifier afterTransaction afterPresence fixedOf flagsOf presentOf idsOf textsOf bodyTest
+is-other = refl
+
+-- it would be read, but for its length
+pub huge-read : readPacket settings huge .refusal .number ≡ 0
+unfolding readPacket refusedHeader acceptedHeader primaryTests begun check octets numberAt primaryOf octetField wideField sduField afterSdu afterArea afterService afterOperation afterVersion afterSession afterSecondary afterQualifier afterTransaction afterPresence fixedOf flagsOf presentOf idsOf textsOf bodyTest
+huge-read = refl

@@ -1,0 +1,234 @@
+-- What the run of `Day` comes to: a take refused by 20 and one by 21, the first message handed out by a joining, octet by octet, its
+-- cells free for others and for itself, and after it is sent once more the whole promise of demand 3 anew.
+-- Assumes nothing.
+use Prim.Native.Nat.{ℕ, suc, _+_, _≤_, _<_}
+use mathlib.Core.Path.{_≡_, refl, ap, ap₂, sym, _∙_, subst}
+use mathlib.Core.Logic.{_⊎_, inl, inr}
+use mathlib.Core.Bool.{true}
+use mathlib.Core.Option.{some}
+use mathlib.Core.List.{List, [], _∷_, _++_, List·Memᴰ, List·Memᴰ·head, List·Memᴰ·tail, Memᴰ·append-left}
+use native.Mathlib.Omega.{arith}
+use Rattle.octets.specs.Octets.{Octets, wide, alike}
+use Rattle.octets.proofs.Lists.{below-or}
+use Rattle.fields.specs.Form.{split}
+use Rattle.packet.specs.Format.{presence, identification, fixedOctets, frontOctets, backOctets, headerOctets}
+use Rattle.write.specs.Given.{headOf}
+use Rattle.fewest.specs.Runs.{place}
+use Rattle.cells.specs.Segments.{Seg, carries, sameRest}
+use Rattle.cells.specs.Rows.{Cell, free, held}
+use Rattle.store.specs.Messages.{Run, look, roleOf, bodies, chain, runFrom, pickIn, among, top}
+use Rattle.store.specs.Taking.{message, unable}
+use Rattle.keeping.specs.Cells.{put, hasFree}
+use Rattle.demand3.specs.Traffic.{Event, empty, takenFrom, stepped, after}
+use Rattle.demand3.specs.Promise.{Untaken as CellUntaken}
+use Rattle.demand3.specs.Calls.{arrival, taking, joining, Brings, Handed, tookBy, outBy}
+use Rattle.demand3.specs.Sendings.{manyOf, segmentAt, keyIn, startOf}
+use Rattle.demand3.specs.Presupposed.{Came, AllCame, MayCome, Traffic, Untaken, storeBehind, cellsIn, Anew, fresh, retaken}
+use Rattle.demand3.specs.Whole.{cellSize, IsComplete, Delivers, Promise}
+use Rattle.demand3.proofs.ReadAs.{repeat-reads, segment-is-piece}
+use Rattle.demand3.proofs.Sents.{sentOf}
+use Rattle.demand3.proofs.Checks.{leftIn, untaken-by}
+use Rattle.demand3.proofs.Events.{eventsIn}
+use Rattle.demand3.proofs.Carried.{behind-keeps}
+use Rattle.demand3.proofs.Whole.{demand3·whole, soundness·whole}
+use Rattle.demand3.proofs.Acts.{comes, lands, actEvents, acts-are, untaken-told}
+use Rattle.demand3.proofs.Day.{settings, three, messages, of-three, header, three-many, three-cut, seg, stray, is-eight, is-nine}
+use Rattle.demand3.proofs.DayComes.{Fine, three-fine}
+use Rattle.demand3.proofs.DayRun.{lentOut, dawn, early, morning, atNoon, noon, evening, eight, nine, dawnActs, morningActs, noonActs, eveningActs, dawn-acts, morning-acts, noon-acts, evening-acts, day-acts, in-use, one, cells-are, joined-takes, taking-takes, traffic, given}
+
+abbrev Z : ℕ
+Z = cellSize
+
+-- ---- the cells
+
+abbrev cellSeven : Cell
+cellSeven = held (seg 7 1 (1 ∷ 2 ∷ 3 ∷ []))
+
+abbrev cellEight : Cell
+cellEight = held (seg 8 0 (4 ∷ 5 ∷ 6 ∷ []))
+
+abbrev cellNine : Cell
+cellNine = held (seg 9 2 (7 ∷ 8 ∷ []))
+
+abbrev cellTen : Cell
+cellTen = held (seg 10 1 (21 ∷ 22 ∷ 23 ∷ 24 ∷ 25 ∷ []))
+
+-- three segments, and a free cell
+three-held : after suc top (empty 4) (actEvents (empty 4) dawnActs) ≡ cellNine ∷ cellTen ∷ cellSeven ∷ free ∷ []
+unfolding actEvents after stepped takenFrom look carries sameRest alike put hasFree pickIn runFrom chain roleOf bodies among
+three-held = refl
+
+one-held : after suc top (empty 4) (actEvents (empty 4) (comes nine ∷ [])) ≡ cellNine ∷ free ∷ free ∷ free ∷ []
+unfolding actEvents after stepped look carries alike put
+one-held = refl
+
+-- the store is full before noon
+full : after suc top (empty 4) (actEvents (empty 4) morningActs) ≡ cellNine ∷ cellTen ∷ cellSeven ∷ cellEight ∷ []
+unfolding actEvents after stepped takenFrom look carries sameRest alike put hasFree pickIn runFrom chain roleOf bodies among
+full = refl
+
+-- at noon the first message's cells are freed, and no others
+freed : after suc top (empty 4) (actEvents (empty 4) noonActs) ≡ free ∷ cellTen ∷ free ∷ free ∷ []
+unfolding actEvents after stepped takenFrom look carries sameRest alike put hasFree pickIn runFrom chain roleOf bodies among
+freed = refl
+
+pub noon-cells : cellsIn settings Z 4 (storeBehind settings Z 4 noon) ≡ free ∷ cellTen ∷ free ∷ free ∷ []
+noon-cells = cells-are noon noonActs noon-acts ∙ freed
+
+-- in the evening they are used again: by another key, and by the message itself
+abbrev pub cellsAtEnd : List Cell
+cellsAtEnd = held stray ∷ cellEight ∷ cellNine ∷ cellSeven ∷ []
+
+used-again : after suc top (empty 4) (actEvents (empty 4) (noonActs ++ eveningActs)) ≡ cellsAtEnd
+unfolding actEvents after stepped takenFrom look carries sameRest alike put hasFree pickIn runFrom chain roleOf bodies among
+used-again = refl
+
+pub end-cells : cellsIn settings Z 4 (storeBehind settings Z 4 (noon ++ evening)) ≡ cellsAtEnd
+end-cells = cells-are (noon ++ evening) (noonActs ++ eveningActs) day-acts ∙ used-again
+
+-- ---- the takings
+
+takes-nothing : takenFrom suc top (cellNine ∷ free ∷ free ∷ free ∷ []) 100 ≡ unable 20
+unfolding takenFrom pickIn runFrom chain roleOf look carries alike
+takes-nothing = refl
+
+-- the run's first take finds nothing complete
+pub none-yet : tookBy settings Z (storeBehind settings Z 4 (arrival (of-three 2 2) ∷ [])) (taking (lentOut 100)) ≡ some (unable 20)
+none-yet =
+    taking-takes (arrival (of-three 2 2) ∷ []) (comes nine ∷ []) (ap (λ (x : Event). comes x ∷ []) (is-nine 2 (omega arith)))
+    (cellNine ∷ free ∷ free ∷ free ∷ []) one-held (lentOut 100)
+    ∙ ap some takes-nothing
+
+takes-short : takenFrom suc top (after suc top (cellNine ∷ cellTen ∷ cellSeven ∷ free ∷ []) (eight ∷ [])) 30 ≡ unable 21
+unfolding after stepped takenFrom look carries sameRest alike put hasFree pickIn runFrom chain roleOf bodies among
+takes-short = refl
+
+lands-new : lands (cellNine ∷ cellTen ∷ cellSeven ∷ free ∷ []) eight ≡ true
+unfolding look carries alike hasFree
+lands-new = refl
+
+-- one octet too few
+pub too-few : tookBy settings Z (storeBehind settings Z 4 dawn) early ≡ some (unable 21)
+too-few =
+    joined-takes dawn dawnActs dawn-acts (cellNine ∷ cellTen ∷ cellSeven ∷ free ∷ []) three-held (of-three 1 1) (lentOut 30) eight
+    (is-eight 1 (omega arith)) lands-new
+    ∙ ap some takes-short
+
+abbrev pub theRun : Run
+theRun =
+    record { head = seg 7 1 (1 ∷ 2 ∷ 3 ∷ []); rest = seg 8 0 (4 ∷ 5 ∷ 6 ∷ []) ∷ seg 9 2 (7 ∷ 8 ∷ []) ∷ [] }
+
+takes-three : takenFrom suc top (after suc top (cellNine ∷ cellTen ∷ cellSeven ∷ cellEight ∷ []) (eight ∷ [])) 35 ≡ message theRun
+unfolding after stepped takenFrom look carries sameRest alike put hasFree pickIn runFrom chain roleOf bodies among
+takes-three = refl
+
+lands-again : lands (cellNine ∷ cellTen ∷ cellSeven ∷ cellEight ∷ []) eight ≡ true
+unfolding look carries sameRest alike
+lands-again = refl
+
+-- at noon
+noon-took : tookBy settings Z (storeBehind settings Z 4 morning) atNoon ≡ some (message theRun)
+noon-took =
+    joined-takes morning morningActs morning-acts (cellNine ∷ cellTen ∷ cellSeven ∷ cellEight ∷ []) full (of-three 1 79) (lentOut 35) eight
+    (is-eight 79 (omega arith)) lands-again
+    ∙ ap some takes-three
+
+pub the-key : theRun .head .key ≡ keyIn settings three
+unfolding headOf split identification headerOctets fixedOctets presence frontOctets backOctets wide
+the-key = refl
+
+pub the-start : theRun .head .counter ≡ startOf settings three
+unfolding place
+the-start = refl
+
+-- the message was taken at noon
+pub anew : Anew settings Z 4 three noon
+anew = retaken morning atNoon (theRun, noon-took, (the-key, the-start))
+
+-- the joining at noon hands it out
+pub handed : Delivers settings Z 4 three (storeBehind settings Z 4 morning) atNoon
+handed =
+    soundness·whole settings 4 in-use messages [] morning sooner three (List·Memᴰ·head refl) fresh .1 .takes atNoon fine-packet .gives
+    theRun noon-took the-key 0 (omega (arith, three-many)) first-counter
+  where
+    part : (p : List ℕ) → Handed p morning → Handed p (noon ++ evening)
+    part p h = (h .0, Memᴰ·append-left evening (Memᴰ·append-left (atNoon ∷ []) (h .1)), h .2)
+
+    sooner : Traffic settings Z messages morning
+    sooner =
+        record {
+          cut = traffic .cut;
+          apart = traffic .apart;
+          octets = λ p h. traffic .octets p (part p h);
+          packets = λ p h. traffic .packets p (part p h);
+        }
+
+    fine-packet : (p : List ℕ) → Brings p atNoon → Octets p × MayCome settings Z messages p
+    fine-packet p (inl e) = let z : _≡_ {A = ℕ} 0 1 = cc e in absurd (omega arith)
+    fine-packet p (inr e) =
+        let f : p ≡ of-three 1 79 = cc (e .1) in
+        subst Fine (sym f) (three-fine 1 (omega arith) 79 (omega arith))
+
+    first-counter : 7 ≡ segmentAt settings three 0 .counter
+    first-counter =
+        let z : 0 < manyOf settings three = omega (arith, three-many) in
+        let s : startOf settings three ≡ startOf settings three + 0 = omega arith in
+        the-start ∙ s ∙ sym (ap (λ (t : Seg). t .counter) (segment-is-piece settings Z three three-cut 0 z))
+
+-- identification, header and body, and behind them the output as it was
+pub written : outBy settings Z (storeBehind settings Z 4 morning) atNoon ≡ 0x18 ∷ 5 ∷ header ++ (1 ∷ 2 ∷ 3 ∷ 4 ∷ 5 ∷ 6 ∷ 7 ∷ 8 ∷ lentOut 4)
+unfolding headOf split identification headerOctets fixedOctets presence frontOctets backOctets wide
+written = handed .written
+
+-- ---- and anew
+
+left : leftIn suc top (sentOf settings three) (free ∷ cellTen ∷ free ∷ free ∷ []) (actEvents (free ∷ cellTen ∷ free ∷ free ∷ []) eveningActs) ≡ true
+unfolding leftIn actEvents after stepped takenFrom look carries sameRest alike put hasFree pickIn runFrom chain roleOf bodies among place headOf split identification headerOctets fixedOctets presence frontOctets backOctets wide
+left = refl
+
+pub untaken : Untaken settings Z three (storeBehind settings Z 4 noon) evening
+untaken =
+    let k = behind-keeps settings Z 4 one in-use noon in
+    let e : eventsIn settings Z (storeBehind settings Z 4 noon) evening ≡ actEvents (free ∷ cellTen ∷ free ∷ free ∷ []) eveningActs =
+    acts-are settings Z 4 evening (storeBehind settings Z 4 noon) k ∙ ap₂ actEvents noon-cells evening-acts in
+    untaken-told settings Z 4 three (storeBehind settings Z 4 noon) evening k
+    (subst (λ (l : List Event). CellUntaken suc top (sentOf settings three) (cellsIn settings Z 4 (storeBehind settings Z 4 noon)) l) (sym e)
+    (subst
+    (λ (l : List Cell). CellUntaken suc top (sentOf settings three) l (actEvents (free ∷ cellTen ∷ free ∷ free ∷ []) eveningActs))
+    (sym noon-cells)
+    (untaken-by suc top (sentOf settings three) (free ∷ cellTen ∷ free ∷ free ∷ [])
+    (actEvents (free ∷ cellTen ∷ free ∷ free ∷ []) eveningActs) left)))
+
+-- so demand 3 speaks of the run
+pub promised : Promise settings Z 4 messages three noon evening
+promised = demand3·whole settings 4 in-use messages noon evening given three (List·Memᴰ·head refl) anew untaken
+
+-- all its segments have arrived since
+again : AllCame settings three evening
+again i l = go (below-or i 1) (below-or i 2)
+  where
+    at : (c : ℕ) → c < 16384 → List·Memᴰ (arrival (of-three i c)) evening → Came settings (segmentAt settings three i) evening
+    at c h m = (of-three i c, (arrival (of-three i c), m, inl refl), repeat-reads settings Z three three-cut i l c h)
+
+    go : (i < 1) ⊎ (1 ≤ i) → (i < 2) ⊎ (2 ≤ i) → Came settings (segmentAt settings three i) evening
+    go (inl a) b =
+        let e : i ≡ 0 = omega arith in
+        at 80 (omega arith)
+        (List·Memᴰ·tail (List·Memᴰ·tail (List·Memᴰ·tail (List·Memᴰ·head (ap (λ (x : ℕ). arrival (of-three x 80)) e)))))
+    go (inr a) (inl b) =
+        let e : i ≡ 1 = omega arith in
+        at 81 (omega arith)
+        (List·Memᴰ·tail
+        (List·Memᴰ·tail
+        (List·Memᴰ·tail (List·Memᴰ·tail (List·Memᴰ·tail (List·Memᴰ·head (ap (λ (x : ℕ). arrival (of-three x 81)) e)))))))
+    go (inr a) (inr b) =
+        let e : i ≡ 2 = omega (arith, three-many) in
+        at 82 (omega arith)
+        (List·Memᴰ·tail
+        (List·Memᴰ·tail
+        (List·Memᴰ·tail
+        (List·Memᴰ·tail (List·Memᴰ·tail (List·Memᴰ·tail (List·Memᴰ·head (ap (λ (x : ℕ). arrival (of-three x 82)) e))))))))
+
+-- so it is complete again
+pub complete-again : IsComplete settings Z 4 three (storeBehind settings Z 4 (noon ++ evening))
+complete-again = promised .complete .1 again

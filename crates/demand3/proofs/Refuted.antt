@@ -1,0 +1,152 @@
+-- The wrong programs of document 01 that demand 3 shuts out (E-5): a store that refuses all or keeps nothing, so that its octets stay
+-- zero whatever arrives; and a joining that works once and then pretends. Each is any program at all of which this is said: what it
+-- leaves behind a list of calls, or what a call then takes. Each fails a part of demand 3 on the run of `Day`; the store meets it.
+-- Assumes nothing.
+use Prim.Native.Nat.{ℕ, suc, _+_, _≤_, _<_}
+use mathlib.Core.Path.{_≡_, refl, ap, _∙_, subst}
+use mathlib.Core.Logic.{_⊎_, inl, inr}
+use mathlib.Core.Option.{Option, none, some, Option·map}
+use mathlib.Core.List.{List, [], _∷_, _++_, map, List·Memᴰ, List·Memᴰ·head, List·Memᴰ·tail}
+use native.Mathlib.Omega.{arith}
+use lib.ListN.{length}
+use Rattle.octets.specs.Octets.{wide, alike}
+use Rattle.octets.proofs.Lists.{below-or}
+use Rattle.fields.specs.Form.{split}
+use Rattle.packet.specs.Format.{presence, identification, fixedOctets, frontOctets, backOctets, headerOctets}
+use Rattle.write.specs.Given.{headOf}
+use Rattle.fewest.specs.Runs.{place}
+use Rattle.cells.specs.Segments.{carries}
+use Rattle.store.specs.declared.Taken.{Taken}
+use Rattle.store.specs.Messages.{Run, look, roleOf, chain, runFrom, pickIn, picked, top}
+use Rattle.store.specs.Taking.{Took, message, unable}
+use Rattle.store.specs.Told.{refusalOf, takenOf}
+use Rattle.keeping.specs.Cells.{hasFree}
+use Rattle.keeping.proofs.Empty.{empty-cells}
+use Rattle.demand3.specs.Complete.{Held}
+use Rattle.demand3.specs.Traffic.{empty, after}
+use Rattle.demand3.specs.Calls.{Call, arrival, taking, joining, Brings, tookBy, storeAfter}
+use Rattle.demand3.specs.Sendings.{segmentAt}
+use Rattle.demand3.specs.Presupposed.{Came, AllCame, Traffic, Untaken, emptyStore, storeBehind, cellsIn, fresh, RoomIn}
+use Rattle.demand3.specs.Whole.{cellSize, IsComplete}
+use Rattle.demand3.proofs.Takings.{held-empty}
+use Rattle.demand3.proofs.Whole.{demand3·whole}
+use Rattle.demand3.proofs.Acts.{EachPacket, each-packet}
+use Rattle.demand3.proofs.ReadAs.{repeat-reads}
+use Rattle.demand3.proofs.Day.{settings, three, messages, of-three, three-many, three-cut}
+use Rattle.demand3.proofs.DayComes.{Fine, three-fine}
+use Rattle.demand3.proofs.DayRun.{lentOut, morning, atNoon, noon, evening, in-use, traffic}
+use Rattle.demand3.proofs.DayEnd.{cellsAtEnd, end-cells, theRun, the-key, the-start, promised}
+
+abbrev Z : ℕ
+Z = cellSize
+
+-- ---- a store that refuses all, or keeps nothing
+
+-- of arrivals alone, which take nothing: where all its segments have come the message is complete
+abbrev pub Completes : (List Call → List ℕ) → Type 0
+Completes run = (ps : List (List ℕ)) → Traffic settings Z messages (map arrival ps) → RoomIn settings Z 4 run (map arrival ps) →
+    AllCame settings three (map arrival ps) → IsComplete settings Z 4 three (run (map arrival ps))
+
+none-taken : (ps : List (List ℕ)) (st : List ℕ) → Untaken settings Z three st (map arrival ps)
+unfolding tookBy
+none-taken ps st x y c e t = go ps x e
+  where
+    nothing : (p : List ℕ) → arrival p ≡ c → ⊥
+    nothing p d =
+        let f = ap (tookBy settings Z (storeAfter settings Z st x)) d ∙ t .1 in
+        let z : _≡_ {A = ℕ} 0 1 = cc f in
+        omega arith
+
+    go : (qs : List (List ℕ)) (u : List Call) → map arrival qs ≡ u ++ c ∷ y → ⊥
+    go [] [] d = let z : _≡_ {A = ℕ} 0 1 = cc in omega arith
+    go [] (b ∷ u) d = let z : _≡_ {A = ℕ} 0 1 = cc in omega arith
+    go (q ∷ qs) [] d = nothing q (let f : arrival q ≡ c = cc d in f)
+    go (q ∷ qs) (b ∷ u) d = go qs u (let f : map arrival qs ≡ u ++ c ∷ y = cc d in f)
+
+-- the store does so
+pub keeps-all : Completes (storeBehind settings Z 4)
+keeps-all ps t r f =
+    demand3·whole settings 4 in-use messages [] (map arrival ps) (record { traffic = t; room = r }) three (List·Memᴰ·head refl) fresh
+    (none-taken ps (storeBehind settings Z 4 [])) .complete .1 f
+
+-- the message's three packets, one after the other
+abbrev all-three : List (List ℕ)
+all-three = of-three 0 0 ∷ of-three 1 1 ∷ of-three 2 2 ∷ []
+
+three-packets : EachPacket Fine (map arrival all-three)
+three-packets =
+    (three-fine 0 (omega arith) 0 (omega arith), (three-fine 1 (omega arith) 1 (omega arith), (three-fine 2 (omega arith) 2 (omega arith), tt)))
+
+all-come : AllCame settings three (map arrival all-three)
+all-come i l = go (below-or i 1) (below-or i 2)
+  where
+    at : List·Memᴰ (arrival (of-three i i)) (map arrival all-three) → Came settings (segmentAt settings three i) (map arrival all-three)
+    at m = (of-three i i, (arrival (of-three i i), m, inl refl), repeat-reads settings Z three three-cut i l i (omega (arith, three-many)))
+
+    go : (i < 1) ⊎ (1 ≤ i) → (i < 2) ⊎ (2 ≤ i) → Came settings (segmentAt settings three i) (map arrival all-three)
+    go (inl a) b = let e : i ≡ 0 = omega arith in at (List·Memᴰ·head (ap (λ (x : ℕ). arrival (of-three x x)) e))
+    go (inr a) (inl b) =
+        let e : i ≡ 1 = omega arith in at (List·Memᴰ·tail (List·Memᴰ·head (ap (λ (x : ℕ). arrival (of-three x x)) e)))
+    go (inr a) (inr b) =
+        let e : i ≡ 2 = omega (arith, three-many) in
+        at (List·Memᴰ·tail (List·Memᴰ·tail (List·Memᴰ·head (ap (λ (x : ℕ). arrival (of-three x x)) e))))
+
+-- no program does whose store stays empty
+pub no-empty : (run : List Call → List ℕ) → ((cs : List Call) → run cs ≡ emptyStore Z 4) → Completes run → ⊥
+unfolding hasFree
+no-empty run e f =
+    let d = f all-three early roomy all-come in
+    let h = d .opens in
+    held-empty 4 (h .0) (subst (Held (h .0)) (cells (map arrival all-three)) (h .1))
+  where
+    cells : (cs : List Call) → cellsIn settings Z 4 (run cs) ≡ empty 4
+    cells cs = ap (cellsIn settings Z 4) (e cs) ∙ empty-cells settings Z 4
+
+    roomy : RoomIn settings Z 4 run (map arrival all-three)
+    roomy x y c p q b r g l n = ap hasFree (cells x)
+
+    early : Traffic settings Z messages (map arrival all-three)
+    early =
+        record {
+          cut = traffic .cut;
+          apart = traffic .apart;
+          octets = λ p h. each-packet Fine (map arrival all-three) three-packets p h .0;
+          packets = λ p h. each-packet Fine (map arrival all-three) three-packets p h .1;
+        }
+
+-- ---- a joining that works once
+
+-- at the end of the run the first message, taken at noon, is complete anew: a taking with 31 octets or more tells it
+abbrev pub TakesAgain : (List Call → Call → Option Took) → Type 0
+TakesAgain by = (out : List ℕ) → 31 ≤ length out →
+    Option·map takenOf (by (noon ++ evening) (taking out)) ≡
+    some (record { refusal = refusalOf 0; header = 21; body = 8; counter = record { 0 = 7 } })
+
+-- once a call has handed out a message, no later one does
+abbrev pub Once : (List Call → Call → Option Took) → Type 0
+Once by = (x y : List Call) (c d : Call) (r q : Run) → by x c ≡ some (message r) → by (x ++ c ∷ y) d ≡ some (message q) → ⊥
+
+picks-three : picked suc top cellsAtEnd ≡ some theRun
+unfolding look carries alike pickIn runFrom chain roleOf
+picks-three = refl
+
+-- the store does so
+pub takes-again : TakesAgain (λ cs c. tookBy settings Z (storeBehind settings Z 4 cs) c)
+unfolding place headOf split identification headerOctets fixedOctets presence frontOctets backOctets wide
+takes-again out l =
+    promised .delivery .takes (taking out) (λ p b. absurd (no-packet p b)) .enough
+    (refl, (theRun, ap (picked suc top) end-cells ∙ picks-three, (the-key, the-start))) l .told
+  where
+    no-packet : (p : List ℕ) → Brings p (taking out) → ⊥
+    no-packet p (inl e) = let z : _≡_ {A = ℕ} 0 1 = cc e in omega arith
+    no-packet p (inr e) = let f = e .1 in let z : _≡_ {A = ℕ} 0 1 = cc f in omega arith
+
+-- no program does that handed out the message at noon and works once
+pub no-once : (by : List Call → Call → Option Took) (r : Run) → by morning atNoon ≡ some (message r) → Once by → TakesAgain by → ⊥
+no-once by r e o f = go (by (noon ++ evening) (taking (lentOut 31))) refl (f (lentOut 31) (omega arith))
+  where
+    go : (t : Option Took) → by (noon ++ evening) (taking (lentOut 31)) ≡ t →
+        Option·map takenOf t ≡ some (record { refusal = refusalOf 0; header = 21; body = 8; counter = record { 0 = 7 } }) → ⊥
+    go none d g = let z : _≡_ {A = ℕ} 0 1 = cc in omega arith
+    go (some (message q)) d g = o morning evening atNoon (taking (lentOut 31)) r q e d
+    go (some (unable k)) d g = let z : _≡_ {A = ℕ} 0 21 = cc (ap (Option·map (λ (x : Taken). x .header)) g) in omega arith

@@ -1,0 +1,163 @@
+-- A message of the cutter as demand 3 over cells has it: the same key, first counter, body and segments.
+-- Assumes nothing.
+use Prim.Native.Nat.{ℕ, zero, suc, _+_, _-_, _≤_, _<_}
+use mathlib.Core.Path.{_≡_, refl, ap, ap₂, sym, _∙_, subst}
+use mathlib.Core.Logic.{_⊎_, inl, inr}
+use mathlib.Core.List.{List, [], _∷_, _++_, List·Memᴰ, List·Memᴰ·head, List·Memᴰ·tail, List·Memᴰ·cases-cons, List·Memᴰ·not-nil}
+use native.Mathlib.Omega.{arith}
+use native.Mathlib.Nat.{add-zero}
+use lib.ListN.{length, length-append}
+use Rattle.octets.proofs.Lists.{below-or}
+use Rattle.walk.specs.declared.Settings.{Settings}
+use Rattle.fields.specs.Form.{joined as joinedBy}
+use Rattle.format.proofs.Frame.{identification-long}
+use Rattle.write.specs.Given.{headOf}
+use Rattle.cut.specs.Cutting.{packets, flagsAt, bodyAt}
+use Rattle.fewest.specs.Carrying.{firstOf}
+use Rattle.fewest.proofs.Parts.{parts-joined}
+use Rattle.fewest.proofs.Numbers.{flags-first, flags-last, flags-between, cuts-well}
+use Rattle.cells.specs.Segments.{Seg}
+use Rattle.store.specs.Messages.{listed, segments, top}
+use Rattle.demand3.specs.Traffic.{Sent, joined, bodyIn, flagsBefore, later, runOf, segmentsOf}
+use Rattle.demand3.specs.Base.{final}
+use Rattle.demand3.specs.Sendings.{Sending, manyOf, segmentAt, identificationOf, headerOf, keyIn, headerSize, bodySize, startOf, endOf, IsCut}
+use Rattle.demand3.proofs.ReadAs.{same-seg, no-refusal, many-is, is-cut, counters-fit, pieceOf, segment-is-piece}
+
+-- ---- rows of things
+
+module _ {A : Type 0} (f : ℕ → A) where
+  listed-in : (n i x : ℕ) → i ≤ x → x < i + n → List·Memᴰ (f x) (listed f n i)
+  unfolding listed
+  listed-in zero i x a b = absurd (omega arith)
+  listed-in (suc n) i x a b = go (listed-in n (suc i) x) (below-or i x)
+    where
+      go : (suc i ≤ x → x < suc i + n → List·Memᴰ (f x) (listed f n (suc i))) → (i < x) ⊎ (x ≤ i) → List·Memᴰ (f x) (f i ∷ listed f n (suc i))
+      go ih (inl l) = List·Memᴰ·tail (ih l (omega arith))
+      go ih (inr l) = let e : x ≡ i = omega arith in List·Memᴰ·head (ap f e)
+
+  in-listed : (n i : ℕ) (y : A) → List·Memᴰ y (listed f n i) → (x : ℕ) × (x < i + n) × (y ≡ f x)
+  unfolding listed
+  in-listed zero i y h = absurd (List·Memᴰ·not-nil h)
+  in-listed (suc n) i y h = go (in-listed n (suc i) y) (List·Memᴰ·cases-cons h)
+    where
+      go : (List·Memᴰ y (listed f n (suc i)) → (x : ℕ) × (x < suc i + n) × (y ≡ f x)) → (y ≡ f i) ⊎ List·Memᴰ y (listed f n (suc i)) →
+          (x : ℕ) × (x < i + suc n) × (y ≡ f x)
+      go ih (inl e) = (i, omega arith, e)
+      go ih (inr k) = let v = ih k in (v .0, omega (arith, v .1), v .2)
+
+  pub listed-long : (n i : ℕ) → length (listed f n i) ≡ n
+  unfolding listed
+  listed-long zero i = refl
+  listed-long (suc n) i = ap suc (listed-long n (suc i))
+
+  listed-last : (n i : ℕ) → listed f (suc n) i ≡ listed f n i ++ f (i + n) ∷ []
+  unfolding listed
+  listed-last zero i = let e : i ≡ i + 0 = omega arith in ap (λ (x : ℕ). f x ∷ []) e
+  listed-last (suc n) i =
+      let e : suc i + n ≡ i + suc n = omega arith in
+      ap (λ (x : List A). f i ∷ x) (listed-last n (suc i) ∙ ap (λ (x : ℕ). listed f n (suc i) ++ f x ∷ []) e)
+
+  listed-first : (n : ℕ) → listed f n 0 ≡ firstOf f n
+  unfolding listed firstOf
+  listed-first zero = refl
+  listed-first (suc n) =
+      let e : 0 + n ≡ n = omega arith in
+      listed-last n 0 ∙ ap (λ (x : ℕ). listed f n 0 ++ f x ∷ []) e ∙ ap (λ (x : List A). x ++ f n ∷ []) (listed-first n)
+
+joined-same : (l : List (List ℕ)) → joined l ≡ joinedBy (λ (x : List ℕ). x) l
+unfolding joined joinedBy
+joined-same [] = refl
+joined-same (p ∷ l) = ap (λ (x : List ℕ). p ++ x) (joined-same l)
+
+-- ---- segments in a row
+
+module _ (k : List ℕ) (a n : ℕ) (f : ℕ → List ℕ) (g : ℕ → ℕ) (final : (i : ℕ) → 1 ≤ i → suc i ≡ n → g i ≡ 2)
+    (inner : (i : ℕ) → 1 ≤ i → suc i < n → g i ≡ 0) where
+  abbrev rowOf : ℕ → Seg
+  rowOf i = record { key = k; counter = a + i; flags = g i; body = f i }
+
+  flags-before : (j i : ℕ) → 1 ≤ i → suc i + j ≡ n → flagsBefore (listed f j (suc i)) ≡ g i
+  unfolding listed
+  flags-before zero i l e = sym (final i l (omega arith))
+  flags-before (suc j) i l e = sym (inner i l (omega arith))
+
+  later-listed : (j i c : ℕ) → 1 ≤ i → i + j ≡ n → c ≡ a + i → later suc k c (listed f j i) ≡ listed rowOf j i
+  unfolding listed later
+  later-listed zero i c l e h = refl
+  later-listed (suc j) i c l e h =
+      ap₂ _∷_ (same-seg refl h (flags-before j i l (omega arith)) refl)
+      (later-listed j (suc i) (suc c) (omega arith) (omega arith) (omega arith))
+
+-- ---- a message
+
+-- the message over cells
+abbrev pub sentOf : Settings → Sending → Sent
+sentOf s m =
+    record {
+      key = keyIn s m;
+      start = startOf s m;
+      one = bodyAt (m .limit) (headerSize s m) (m .body) 0;
+      two = bodyAt (m .limit) (headerSize s m) (m .body) 1;
+      more = listed (bodyAt (m .limit) (headerSize s m) (m .body)) (manyOf s m - 2) 2;
+    }
+
+module _ (s : Settings) (Z : ℕ) (m : Sending) (k : IsCut s Z m) where
+  abbrev P : ℕ
+  P = m .limit
+
+  abbrev H : ℕ
+  H = headerSize s m
+
+  abbrev B : ℕ
+  B = bodySize s m
+
+  abbrev q : ℕ
+  q = manyOf s m - 2
+
+  twice : suc (suc q) ≡ manyOf s m
+  twice = omega (arith, k .many)
+
+  segments-are : segmentsOf suc (sentOf s m) ≡ listed (pieceOf s Z m k) (manyOf s m) 0
+  unfolding runOf listed
+  segments-are =
+      ap₂ _∷_ (same-seg refl (sym (add-zero (startOf s m))) (sym (flags-first P H B 0 (is-cut s Z m k) refl)) refl)
+      (later-listed (keyIn s m) (startOf s m) (manyOf s m) (bodyAt P H (m .body)) (flagsAt P H B)
+      (λ i l e. flags-last P H B i (is-cut s Z m k) (λ z. omega arith) (e ∙ many-is s Z m k))
+      (λ i l e. flags-between P H B i (is-cut s Z m k) (λ z. omega arith) (λ z. omega (arith, many-is s Z m k)))
+      (suc q) 1 (suc (startOf s m)) (omega arith) (omega (arith, twice)) (omega arith))
+      ∙ ap (λ (n : ℕ). listed (pieceOf s Z m k) n 0) twice
+
+  -- segment i is one of its segments
+  pub own-in : (i : ℕ) → i < manyOf s m → List·Memᴰ (segmentAt s m i) (segmentsOf suc (sentOf s m))
+  own-in i l =
+      subst (λ (t : Seg). List·Memᴰ t (segmentsOf suc (sentOf s m))) (sym (segment-is-piece s Z m k i l))
+      (subst (List·Memᴰ (pieceOf s Z m k i)) (sym segments-are) (listed-in (pieceOf s Z m k) (manyOf s m) 0 i (omega arith) (omega arith)))
+
+  -- and there are no others
+  pub in-own : (t : Seg) → List·Memᴰ t (segmentsOf suc (sentOf s m)) → (i : ℕ) × (i < manyOf s m) × (t ≡ segmentAt s m i)
+  in-own t h =
+      let v = in-listed (pieceOf s Z m k) (manyOf s m) 0 t (subst (List·Memᴰ t) segments-are h) in
+      let l : v .0 < manyOf s m = omega (arith, v .1) in
+      (v .0, l, v .2 ∙ sym (segment-is-piece s Z m k (v .0) l))
+
+  -- their bodies joined are the message's
+  pub body-is : bodyIn (sentOf s m) ≡ m .body
+  unfolding listed
+  body-is =
+      ap (λ (n : ℕ). joined (listed (bodyAt P H (m .body)) n 0)) (twice ∙ many-is s Z m k)
+      ∙ ap joined (listed-first (bodyAt P H (m .body)) (packets P H B))
+      ∙ joined-same (firstOf (bodyAt P H (m .body)) (packets P H B))
+      ∙ parts-joined P H (m .body) (cuts-well s P (m .values) (m .texts) (m .body) (m .sender) (no-refusal s Z m k) .some)
+
+  pub end-is : final (sentOf s m) ≡ endOf s m
+  end-is = omega (arith, twice, listed-long (bodyAt P H (m .body)) q 2)
+
+  -- "none wrapping"
+  pub no-wrap : final (sentOf s m) ≤ top
+  no-wrap = omega (arith, end-is, counters-fit s Z m k, k .many)
+
+  -- identification and H octets
+  pub key-long : length (keyIn s m) ≡ 2 + headerSize s m
+  key-long =
+      length-append (identificationOf s m) (headerOf s m)
+      ∙ ap (λ (n : ℕ). n + headerSize s m) (identification-long (headOf (m .values) (m .texts)))

@@ -1,0 +1,234 @@
+-- A call on a store's octets is an event of its cells: a packet that may be held arrives as its segment, any other passes, a taking
+-- takes. A store in order stays in order, with as many cells.
+-- Assumes nothing.
+use Prim.Native.Nat.{ℕ, suc, _+_, _*_, _/_, _≤_}
+use mathlib.Core.Path.{_≡_, refl, ap, sym, _∙_, subst}
+use mathlib.Core.Logic.{_⊎_, inl, inr}
+use mathlib.Core.Bool.{Bool, true, false}
+use mathlib.Core.Option.{Option, none, some}
+use mathlib.Core.List.{List}
+use native.Mathlib.Omega.{arith}
+use lib.ListN.{length}
+use lib.Dec.{leb, ltb, eqb}
+use borrow.Author.Tests.{eqb-true, leb-true, eq-eqb, le-leb}
+use Rattle.octets.specs.Octets.{pick}
+use Rattle.octets.proofs.Lists.{bool}
+use Rattle.walk.specs.declared.Settings.{Settings}
+use Rattle.walk.specs.Walk.{timestampLeast, timestampMost, check, begun}
+use Rattle.packet.specs.Format.{SettingsInRange}
+use Rattle.packet.specs.Reading.{readPacket, segmented}
+use Rattle.cells.specs.Segments.{Seg, both, sameRest}
+use Rattle.cells.specs.Rows.{Cell, mayHold}
+use Rattle.cells.specs.Order.{inOrder, countIn}
+use Rattle.cells.proofs.Held.{both-true}
+use Rattle.store.specs.Messages.{cellsOf, look, top}
+use Rattle.store.specs.Arriving.{Arrived, whole, stored, again, refused, placed, beside, lowestFree, segmentArrived, arrivedIn, arrived, storeWith}
+use Rattle.store.specs.Taking.{Took, message, unable, tookIn, took, storeLess}
+use Rattle.keeping.specs.Cells.{put}
+use Rattle.keeping.proofs.Picking.{pick-yes}
+use Rattle.keeping.proofs.Order.{cells-inside}
+use Rattle.keeping.proofs.After.{segment, cells-stored, has-free, cells-taken}
+use Rattle.keeping.proofs.Keeps.{arrive-long, take-long, arrive-keeps, take-keeps}
+use Rattle.demand3.specs.Traffic.{Event, arrives, passes, takes, stowed, lessened, takenFrom, stepped}
+use Rattle.demand3.specs.Calls.{goesOn, arrivedStore, takenStore}
+use Rattle.demand3.specs.Sendings.{ReadsAs}
+use Rattle.demand3.proofs.Looks.{put-full}
+
+pub pick-no : {A : Type 0} (b : Bool) (x y : A) → b ≡ false → pick b x y ≡ y
+pick-no true x y e = let z : _≡_ {A = ℕ} 0 1 = cc in absurd (omega arith)
+pick-no false x y e = refl
+
+-- T in range
+pub settings-go : (s : Settings) → SettingsInRange s → eqb (begun s .refusal .number) 0 ≡ true
+unfolding begun check
+settings-go s r = rw (le-leb timestampLeast (s .t) (r .t-low), le-leb (s .t) timestampMost (r .t-top)) refl
+
+-- ---- a packet as an event
+
+module _ (s : Settings) (Z : ℕ) (p : List ℕ) where
+  -- a packet that may be held arrives as its segment
+  abbrev pub eventOf : Event
+  eventOf = pick (mayHold s Z p) (arrives (segment s p)) passes
+
+  may-hold : mayHold s Z p ≡ true → (2 + length p ≤ Z) × (readPacket s p .refusal .number ≡ 0) × (segmented p ≡ true)
+  unfolding mayHold
+  may-hold e =
+      let a = both-true (leb (2 + length p) Z) (both (eqb (readPacket s p .refusal .number) 0) (segmented p)) e in
+      let b = both-true (eqb (readPacket s p .refusal .number) 0) (segmented p) (a .1) in
+      (leb-true (2 + length p) Z (a .0), eqb-true (readPacket s p .refusal .number) 0 (b .0), b .1)
+
+  holds-may : 2 + length p ≤ Z → readPacket s p .refusal .number ≡ 0 → segmented p ≡ true → mayHold s Z p ≡ true
+  unfolding mayHold
+  holds-may a b c = rw (le-leb (2 + length p) Z a, eq-eqb (readPacket s p .refusal .number) 0 b, c) refl
+
+  -- what arrives as a segment reads as it, and fits a cell
+  pub event-reads : (t : Seg) → eventOf ≡ arrives t → ReadsAs s p t × (2 + length p ≤ Z)
+  event-reads t e = go (bool (mayHold s Z p))
+    where
+      go : (mayHold s Z p ≡ true) ⊎ (mayHold s Z p ≡ false) → ReadsAs s p t × (2 + length p ≤ Z)
+      go (inl h) =
+          let a = may-hold h in
+          let b : arrives (segment s p) ≡ arrives t = sym (pick-yes (mayHold s Z p) (arrives (segment s p)) passes h) ∙ e in
+          (record { accepted = a .1; segmented = a .2; segment = cc b }, a .0)
+      go (inr h) =
+          let b : passes ≡ arrives t = sym (pick-no (mayHold s Z p) (arrives (segment s p)) passes h) ∙ e in
+          let z : _≡_ {A = ℕ} 0 1 = cc b in
+          absurd (omega arith)
+
+  -- and the other way
+  pub reads-event : (t : Seg) → ReadsAs s p t → 2 + length p ≤ Z → eventOf ≡ arrives t
+  reads-event t r l =
+      pick-yes (mayHold s Z p) (arrives (segment s p)) passes (holds-may l (r .accepted) (r .segmented)) ∙ ap arrives (r .segment)
+
+  -- a packet takes nothing
+  pub event-no-take : (long : ℕ) → eventOf ≡ takes long → ⊥
+  event-no-take long e = go (mayHold s Z p) e
+    where
+      go : (b : Bool) → pick b (arrives (segment s p)) passes ≡ takes long → ⊥
+      go true h = let z : _≡_ {A = ℕ} 0 1 = cc in omega arith
+      go false h = let z : _≡_ {A = ℕ} 0 1 = cc in omega arith
+
+-- ---- a store in order of n cells, with T in range
+
+pub record Kept (s : Settings) (Z n : ℕ) (st : List ℕ) : Type 0 where
+  pub settings : eqb (begun s .refusal .number) 0 ≡ true
+  pub order : inOrder s Z st ≡ true
+  pub count : countIn Z st ≡ n
+
+module _ (s : Settings) (Z n : ℕ) (st : List ℕ) (k : Kept s Z n st) where
+  abbrev cs : List Cell
+  cs = cellsOf s Z st n
+
+  inside : n * Z ≤ length st
+  inside = subst (λ (x : ℕ). x * Z ≤ length st) (k .count) (cells-inside Z st)
+
+  -- ---- an arrival
+
+  module _ (p : List ℕ) where
+    abbrev low : ℕ
+    low = lowestFree s Z st n
+
+    pub arrived-is : arrived s Z st p ≡ arrivedIn s Z st n p
+    unfolding arrived
+    arrived-is =
+        pick-yes (eqb (begun s .refusal .number) 0) _ _ (k .settings) ∙ pick-yes (inOrder s Z st) _ _ (k .order)
+        ∙ ap (λ (x : ℕ). arrivedIn s Z st x p) (k .count)
+
+    -- a packet that may not be held changes nothing
+    passed : mayHold s Z p ≡ false → storeWith Z st p (arrivedIn s Z st n p) ≡ st
+    unfolding arrivedIn mayHold storeWith
+    passed e = go (eqb (readPacket s p .refusal .number) 0) (segmented p) (leb (2 + length p) Z) e
+      where
+        go : (a b c : Bool) → both c (both a b) ≡ false →
+            storeWith Z st p
+            (pick a (pick b (pick c (segmentArrived s Z st n (segment s p)) (refused 17)) whole) (refused (readPacket s p .refusal .number)))
+            ≡ st
+        go false b c h = refl
+        go true false c h = refl
+        go true true false h = refl
+        go true true true h = let z : _≡_ {A = ℕ} 0 1 = cc in absurd (omega arith)
+
+    -- and no joining goes on from it
+    pub passed-on : mayHold s Z p ≡ false → goesOn (arrivedIn s Z st n p) ≡ false
+    unfolding arrivedIn mayHold
+    passed-on e = go (eqb (readPacket s p .refusal .number) 0) (segmented p) (leb (2 + length p) Z) e
+      where
+        go : (a b c : Bool) → both c (both a b) ≡ false →
+            goesOn
+            (pick a (pick b (pick c (segmentArrived s Z st n (segment s p)) (refused 17)) whole) (refused (readPacket s p .refusal .number)))
+            ≡ false
+        go false b c h = refl
+        go true false c h = refl
+        go true true false h = refl
+        go true true true h = let z : _≡_ {A = ℕ} 0 1 = cc in absurd (omega arith)
+
+    pub segment-came : mayHold s Z p ≡ true → arrivedIn s Z st n p ≡ segmentArrived s Z st n (segment s p)
+    unfolding arrivedIn
+    segment-came e =
+        let a = may-hold s Z p e in
+        pick-yes (eqb (readPacket s p .refusal .number) 0) _ _ (eq-eqb (readPacket s p .refusal .number) 0 (a .1))
+        ∙ pick-yes (segmented p) _ _ (a .2)
+        ∙ pick-yes (leb (2 + length p) Z) _ _ (le-leb (2 + length p) Z (a .0))
+
+    -- a new segment
+    new-cells : mayHold s Z p ≡ true → look cs (segment s p .key) (segment s p .counter) ≡ none →
+        cellsOf s Z (storeWith Z st p (placed n low)) n ≡ put cs (segment s p)
+    unfolding segmentArrived placed storeWith
+    new-cells h e = go (bool (ltb low n))
+      where
+        came : arrivedIn s Z st n p ≡ placed n low
+        came = segment-came h ∙ ap (λ (o : Option Seg). beside o (segment s p) (placed n low)) e
+
+        go : (ltb low n ≡ true) ⊎ (ltb low n ≡ false) → cellsOf s Z (storeWith Z st p (placed n low)) n ≡ put cs (segment s p)
+        go (inl l) =
+            let a : placed n low ≡ stored low = pick-yes (ltb low n) (stored low) (refused 19) l in
+            ap (λ (x : Arrived). cellsOf s Z (storeWith Z st p x) n) a ∙ cells-stored s Z st n p low (came ∙ a) inside
+        go (inr l) =
+            ap (λ (x : Arrived). cellsOf s Z (storeWith Z st p x) n) (pick-no (ltb low n) (stored low) (refused 19) l)
+            ∙ sym (put-full cs (segment s p) (has-free s Z st n ∙ l))
+
+    segment-cells : mayHold s Z p ≡ true → cellsOf s Z (storeWith Z st p (segmentArrived s Z st n (segment s p))) n ≡
+        stowed (look cs (segment s p .key) (segment s p .counter)) cs (segment s p)
+    unfolding segmentArrived storeWith
+    segment-cells h = go (look cs (segment s p .key) (segment s p .counter)) refl
+      where
+        same : (u : Seg) (b : Bool) → cellsOf s Z (storeWith Z st p (pick b again (refused 18))) n ≡ cs
+        same u true = refl
+        same u false = refl
+
+        go : (o : Option Seg) → look cs (segment s p .key) (segment s p .counter) ≡ o →
+            cellsOf s Z (storeWith Z st p (beside o (segment s p) (placed n low))) n ≡ stowed o cs (segment s p)
+        go none e = new-cells h e
+        go (some u) e = same u (sameRest u (segment s p))
+
+    -- the cells behind an arrival
+    pub arrival-cells : cellsOf s Z (arrivedStore s Z st p) n ≡ stepped suc top cs (eventOf s Z p)
+    unfolding stepped
+    arrival-cells = ap (λ (x : Arrived). cellsOf s Z (storeWith Z st p x) n) arrived-is ∙ go (bool (mayHold s Z p))
+      where
+        go : (mayHold s Z p ≡ true) ⊎ (mayHold s Z p ≡ false) →
+            cellsOf s Z (storeWith Z st p (arrivedIn s Z st n p)) n ≡ stepped suc top cs (eventOf s Z p)
+        go (inl e) =
+            ap (λ (x : Arrived). cellsOf s Z (storeWith Z st p x) n) (segment-came e) ∙ segment-cells e
+            ∙ ap (stepped suc top cs) (sym (pick-yes (mayHold s Z p) (arrives (segment s p)) passes e))
+        go (inr e) =
+            ap (λ (x : List ℕ). cellsOf s Z x n) (passed e)
+            ∙ ap (stepped suc top cs) (sym (pick-no (mayHold s Z p) (arrives (segment s p)) passes e))
+
+    pub arrival-keeps : Kept s Z n (arrivedStore s Z st p)
+    arrival-keeps =
+        record {
+          settings = k .settings;
+          order = arrive-keeps s Z st p (k .order);
+          count = ap (λ (x : ℕ). x / Z) (arrive-long Z st p (arrived s Z st p)) ∙ k .count;
+        }
+
+  -- ---- a taking
+
+  module _ (long : ℕ) where
+    -- what it comes to, by the cells
+    pub took-is : took s Z st long ≡ takenFrom suc top cs long
+    unfolding took tookIn takenFrom
+    took-is =
+        pick-yes (eqb (begun s .refusal .number) 0) _ _ (k .settings) ∙ pick-yes (inOrder s Z st) _ _ (k .order)
+        ∙ ap (λ (x : ℕ). tookIn s Z st x long) (k .count)
+
+    -- the cells behind it
+    pub taking-cells : cellsOf s Z (takenStore s Z st long) n ≡ stepped suc top cs (takes long)
+    unfolding stepped storeLess
+    taking-cells =
+        ap (λ (x : ℕ). cellsOf s Z (storeLess s Z st x (took s Z st long)) n) (k .count)
+        ∙ ap (λ (x : Took). cellsOf s Z (storeLess s Z st n x) n) took-is
+        ∙ go (takenFrom suc top cs long)
+      where
+        go : (t : Took) → cellsOf s Z (storeLess s Z st n t) n ≡ lessened t cs
+        go (message r) = cells-taken s Z st n r inside
+        go (unable x) = refl
+
+    pub taking-keeps : Kept s Z n (takenStore s Z st long)
+    taking-keeps =
+        record {
+          settings = k .settings;
+          order = take-keeps s Z st long (k .order);
+          count = ap (λ (x : ℕ). x / Z) (take-long Z st s (countIn Z st) (took s Z st long)) ∙ k .count;
+        }

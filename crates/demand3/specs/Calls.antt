@@ -1,0 +1,87 @@
+-- Calls on a store's octets, one after the other, by the very definitions that the calls promise: an arrival of a packet, a taking with
+-- a lent output, a joining of a packet with a lent output.
+-- Document 01: "Joining is arrival, answering "whole" with the body's place, or else taking's answer. If arrival refuses, so does
+-- joining; if taking refuses, the arrived segment stays stored".
+-- Assumes nothing: these are definitions.
+use Prim.Native.Nat.{ℕ}
+use mathlib.Core.Path.{_≡_}
+use mathlib.Core.Logic.{_⊎_}
+use mathlib.Core.Bool.{Bool, true, false}
+use mathlib.Core.Option.{Option, none, some}
+use mathlib.Core.List.{List, [], _∷_, List·Memᴰ}
+use lib.ListN.{length}
+use Rattle.octets.specs.Octets.{pick}
+use Rattle.walk.specs.declared.Settings.{Settings}
+use Rattle.cells.specs.Order.{countIn}
+use Rattle.store.specs.Arriving.{Arrived, whole, stored, again, refused, arrived, storeWith}
+use Rattle.store.specs.Taking.{Took, took, outWith, storeLess}
+
+-- packets and outputs are any octets, of any length
+pub data Call : Type 0 where
+  arrival : List ℕ → Call
+  taking : List ℕ → Call
+  joining : List ℕ → List ℕ → Call
+
+-- the call hands over the packet: an arrival of it, or a joining
+abbrev pub Brings : List ℕ → Call → Type 0
+Brings p c = (c ≡ arrival p) ⊎ ((out : List ℕ) × (c ≡ joining p out))
+
+-- one of the calls does
+abbrev pub Handed : List ℕ → List Call → Type 0
+Handed p cs = (c : Call) × List·Memᴰ c cs × Brings p c
+
+-- the lent output; an arrival has none
+abbrev pub outOf : Call → List ℕ
+outOf (arrival p) = []
+outOf (taking out) = out
+outOf (joining p out) = out
+
+-- joining goes on to a taking: the segment was stored, or held already
+abbrev pub goesOn : Arrived → Bool
+goesOn whole = false
+goesOn (stored i) = true
+goesOn again = true
+goesOn (refused k) = false
+
+module _ (s : Settings) (Z : ℕ) where
+  -- the store behind an arrival
+  abbrev pub arrivedStore : List ℕ → List ℕ → List ℕ
+  arrivedStore st p = storeWith Z st p (arrived s Z st p)
+
+  -- and behind a taking with so many octets of output
+  abbrev pub takenStore : List ℕ → ℕ → List ℕ
+  takenStore st long = storeLess s Z st (countIn Z st) (took s Z st long)
+
+  -- whether a call takes, where it finds this store
+  abbrev pub draws : List ℕ → Call → Bool
+  draws st (arrival p) = false
+  draws st (taking out) = true
+  draws st (joining p out) = goesOn (arrived s Z st p)
+
+  -- the store before its taking: behind its arrival
+  abbrev pub storeAt : List ℕ → Call → List ℕ
+  storeAt st (arrival p) = arrivedStore st p
+  storeAt st (taking out) = st
+  storeAt st (joining p out) = arrivedStore st p
+
+  -- what its taking comes to, if there is one
+  unfoldable pub tookBy : List ℕ → Call → Option Took
+  tookBy st c = pick (draws st c) (some (took s Z (storeAt st c) (length (outOf c)))) none
+
+  -- the store behind a call
+  unfoldable pub storeBy : List ℕ → Call → List ℕ
+  storeBy st c = pick (draws st c) (takenStore (storeAt st c) (length (outOf c))) (storeAt st c)
+
+  -- and its output
+  unfoldable pub outBy : List ℕ → Call → List ℕ
+  outBy st c = pick (draws st c) (outWith (outOf c) (took s Z (storeAt st c) (length (outOf c)))) (outOf c)
+
+  -- the store behind a list of calls
+  unfoldable pub storeAfter : List ℕ → List Call → List ℕ
+  storeAfter st [] = st
+  storeAfter st (c ∷ cs) = storeAfter (storeBy st c) cs
+
+  -- and the outputs, each as its own call left it
+  unfoldable pub outsAfter : List ℕ → List Call → List (List ℕ)
+  outsAfter st [] = []
+  outsAfter st (c ∷ cs) = outBy st c ∷ outsAfter (storeBy st c) cs

@@ -1,0 +1,110 @@
+-- What demand 3 presupposes of the calls on a store's octets: n cells of Z octets.
+-- Assumes nothing: these are definitions.
+use Prim.Native.Nat.{ℕ, _+_, _*_, _≤_, _<_}
+use mathlib.Core.Path.{_≡_}
+use mathlib.Core.Logic.{_≢_, _⊎_}
+use mathlib.Core.Bool.{true, false}
+use mathlib.Core.Option.{some, none}
+use mathlib.Core.List.{List, [], _∷_, _++_, List·Memᴰ}
+use lib.ListN.{length, replicate}
+use Rattle.octets.specs.Octets.{Octets}
+use Rattle.walk.specs.declared.Settings.{Settings}
+use Rattle.packet.specs.Format.{SettingsInRange}
+use Rattle.packet.specs.Reading.{readPacket, segmented}
+use Rattle.packet.specs.Key.{keyOf}
+use Rattle.cells.specs.Segments.{Seg, segOf}
+use Rattle.cells.specs.Rows.{Cell}
+use Rattle.cells.specs.Order.{cellsMost}
+use Rattle.store.specs.Messages.{Run, cellsOf, look}
+use Rattle.store.specs.Taking.{message}
+use Rattle.keeping.specs.Cells.{hasFree}
+use Rattle.demand3.specs.Calls.{Call, Brings, Handed, tookBy, storeAfter}
+use Rattle.demand3.specs.Sendings.{Sending, ReadsAs, manyOf, segmentAt, keyIn, startOf, IsCut}
+
+-- ---- packets
+
+module _ (s : Settings) where
+  -- a packet that reads as this segment was handed to an arrival or a joining
+  abbrev pub Came : Seg → List Call → Type 0
+  Came t cs = (p : List ℕ) × Handed p cs × ReadsAs s p t
+
+  -- "all its segments have arrived"
+  abbrev pub AllCame : Sending → List Call → Type 0
+  AllCame m cs = (i : ℕ) → i < manyOf s m → Came (segmentAt s m i) cs
+
+  -- what was taken has the message's key and first counter
+  abbrev pub Its : Sending → Run → Type 0
+  Its m r = (r .head .key ≡ keyIn s m) × (r .head .counter ≡ startOf s m)
+
+module _ (s : Settings) (Z : ℕ) where
+  -- what a packet may be
+  pub data MayCome (ms : List Sending) (p : List ℕ) : Type 0 where
+    -- a segment of a message, whatever its sequence count
+    own : (m : Sending) → List·Memᴰ m ms → (i : ℕ) → i < manyOf s m → ReadsAs s p (segmentAt s m i) → MayCome ms p
+    unsegmented : segmented p ≡ false → MayCome ms p
+    malformed : readPacket s p .refusal .number ≢ 0 → MayCome ms p
+    over-long : Z < 2 + length p → MayCome ms p
+    other-keyed : ((m : Sending) → List·Memᴰ m ms → keyOf p (readPacket s p) ≢ keyIn s m) → MayCome ms p
+
+  pub record Traffic (ms : List Sending) (cs : List Call) : Type 0 where
+    -- "messages cut into two or more segments, each fitting a cell", "none wrapping"
+    pub cut : (m : Sending) → List·Memᴰ m ms → IsCut s Z m
+    -- "any two differ in header key or share no segment counter"
+    pub apart : (m w : Sending) → List·Memᴰ m ms → List·Memᴰ w ms →
+        (m ≡ w) ⊎ (keyIn s m ≢ keyIn s w) ⊎
+        ((i j : ℕ) → i < manyOf s m → j < manyOf s w → segmentAt s m i .counter ≢ segmentAt s w j .counter)
+    -- packets are octets
+    pub octets : (p : List ℕ) → Handed p cs → Octets p
+    -- "Their segments arrive in any order, with repeats, among unsegmented, malformed or other-keyed packets, with takes between"
+    pub packets : (p : List ℕ) → Handed p cs → MayCome ms p
+
+  -- ---- takings
+
+  -- the call, at this store, takes the message: a taking, or a joining
+  abbrev pub TakesIt : Sending → List ℕ → Call → Type 0
+  TakesIt m st c = (r : Run) × (tookBy s Z st c ≡ some (message r)) × Its s m r
+
+  -- "Until a message is taken": none of the calls takes it
+  abbrev pub Untaken : Sending → List ℕ → List Call → Type 0
+  Untaken m st cs = (x y : List Call) (c : Call) → cs ≡ x ++ c ∷ y → TakesIt m (storeAfter s Z st x) c → ⊥
+
+-- ---- the store
+
+-- "one timestamp length", 1 to 16; "1 to 4,096" cells
+pub record InUse (s : Settings) (n : ℕ) : Type 0 where
+  pub settings : SettingsInRange s
+  pub some : 1 ≤ n
+  pub most : n ≤ cellsMost
+
+-- "Begin with an empty store"
+abbrev pub emptyStore : ℕ → ℕ → List ℕ
+emptyStore Z n = replicate (n * Z) 0
+
+module _ (s : Settings) (Z n : ℕ) where
+  -- the store behind these calls, "that only these calls touch"
+  abbrev pub storeBehind : List Call → List ℕ
+  storeBehind cs = storeAfter s Z (emptyStore Z n) cs
+
+  -- its cells
+  abbrev pub cellsIn : List ℕ → List Cell
+  cellsIn st = cellsOf s Z st n
+
+  -- where a message is told anew: at the store's beginning, and after each taking of it
+  pub data Anew (m : Sending) : List Call → Type 0 where
+    fresh : Anew m []
+    retaken : (x : List Call) (c : Call) → TakesIt s Z m (storeBehind x) c → Anew m (x ++ c ∷ [])
+
+  -- "whenever a new segment of any key arrives, a cell is free": a packet that reading accepts, segmented, that fits a cell, and whose
+  -- key and counter no cell has; where `run` tells the store behind some calls
+  abbrev pub RoomIn : (List Call → List ℕ) → List Call → Type 0
+  RoomIn run cs = (x y : List Call) (c : Call) (p : List ℕ) → cs ≡ x ++ c ∷ y → Brings p c →
+      readPacket s p .refusal .number ≡ 0 → segmented p ≡ true → 2 + length p ≤ Z →
+      look (cellsIn (run x)) (segOf p (readPacket s p) .key) (segOf p (readPacket s p) .counter) ≡ none →
+      hasFree (cellsIn (run x)) ≡ true
+
+  abbrev pub Room : List Call → Type 0
+  Room cs = RoomIn storeBehind cs
+
+  pub record Given (ms : List Sending) (cs : List Call) : Type 0 where
+    pub traffic : Traffic s Z ms cs
+    pub room : Room cs

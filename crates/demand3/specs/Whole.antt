@@ -1,0 +1,112 @@
+-- Demand 3 over the store's octets: what is promised of a message, and the whole.
+-- Assumes nothing: these are definitions.
+use Prim.Native.Nat.{ℕ, suc, _+_, _≤_, _<_}
+use mathlib.Core.Path.{_≡_}
+use mathlib.Core.Logic.{_↔_}
+use mathlib.Core.Bool.{true}
+use mathlib.Core.Option.{some, Option·map}
+use mathlib.Core.List.{List, _∷_, _++_, map, List·Memᴰ}
+use lib.ListN.{length, drop}
+use Rattle.octets.specs.Octets.{Octets}
+use Rattle.walk.specs.declared.Settings.{Settings}
+use Rattle.cells.specs.Rows.{held, rowAt, zeroRow}
+use Rattle.cells.specs.Order.{cellAt}
+use Rattle.store.specs.Messages.{Run, picked, top}
+use Rattle.store.specs.Taking.{message, unable, writing}
+use Rattle.store.specs.Told.{refusalOf, takenOf}
+use Rattle.demand3.specs.Base.{CompleteFrom}
+use Rattle.demand3.specs.Calls.{Call, taking, Brings, outOf, draws, storeAt, tookBy, storeBy, outBy, storeAfter, outsAfter}
+use Rattle.demand3.specs.Sendings.{Sending, manyOf, segmentAt, identificationOf, headerOf, keyIn, headerSize, bodySize, startOf, endOf}
+use Rattle.demand3.specs.Presupposed.{InUse, emptyStore, storeBehind, cellsIn, AllCame, MayCome, Traffic, Given, Its, Untaken, Anew}
+
+-- "Cells of 1,024 octets"
+abbrev pub cellSize : ℕ
+cellSize = 1024
+
+module _ (s : Settings) (Z n : ℕ) where
+  -- "for one key, there is a first at counter c, a last at d, c < d, and continuations at each number between"
+  abbrev pub IsComplete : Sending → List ℕ → Type 0
+  IsComplete m st = CompleteFrom (cellsIn s Z n st) (keyIn s m) (startOf s m) (endOf s m)
+
+  -- cell j holds a segment of the message
+  abbrev pub Holds : Sending → List ℕ → ℕ → Type 0
+  Holds m st j = (i : ℕ) × (i < manyOf s m) × (cellAt s Z st j ≡ held (segmentAt s m i))
+
+  -- the call, a taking or a joining at this store, hands out the message
+  pub record Delivers (m : Sending) (st : List ℕ) (c : Call) : Type 0 where
+    -- it tells H, B and c
+    pub told : Option·map takenOf (tookBy s Z st c) ≡
+        some (record { refusal = refusalOf 0; header = headerSize s m; body = bodySize s m; counter = record { 0 = startOf s m } })
+    -- the output is "the original identification, header and body", and behind them as it was
+    pub written : outBy s Z st c ≡
+        identificationOf s m ++ headerOf s m ++ m .body ++ drop (2 + headerSize s m + bodySize s m) (outOf c)
+    -- each segment was in a cell
+    pub there : (i : ℕ) → i < manyOf s m → (j : ℕ) × (j < n) × (cellAt s Z (storeAt s Z st c) j ≡ held (segmentAt s m i))
+    -- its cells are zero
+    pub zeroed : (j : ℕ) → j < n → Holds m (storeAt s Z st c) j → rowAt Z (storeBy s Z st c) j ≡ zeroRow Z
+    -- and no others are touched
+    pub others : (j : ℕ) → j < n → (Holds m (storeAt s Z st c) j → ⊥) → rowAt Z (storeBy s Z st c) j ≡ rowAt Z (storeAt s Z st c) j
+
+  -- the taking of a call picks the message
+  abbrev pub Picks : Sending → List ℕ → Call → Type 0
+  Picks m st c = (draws s Z st c ≡ true) × ((r : Run) × (picked suc top (cellsIn s Z n (storeAt s Z st c)) ≡ some r) × Its s m r)
+
+  -- a call at this store, a taking or a joining
+  pub record Takes (m : Sending) (st : List ℕ) (c : Call) : Type 0 where
+    -- whatever it hands out under the message's key and one of its counters is the message
+    pub gives : (r : Run) → tookBy s Z st c ≡ some (message r) → r .head .key ≡ keyIn s m →
+        (i : ℕ) → i < manyOf s m → r .head .counter ≡ segmentAt s m i .counter → Delivers m st c
+    -- "with output long enough": where it picks the message, 2 + H + B octets are enough
+    pub enough : Picks m st c → 2 + headerSize s m + bodySize s m ≤ length (outOf c) → Delivers m st c
+    -- and fewer are refused by 21, with no octet changed behind the arrival
+    pub short : Picks m st c → length (outOf c) < 2 + headerSize s m + bodySize s m →
+        (tookBy s Z st c ≡ some (unable 21)) × (storeBy s Z st c ≡ storeAt s Z st c) × (outBy s Z st c ≡ outOf c)
+
+  -- outputs for takings one after the other, each at least as long as what it picks
+  abbrev pub LongEnough : List ℕ → List (List ℕ) → Type 0
+  LongEnough st outs = (x y : List (List ℕ)) (out : List ℕ) (r : Run) → outs ≡ x ++ out ∷ y →
+      picked suc top (cellsIn s Z n (storeAfter s Z st (map taking x))) ≡ some r → length (writing r) ≤ length out
+
+  -- as many such takings as there are cells, or more: one of them hands out the message
+  abbrev pub HandsOut : Sending → List ℕ → Type 0
+  HandsOut m st = (outs : List (List ℕ)) → n ≤ length outs → LongEnough st outs →
+      (x : List (List ℕ)) × (out : List ℕ) × (y : List (List ℕ)) × (outs ≡ x ++ out ∷ y) ×
+      Delivers m (storeAfter s Z st (map taking x)) (taking out)
+
+  -- "its taking, with output long enough, gives the original identification, header and body, and no later arrival alters that"
+  pub record Delivery (ms : List Sending) (m : Sending) (st : List ℕ) : Type 0 where
+    -- by any call, the packet of which, if it has one, may come
+    pub takes : (c : Call) → ((p : List ℕ) → Brings p c → Octets p × MayCome s Z ms p) → Takes m st c
+    pub handed : IsComplete m st → HandsOut m st
+    -- whatever is called then, with room or without, until it is taken
+    pub lasts : IsComplete m st → (more : List Call) → Untaken s Z m st more →
+        IsComplete m (storeAfter s Z st more) × ((c : Call) → Takes m (storeAfter s Z st more) c) × HandsOut m (storeAfter s Z st more)
+
+  -- what is promised of a message, told of the calls since the store's beginning or its last taking, and of the store now
+  pub record Promise (ms : List Sending) (m : Sending) (before since : List Call) : Type 0 where
+    -- "it is complete exactly when all its segments have arrived"
+    pub complete : IsComplete m (storeBehind s Z n (before ++ since)) ↔ AllCame s m since
+    pub delivery : Delivery ms m (storeBehind s Z n (before ++ since))
+    -- what was written stays, whatever is called then
+    pub stays : (more : List Call) → outsAfter s Z (emptyStore Z n) (before ++ since ++ more) ≡
+        outsAfter s Z (emptyStore Z n) (before ++ since) ++ outsAfter s Z (storeBehind s Z n (before ++ since)) more
+
+-- demand 3 for cells of Z octets
+abbrev pub WholeDemand3 : ℕ → Type 0
+WholeDemand3 Z = (s : Settings) (n : ℕ) → InUse s n → (ms : List Sending) (before since : List Call) → Given s Z n ms (before ++ since) →
+    (m : Sending) → List·Memᴰ m ms → Anew s Z n m before → Untaken s Z m (storeBehind s Z n before) since →
+    Promise s Z n ms m before since
+
+-- without the room, also where segments were refused since no cell was free: a message is complete only when all its segments have
+-- arrived, and its taking gives the original
+abbrev pub WholeSoundness : ℕ → Type 0
+WholeSoundness Z = (s : Settings) (n : ℕ) → InUse s n → (ms : List Sending) (before since : List Call) → Traffic s Z ms (before ++ since) →
+    (m : Sending) → List·Memᴰ m ms → Anew s Z n m before →
+    (IsComplete s Z n m (storeBehind s Z n (before ++ since)) → AllCame s m since) ×
+    Delivery s Z n ms m (storeBehind s Z n (before ++ since))
+
+-- and whatever a call of the run, a taking or a joining, hands out under a message's key is one of the messages of that key, whole
+abbrev pub WholeGenuine : ℕ → Type 0
+WholeGenuine Z = (s : Settings) (n : ℕ) → InUse s n → (ms : List Sending) (x y : List Call) (c : Call) → Traffic s Z ms (x ++ c ∷ y) →
+    (r : Run) → tookBy s Z (storeBehind s Z n x) c ≡ some (message r) → (m : Sending) → List·Memᴰ m ms → r .head .key ≡ keyIn s m →
+    (w : Sending) × List·Memᴰ w ms × (keyIn s w ≡ keyIn s m) × Delivers s Z n w (storeBehind s Z n x) c
