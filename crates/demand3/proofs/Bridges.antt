@@ -1,16 +1,21 @@
--- From the generated contracts of the public calls to the steps of demand 3 (J-9): what `store::arrive` leaves is the store behind an
--- arrival; what `cut::count` answers and `cut::packet` writes are a message's count and its packets. And the steps of a taking and of a
--- joining, case by case.
+-- From the generated contracts of the public calls to the steps of demand 3 (J-9): what `store::arrive`, `store::take` and `join::join`
+-- leave is the store and the output behind the call, and they answer what it comes to; what `cut::count` answers and `cut::packet`
+-- writes are a message's count and its packets. So where demand 3 says that a call hands out a message, its answer and its output do.
 -- Assumes nothing.
-use Prim.Native.Nat.{ℕ}
+use Prim.Native.Nat.{ℕ, suc, _+_, _-_}
 use mathlib.Core.Path.{_≡_, refl, ap, sym, _∙_}
-use mathlib.Core.Option.{none, some}
-use mathlib.Core.List.{List}
+use mathlib.Core.Logic.{_⊎_, inl, inr}
+use mathlib.Core.Bool.{Bool, true, false}
+use mathlib.Core.Option.{Option, none, some, Option·map, Option·some-injective}
+use mathlib.Core.List.{List, _++_}
+use native.Mathlib.Omega.{arith}
 use contract.Lifetimes as L
 use denote.Ref.{now}
-use lib.ListN.{length, take}
+use lib.ListN.{length, take, drop}
+use lib.Dec.{leb, eqb}
 use Rattle.octets.specs.Octets.{pick}
 use Rattle.walk.specs.declared.Settings.{Settings}
+use Rattle.walk.specs.Walk.{begun}
 use Rattle.write.specs.declared.HeaderValues.{HeaderValues}
 use Rattle.write.specs.Given.{Lent, lent}
 use Rattle.cut.specs.declared.Sender.{Sender}
@@ -19,14 +24,20 @@ use Rattle.cut.specs.Cutting.{countAnswer}
 use Rattle.cut.proofs.count.Reads as counts
 use Rattle.cut.proofs.packet.Reads as cuts
 use Rattle.fewest.proofs.Calls.{packet-wrote}
-use Rattle.cells.specs.Order.{countIn}
-use Rattle.store.specs.Arriving.{Arrived, arrived, storeWith}
-use Rattle.store.specs.Taking.{took, outWith, storeLess}
-use Rattle.store.specs.Told.{arrivalOf}
+use Rattle.cells.specs.Order.{inOrder, countIn}
+use Rattle.store.specs.Messages.{Run, cellsOf, picked, top}
+use Rattle.store.specs.Arriving.{Arrived, whole, stored, again, refused, arrived, storeWith}
+use Rattle.store.specs.Taking.{Took, message, unable, writing, drawn, tookIn, took, outWith, storeLess}
+use Rattle.store.specs.declared.Taken.{Taken}
+use Rattle.store.specs.Told.{refusalOf, arrivalOf, takenOf}
 use Rattle.store.proofs.arrive.Reads as arrives
+use Rattle.store.proofs.take.Reads as takes
+use Rattle.join.specs.Joining.{Joining, inPacket, unjoined, bodyFrom, tookAs, joinedBy, storeBy as storeJoinedBy, outBy as outJoinedBy, joining as joined, storeJoined, outJoined}
+use Rattle.join.specs.Told.{taken, joinedOf}
+use Rattle.join.proofs.join.Reads as joins
 use Rattle.demand3.specs.Calls.{arrival, taking, joining, goesOn, storeBy, tookBy, outBy}
-use Rattle.demand3.specs.Sendings.{Sending, countOf, packetOf}
-use Rattle.demand3.specs.Whole.{cellSize}
+use Rattle.demand3.specs.Sendings.{Sending, countOf, packetOf, identificationOf, headerOf, headerSize, bodySize, startOf}
+use Rattle.demand3.specs.Whole.{cellSize, Delivers}
 
 -- `store::arrive`
 pub arrive-answers : (κs : L.Lfts 2) (a : _) (r : _) (x : _) → arrives.Post κs a r x →
@@ -39,6 +50,11 @@ unfolding storeBy
 arrive-steps κs a r x k = k .1
 
 -- ---- a taking and a joining in the words of their definitions
+
+-- a joining that takes nothing: the body's place in a packet that came whole, or the refusal of its arrival
+abbrev pub Ended : Settings → List ℕ → Arrived → Joining → Type 0
+Ended s p a j =
+    ((a ≡ whole) × (j ≡ inPacket (bodyFrom s p) (length p - bodyFrom s p))) ⊎ ((k : ℕ) × (a ≡ refused k) × (j ≡ unjoined k))
 
 module _ (s : Settings) (Z : ℕ) (st out : List ℕ) where
   pub taking-steps : storeBy s Z st (taking out) ≡ storeLess s Z st (countIn Z st) (took s Z st (length out))
@@ -53,26 +69,156 @@ module _ (s : Settings) (Z : ℕ) (st out : List ℕ) where
   unfolding tookBy
   taking-takes = refl
 
-  -- by what its arrival comes to: "whole" and a refusal are all, behind the others stands a taking
-  module _ (p : List ℕ) (a : Arrived) (e : arrived s Z st p ≡ a) where
-    abbrev then : List ℕ
-    then = storeWith Z st p a
+  module _ (p : List ℕ) where
+    pub joining-steps : storeBy s Z st (joining p out) ≡ storeJoined s Z st p (length out)
+    unfolding storeBy storeJoined
+    joining-steps = by (arrived s Z st p)
+      where
+        by : (a : Arrived) →
+            pick (goesOn a)
+            (storeLess s Z (storeWith Z st p a) (countIn Z (storeWith Z st p a)) (took s Z (storeWith Z st p a) (length out)))
+            (storeWith Z st p a)
+            ≡ storeJoinedBy s Z st p (length out) a
+        by whole = refl
+        by (stored i) = refl
+        by again = refl
+        by (refused k) = refl
 
-    pub joining-steps : storeBy s Z st (joining p out) ≡ pick (goesOn a) (storeLess s Z then (countIn Z then) (took s Z then (length out))) then
-    unfolding storeBy
-    joining-steps =
-        ap
-        (λ (x : Arrived). pick (goesOn x) (storeLess s Z (storeWith Z st p x) (countIn Z (storeWith Z st p x)) (took s Z (storeWith Z st p x) (length out)))
-        (storeWith Z st p x))
-        e
+    pub joining-writes : outBy s Z st (joining p out) ≡ outJoined s Z st p out
+    unfolding outBy outJoined
+    joining-writes = by (arrived s Z st p)
+      where
+        by : (a : Arrived) → pick (goesOn a) (outWith out (took s Z (storeWith Z st p a) (length out))) out ≡ outJoinedBy s Z st p out a
+        by whole = refl
+        by (stored i) = refl
+        by again = refl
+        by (refused k) = refl
 
-    pub joining-writes : outBy s Z st (joining p out) ≡ pick (goesOn a) (outWith out (took s Z then (length out))) out
-    unfolding outBy
-    joining-writes = ap (λ (x : Arrived). pick (goesOn x) (outWith out (took s Z (storeWith Z st p x) (length out))) out) e
+    -- where there is a taking, joining comes to what it does
+    pub joining-takes : (t : Took) → tookBy s Z st (joining p out) ≡ some t → joined s Z st p (length out) ≡ tookAs t
+    unfolding tookBy joined
+    joining-takes t = by (arrived s Z st p)
+      where
+        by : (a : Arrived) → pick (goesOn a) (some (took s Z (storeWith Z st p a) (length out))) none ≡ some t →
+            joinedBy s Z st p (length out) a ≡ tookAs t
+        by whole g = let z : _≡_ {A = ℕ} 0 1 = cc in absurd (omega arith)
+        by (stored i) g = ap tookAs (Option·some-injective (took s Z (storeWith Z st p (stored i)) (length out)) t g)
+        by again g = ap tookAs (Option·some-injective (took s Z (storeWith Z st p again) (length out)) t g)
+        by (refused k) g = let z : _≡_ {A = ℕ} 0 1 = cc in absurd (omega arith)
 
-    pub joining-takes : tookBy s Z st (joining p out) ≡ pick (goesOn a) (some (took s Z then (length out))) none
-    unfolding tookBy
-    joining-takes = ap (λ (x : Arrived). pick (goesOn x) (some (took s Z (storeWith Z st p x) (length out))) none) e
+    -- where there is none, to what its arrival does
+    pub joining-ends : tookBy s Z st (joining p out) ≡ none → Ended s p (arrived s Z st p) (joined s Z st p (length out))
+    unfolding tookBy joined
+    joining-ends = by (arrived s Z st p)
+      where
+        by : (a : Arrived) → pick (goesOn a) (some (took s Z (storeWith Z st p a) (length out))) none ≡ none →
+            Ended s p a (joinedBy s Z st p (length out) a)
+        by whole g = inl (refl, refl)
+        by (stored i) g = let z : _≡_ {A = ℕ} 0 1 = cc in absurd (omega arith)
+        by again g = let z : _≡_ {A = ℕ} 0 1 = cc in absurd (omega arith)
+        by (refused k) g = inr (k, refl, refl)
+
+-- `store::take`
+pub take-answers : (κs : L.Lfts 2) (a : _) (r : _) (x : _) → takes.Post κs a r x →
+    some r ≡ Option·map takenOf (tookBy (a .0) cellSize (now (a .1 .0)) (taking (now (a .1 .1 .0))))
+unfolding tookBy
+take-answers κs a r x k = ap some (k .0)
+
+pub take-writes : (κs : L.Lfts 2) (a : _) (r : _) (x : _) → takes.Post κs a r x →
+    now (x .1 .1 .0) ≡ outBy (a .0) cellSize (now (a .1 .0)) (taking (now (a .1 .1 .0)))
+unfolding outBy
+take-writes κs a r x k = k .1 .0
+
+pub take-steps : (κs : L.Lfts 2) (a : _) (r : _) (x : _) → takes.Post κs a r x →
+    now (x .1 .0) ≡ storeBy (a .0) cellSize (now (a .1 .0)) (taking (now (a .1 .1 .0)))
+unfolding storeBy
+take-steps κs a r x k = k .1 .1
+
+-- `join::join`
+pub join-answers : (κs : L.Lfts 3) (a : _) (r : _) (x : _) → joins.Post κs a r x → (t : Took) →
+    tookBy (a .0) cellSize (now (a .1 .0)) (joining (now (a .1 .1 .0)) (now (a .1 .1 .1 .0))) ≡ some t → r ≡ joinedOf (tookAs t)
+join-answers κs a r x k t e =
+    k .0 ∙ ap joinedOf (joining-takes (a .0) cellSize (now (a .1 .0)) (now (a .1 .1 .1 .0)) (now (a .1 .1 .0)) t e)
+
+pub join-ends : (κs : L.Lfts 3) (a : _) (r : _) (x : _) → joins.Post κs a r x →
+    tookBy (a .0) cellSize (now (a .1 .0)) (joining (now (a .1 .1 .0)) (now (a .1 .1 .1 .0))) ≡ none →
+    (j : Joining) × (r ≡ joinedOf j) × Ended (a .0) (now (a .1 .1 .0)) (arrived (a .0) cellSize (now (a .1 .0)) (now (a .1 .1 .0))) j
+join-ends κs a r x k e = (_, k .0, joining-ends (a .0) cellSize (now (a .1 .0)) (now (a .1 .1 .1 .0)) (now (a .1 .1 .0)) e)
+
+pub join-steps : (κs : L.Lfts 3) (a : _) (r : _) (x : _) → joins.Post κs a r x →
+    now (x .1 .0) ≡ storeBy (a .0) cellSize (now (a .1 .0)) (joining (now (a .1 .1 .0)) (now (a .1 .1 .1 .0)))
+join-steps κs a r x k =
+    k .1 .0 ∙ sym (joining-steps (a .0) cellSize (now (a .1 .0)) (now (a .1 .1 .1 .0)) (now (a .1 .1 .0)))
+
+pub join-writes : (κs : L.Lfts 3) (a : _) (r : _) (x : _) → joins.Post κs a r x →
+    now (x .1 .1 .1 .0) ≡ outBy (a .0) cellSize (now (a .1 .0)) (joining (now (a .1 .1 .0)) (now (a .1 .1 .1 .0)))
+join-writes κs a r x k =
+    k .1 .1 ∙ sym (joining-writes (a .0) cellSize (now (a .1 .0)) (now (a .1 .1 .1 .0)) (now (a .1 .1 .0)))
+
+-- ---- a message that is handed out
+
+-- taking refuses by no zero
+drawn-not : (o : Option Run) (long : ℕ) → drawn o long ≡ unable 0 → ⊥
+drawn-not none long e = let z : _≡_ {A = ℕ} 20 0 = cc in omega arith
+drawn-not (some r) long e = go (leb (length (writing r)) long) e
+  where
+    go : (b : Bool) → pick b (message r) (unable 21) ≡ unable 0 → ⊥
+    go true d = let z : _≡_ {A = ℕ} 0 1 = cc in omega arith
+    go false d = let z : _≡_ {A = ℕ} 21 0 = cc in omega arith
+
+took-not : (s : Settings) (Z : ℕ) (st : List ℕ) (long : ℕ) → took s Z st long ≡ unable 0 → ⊥
+unfolding took tookIn
+took-not s Z st long e = go (eqb (begun s .refusal .number) 0) (inOrder s Z st) e
+  where
+    go : (a b : Bool) → pick a (pick b (drawn (picked suc top (cellsOf s Z st (countIn Z st))) long) (unable 16)) (unable 15) ≡ unable 0 → ⊥
+    go true true d = drawn-not (picked suc top (cellsOf s Z st (countIn Z st))) long d
+    go true false d = let z : _≡_ {A = ℕ} 16 0 = cc in omega arith
+    go false b d = let z : _≡_ {A = ℕ} 15 0 = cc in omega arith
+
+-- so an answer without a refusal is a message's
+joined-tells : (s : Settings) (Z : ℕ) (st p out : List ℕ) (x : Taken) → x .refusal .number ≡ 0 →
+    Option·map takenOf (tookBy s Z st (joining p out)) ≡ some x → joinedOf (joined s Z st p (length out)) ≡ taken x
+unfolding tookBy joined
+joined-tells s Z st p out x z = by (arrived s Z st p)
+  where
+    of : (t : Took) → (t ≡ unable 0 → ⊥) → some (takenOf t) ≡ some x → joinedOf (tookAs t) ≡ taken x
+    of (message r) n g = ap taken (Option·some-injective (takenOf (message r)) x g)
+    of (unable k) n g =
+        absurd (n (ap unable (ap (λ (y : Taken). y .refusal .number) (Option·some-injective (takenOf (unable k)) x g) ∙ z)))
+
+    by : (a : Arrived) → Option·map takenOf (pick (goesOn a) (some (took s Z (storeWith Z st p a) (length out))) none) ≡ some x →
+        joinedOf (joinedBy s Z st p (length out) a) ≡ taken x
+    by whole g = let y : _≡_ {A = ℕ} 0 1 = cc in absurd (omega arith)
+    by (stored i) g =
+        let u = storeWith Z st p (stored i) in of (took s Z u (length out)) (took-not s Z u (length out)) g
+    by again g = let u = storeWith Z st p again in of (took s Z u (length out)) (took-not s Z u (length out)) g
+    by (refused k) g = let y : _≡_ {A = ℕ} 0 1 = cc in absurd (omega arith)
+
+module _ (s : Settings) (m : Sending) where
+  -- H, B and c
+  abbrev pub itsAnswer : Taken
+  itsAnswer = record { refusal = refusalOf 0; header = headerSize s m; body = bodySize s m; counter = record { 0 = startOf s m } }
+
+  -- "the original identification, header and body", and behind them the output as it was
+  abbrev pub itsOutput : List ℕ → List ℕ
+  itsOutput out = identificationOf s m ++ headerOf s m ++ m .body ++ drop (2 + headerSize s m + bodySize s m) out
+
+pub take-hands-out : (κs : L.Lfts 2) (a : _) (r : _) (x : _) → takes.Post κs a r x → (n : ℕ) (m : Sending) →
+    Delivers (a .0) cellSize n m (now (a .1 .0)) (taking (now (a .1 .1 .0))) →
+    (r ≡ itsAnswer (a .0) m) × (now (x .1 .1 .0) ≡ itsOutput (a .0) m (now (a .1 .1 .0)))
+take-hands-out κs a r x k n m d = (
+  Option·some-injective r (itsAnswer (a .0) m) (take-answers κs a r x k ∙ d .told),
+  take-writes κs a r x k ∙ d .written,
+)
+
+pub join-hands-out : (κs : L.Lfts 3) (a : _) (r : _) (x : _) → joins.Post κs a r x → (n : ℕ) (m : Sending) →
+    Delivers (a .0) cellSize n m (now (a .1 .0)) (joining (now (a .1 .1 .0)) (now (a .1 .1 .1 .0))) →
+    (r ≡ taken (itsAnswer (a .0) m)) × (now (x .1 .1 .1 .0) ≡ itsOutput (a .0) m (now (a .1 .1 .1 .0)))
+join-hands-out κs a r x k n m d = (
+  k .0
+      ∙ joined-tells (a .0) cellSize (now (a .1 .0)) (now (a .1 .1 .0)) (now (a .1 .1 .1 .0)) (itsAnswer (a .0) m) refl (d .told),
+  join-writes κs a r x k ∙ d .written,
+)
 
 -- ---- the cutter
 

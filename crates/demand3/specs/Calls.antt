@@ -1,5 +1,6 @@
 -- Calls on a store's octets, one after the other, by the very definitions that the calls promise: an arrival of a packet, a taking with
--- a lent output, a joining of a packet with a lent output.
+-- a lent output, a joining of a packet with a lent output. Demand 3 speaks of lists of them: "Begin with an empty store that only these
+-- calls touch", "with takes between".
 -- Document 01: "Joining is arrival, answering "whole" with the body's place, or else taking's answer. If arrival refuses, so does
 -- joining; if taking refuses, the arrived segment stays stored".
 -- Assumes nothing: these are definitions.
@@ -16,7 +17,7 @@ use Rattle.cells.specs.Order.{countIn}
 use Rattle.store.specs.Arriving.{Arrived, whole, stored, again, refused, arrived, storeWith}
 use Rattle.store.specs.Taking.{Took, took, outWith, storeLess}
 
--- packets and outputs are any octets, of any length
+-- of `store::arrive` the packet, of `store::take` the lent output, of `join::join` both; each of any length and content
 pub data Call : Type 0 where
   arrival : List ℕ → Call
   taking : List ℕ → Call
@@ -64,7 +65,7 @@ module _ (s : Settings) (Z : ℕ) where
   storeAt st (taking out) = st
   storeAt st (joining p out) = arrivedStore st p
 
-  -- what its taking comes to, if there is one
+  -- what its taking comes to, if there is one: a message, or a refusal
   unfoldable pub tookBy : List ℕ → Call → Option Took
   tookBy st c = pick (draws st c) (some (took s Z (storeAt st c) (length (outOf c)))) none
 

@@ -1,4 +1,10 @@
--- What demand 3 presupposes of the calls on a store's octets: n cells of Z octets.
+-- What demand 3 presupposes of the calls on a store's octets: n cells of Z octets. Its words, and where each of them stands:
+-- "Begin with an empty store" `emptyStore`, "that only these calls touch" `storeBehind`, "one timestamp length" the one s, `InUse`;
+-- "messages cut into two or more segments, each fitting a cell", "none wrapping" `cut`, which is `IsCut`;
+-- "any two differ in header key or share no segment counter" `apart`;
+-- "Their segments arrive in any order, with repeats, among unsegmented, malformed or other-keyed packets" `packets`, which is `MayCome`;
+-- "with takes between" `Call`; "whenever a new segment of any key arrives, a cell is free" `Room`;
+-- "Until a message is taken" `Untaken`, and from where on `Anew`.
 -- Assumes nothing: these are definitions.
 use Prim.Native.Nat.{ℕ, _+_, _*_, _≤_, _<_}
 use mathlib.Core.Path.{_≡_}
@@ -37,13 +43,15 @@ module _ (s : Settings) where
   Its m r = (r .head .key ≡ keyIn s m) × (r .head .counter ≡ startOf s m)
 
 module _ (s : Settings) (Z : ℕ) where
-  -- what a packet may be
+  -- what a packet may be; of a packet that is a message's own nothing more is asked, so that it may come at any place and again
   pub data MayCome (ms : List Sending) (p : List ℕ) : Type 0 where
     -- a segment of a message, whatever its sequence count
     own : (m : Sending) → List·Memᴰ m ms → (i : ℕ) → i < manyOf s m → ReadsAs s p (segmentAt s m i) → MayCome ms p
     unsegmented : segmented p ≡ false → MayCome ms p
     malformed : readPacket s p .refusal .number ≢ 0 → MayCome ms p
+    -- a segment that fits no cell, which arrival refuses by 17; the demand does not name it
     over-long : Z < 2 + length p → MayCome ms p
+    -- its key is no message's
     other-keyed : ((m : Sending) → List·Memᴰ m ms → keyOf p (readPacket s p) ≢ keyIn s m) → MayCome ms p
 
   pub record Traffic (ms : List Sending) (cs : List Call) : Type 0 where
@@ -53,7 +61,7 @@ module _ (s : Settings) (Z : ℕ) where
     pub apart : (m w : Sending) → List·Memᴰ m ms → List·Memᴰ w ms →
         (m ≡ w) ⊎ (keyIn s m ≢ keyIn s w) ⊎
         ((i j : ℕ) → i < manyOf s m → j < manyOf s w → segmentAt s m i .counter ≢ segmentAt s w j .counter)
-    -- packets are octets
+    -- packets are octets: what their type says
     pub octets : (p : List ℕ) → Handed p cs → Octets p
     -- "Their segments arrive in any order, with repeats, among unsegmented, malformed or other-keyed packets, with takes between"
     pub packets : (p : List ℕ) → Handed p cs → MayCome ms p
@@ -89,13 +97,14 @@ module _ (s : Settings) (Z n : ℕ) where
   abbrev pub cellsIn : List ℕ → List Cell
   cellsIn st = cellsOf s Z st n
 
-  -- where a message is told anew: at the store's beginning, and after each taking of it
+  -- from where on it is told "until a message is taken": the store's beginning, and anew after each taking of it, so that a message
+  -- that is sent once more comes out once more
   pub data Anew (m : Sending) : List Call → Type 0 where
     fresh : Anew m []
     retaken : (x : List Call) (c : Call) → TakesIt s Z m (storeBehind x) c → Anew m (x ++ c ∷ [])
 
-  -- "whenever a new segment of any key arrives, a cell is free": a packet that reading accepts, segmented, that fits a cell, and whose
-  -- key and counter no cell has; where `run` tells the store behind some calls
+  -- "whenever a new segment of any key arrives, a cell is free", by an arrival or a joining: a packet that reading accepts, segmented,
+  -- that fits a cell, and whose key and counter no cell has just before; where `run` tells the store behind some calls
   abbrev pub RoomIn : (List Call → List ℕ) → List Call → Type 0
   RoomIn run cs = (x y : List Call) (c : Call) (p : List ℕ) → cs ≡ x ++ c ∷ y → Brings p c →
       readPacket s p .refusal .number ≡ 0 → segmented p ≡ true → 2 + length p ≤ Z →
@@ -105,6 +114,7 @@ module _ (s : Settings) (Z n : ℕ) where
   abbrev pub Room : List Call → Type 0
   Room cs = RoomIn storeBehind cs
 
+  -- all that is presupposed of a run
   pub record Given (ms : List Sending) (cs : List Call) : Type 0 where
     pub traffic : Traffic s Z ms cs
     pub room : Room cs

@@ -1,5 +1,6 @@
--- The messages of demand 3, as the cutter makes them: values, lent texts, a body, a limit P and a sender's numbers for which the count
--- succeeds with two or more; their segments are the packets that `cut::packet` writes.
+-- The messages of demand 3, "messages cut into two or more segments, each fitting a cell", as the cutter makes them: values, lent
+-- texts, a body, a limit P and a sender's numbers for which the count succeeds with two or more; their segments are the packets that
+-- `cut::packet` writes.
 -- Assumes nothing: these are definitions.
 use Prim.Native.Nat.{ℕ, _+_, _-_, _≤_, _<_}
 use mathlib.Core.Path.{_≡_}
@@ -19,7 +20,8 @@ use Rattle.fewest.specs.Cutting.{Lends, octetsAt}
 use Rattle.fewest.specs.Runs.{place}
 use Rattle.cells.specs.Segments.{Seg, segOf}
 
--- what the cutter is given beside T, and the sender's numbers as they stood before the message
+-- a message: what the cutter is given beside T, which is the limit P, the header's values and texts, the body, and the sender's
+-- numbers as they stood before the message
 pub record Sending : Type 0 where
   pub limit : ℕ
   pub values : HeaderValues
@@ -31,7 +33,7 @@ pub record Sending : Type 0 where
 unfoldable pub recounted : Values → ℕ → Values
 recounted v c = record { head = v .head; flags = v .flags; count = c; counter = v .counter; body = v .body }
 
--- the packet reads as this segment
+-- the packet reads as this segment: key, counter, flags and body are the segment's; the sequence count may be any
 pub record ReadsAs (s : Settings) (p : List ℕ) (t : Seg) : Type 0 where
   pub accepted : readPacket s p .refusal .number ≡ 0
   pub segmented : segmented p ≡ true
@@ -65,7 +67,7 @@ module _ (s : Settings) where
   abbrev pub headerOf : Sending → List ℕ
   headerOf m = headerOctets s (headOf (m .values) (m .texts))
 
-  -- the key
+  -- the "header key"
   abbrev pub keyIn : Sending → List ℕ
   keyIn m = identificationOf m ++ headerOf m
 
@@ -85,7 +87,7 @@ module _ (s : Settings) where
 
   -- a message that demand 3 speaks of, for cells of Z octets
   pub record IsCut (Z : ℕ) (m : Sending) : Type 0 where
-    -- what the types of texts, body and transaction id say
+    -- texts and body are octets, and a transaction id has 64 bits: what their types say
     pub texts : Lends (m .values) (m .texts)
     pub body : Octets (m .body)
     -- the count succeeds, so that no counter passes 4,294,967,295: "none wrapping"

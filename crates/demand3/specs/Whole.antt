@@ -1,4 +1,7 @@
--- Demand 3 over the store's octets: what is promised of a message, and the whole.
+-- Demand 3 over the store's octets: what is promised of a message, and the whole. Its words, and where each of them stands:
+-- "Until a message is taken, it is complete exactly when all its segments have arrived" `complete` of `Promise`, by `IsComplete`;
+-- "its taking, with output long enough" `enough` of `Takes`, and that it comes to its taking `HandsOut`;
+-- "gives the original identification, header and body" `Delivers`; "and no later arrival alters that" `lasts` and `stays`.
 -- Assumes nothing: these are definitions.
 use Prim.Native.Nat.{ℕ, suc, _+_, _≤_, _<_}
 use mathlib.Core.Path.{_≡_}
@@ -24,7 +27,8 @@ abbrev pub cellSize : ℕ
 cellSize = 1024
 
 module _ (s : Settings) (Z n : ℕ) where
-  -- "for one key, there is a first at counter c, a last at d, c < d, and continuations at each number between"
+  -- "complete": "for one key, there is a first at counter c, a last at d, c < d, and continuations at each number between", here for
+  -- the message's own key, first counter and last
   abbrev pub IsComplete : Sending → List ℕ → Type 0
   IsComplete m st = CompleteFrom (cellsIn s Z n st) (keyIn s m) (startOf s m) (endOf s m)
 
@@ -67,7 +71,7 @@ module _ (s : Settings) (Z n : ℕ) where
   LongEnough st outs = (x y : List (List ℕ)) (out : List ℕ) (r : Run) → outs ≡ x ++ out ∷ y →
       picked suc top (cellsIn s Z n (storeAfter s Z st (map taking x))) ≡ some r → length (writing r) ≤ length out
 
-  -- as many such takings as there are cells, or more: one of them hands out the message
+  -- of as many such takings as there are cells, with no other call between, one hands out the message
   abbrev pub HandsOut : Sending → List ℕ → Type 0
   HandsOut m st = (outs : List (List ℕ)) → n ≤ length outs → LongEnough st outs →
       (x : List (List ℕ)) × (out : List ℕ) × (y : List (List ℕ)) × (outs ≡ x ++ out ∷ y) ×
@@ -75,10 +79,11 @@ module _ (s : Settings) (Z n : ℕ) where
 
   -- "its taking, with output long enough, gives the original identification, header and body, and no later arrival alters that"
   pub record Delivery (ms : List Sending) (m : Sending) (st : List ℕ) : Type 0 where
-    -- by any call, the packet of which, if it has one, may come
+    -- "its taking": by any call, the packet of which, if it has one, may come
     pub takes : (c : Call) → ((p : List ℕ) → Brings p c → Octets p × MayCome s Z ms p) → Takes m st c
+    -- and once it is complete, takings come to it
     pub handed : IsComplete m st → HandsOut m st
-    -- whatever is called then, with room or without, until it is taken
+    -- "no later arrival alters that": whatever is called then, with room or without, until it is taken
     pub lasts : IsComplete m st → (more : List Call) → Untaken s Z m st more →
         IsComplete m (storeAfter s Z st more) × ((c : Call) → Takes m (storeAfter s Z st more) c) × HandsOut m (storeAfter s Z st more)
 
@@ -86,8 +91,9 @@ module _ (s : Settings) (Z n : ℕ) where
   pub record Promise (ms : List Sending) (m : Sending) (before since : List Call) : Type 0 where
     -- "it is complete exactly when all its segments have arrived"
     pub complete : IsComplete m (storeBehind s Z n (before ++ since)) ↔ AllCame s m since
+    -- "its taking, with output long enough, gives the original", by the store as it is now
     pub delivery : Delivery ms m (storeBehind s Z n (before ++ since))
-    -- what was written stays, whatever is called then
+    -- "no later arrival alters that": each call has an output of its own, and what it wrote there stays, whatever is called then
     pub stays : (more : List Call) → outsAfter s Z (emptyStore Z n) (before ++ since ++ more) ≡
         outsAfter s Z (emptyStore Z n) (before ++ since) ++ outsAfter s Z (storeBehind s Z n (before ++ since)) more
 
