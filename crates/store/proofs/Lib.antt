@@ -16,3 +16,4 @@ pub mod Marks
 pub mod Drawn
 pub mod Takings
 pub mod Calls
+pub mod Saying

@@ -44,6 +44,13 @@ arrivalOf (stored i) = Answer Stored
 arrivalOf again = Answer Held
 arrivalOf (refused k) = Refused (refusalOf k)
 
+-- document 01's number and word for what an arrival comes to
+abbrev pub saidOf : Arrived → Said
+saidOf whole = record { number = 0; word = said-whole }
+saidOf (stored i) = record { number = 0; word = said-stored }
+saidOf again = record { number = 0; word = said-held }
+saidOf (refused k) = record { number = k; word = silent }
+
 -- H, B and c of a message; the key is the two octets of identification and H octets of header
 abbrev pub takenOf : Took → Taken
 takenOf (message r) =
