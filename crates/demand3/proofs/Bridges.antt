@@ -36,7 +36,8 @@ use Rattle.join.specs.Joining.{Joining, inPacket, unjoined, bodyFrom, tookAs, j
 use Rattle.join.specs.Told.{taken, joinedOf}
 use Rattle.join.proofs.join.Reads as joins
 use Rattle.demand3.specs.Calls.{arrival, taking, joining, goesOn, storeBy, tookBy, outBy}
-use Rattle.demand3.specs.Sendings.{Sending, countOf, packetOf, identificationOf, headerOf, headerSize, bodySize, startOf}
+use Rattle.demand3.specs.Sendings.{Sending, wholeBody, identificationOf, headerOf, headerSize, bodySize, startOf}
+use Rattle.demand3.specs.Cutter.{Cutting, countOf, packetOf}
 use Rattle.demand3.specs.Whole.{cellSize, Delivers}
 
 -- `store::arrive`
@@ -201,7 +202,7 @@ module _ (s : Settings) (m : Sending) where
 
   -- "the original identification, header and body", and behind them the output as it was
   abbrev pub itsOutput : List ℕ → List ℕ
-  itsOutput out = identificationOf s m ++ headerOf s m ++ m .body ++ drop (2 + headerSize s m + bodySize s m) out
+  itsOutput out = identificationOf s m ++ headerOf s m ++ wholeBody m ++ drop (2 + headerSize s m + bodySize s m) out
 
 pub take-hands-out : (κs : L.Lfts 2) (a : _) (r : _) (x : _) → takes.Post κs a r x → (n : ℕ) (m : Sending) →
     Delivers (a .0) cellSize n m (now (a .1 .0)) (taking (now (a .1 .1 .0))) →
@@ -222,19 +223,19 @@ join-hands-out κs a r x k n m d = (
 
 -- ---- the cutter
 
--- a message by the arguments of the cutter's calls
-abbrev pub sending : ℕ → HeaderValues → Lent → List ℕ → Sender → Sending
-sending P v t body d = record { limit = P; values = v; texts = t; body = body; sender = d }
+-- what the cutter is given, by the arguments of its calls
+abbrev pub cutting : ℕ → HeaderValues → Lent → List ℕ → Sender → Cutting
+cutting P v t body d = record { limit = P; values = v; texts = t; body = body; sender = d }
 
 plain-count : (s : Settings) (P B : ℕ) (v : HeaderValues) (t : Lent) (d : Sender) (r : Counted) → r ≡ countAnswer s P v t B d →
-    (body : List ℕ) → length body ≡ B → countOf s (sending P v t body d) ≡ r
+    (body : List ℕ) → length body ≡ B → countOf s (cutting P v t body d) ≡ r
 plain-count s P B v t d r k body e = ap (λ (x : ℕ). countAnswer s P v t x d) e ∙ sym k
 
 -- `cut::count`
 pub count-steps : (κs : L.Lfts 6) (a : _) (r : _) (x : _) → counts.Post κs a r x → (body : List ℕ) →
     length body ≡ a .1 .1 .1 .1 .1 .1 .1 .1 .1 .0 →
     countOf (a .0)
-    (sending (a .1 .0) (a .1 .1 .0)
+    (cutting (a .1 .0) (a .1 .1 .0)
     (lent (now (a .1 .1 .1 .0)) (now (a .1 .1 .1 .1 .0)) (now (a .1 .1 .1 .1 .1 .0)) (now (a .1 .1 .1 .1 .1 .1 .0))
     (now (a .1 .1 .1 .1 .1 .1 .1 .0)) (now (a .1 .1 .1 .1 .1 .1 .1 .1 .0)))
     body (a .1 .1 .1 .1 .1 .1 .1 .1 .1 .1 .0))
@@ -245,7 +246,7 @@ count-steps κs a r x k body e = plain-count (a .0) (a .1 .0) _ (a .1 .1 .0) _ _
 pub packet-steps : (κs : L.Lfts 8) (a : _) (r : _) (x : _) → cuts.Post κs a r x → r .refusal .number ≡ 0 →
     take (r .length) (now (x .1 .1 .1 .1 .1 .1 .1 .1 .1 .1 .1 .1 .0)) ≡
     packetOf (a .0)
-    (sending (a .1 .0) (a .1 .1 .0)
+    (cutting (a .1 .0) (a .1 .1 .0)
     (lent (now (a .1 .1 .1 .0)) (now (a .1 .1 .1 .1 .0)) (now (a .1 .1 .1 .1 .1 .0)) (now (a .1 .1 .1 .1 .1 .1 .0))
     (now (a .1 .1 .1 .1 .1 .1 .1 .0)) (now (a .1 .1 .1 .1 .1 .1 .1 .1 .0)))
     (now (a .1 .1 .1 .1 .1 .1 .1 .1 .1 .0)) (a .1 .1 .1 .1 .1 .1 .1 .1 .1 .1 .0))

@@ -1,8 +1,10 @@
 -- A run of calls that demand 3 speaks of: two messages of one key with neighbouring counters, five segments, arrive interleaved at four
--- cells of 1,024 octets. The header is figure 14's. Here: the messages and the packets, and what each is to the store.
+-- cells of 1,024 octets. One was cut by the cutter, the other is cut as the cutter never does, its last segment longer than its first.
+-- The header is figure 14's. Here: the messages and the packets, and what each is to the store.
 -- Assumes nothing.
 use Prim.Native.Nat.{ℕ, _+_, _≤_, _<_}
-use mathlib.Core.Path.{_≡_, refl, ap, _∙_}
+use mathlib.Core.Path.{_≡_, refl, ap, _∙_, subst}
+use mathlib.Core.Logic.{_⊎_, inl, inr}
 use mathlib.Core.Bool.{Bool, true}
 use mathlib.Core.List.{List, [], _∷_, _++_}
 use native.Mathlib.Omega.{arith}
@@ -10,11 +12,12 @@ use lib.ListN.{length, replicate}
 use lib.Dec.{ltb}
 use borrow.Author.Tests.{ltb-true}
 use Rattle.octets.specs.Octets.{Octets, wide, number as numberAt}
+use Rattle.octets.proofs.Lists.{below-or}
 use Rattle.octets.proofs.Has.{octets-nil, octets-one, octets-append}
 use Rattle.walk.specs.declared.Settings.{Settings}
 use Rattle.walk.specs.Walk.{begun, check, octets, unless}
 use Rattle.fields.specs.Form.{split}
-use Rattle.packet.specs.Format.{presence, identification, fixedOctets, frontOctets, backOctets, headerOctets}
+use Rattle.packet.specs.Format.{presence, identification, fixedOctets, frontOctets, backOctets, headerOctets, InRange}
 use Rattle.packet.specs.Reading.{primaryTests, primaryOf, octetField, wideField, sduField, afterSdu, afterArea, afterService, afterOperation, afterVersion, afterSession, afterSecondary, afterQualifier, afterTransaction, afterPresence, fixedOf, flagsOf, presentOf, idsOf, textsOf, bodyTest, refusedHeader, acceptedHeader, readPacket}
 use Rattle.packet.specs.Key.{counterPlace, keyOf}
 use Rattle.write.specs.Given.{headOf, sum, nameChecks, routingChecks, idChecks, textChecks, headerChecks, unlessAll}
@@ -22,18 +25,21 @@ use Rattle.write.specs.Writing.{settingsTest, partsTest}
 use Rattle.two_way.proofs.Figures.{header as values, texts}
 use Rattle.cut.specs.declared.Next.the-variants.{At}
 use Rattle.cut.specs.Sending.{countersFit}
-use Rattle.cut.specs.Cutting.{packets, rounded, limitTest, valueTests, messageTests, countRefusal, countAnswer, flagsAt, bodyAt}
+use Rattle.cut.specs.Cutting.{packets, rounded, limitTest, valueTests, messageTests, countRefusal, countAnswer, bodyAt}
 use Rattle.cut.proofs.Packets.{packet-most}
 use Rattle.fewest.specs.Cutting.{Lends}
+use Rattle.fewest.specs.Carrying.{firstOf}
 use Rattle.fewest.specs.Runs.{place}
 use Rattle.fewest.proofs.Numbers.{cuts-well}
 use Rattle.cells.specs.Segments.{Seg, segOf, both}
 use Rattle.cells.specs.Rows.{mayHold}
 use Rattle.cells.proofs.Held.{both-true}
 use Rattle.demand3.specs.Traffic.{arrives, passes}
-use Rattle.demand3.specs.Sendings.{Sending, countOf, manyOf, packetOf, packetWith, IsCut}
+use Rattle.demand3.specs.Sendings.{Sending, flagsIn, manyOf, valuesAt, packetWith, segmentAt, headerSize, bodySize, IsCut}
+use Rattle.demand3.specs.Cutter.{Cutting, countOf, packetOf, sendingOf, Succeeds}
 use Rattle.demand3.specs.Whole.{cellSize}
-use Rattle.demand3.proofs.ReadAs.{pieceOf, segment-is-piece}
+use Rattle.demand3.proofs.AnyCut.{partOf, any-cut}
+use Rattle.demand3.proofs.Cutter.{cutter-many, cutter-body, cutter-cut}
 use Rattle.demand3.proofs.Steps.{eventOf}
 use Rattle.demand3.proofs.Acts.{repeat-event}
 
@@ -41,8 +47,8 @@ abbrev pub settings : Settings
 settings = record { t = 8 }
 
 -- three segments, counters 7, 8 and 9
-abbrev pub three : Sending
-three =
+abbrev pub cutting : Cutting
+cutting =
     record {
       limit = 34;
       values = values;
@@ -51,15 +57,16 @@ three =
       sender = record { count = record { 0 = 0 }; next = At (record { 0 = 7 }) };
     }
 
+abbrev pub three : Sending
+three = sendingOf settings cutting
+
 -- two segments, counters 10 and 11
 abbrev pub two : Sending
 two =
     record {
-      limit = 36;
-      values = values;
-      texts = texts;
-      body = 21 ∷ 22 ∷ 23 ∷ 24 ∷ 25 ∷ 26 ∷ 27 ∷ 28 ∷ 29 ∷ 30 ∷ [];
-      sender = record { count = record { 0 = 3 }; next = At (record { 0 = 10 }) };
+      head = headOf values texts;
+      start = 10;
+      bodies = (21 ∷ 22 ∷ 23 ∷ []) ∷ (24 ∷ 25 ∷ 26 ∷ 27 ∷ 28 ∷ 29 ∷ 30 ∷ []) ∷ [];
     }
 
 abbrev pub messages : List Sending
@@ -132,85 +139,105 @@ lends =
       transaction = omega arith;
     }
 
-three-counts : countOf settings three .refusal .number ≡ 0
+three-counts : countOf settings cutting .refusal .number ≡ 0
 unfolding countAnswer countRefusal messageTests limitTest valueTests settingsTest partsTest unless unlessAll headerChecks nameChecks routingChecks idChecks textChecks sum packets rounded countersFit headOf split headerOctets fixedOctets frontOctets backOctets wide
 three-counts = refl
 
-pub three-many : manyOf settings three ≡ 3
+three-count : countOf settings cutting .count ≡ 3
 unfolding countAnswer countRefusal messageTests limitTest valueTests settingsTest partsTest unless unlessAll headerChecks nameChecks routingChecks idChecks textChecks sum packets rounded countersFit headOf split headerOctets fixedOctets frontOctets backOctets wide
-three-many = refl
-
-two-counts : countOf settings two .refusal .number ≡ 0
-unfolding countAnswer countRefusal messageTests limitTest valueTests settingsTest partsTest unless unlessAll headerChecks nameChecks routingChecks idChecks textChecks sum packets rounded countersFit headOf split headerOctets fixedOctets frontOctets backOctets wide
-two-counts = refl
-
-pub two-many : manyOf settings two ≡ 2
-unfolding countAnswer countRefusal messageTests limitTest valueTests settingsTest partsTest unless unlessAll headerChecks nameChecks routingChecks idChecks textChecks sum packets rounded countersFit headOf split headerOctets fixedOctets frontOctets backOctets wide
-two-many = refl
+three-count = refl
 
 -- a packet has at most P octets
-most : (m : Sending) → countOf settings m .refusal .number ≡ 0 → (i : ℕ) → length (packetOf settings m i) ≤ m .limit
+most : (i : ℕ) → length (packetOf settings cutting i) ≤ 34
 unfolding countAnswer
-most m z i =
-    packet-most settings (m .limit) (m .values) (m .texts) (m .body) (m .sender) i
-    (cuts-well settings (m .limit) (m .values) (m .texts) (m .body) (m .sender) z .some)
+most i =
+    packet-most settings 34 values texts (cutting .body) (cutting .sender) i
+    (cuts-well settings 34 values texts (cutting .body) (cutting .sender) three-counts .some)
 
-pub three-cut : IsCut settings cellSize three
-three-cut =
+pub succeeds : Succeeds settings cellSize cutting
+succeeds =
     record {
       texts = lends;
-      body = octets-by (three .body) refl;
+      body = octets-by (cutting .body) refl;
       counts = three-counts;
-      many = omega (arith, three-many);
-      fits = λ i l. omega (arith, most three three-counts i);
+      many = omega (arith, three-count);
+      fits = λ i l. omega (arith, most i);
     }
+
+pub three-many : manyOf settings three ≡ 3
+three-many = cutter-many settings cellSize cutting succeeds ∙ three-count
+
+pub three-cut : IsCut settings cellSize three
+three-cut = cutter-cut settings cellSize cutting succeeds
+
+pub three-long : bodySize settings three ≡ 8
+three-long = ap length (cutter-body settings cellSize cutting succeeds)
+
+pub two-many : manyOf settings two ≡ 2
+two-many = refl
+
+-- the header is the cutter's
+head-range : InRange settings (valuesAt settings three 0 0)
+head-range = three-cut .range 0 (omega (arith, three-many))
+
+header-long : headerSize settings two ≡ 21
+unfolding headerOctets fixedOctets frontOctets backOctets wide headOf split
+header-long = refl
 
 pub two-cut : IsCut settings cellSize two
 two-cut =
-    record {
-      texts = lends;
-      body = octets-by (two .body) refl;
-      counts = two-counts;
-      many = omega (arith, two-many);
-      fits = λ i l. omega (arith, most two two-counts i);
-    }
+    any-cut settings two cellSize (omega arith) (head-range .settings) (head-range .head) (omega (arith, header-long)) (omega arith)
+    (omega arith)
+    (λ i l. parts i l (below-or i 1))
+  where
+    Part : ℕ → Type 0
+    Part i =
+        Octets (partOf settings two i) × (1 ≤ length (partOf settings two i)) × (12 + headerSize settings two + length (partOf settings two i) ≤ cellSize)
+
+    parts : (i : ℕ) → i < 2 → (i < 1) ⊎ (1 ≤ i) → Part i
+    parts i l (inl a) =
+        let e : 0 ≡ i = omega arith in
+        subst Part e (octets-by (21 ∷ 22 ∷ 23 ∷ []) refl, omega arith, omega (arith, header-long))
+    parts i l (inr a) =
+        let e : 1 ≡ i = omega arith in
+        subst Part e (octets-by (24 ∷ 25 ∷ 26 ∷ 27 ∷ 28 ∷ 29 ∷ 30 ∷ []) refl, omega arith, omega (arith, header-long))
 
 -- ---- what the packets are to the store
 
 abbrev pub seg : ℕ → ℕ → List ℕ → Seg
 seg c f b = record { key = theKey; counter = c; flags = f; body = b }
 
-three-at : (i : ℕ) → i < 3 → (t : Seg) → pieceOf settings cellSize three three-cut i ≡ t → (c : ℕ) → c < 16384 →
+three-at : (i : ℕ) → i < 3 → (t : Seg) → segmentAt settings three i ≡ t → (c : ℕ) → c < 16384 →
     eventOf settings cellSize (of-three i c) ≡ arrives t
 three-at i l t e c h =
     let k : i < manyOf settings three = omega (arith, three-many) in
-    repeat-event settings cellSize three three-cut i k c h ∙ ap arrives (segment-is-piece settings cellSize three three-cut i k ∙ e)
+    repeat-event settings cellSize three three-cut i k c h ∙ ap arrives e
 
-two-at : (i : ℕ) → i < 2 → (t : Seg) → pieceOf settings cellSize two two-cut i ≡ t → (c : ℕ) → c < 16384 →
+two-at : (i : ℕ) → i < 2 → (t : Seg) → segmentAt settings two i ≡ t → (c : ℕ) → c < 16384 →
     eventOf settings cellSize (of-two i c) ≡ arrives t
 two-at i l t e c h =
     let k : i < manyOf settings two = omega (arith, two-many) in
-    repeat-event settings cellSize two two-cut i k c h ∙ ap arrives (segment-is-piece settings cellSize two two-cut i k ∙ e)
+    repeat-event settings cellSize two two-cut i k c h ∙ ap arrives e
 
 pub is-seven : (c : ℕ) → c < 16384 → eventOf settings cellSize (of-three 0 c) ≡ arrives (seg 7 1 (1 ∷ 2 ∷ 3 ∷ []))
-unfolding place flagsAt bodyAt packets rounded headOf split identification headerOctets fixedOctets presence frontOctets backOctets wide
+unfolding place flagsIn firstOf bodyAt countAnswer countRefusal messageTests limitTest valueTests settingsTest partsTest unless unlessAll headerChecks nameChecks routingChecks idChecks textChecks sum packets rounded countersFit headOf split headerOctets fixedOctets frontOctets backOctets wide identification presence
 is-seven = three-at 0 (omega arith) (seg 7 1 (1 ∷ 2 ∷ 3 ∷ [])) refl
 
 pub is-eight : (c : ℕ) → c < 16384 → eventOf settings cellSize (of-three 1 c) ≡ arrives (seg 8 0 (4 ∷ 5 ∷ 6 ∷ []))
-unfolding place flagsAt bodyAt packets rounded headOf split identification headerOctets fixedOctets presence frontOctets backOctets wide
+unfolding place flagsIn firstOf bodyAt countAnswer countRefusal messageTests limitTest valueTests settingsTest partsTest unless unlessAll headerChecks nameChecks routingChecks idChecks textChecks sum packets rounded countersFit headOf split headerOctets fixedOctets frontOctets backOctets wide identification presence
 is-eight = three-at 1 (omega arith) (seg 8 0 (4 ∷ 5 ∷ 6 ∷ [])) refl
 
 pub is-nine : (c : ℕ) → c < 16384 → eventOf settings cellSize (of-three 2 c) ≡ arrives (seg 9 2 (7 ∷ 8 ∷ []))
-unfolding place flagsAt bodyAt packets rounded headOf split identification headerOctets fixedOctets presence frontOctets backOctets wide
+unfolding place flagsIn firstOf bodyAt countAnswer countRefusal messageTests limitTest valueTests settingsTest partsTest unless unlessAll headerChecks nameChecks routingChecks idChecks textChecks sum packets rounded countersFit headOf split headerOctets fixedOctets frontOctets backOctets wide identification presence
 is-nine = three-at 2 (omega arith) (seg 9 2 (7 ∷ 8 ∷ [])) refl
 
-pub is-ten : (c : ℕ) → c < 16384 → eventOf settings cellSize (of-two 0 c) ≡ arrives (seg 10 1 (21 ∷ 22 ∷ 23 ∷ 24 ∷ 25 ∷ []))
-unfolding place flagsAt bodyAt packets rounded headOf split identification headerOctets fixedOctets presence frontOctets backOctets wide
-is-ten = two-at 0 (omega arith) (seg 10 1 (21 ∷ 22 ∷ 23 ∷ 24 ∷ 25 ∷ [])) refl
+pub is-ten : (c : ℕ) → c < 16384 → eventOf settings cellSize (of-two 0 c) ≡ arrives (seg 10 1 (21 ∷ 22 ∷ 23 ∷ []))
+unfolding flagsIn headOf split identification headerOctets fixedOctets presence frontOctets backOctets wide
+is-ten = two-at 0 (omega arith) (seg 10 1 (21 ∷ 22 ∷ 23 ∷ [])) refl
 
-pub is-eleven : (c : ℕ) → c < 16384 → eventOf settings cellSize (of-two 1 c) ≡ arrives (seg 11 2 (26 ∷ 27 ∷ 28 ∷ 29 ∷ 30 ∷ []))
-unfolding place flagsAt bodyAt packets rounded headOf split identification headerOctets fixedOctets presence frontOctets backOctets wide
-is-eleven = two-at 1 (omega arith) (seg 11 2 (26 ∷ 27 ∷ 28 ∷ 29 ∷ 30 ∷ [])) refl
+pub is-eleven : (c : ℕ) → c < 16384 → eventOf settings cellSize (of-two 1 c) ≡ arrives (seg 11 2 (24 ∷ 25 ∷ 26 ∷ 27 ∷ 28 ∷ 29 ∷ 30 ∷ []))
+unfolding flagsIn headOf split identification headerOctets fixedOctets presence frontOctets backOctets wide
+is-eleven = two-at 1 (omega arith) (seg 11 2 (24 ∷ 25 ∷ 26 ∷ 27 ∷ 28 ∷ 29 ∷ 30 ∷ [])) refl
 
 abbrev pub stray : Seg
 stray = record { key = 0x18 ∷ 6 ∷ header; counter = 8; flags = 0; body = 4 ∷ [] }

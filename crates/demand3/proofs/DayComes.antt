@@ -15,11 +15,10 @@ use Rattle.packet.specs.Key.{counterPlace, keyOf}
 use Rattle.write.specs.Given.{headOf}
 use Rattle.cut.specs.Cutting.{packets}
 use Rattle.fewest.specs.Runs.{place}
-use Rattle.cells.specs.Segments.{Seg}
 use Rattle.demand3.specs.Sendings.{Sending, manyOf, segmentAt, keyIn, startOf}
 use Rattle.demand3.specs.Presupposed.{MayCome, own, unsegmented, malformed, over-long, other-keyed}
 use Rattle.demand3.specs.Whole.{cellSize}
-use Rattle.demand3.proofs.ReadAs.{segment-is-piece, repeat-reads, repeat-octets}
+use Rattle.demand3.proofs.ReadAs.{repeat-reads, repeat-octets}
 use Rattle.demand3.proofs.Day.{settings, three, two, messages, of-three, of-two, header, theKey, single, stub, huge, other, single-octets, stub-octets, huge-octets, other-octets, three-many, two-many, three-cut, two-cut}
 
 pub one-of : (m : Sending) → List·Memᴰ m messages → (m ≡ three) ⊎ (m ≡ two)
@@ -95,12 +94,7 @@ three-start : startOf settings three ≡ 7
 unfolding place
 three-start = refl
 
-two-start : startOf settings two ≡ 10
-unfolding place
-two-start = refl
-
 pub no-counter : (i j : ℕ) → i < manyOf settings three → j < manyOf settings two → segmentAt settings three i .counter ≢ segmentAt settings two j .counter
 no-counter i j l k e =
-    let a : segmentAt settings three i .counter ≡ startOf settings three + i = ap (λ (t : Seg). t .counter) (segment-is-piece settings cellSize three three-cut i l) in
-    let b : segmentAt settings two j .counter ≡ startOf settings two + j = ap (λ (t : Seg). t .counter) (segment-is-piece settings cellSize two two-cut j k) in
-    omega (arith, three-start, two-start, three-many)
+    let f : startOf settings three + i ≡ startOf settings two + j = e in
+    omega (arith, three-start, three-many)

@@ -14,7 +14,7 @@ use Rattle.fields.specs.Form.{split}
 use Rattle.packet.specs.Format.{presence, identification, fixedOctets, frontOctets, backOctets, headerOctets}
 use Rattle.write.specs.Given.{headOf}
 use Rattle.fewest.specs.Runs.{place}
-use Rattle.cells.specs.Segments.{Seg, carries, sameRest}
+use Rattle.cells.specs.Segments.{carries, sameRest}
 use Rattle.cells.specs.Rows.{Cell, free, held}
 use Rattle.store.specs.Messages.{Run, look, roleOf, bodies, chain, runFrom, pickIn, among, top}
 use Rattle.store.specs.Taking.{message, unable}
@@ -22,17 +22,18 @@ use Rattle.keeping.specs.Cells.{put, hasFree}
 use Rattle.demand3.specs.Traffic.{Event, empty, takenFrom, stepped, after}
 use Rattle.demand3.specs.Promise.{Untaken as CellUntaken}
 use Rattle.demand3.specs.Calls.{arrival, taking, joining, Brings, Handed, tookBy, outBy}
-use Rattle.demand3.specs.Sendings.{manyOf, segmentAt, keyIn, startOf}
+use Rattle.demand3.specs.Sendings.{segmentAt, keyIn, startOf}
 use Rattle.demand3.specs.Presupposed.{Came, AllCame, MayCome, Traffic, Untaken, storeBehind, cellsIn, Anew, fresh, retaken}
 use Rattle.demand3.specs.Whole.{cellSize, IsComplete, Delivers, Promise}
-use Rattle.demand3.proofs.ReadAs.{repeat-reads, segment-is-piece}
+use Rattle.demand3.proofs.ReadAs.{repeat-reads}
 use Rattle.demand3.proofs.Sents.{sentOf}
 use Rattle.demand3.proofs.Checks.{leftIn, untaken-by}
 use Rattle.demand3.proofs.Events.{eventsIn}
 use Rattle.demand3.proofs.Carried.{behind-keeps}
 use Rattle.demand3.proofs.Whole.{demand3·whole, soundness·whole}
+use Rattle.demand3.proofs.Cutter.{cutter-hands-out}
 use Rattle.demand3.proofs.Acts.{comes, lands, actEvents, acts-are, untaken-told}
-use Rattle.demand3.proofs.Day.{settings, three, messages, of-three, header, three-many, three-cut, seg, stray, is-eight, is-nine}
+use Rattle.demand3.proofs.Day.{settings, cutting, three, succeeds, messages, of-three, header, three-many, three-cut, seg, stray, is-eight, is-nine}
 use Rattle.demand3.proofs.DayComes.{Fine, three-fine}
 use Rattle.demand3.proofs.DayRun.{lentOut, dawn, early, morning, atNoon, noon, evening, eight, nine, dawnActs, morningActs, noonActs, eveningActs, dawn-acts, morning-acts, noon-acts, evening-acts, day-acts, in-use, one, cells-are, joined-takes, taking-takes, traffic, given}
 
@@ -51,7 +52,7 @@ abbrev cellNine : Cell
 cellNine = held (seg 9 2 (7 ∷ 8 ∷ []))
 
 abbrev cellTen : Cell
-cellTen = held (seg 10 1 (21 ∷ 22 ∷ 23 ∷ 24 ∷ 25 ∷ []))
+cellTen = held (seg 10 1 (21 ∷ 22 ∷ 23 ∷ []))
 
 -- three segments, and a free cell
 three-held : after suc top (empty 4) (actEvents (empty 4) dawnActs) ≡ cellNine ∷ cellTen ∷ cellSeven ∷ free ∷ []
@@ -170,15 +171,12 @@ handed =
         subst Fine (sym f) (three-fine 1 (omega arith) 79 (omega arith))
 
     first-counter : 7 ≡ segmentAt settings three 0 .counter
-    first-counter =
-        let z : 0 < manyOf settings three = omega (arith, three-many) in
-        let s : startOf settings three ≡ startOf settings three + 0 = omega arith in
-        the-start ∙ s ∙ sym (ap (λ (t : Seg). t .counter) (segment-is-piece settings Z three three-cut 0 z))
+    first-counter = omega (arith, the-start)
 
 -- identification, header and body, and behind them the output as it was
 pub written : outBy settings Z (storeBehind settings Z 4 morning) atNoon ≡ 0x18 ∷ 5 ∷ header ++ (1 ∷ 2 ∷ 3 ∷ 4 ∷ 5 ∷ 6 ∷ 7 ∷ 8 ∷ lentOut 4)
 unfolding headOf split identification headerOctets fixedOctets presence frontOctets backOctets wide
-written = handed .written
+written = cutter-hands-out settings Z cutting succeeds 4 (storeBehind settings Z 4 morning) atNoon handed .1
 
 -- ---- and anew
 

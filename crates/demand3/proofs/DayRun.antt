@@ -80,10 +80,10 @@ abbrev pub nine : Event
 nine = arrives (seg 9 2 (7 ∷ 8 ∷ []))
 
 abbrev pub ten : Event
-ten = arrives (seg 10 1 (21 ∷ 22 ∷ 23 ∷ 24 ∷ 25 ∷ []))
+ten = arrives (seg 10 1 (21 ∷ 22 ∷ 23 ∷ []))
 
 abbrev pub eleven : Event
-eleven = arrives (seg 11 2 (26 ∷ 27 ∷ 28 ∷ 29 ∷ 30 ∷ []))
+eleven = arrives (seg 11 2 (24 ∷ 25 ∷ 26 ∷ 27 ∷ 28 ∷ 29 ∷ 30 ∷ []))
 
 abbrev pub dawnActs : List Act
 dawnActs =

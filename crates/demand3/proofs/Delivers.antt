@@ -12,7 +12,6 @@ use lib.ListN.{length, drop, length-append, length-map}
 use lib.Seq.{sets-eq}
 use Rattle.octets.specs.Octets.{pick}
 use Rattle.walk.specs.declared.Settings.{Settings}
-use Rattle.cells.specs.Segments.{Seg}
 use Rattle.cells.specs.Rows.{Cell, held, rowAt, zeroRow}
 use Rattle.cells.specs.Order.{countIn, cellAt}
 use Rattle.store.specs.declared.Taken.{Taken}
@@ -25,10 +24,9 @@ use Rattle.keeping.proofs.Untouched.{unable-same, unable-output}
 use Rattle.demand3.specs.Traffic.{bodyIn, takes, takenFrom, after}
 use Rattle.demand3.specs.Promise.{Original, Gives, Output, LongEnough as CellLongEnough, Handed}
 use Rattle.demand3.specs.Calls.{Call, taking, outOf, takenStore, draws, storeAt, tookBy, storeBy, outBy, storeAfter}
-use Rattle.demand3.specs.Sendings.{Sending, manyOf, segmentAt, identificationOf, headerOf, keyIn, headerSize, bodySize, startOf, IsCut}
+use Rattle.demand3.specs.Sendings.{Sending, wholeBody, manyOf, segmentAt, identificationOf, headerOf, keyIn, headerSize, bodySize, startOf, IsCut}
 use Rattle.demand3.specs.Presupposed.{cellsIn}
 use Rattle.demand3.specs.Whole.{Holds, Delivers, Picks, Takes, HandsOut}
-use Rattle.demand3.proofs.ReadAs.{segment-is-piece}
 use Rattle.demand3.proofs.Sents.{sentOf, own-in, in-own, body-is, key-long}
 use Rattle.demand3.proofs.Steps.{Kept, took-is}
 use Rattle.demand3.proofs.Events.{events-takings}
@@ -63,8 +61,8 @@ module _ (s : Settings) (Z n : ℕ) (m : Sending) (k : IsCut s Z m) where
   -- ---- what is handed out
 
   -- the key and the body are 2 + H + B octets
-  all-long : length (keyIn s m ++ m .body) ≡ 2 + headerSize s m + bodySize s m
-  all-long = length-append (keyIn s m) (m .body) ∙ ap (λ (x : ℕ). x + bodySize s m) (key-long s Z m k)
+  all-long : length (keyIn s m ++ wholeBody m) ≡ 2 + headerSize s m + bodySize s m
+  all-long = length-append (keyIn s m) (wholeBody m) ∙ ap (λ (x : ℕ). x + bodySize s m) (key-long s Z m k)
 
   module _ (st : List ℕ) (c : Call) (kept : Kept s Z n (storeAt s Z st c)) where
     abbrev at : List ℕ
@@ -79,10 +77,10 @@ module _ (s : Settings) (Z n : ℕ) (m : Sending) (k : IsCut s Z m) where
     delivers d r e o =
         record { told = tells; written = writes; there = held-there; zeroed = zeroes; others = leaves }
       where
-        body-same : bodyOf r ≡ m .body
+        body-same : bodyOf r ≡ wholeBody m
         body-same = o .body ∙ body-is s Z m k
 
-        all-same : writing r ≡ keyIn s m ++ m .body
+        all-same : writing r ≡ keyIn s m ++ wholeBody m
         all-same = ap (λ (x : List ℕ). x ++ bodyOf r) (o .key) ∙ ap (λ (x : List ℕ). keyIn s m ++ x) body-same
 
         tells : Option·map takenOf (tookBy s Z st c) ≡
@@ -95,11 +93,11 @@ module _ (s : Settings) (Z n : ℕ) (m : Sending) (k : IsCut s Z m) where
             ∙ ap some (same-taken h (ap length body-same) (o .counter))
 
         writes : outBy s Z st c ≡
-            identificationOf s m ++ headerOf s m ++ m .body ++ drop (2 + headerSize s m + bodySize s m) (outOf c)
+            identificationOf s m ++ headerOf s m ++ wholeBody m ++ drop (2 + headerSize s m + bodySize s m) (outOf c)
         writes =
             pick-yes (draws s Z st c) (outWith (outOf c) (took s Z at long)) (outOf c) d ∙ ap (outWith (outOf c)) e
-            ∙ written-out (outOf c) (keyIn s m ++ m .body) r all-same (taken-tells s Z at long r e .fits)
-            ∙ ap (λ (x : ℕ). keyIn s m ++ m .body ++ drop x (outOf c)) all-long
+            ∙ written-out (outOf c) (keyIn s m ++ wholeBody m) r all-same (taken-tells s Z at long r e .fits)
+            ∙ ap (λ (x : ℕ). keyIn s m ++ wholeBody m ++ drop x (outOf c)) all-long
 
         mine : (i : ℕ) → i < manyOf s m → List·Memᴰ (segmentAt s m i) (segments r)
         mine i l = subst (List·Memᴰ (segmentAt s m i)) (sym (o .own)) (own-in s Z m k i l)
@@ -140,7 +138,7 @@ module _ (s : Settings) (Z n : ℕ) (m : Sending) (k : IsCut s Z m) where
         hit d r e a i l b =
             delivers d r e
             (g long r (segmentAt s m i) (sym (took-is s Z n at kept long) ∙ e) (own-in s Z m k i l)
-            (a ∙ sym (ap (λ (t : Seg). t .key) (segment-is-piece s Z m k i l))) b)
+            a b)
 
         given : (r : Run) → tookBy s Z st c ≡ some (message r) → r .head .key ≡ keyIn s m →
             (i : ℕ) → i < manyOf s m → r .head .counter ≡ segmentAt s m i .counter → Delivers s Z n m st c
@@ -153,7 +151,7 @@ module _ (s : Settings) (Z n : ℕ) (m : Sending) (k : IsCut s Z m) where
             let v = u .enough r (p .1 .1) i long (omega (arith, size)) in
             let z : 0 < manyOf s m = omega (arith, k .many) in
             hit (p .0) r (took-is s Z n at kept long ∙ v .0) (i .0) 0 z
-            (i .1 ∙ sym (add-zero (startOf s m)) ∙ sym (ap (λ (t : Seg). t .counter) (segment-is-piece s Z m k 0 z)))
+            (i .1 ∙ sym (add-zero (startOf s m)))
 
         brief : Picks s Z n m st c → length (outOf c) < 2 + headerSize s m + bodySize s m →
             (tookBy s Z st c ≡ some (unable 21)) × (storeBy s Z st c ≡ at) × (outBy s Z st c ≡ outOf c)

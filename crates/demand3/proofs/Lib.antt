@@ -16,6 +16,7 @@ pub mod Checks
 pub mod Example
 pub mod ReadAs
 pub mod OwnPackets
+pub mod AnyCut
 pub mod Sents
 pub mod Steps
 pub mod Events
@@ -24,6 +25,7 @@ pub mod Carried
 pub mod Delivers
 pub mod Now
 pub mod Whole
+pub mod Cutter
 pub mod Bridges
 pub mod Acts
 pub mod Day

@@ -71,7 +71,7 @@ module _ (Z : ℕ) (one : 1 ≤ Z) (s : Settings) (n : ℕ) (u : InUse s n) wher
   abbrev zeros : List ℕ
   zeros = emptyStore Z n
 
-  -- complete by the cutter's last counter, and by the segments'
+  -- complete by the message's last counter, and by the segments'
   pub done-of : (m : Sending) → IsCut s Z m → (l : List Cell) → CompleteFrom l (keyIn s m) (startOf s m) (endOf s m) → Done01 (sentOf s m) l
   done-of m k l d = subst (CompleteFrom l (keyIn s m) (startOf s m)) (sym (end-is s Z m k)) d
 

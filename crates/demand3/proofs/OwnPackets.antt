@@ -1,4 +1,4 @@
--- The packets that read as segment i of a message are the cutter's packet i, with any sequence count, and no others.
+-- The packets that read as segment i of a message are its packet i, with any sequence count, and no others.
 -- Assumes nothing.
 use Prim.Native.Nat.{ℕ, _<_}
 use mathlib.Core.Path.{_≡_, ap, sym, _∙_, subst}
@@ -13,30 +13,26 @@ use Rattle.format.specs.Told.{valuesOf}
 use Rattle.format.proofs.TwoWay.{only-writing}
 use Rattle.format.proofs.Accepting.{accepted}
 use Rattle.format.proofs.Keys.{one-head}
-use Rattle.cut.specs.Cutting.{givenAt}
 use Rattle.cells.specs.Segments.{Seg, segOf}
-use Rattle.demand3.specs.Sendings.{Sending, recounted, ReadsAs, manyOf, packetWith, segmentAt, IsCut}
-use Rattle.demand3.proofs.ReadAs.{segWith, given-range, given-reads, repeat-reads}
+use Rattle.demand3.specs.Sendings.{Sending, ReadsAs, manyOf, valuesAt, packetWith, segmentAt, IsCut}
+use Rattle.demand3.proofs.ReadAs.{repeat-reads}
 
 same-values : {h g : Head} {f e c d : ℕ} {b a : List ℕ} (n : ℕ) → h ≡ g → f ≡ e → c ≡ d → b ≡ a →
     _≡_ {A = Values} (record { head = h; flags = f; count = n; counter = c; body = b }) (record { head = g; flags = e; count = n; counter = d; body = a })
 same-values n p q r t = λ i. record { head = p i; flags = q i; count = n; counter = r i; body = t i }
 
 module _ (s : Settings) (Z : ℕ) (m : Sending) (k : IsCut s Z m) (i : ℕ) (l : i < manyOf s m) where
-  abbrev given : Values
-  given = givenAt s (m .limit) (m .values) (m .texts) (m .body) (m .sender) i
-
   -- the values that such a packet tells
   told-given : (p : List ℕ) → Octets p → (r : ReadsAs s p (segmentAt s m i)) →
-      valuesOf p (readPacket s p) ≡ recounted given (valuesOf p (readPacket s p) .count)
-  unfolding recounted segOf valuesOf
+      valuesOf p (readPacket s p) ≡ valuesAt s m i (valuesOf p (readPacket s p) .count)
+  unfolding segOf valuesOf
   told-given p o r =
       let a = accepted s p o (r .accepted) in
       let u = only-writing s p o (r .accepted) .0 in
-      let w = given-range s Z m k i l in
-      let e : segOf p (readPacket s p) ≡ segWith s given = r .segment ∙ given-reads s Z m k i l .segment in
-      let h : valuesOf p (readPacket s p) .head ≡ given .head =
-      one-head s (valuesOf p (readPacket s p) .head) (given .head) (u .settings) (u .head) (w .head) (omega (arith, a .h-is, a .h-top))
+      let w = k .range i l in
+      let e : segOf p (readPacket s p) ≡ segmentAt s m i = r .segment in
+      let h : valuesOf p (readPacket s p) .head ≡ m .head =
+      one-head s (valuesOf p (readPacket s p) .head) (m .head) (u .settings) (u .head) (w .head) (omega (arith, a .h-is, a .h-top))
       (sym (a .key) ∙ ap (λ (t : Seg). t .key) e) in
       same-values (valuesOf p (readPacket s p) .count) h (ap (λ (t : Seg). t .flags) e) (ap (λ (t : Seg). t .counter) e)
       (ap (λ (t : Seg). t .body) e)

@@ -1,37 +1,29 @@
--- The cutter's packets as an arrival reads them: packet i of a message, whatever its sequence count, reads as segment i, with the
--- message's key, the counter `start + i`, the flags and part i of the body. A packet that reads as a segment is as long as that
--- segment's own packet.
+-- A message's packets as an arrival reads them: packet i, whatever its sequence count, reads as segment i, with the message's key, the
+-- counter start + i, the flags and body i. A packet that reads as a segment is as long as that segment's own packet.
 -- Assumes nothing.
-use Prim.Native.Nat.{ℕ, _+_, _-_, _≤_, _<_}
-use mathlib.Core.Path.{_≡_, refl, ap, sym, _∙_}
-use mathlib.Core.Logic.{⊎-elim}
-use mathlib.Core.Bool.{Bool, true, false, not}
+use Prim.Native.Nat.{ℕ, suc, _+_, _-_, _≤_, _<_}
+use mathlib.Core.Path.{_≡_, refl, ap, sym, _∙_, subst}
+use mathlib.Core.Bool.{Bool, true, false}
 use mathlib.Core.List.{List, _++_}
 use native.Mathlib.Omega.{arith}
 use lib.ListN.{length, drop, length-append, length-take, length-drop}
-use borrow.Author.Tests.{eq-eqb}
+use lib.Dec.{eqb}
 use Rattle.octets.specs.Octets.{pick, part, Octets}
-use Rattle.octets.proofs.Lists.{bool}
 use Rattle.walk.specs.declared.Settings.{Settings}
-use Rattle.packet.specs.Format.{Values, segment, identification, counterOctets, headerOctets, secondaryOctets, dataOctets, octetsOf, InRange}
+use Rattle.packet.specs.Format.{Values, Opt, segment, identification, counterOctets, headerOctets, secondaryOctets, dataOctets, octetsOf, InRange}
 use Rattle.packet.specs.Reading.{readPacket, segmented, counterSize}
 use Rattle.packet.specs.Key.{keyOf}
 use Rattle.format.specs.Told.{valuesOf}
 use Rattle.format.proofs.TwoWay.{writes-octets, reads-back}
 use Rattle.format.proofs.Frame.{identification-long, packet-long}
 use Rattle.format.proofs.Accepting.{accepted, written}
-use Rattle.cut.specs.Sending.{counterAt}
-use Rattle.cut.specs.Cutting.{single, packets, countRefusal, countAnswer, flagsAt, bodyAt, packetAt, givenAt}
-use Rattle.fewest.specs.Runs.{place}
-use Rattle.fewest.proofs.Parts.{packets-one}
-use Rattle.fewest.proofs.Numbers.{Starts, segment-is, counter-of, counters, packet-range}
 use Rattle.cells.specs.Segments.{Seg, segOf}
-use Rattle.demand3.specs.Sendings.{Sending, recounted, ReadsAs, manyOf, packetOf, packetWith, segmentAt, keyIn, headerSize, bodySize, startOf, IsCut}
+use Rattle.demand3.specs.Sendings.{Sending, flagsIn, ReadsAs, manyOf, startOf, valuesAt, packetWith, segmentAt, IsCut}
 
 -- ---- what reading tells of written values
 
 -- the segment of a packet's values
-abbrev pub segWith : Settings → Values → Seg
+abbrev segWith : Settings → Values → Seg
 segWith s v =
     record { key = identification (v .head) ++ headerOctets s (v .head); counter = v .counter; flags = v .flags; body = v .body }
 
@@ -53,22 +45,25 @@ module _ (s : Settings) (v : Values) (r : InRange s v) where
             (ap (λ (u : Values). u .body) (b .1));
       }
 
--- another sequence count changes neither header nor data field
+-- the values of a packet with another sequence count
+abbrev recounted : Values → ℕ → Values
+recounted v c = record { head = v .head; flags = v .flags; count = c; counter = v .counter; body = v .body }
+
+-- it changes neither header nor data field
 module _ (s : Settings) (v : Values) (c : ℕ) where
   recounted-header : secondaryOctets s (recounted v c) ≡ secondaryOctets s v
-  unfolding recounted secondaryOctets counterOctets
+  unfolding secondaryOctets counterOctets
   recounted-header = refl
 
   recounted-data : dataOctets s (recounted v c) ≡ dataOctets s v
-  unfolding recounted dataOctets secondaryOctets counterOctets
+  unfolding dataOctets secondaryOctets counterOctets
   recounted-data = refl
 
-  recounted-long : length (octetsOf s (recounted v c)) ≡ length (octetsOf s v)
+  pub recounted-long : length (octetsOf s (recounted v c)) ≡ length (octetsOf s v)
   recounted-long =
       packet-long s (recounted v c) ∙ ap (λ (d : List ℕ). 6 + length d) recounted-data ∙ sym (packet-long s v)
 
-  recounted-range : c < 16384 → InRange s v → InRange s (recounted v c)
-  unfolding recounted
+  pub recounted-range : c < 16384 → InRange s v → InRange s (recounted v c)
   recounted-range h r =
       record {
         settings = r .settings;
@@ -84,91 +79,38 @@ module _ (s : Settings) (v : Values) (c : ℕ) where
 
 -- ---- a message's packets
 
-module _ (s : Settings) (Z : ℕ) (m : Sending) (k : IsCut s Z m) where
-  abbrev P : ℕ
-  P = m .limit
+-- flags 01, 00 and 10 are a segment's
+pub flags-segment : (n i : ℕ) → segment (flagsIn n i) ≡ true
+unfolding flagsIn
+flags-segment n i = go (eqb i 0) (eqb (suc i) n)
+  where
+    go : (a b : Bool) → segment (pick a 1 (pick b 2 0)) ≡ true
+    go true b = refl
+    go false true = refl
+    go false false = refl
 
-  abbrev H : ℕ
-  H = headerSize s m
+module _ (s : Settings) (Z : ℕ) (m : Sending) (k : IsCut s Z m) (i : ℕ) (l : i < manyOf s m) where
+  -- no counter is above 4,294,967,295
+  pub counter-fits : startOf s m + i < 4294967296
+  counter-fits =
+      subst (λ (b : Bool). Opt b (λ x. x < 4294967296) 0 (startOf s m + i)) (flags-segment (manyOf s m) i) (k .range i l .counter)
 
-  abbrev B : ℕ
-  B = bodySize s m
+  module _ (c : ℕ) (h : c < 16384) where
+    pub with-range : InRange s (valuesAt s m i c)
+    with-range = recounted-range s (valuesAt s m i 0) c h (k .range i l)
 
-  pub no-refusal : countRefusal s P (m .values) (m .texts) B (m .sender) .number ≡ 0
-  unfolding countAnswer
-  no-refusal = k .counts
+    -- packet i arrives as segment i, with every sequence count
+    pub repeat-reads : ReadsAs s (packetWith s m i c) (segmentAt s m i)
+    repeat-reads = reads-values s (valuesAt s m i c) with-range (flags-segment (manyOf s m) i)
 
-  -- as many as the formula says
-  pub many-is : manyOf s m ≡ packets P H B
-  unfolding countAnswer
-  many-is =
-      ap (λ (b : Bool). pick b (packets P H B) 0)
-      (eq-eqb (countRefusal s P (m .values) (m .texts) B (m .sender) .number) 0 no-refusal)
+    pub repeat-octets : Octets (packetWith s m i c)
+    repeat-octets = writes-octets s (valuesAt s m i c) with-range
 
-  -- one packet is not enough
-  pub is-cut : single P H B ≡ false
-  is-cut =
-      ⊎-elim (λ e. let p = packets-one P H B e in absurd (omega (arith, k .many, many-is))) (λ e. e) (bool (single P H B))
-
-  starts : Starts (m .sender .next) (packets P H B)
-  starts = counters s P (m .values) (m .texts) (m .body) (m .sender) no-refusal is-cut
-
-  start-is : startOf s m ≡ starts .start .0
-  unfolding place
-  start-is = ap place (starts .starts)
-
-  -- "none wrapping"
-  pub counters-fit : startOf s m + manyOf s m ≤ 4294967296
-  counters-fit = omega (arith, start-is, starts .fit, many-is)
-
-  module _ (i : ℕ) where
-    -- segment i by the formula
-    abbrev pub pieceOf : Seg
-    pieceOf = record { key = keyIn s m; counter = startOf s m + i; flags = flagsAt P H B i; body = bodyAt P H (m .body) i }
-
-    abbrev given : Values
-    given = givenAt s P (m .values) (m .texts) (m .body) (m .sender) i
-
-    given-piece : segWith s given ≡ pieceOf
-    unfolding packetAt
-    given-piece =
-        same-seg refl
-        (ap (λ (b : Bool). pick b 0 (counterAt (m .sender .next) i)) is-cut ∙ counter-of (m .sender .next) (starts .start) i (starts .starts)
-        ∙ ap (λ (x : ℕ). x + i) (sym start-is))
-        refl refl
-
-    given-segment : segment (given .flags) ≡ true
-    unfolding packetAt
-    given-segment = segment-is P H B i ∙ ap not is-cut
-
-    module _ (l : i < manyOf s m) where
-      pub given-range : InRange s given
-      given-range =
-          packet-range s P (m .values) (m .texts) (m .body) (m .sender) no-refusal (k .texts) (k .body) i (omega (arith, many-is))
-
-      pub packet-octets : Octets (packetOf s m i)
-      packet-octets = writes-octets s given given-range
-
-      pub given-reads : ReadsAs s (packetOf s m i) (segWith s given)
-      given-reads = reads-values s given given-range given-segment
-
-      -- segment i has the message's key, its counter, flags and part of the body
-      pub segment-is-piece : segmentAt s m i ≡ pieceOf
-      segment-is-piece = given-reads .segment ∙ given-piece
-
-      -- packet i arrives as segment i
-      pub packet-reads : ReadsAs s (packetOf s m i) (segmentAt s m i)
-      packet-reads = record { accepted = given-reads .accepted; segmented = given-reads .segmented; segment = refl }
-
-      -- and with every sequence count
-      pub repeat-reads : (c : ℕ) → c < 16384 → ReadsAs s (packetWith s m i c) (segmentAt s m i)
-      unfolding recounted
-      repeat-reads c h =
-          let a = reads-values s (recounted given c) (recounted-range s given c h given-range) given-segment in
-          record { accepted = a .accepted; segmented = a .segmented; segment = a .segment ∙ sym (given-reads .segment) }
-
-      pub repeat-octets : (c : ℕ) → c < 16384 → Octets (packetWith s m i c)
-      repeat-octets c h = writes-octets s (recounted given c) (recounted-range s given c h given-range)
+-- "none wrapping"
+pub counters-fit : (s : Settings) (Z : ℕ) (m : Sending) → IsCut s Z m → startOf s m + manyOf s m ≤ 4294967296
+counters-fit s Z m k =
+    let l : manyOf s m - 1 < manyOf s m = omega (arith, k .many) in
+    omega (arith, counter-fits s Z m k (manyOf s m - 1) l, k .many)
 
 -- ---- lengths
 
@@ -200,5 +142,6 @@ own-fits s Z m k i l p o r =
     omega (
       arith,
       k .fits i l,
-      same-long s p (packetOf s m i) (segmentAt s m i) o (packet-octets s Z m k i l) r (packet-reads s Z m k i l),
+      same-long s p (packetWith s m i 0) (segmentAt s m i) o (repeat-octets s Z m k i l 0 (omega arith)) r
+          (repeat-reads s Z m k i l 0 (omega arith)),
     )

@@ -25,14 +25,15 @@ use Rattle.keeping.proofs.Empty.{empty-cells}
 use Rattle.demand3.specs.Complete.{Held}
 use Rattle.demand3.specs.Traffic.{empty, after}
 use Rattle.demand3.specs.Calls.{Call, arrival, taking, joining, Brings, tookBy, storeAfter}
-use Rattle.demand3.specs.Sendings.{segmentAt}
+use Rattle.demand3.specs.Sendings.{segmentAt, headerSize}
 use Rattle.demand3.specs.Presupposed.{Came, AllCame, Traffic, Untaken, emptyStore, storeBehind, cellsIn, fresh, RoomIn}
 use Rattle.demand3.specs.Whole.{cellSize, IsComplete}
 use Rattle.demand3.proofs.Takings.{held-empty}
 use Rattle.demand3.proofs.Whole.{demand3·whole}
 use Rattle.demand3.proofs.Acts.{EachPacket, each-packet}
 use Rattle.demand3.proofs.ReadAs.{repeat-reads}
-use Rattle.demand3.proofs.Day.{settings, three, messages, of-three, three-many, three-cut}
+use Rattle.demand3.proofs.Cutter.{cutter-hands-out}
+use Rattle.demand3.proofs.Day.{settings, cutting, three, succeeds, messages, of-three, three-many, three-long, three-cut}
 use Rattle.demand3.proofs.DayComes.{Fine, three-fine}
 use Rattle.demand3.proofs.DayRun.{lentOut, morning, atNoon, noon, evening, in-use, traffic}
 use Rattle.demand3.proofs.DayEnd.{cellsAtEnd, end-cells, theRun, the-key, the-start, promised}
@@ -134,8 +135,11 @@ picks-three = refl
 pub takes-again : TakesAgain (λ cs c. tookBy settings Z (storeBehind settings Z 4 cs) c)
 unfolding place headOf split identification headerOctets fixedOctets presence frontOctets backOctets wide
 takes-again out l =
+    let h : headerSize settings three ≡ 21 = refl in
+    let d =
     promised .delivery .takes (taking out) (λ p b. absurd (no-packet p b)) .enough
-    (refl, (theRun, ap (picked suc top) end-cells ∙ picks-three, (the-key, the-start))) l .told
+    (refl, (theRun, ap (picked suc top) end-cells ∙ picks-three, (the-key, the-start))) (omega (arith, three-long)) in
+    cutter-hands-out settings Z cutting succeeds 4 (storeBehind settings Z 4 (noon ++ evening)) (taking out) d .0
   where
     no-packet : (p : List ℕ) → Brings p (taking out) → ⊥
     no-packet p (inl e) = let z : _≡_ {A = ℕ} 0 1 = cc e in omega arith

@@ -1,27 +1,23 @@
--- A message of the cutter as demand 3 over cells has it: the same key, first counter, body and segments.
+-- A message as demand 3 over cells has it: the same key, first counter, body and segments.
 -- Assumes nothing.
 use Prim.Native.Nat.{ℕ, zero, suc, _+_, _-_, _≤_, _<_}
 use mathlib.Core.Path.{_≡_, refl, ap, ap₂, sym, _∙_, subst}
 use mathlib.Core.Logic.{_⊎_, inl, inr}
-use mathlib.Core.List.{List, [], _∷_, _++_, List·Memᴰ, List·Memᴰ·head, List·Memᴰ·tail, List·Memᴰ·cases-cons, List·Memᴰ·not-nil}
+use mathlib.Core.List.{List, [], _∷_, List·Memᴰ, List·Memᴰ·head, List·Memᴰ·tail, List·Memᴰ·cases-cons, List·Memᴰ·not-nil}
 use native.Mathlib.Omega.{arith}
 use native.Mathlib.Nat.{add-zero}
-use lib.ListN.{length, length-append}
+use lib.ListN.{length, getD, length-append}
+use borrow.Author.Tests.{eq-eqb, ne-eqb}
 use Rattle.octets.proofs.Lists.{below-or}
 use Rattle.walk.specs.declared.Settings.{Settings}
-use Rattle.fields.specs.Form.{joined as joinedBy}
 use Rattle.format.proofs.Frame.{identification-long}
-use Rattle.write.specs.Given.{headOf}
-use Rattle.cut.specs.Cutting.{packets, flagsAt, bodyAt}
-use Rattle.fewest.specs.Carrying.{firstOf}
-use Rattle.fewest.proofs.Parts.{parts-joined}
-use Rattle.fewest.proofs.Numbers.{flags-first, flags-last, flags-between, cuts-well}
 use Rattle.cells.specs.Segments.{Seg}
 use Rattle.store.specs.Messages.{listed, segments, top}
 use Rattle.demand3.specs.Traffic.{Sent, joined, bodyIn, flagsBefore, later, runOf, segmentsOf}
 use Rattle.demand3.specs.Base.{final}
-use Rattle.demand3.specs.Sendings.{Sending, manyOf, segmentAt, identificationOf, headerOf, keyIn, headerSize, bodySize, startOf, endOf, IsCut}
-use Rattle.demand3.proofs.ReadAs.{same-seg, no-refusal, many-is, is-cut, counters-fit, pieceOf, segment-is-piece}
+use Rattle.demand3.specs.Sendings.{Sending, wholeBody, flagsIn, manyOf, segmentAt, identificationOf, headerOf, keyIn, headerSize, startOf, endOf, IsCut}
+use Rattle.demand3.proofs.ReadAs.{same-seg, counters-fit}
+use Rattle.demand3.proofs.AnyCut.{partOf}
 
 -- ---- rows of things
 
@@ -45,29 +41,21 @@ module _ {A : Type 0} (f : ℕ → A) where
       go ih (inl e) = (i, omega arith, e)
       go ih (inr k) = let v = ih k in (v .0, omega (arith, v .1), v .2)
 
+  listed-on : (n i : ℕ) → listed f n (suc i) ≡ listed (λ (x : ℕ). f (suc x)) n i
+  unfolding listed
+  listed-on zero i = refl
+  listed-on (suc n) i = ap (λ (y : List A). f (suc i) ∷ y) (listed-on n (suc i))
+
   pub listed-long : (n i : ℕ) → length (listed f n i) ≡ n
   unfolding listed
   listed-long zero i = refl
   listed-long (suc n) i = ap suc (listed-long n (suc i))
 
-  listed-last : (n i : ℕ) → listed f (suc n) i ≡ listed f n i ++ f (i + n) ∷ []
-  unfolding listed
-  listed-last zero i = let e : i ≡ i + 0 = omega arith in ap (λ (x : ℕ). f x ∷ []) e
-  listed-last (suc n) i =
-      let e : suc i + n ≡ i + suc n = omega arith in
-      ap (λ (x : List A). f i ∷ x) (listed-last n (suc i) ∙ ap (λ (x : ℕ). listed f n (suc i) ++ f x ∷ []) e)
-
-  listed-first : (n : ℕ) → listed f n 0 ≡ firstOf f n
-  unfolding listed firstOf
-  listed-first zero = refl
-  listed-first (suc n) =
-      let e : 0 + n ≡ n = omega arith in
-      listed-last n 0 ∙ ap (λ (x : ℕ). listed f n 0 ++ f x ∷ []) e ∙ ap (λ (x : List A). x ++ f n ∷ []) (listed-first n)
-
-joined-same : (l : List (List ℕ)) → joined l ≡ joinedBy (λ (x : List ℕ). x) l
-unfolding joined joinedBy
-joined-same [] = refl
-joined-same (p ∷ l) = ap (λ (x : List ℕ). p ++ x) (joined-same l)
+-- a list is what it has at its places
+listed-all : {A : Type 0} (d : A) (l : List A) → listed (λ (i : ℕ). getD l i d) (length l) 0 ≡ l
+unfolding listed
+listed-all d [] = refl
+listed-all d (x ∷ l) = ap (λ (y : List _). x ∷ y) (listed-on (λ (i : ℕ). getD (x ∷ l) i d) (length l) 0 ∙ listed-all d l)
 
 -- ---- segments in a row
 
@@ -96,61 +84,46 @@ sentOf s m =
     record {
       key = keyIn s m;
       start = startOf s m;
-      one = bodyAt (m .limit) (headerSize s m) (m .body) 0;
-      two = bodyAt (m .limit) (headerSize s m) (m .body) 1;
-      more = listed (bodyAt (m .limit) (headerSize s m) (m .body)) (manyOf s m - 2) 2;
+      one = partOf s m 0;
+      two = partOf s m 1;
+      more = listed (partOf s m) (manyOf s m - 2) 2;
     }
 
 module _ (s : Settings) (Z : ℕ) (m : Sending) (k : IsCut s Z m) where
-  abbrev P : ℕ
-  P = m .limit
-
-  abbrev H : ℕ
-  H = headerSize s m
-
-  abbrev B : ℕ
-  B = bodySize s m
-
   abbrev q : ℕ
   q = manyOf s m - 2
 
   twice : suc (suc q) ≡ manyOf s m
   twice = omega (arith, k .many)
 
-  segments-are : segmentsOf suc (sentOf s m) ≡ listed (pieceOf s Z m k) (manyOf s m) 0
-  unfolding runOf listed
+  segments-are : segmentsOf suc (sentOf s m) ≡ listed (segmentAt s m) (manyOf s m) 0
+  unfolding runOf listed flagsIn
   segments-are =
-      ap₂ _∷_ (same-seg refl (sym (add-zero (startOf s m))) (sym (flags-first P H B 0 (is-cut s Z m k) refl)) refl)
-      (later-listed (keyIn s m) (startOf s m) (manyOf s m) (bodyAt P H (m .body)) (flagsAt P H B)
-      (λ i l e. flags-last P H B i (is-cut s Z m k) (λ z. omega arith) (e ∙ many-is s Z m k))
-      (λ i l e. flags-between P H B i (is-cut s Z m k) (λ z. omega arith) (λ z. omega (arith, many-is s Z m k)))
+      ap₂ _∷_ (same-seg refl (sym (add-zero (startOf s m))) refl refl)
+      (later-listed (keyIn s m) (startOf s m) (manyOf s m) (partOf s m) (flagsIn (manyOf s m))
+      (λ i l e. rw (ne-eqb i 0 (λ z. omega arith), eq-eqb (suc i) (manyOf s m) e))
+      (λ i l e. rw (ne-eqb i 0 (λ z. omega arith), ne-eqb (suc i) (manyOf s m) (λ z. omega arith)))
       (suc q) 1 (suc (startOf s m)) (omega arith) (omega (arith, twice)) (omega arith))
-      ∙ ap (λ (n : ℕ). listed (pieceOf s Z m k) n 0) twice
+      ∙ ap (λ (n : ℕ). listed (segmentAt s m) n 0) twice
 
   -- segment i is one of its segments
   pub own-in : (i : ℕ) → i < manyOf s m → List·Memᴰ (segmentAt s m i) (segmentsOf suc (sentOf s m))
   own-in i l =
-      subst (λ (t : Seg). List·Memᴰ t (segmentsOf suc (sentOf s m))) (sym (segment-is-piece s Z m k i l))
-      (subst (List·Memᴰ (pieceOf s Z m k i)) (sym segments-are) (listed-in (pieceOf s Z m k) (manyOf s m) 0 i (omega arith) (omega arith)))
+      subst (List·Memᴰ (segmentAt s m i)) (sym segments-are) (listed-in (segmentAt s m) (manyOf s m) 0 i (omega arith) (omega arith))
 
   -- and there are no others
   pub in-own : (t : Seg) → List·Memᴰ t (segmentsOf suc (sentOf s m)) → (i : ℕ) × (i < manyOf s m) × (t ≡ segmentAt s m i)
   in-own t h =
-      let v = in-listed (pieceOf s Z m k) (manyOf s m) 0 t (subst (List·Memᴰ t) segments-are h) in
-      let l : v .0 < manyOf s m = omega (arith, v .1) in
-      (v .0, l, v .2 ∙ sym (segment-is-piece s Z m k (v .0) l))
+      let v = in-listed (segmentAt s m) (manyOf s m) 0 t (subst (List·Memᴰ t) segments-are h) in
+      (v .0, omega (arith, v .1), v .2)
 
   -- their bodies joined are the message's
-  pub body-is : bodyIn (sentOf s m) ≡ m .body
+  pub body-is : bodyIn (sentOf s m) ≡ wholeBody m
   unfolding listed
-  body-is =
-      ap (λ (n : ℕ). joined (listed (bodyAt P H (m .body)) n 0)) (twice ∙ many-is s Z m k)
-      ∙ ap joined (listed-first (bodyAt P H (m .body)) (packets P H B))
-      ∙ joined-same (firstOf (bodyAt P H (m .body)) (packets P H B))
-      ∙ parts-joined P H (m .body) (cuts-well s P (m .values) (m .texts) (m .body) (m .sender) (no-refusal s Z m k) .some)
+  body-is = ap (λ (n : ℕ). joined (listed (partOf s m) n 0)) twice ∙ ap joined (listed-all [] (m .bodies))
 
   pub end-is : final (sentOf s m) ≡ endOf s m
-  end-is = omega (arith, twice, listed-long (bodyAt P H (m .body)) q 2)
+  end-is = omega (arith, twice, listed-long (partOf s m) q 2)
 
   -- "none wrapping"
   pub no-wrap : final (sentOf s m) ≤ top
@@ -160,4 +133,4 @@ module _ (s : Settings) (Z : ℕ) (m : Sending) (k : IsCut s Z m) where
   pub key-long : length (keyIn s m) ≡ 2 + headerSize s m
   key-long =
       length-append (identificationOf s m) (headerOf s m)
-      ∙ ap (λ (n : ℕ). n + headerSize s m) (identification-long (headOf (m .values) (m .texts)))
+      ∙ ap (λ (n : ℕ). n + headerSize s m) (identification-long (m .head))

@@ -5,5 +5,6 @@ pub mod Base
 pub mod Example
 pub mod Calls
 pub mod Sendings
+pub mod Cutter
 pub mod Presupposed
 pub mod Whole

@@ -1,37 +1,33 @@
--- The messages of demand 3, "messages cut into two or more segments, each fitting a cell", as the cutter makes them: values, lent
--- texts, a body, a limit P and a sender's numbers for which the count succeeds with two or more; their segments are the packets that
--- `cut::packet` writes.
+-- The messages of demand 3, "messages cut into two or more segments, each fitting a cell", cut in any way: header values, a first
+-- counter, and the bodies of the segments, of any lengths. Segment i is the format's octets of these values with the counter start + i,
+-- flags 01, 00 .., 10, body i, and any sequence count.
 -- Assumes nothing: these are definitions.
-use Prim.Native.Nat.{ℕ, _+_, _-_, _≤_, _<_}
+use Prim.Native.Nat.{ℕ, suc, _+_, _-_, _≤_, _<_}
 use mathlib.Core.Path.{_≡_}
 use mathlib.Core.Bool.{true}
-use mathlib.Core.List.{List, _++_}
-use lib.ListN.{length}
-use Rattle.octets.specs.Octets.{Octets}
+use mathlib.Core.List.{List, [], _++_}
+use lib.ListN.{length, getD}
+use lib.Dec.{eqb}
+use Rattle.octets.specs.Octets.{pick}
 use Rattle.walk.specs.declared.Settings.{Settings}
-use Rattle.packet.specs.Format.{Values, identification, headerOctets, octetsOf}
+use Rattle.packet.specs.Format.{Head, Values, identification, headerOctets, octetsOf, InRange}
 use Rattle.packet.specs.Reading.{readPacket, segmented}
-use Rattle.write.specs.declared.HeaderValues.{HeaderValues}
-use Rattle.write.specs.Given.{Lent, headOf}
-use Rattle.cut.specs.declared.Sender.{Sender}
-use Rattle.cut.specs.declared.Counted.{Counted}
-use Rattle.cut.specs.Cutting.{headerLength, countAnswer, givenAt}
-use Rattle.fewest.specs.Cutting.{Lends, octetsAt}
-use Rattle.fewest.specs.Runs.{place}
 use Rattle.cells.specs.Segments.{Seg, segOf}
+use Rattle.demand3.specs.Traffic.{joined}
 
--- a message: what the cutter is given beside T, which is the limit P, the header's values and texts, the body, and the sender's
--- numbers as they stood before the message
+-- a message as it was cut: what all its packets share, its first counter, and the bodies of its segments
 pub record Sending : Type 0 where
-  pub limit : ℕ
-  pub values : HeaderValues
-  pub texts : Lent
-  pub body : List ℕ
-  pub sender : Sender
+  pub head : Head
+  pub start : ℕ
+  pub bodies : List (List ℕ)
 
--- the values of a packet with another sequence count
-unfoldable pub recounted : Values → ℕ → Values
-recounted v c = record { head = v .head; flags = v .flags; count = c; counter = v .counter; body = v .body }
+-- the message's body
+abbrev pub wholeBody : Sending → List ℕ
+wholeBody m = joined (m .bodies)
+
+-- the sequence flags of segment i of n: 01 the first, 10 the last, 00 between
+unfoldable pub flagsIn : ℕ → ℕ → ℕ
+flagsIn n i = pick (eqb i 0) 1 (pick (eqb (suc i) n) 2 0)
 
 -- the packet reads as this segment: key, counter, flags and body are the segment's; the sequence count may be any
 pub record ReadsAs (s : Settings) (p : List ℕ) (t : Seg) : Type 0 where
@@ -40,59 +36,61 @@ pub record ReadsAs (s : Settings) (p : List ℕ) (t : Seg) : Type 0 where
   pub segment : segOf p (readPacket s p) ≡ t
 
 module _ (s : Settings) where
-  -- what the count answers
-  abbrev pub countOf : Sending → Counted
-  countOf m = countAnswer s (m .limit) (m .values) (m .texts) (length (m .body)) (m .sender)
-
-  -- its number of packets
+  -- its number of segments
   abbrev pub manyOf : Sending → ℕ
-  manyOf m = countOf m .count
+  manyOf m = length (m .bodies)
 
-  -- packet number i as it is cut
-  abbrev pub packetOf : Sending → ℕ → List ℕ
-  packetOf m i = octetsAt s (m .limit) (m .values) (m .texts) (m .body) (m .sender) i
+  -- the counters of its first and of its last
+  abbrev pub startOf : Sending → ℕ
+  startOf m = m .start
 
-  -- and sent once more, with another sequence count
+  abbrev pub endOf : Sending → ℕ
+  endOf m = startOf m + (manyOf m - 1)
+
+  -- the values of segment i, with this sequence count
+  abbrev pub valuesAt : Sending → ℕ → ℕ → Values
+  valuesAt m i c =
+      record {
+        head = m .head;
+        flags = flagsIn (manyOf m) i;
+        count = c;
+        counter = startOf m + i;
+        body = getD (m .bodies) i [];
+      }
+
+  -- and its packet
   abbrev pub packetWith : Sending → ℕ → ℕ → List ℕ
-  packetWith m i c = octetsOf s (recounted (givenAt s (m .limit) (m .values) (m .texts) (m .body) (m .sender) i) c)
-
-  -- segment i: that packet as an arrival reads it
-  abbrev pub segmentAt : Sending → ℕ → Seg
-  segmentAt m i = segOf (packetOf m i) (readPacket s (packetOf m i))
+  packetWith m i c = octetsOf s (valuesAt m i c)
 
   -- identification, and the secondary header without its counter
   abbrev pub identificationOf : Sending → List ℕ
-  identificationOf m = identification (headOf (m .values) (m .texts))
+  identificationOf m = identification (m .head)
 
   abbrev pub headerOf : Sending → List ℕ
-  headerOf m = headerOctets s (headOf (m .values) (m .texts))
+  headerOf m = headerOctets s (m .head)
 
   -- the "header key"
   abbrev pub keyIn : Sending → List ℕ
   keyIn m = identificationOf m ++ headerOf m
 
+  -- segment i, whatever its sequence count
+  abbrev pub segmentAt : Sending → ℕ → Seg
+  segmentAt m i =
+      record { key = keyIn m; counter = startOf m + i; flags = flagsIn (manyOf m) i; body = getD (m .bodies) i [] }
+
   -- H and B
   abbrev pub headerSize : Sending → ℕ
-  headerSize m = headerLength s (m .values) (m .texts)
+  headerSize m = length (headerOf m)
 
   abbrev pub bodySize : Sending → ℕ
-  bodySize m = length (m .body)
-
-  -- the counters of its first and of its last
-  abbrev pub startOf : Sending → ℕ
-  startOf m = place (m .sender .next)
-
-  abbrev pub endOf : Sending → ℕ
-  endOf m = startOf m + (manyOf m - 1)
+  bodySize m = length (wholeBody m)
 
   -- a message that demand 3 speaks of, for cells of Z octets
   pub record IsCut (Z : ℕ) (m : Sending) : Type 0 where
-    -- texts and body are octets, and a transaction id has 64 bits: what their types say
-    pub texts : Lends (m .values) (m .texts)
-    pub body : Octets (m .body)
-    -- the count succeeds, so that no counter passes 4,294,967,295: "none wrapping"
-    pub counts : countOf m .refusal .number ≡ 0
     -- "messages cut into two or more segments"
     pub many : 2 ≤ manyOf m
-    -- "each fitting a cell", behind its mark
-    pub fits : (i : ℕ) → i < manyOf m → 2 + length (packetOf m i) ≤ Z
+    -- each a packet of the format: header values in range, a body of one octet or more, and no counter above 4,294,967,295, so "none
+    -- wrapping". The sequence count 0 stands for any
+    pub range : (i : ℕ) → i < manyOf m → InRange s (valuesAt m i 0)
+    -- "each fitting a cell", behind its mark; the length is the same with every sequence count
+    pub fits : (i : ℕ) → i < manyOf m → 2 + length (packetWith m i 0) ≤ Z

@@ -19,7 +19,7 @@ use Rattle.store.specs.Taking.{message, unable, writing}
 use Rattle.store.specs.Told.{refusalOf, takenOf}
 use Rattle.demand3.specs.Base.{CompleteFrom}
 use Rattle.demand3.specs.Calls.{Call, taking, Brings, outOf, draws, storeAt, tookBy, storeBy, outBy, storeAfter, outsAfter}
-use Rattle.demand3.specs.Sendings.{Sending, manyOf, segmentAt, identificationOf, headerOf, keyIn, headerSize, bodySize, startOf, endOf}
+use Rattle.demand3.specs.Sendings.{Sending, wholeBody, manyOf, segmentAt, identificationOf, headerOf, keyIn, headerSize, bodySize, startOf, endOf}
 use Rattle.demand3.specs.Presupposed.{InUse, emptyStore, storeBehind, cellsIn, AllCame, MayCome, Traffic, Given, Its, Untaken, Anew}
 
 -- "Cells of 1,024 octets"
@@ -43,7 +43,7 @@ module _ (s : Settings) (Z n : ℕ) where
         some (record { refusal = refusalOf 0; header = headerSize s m; body = bodySize s m; counter = record { 0 = startOf s m } })
     -- the output is "the original identification, header and body", and behind them as it was
     pub written : outBy s Z st c ≡
-        identificationOf s m ++ headerOf s m ++ m .body ++ drop (2 + headerSize s m + bodySize s m) (outOf c)
+        identificationOf s m ++ headerOf s m ++ wholeBody m ++ drop (2 + headerSize s m + bodySize s m) (outOf c)
     -- each segment was in a cell
     pub there : (i : ℕ) → i < manyOf s m → (j : ℕ) × (j < n) × (cellAt s Z (storeAt s Z st c) j ≡ held (segmentAt s m i))
     -- its cells are zero

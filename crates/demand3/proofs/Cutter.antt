@@ -1,0 +1,166 @@
+-- What the cutter makes is a message of demand 3: as many segments as it counts, packet i the message's own packet i with the sender's
+-- sequence count, and the bodies joined are the body that it was given. So demand 3 speaks of all messages of the cutter.
+-- Assumes nothing.
+use Prim.Native.Nat.{ℕ, suc, _+_, _≤_, _<_}
+use mathlib.Core.Path.{_≡_, refl, ap, sym, _∙_, subst}
+use mathlib.Core.Logic.{⊎-elim}
+use mathlib.Core.Bool.{Bool, false}
+use mathlib.Core.Option.{some, Option·map}
+use mathlib.Core.List.{List, [], _∷_, _++_, map, List·Memᴰ, Memᴰ·of-map}
+use native.Mathlib.Omega.{arith}
+use lib.ListN.{length, drop, getD}
+use lib.Dec.{eqb}
+use borrow.Author.Tests.{eq-eqb}
+use Rattle.octets.specs.Octets.{pick}
+use Rattle.octets.proofs.Lists.{bool}
+use Rattle.walk.specs.declared.Settings.{Settings}
+use Rattle.fields.specs.Form.{joined as joinedBy}
+use Rattle.packet.specs.Format.{identification, headerOctets, octetsOf, InRange}
+use Rattle.write.specs.Given.{headOf}
+use Rattle.cut.specs.Sending.{counterAt, countAt}
+use Rattle.cut.specs.Cutting.{single, packets, headerLength, countRefusal, countAnswer, flagsAt, bodyAt, packetAt, givenAt}
+use Rattle.fewest.specs.Carrying.{firstOf}
+use Rattle.fewest.specs.Runs.{place}
+use Rattle.fewest.proofs.Lists.{first-length, first-at}
+use Rattle.fewest.proofs.Parts.{packets-one, parts-joined}
+use Rattle.fewest.proofs.Numbers.{Starts, counter-of, counters, packet-range, cuts-well}
+use Rattle.store.specs.Told.{refusalOf, takenOf}
+use Rattle.demand3.specs.Traffic.{joined}
+use Rattle.demand3.specs.Calls.{Call, outOf, tookBy, outBy}
+use Rattle.demand3.specs.Sendings.{Sending, wholeBody, flagsIn, ReadsAs, manyOf, valuesAt, packetWith, segmentAt, IsCut}
+use Rattle.demand3.specs.Cutter.{Cutting, countOf, packetOf, sendingOf, Succeeds}
+use Rattle.demand3.specs.Whole.{Delivers}
+use Rattle.demand3.proofs.ReadAs.{recounted-long, recounted-range, repeat-reads}
+
+joined-same : (l : List (List ℕ)) → joined l ≡ joinedBy (λ (x : List ℕ). x) l
+unfolding joined joinedBy
+joined-same [] = refl
+joined-same (p ∷ l) = ap (λ (x : List ℕ). p ++ x) (joined-same l)
+
+module _ (s : Settings) (Z : ℕ) (m : Cutting) (k : Succeeds s Z m) where
+  abbrev P : ℕ
+  P = m .limit
+
+  abbrev H : ℕ
+  H = headerLength s (m .values) (m .texts)
+
+  abbrev B : ℕ
+  B = length (m .body)
+
+  no-refusal : countRefusal s P (m .values) (m .texts) B (m .sender) .number ≡ 0
+  unfolding countAnswer
+  no-refusal = k .counts
+
+  -- as many as the formula says
+  many-is : countOf s m .count ≡ packets P H B
+  unfolding countAnswer
+  many-is =
+      ap (λ (b : Bool). pick b (packets P H B) 0)
+      (eq-eqb (countRefusal s P (m .values) (m .texts) B (m .sender) .number) 0 no-refusal)
+
+  -- one packet is not enough
+  is-cut : single P H B ≡ false
+  is-cut =
+      ⊎-elim (λ e. let p = packets-one P H B e in absurd (omega (arith, k .many, many-is))) (λ e. e) (bool (single P H B))
+
+  starts : Starts (m .sender .next) (packets P H B)
+  starts = counters s P (m .values) (m .texts) (m .body) (m .sender) no-refusal is-cut
+
+  start-is : place (m .sender .next) ≡ starts .start .0
+  unfolding place
+  start-is = ap place (starts .starts)
+
+  -- as many segments as the count answers
+  pub cutter-many : manyOf s (sendingOf s m) ≡ countOf s m .count
+  cutter-many = first-length (bodyAt P H (m .body)) (countOf s m .count)
+
+  -- their bodies joined are the body that was given
+  pub cutter-body : wholeBody (sendingOf s m) ≡ m .body
+  cutter-body =
+      ap (λ (n : ℕ). joined (firstOf (bodyAt P H (m .body)) n)) many-is
+      ∙ joined-same (firstOf (bodyAt P H (m .body)) (packets P H B))
+      ∙ parts-joined P H (m .body) (cuts-well s P (m .values) (m .texts) (m .body) (m .sender) no-refusal .some)
+
+  flags-are : (i : ℕ) → flagsAt P H B i ≡ flagsIn (manyOf s (sendingOf s m)) i
+  unfolding flagsAt flagsIn
+  flags-are i =
+      ap (λ (b : Bool). pick b 3 (pick (eqb i 0) 1 (pick (eqb (suc i) (packets P H B)) 2 0))) is-cut
+      ∙ ap (λ (n : ℕ). pick (eqb i 0) 1 (pick (eqb (suc i) n) 2 0)) (sym (cutter-many ∙ many-is))
+
+  -- the sender's sequence count for packet i
+  abbrev pub seqOf : ℕ → ℕ
+  seqOf i = countAt (m .sender .count .0) i
+
+  module _ (i : ℕ) (l : i < manyOf s (sendingOf s m)) where
+    values-are : givenAt s P (m .values) (m .texts) (m .body) (m .sender) i ≡ valuesAt s (sendingOf s m) i (seqOf i)
+    unfolding packetAt
+    values-are =
+        let f = flags-are i in
+        let c : pick (single P H B) 0 (counterAt (m .sender .next) i) ≡ place (m .sender .next) + i =
+        ap (λ (b : Bool). pick b 0 (counterAt (m .sender .next) i)) is-cut ∙ counter-of (m .sender .next) (starts .start) i (starts .starts)
+        ∙ ap (λ (x : ℕ). x + i) (sym start-is) in
+        let b : bodyAt P H (m .body) i ≡ getD (firstOf (bodyAt P H (m .body)) (countOf s m .count)) i [] =
+        sym (first-at (bodyAt P H (m .body)) (countOf s m .count) i [] (omega (arith, cutter-many))) in
+        λ j. record { head = sendingOf s m .head; flags = f j; count = seqOf i; counter = c j; body = b j }
+
+    given-range : InRange s (valuesAt s (sendingOf s m) i (seqOf i))
+    given-range =
+        subst (InRange s) values-are
+        (packet-range s P (m .values) (m .texts) (m .body) (m .sender) no-refusal (k .texts) (k .body) i
+        (omega (arith, cutter-many, many-is)))
+
+    -- packet i is the message's packet i, with the sender's sequence count
+    pub cutter-packet : packetOf s m i ≡ packetWith s (sendingOf s m) i (seqOf i)
+    cutter-packet = ap (octetsOf s) values-are
+
+    pub seq-fits : seqOf i < 16384
+    seq-fits = given-range .count
+
+    cut-fits : 2 + length (packetWith s (sendingOf s m) i 0) ≤ Z
+    cut-fits =
+        omega (
+          arith,
+          k .fits i (omega (arith, cutter-many)),
+          ap length cutter-packet,
+          recounted-long s (valuesAt s (sendingOf s m) i (seqOf i)) 0,
+        )
+
+  -- a message of demand 3
+  pub cutter-cut : IsCut s Z (sendingOf s m)
+  cutter-cut =
+      record {
+        many = omega (arith, cutter-many, k .many);
+        range = λ i l. recounted-range s (valuesAt s (sendingOf s m) i (seqOf i)) 0 (omega arith) (given-range i l);
+        fits = cut-fits;
+      }
+
+  -- so packet i arrives as segment i
+  pub cutter-reads : (i : ℕ) → i < countOf s m .count → ReadsAs s (packetOf s m i) (segmentAt s (sendingOf s m) i)
+  cutter-reads i h =
+      let l : i < manyOf s (sendingOf s m) = omega (arith, cutter-many) in
+      subst (λ (p : List ℕ). ReadsAs s p (segmentAt s (sendingOf s m) i)) (sym (cutter-packet i l))
+      (repeat-reads s Z (sendingOf s m) cutter-cut i l (seqOf i) (seq-fits i l))
+
+  -- and what a call hands out is what the cutter was given: H, B and the first counter, the header's octets, the body
+  pub cutter-hands-out : (n : ℕ) (st : List ℕ) (c : Call) → Delivers s Z n (sendingOf s m) st c →
+      (Option·map takenOf (tookBy s Z st c)
+      ≡ some (record { refusal = refusalOf 0; header = H; body = B; counter = record { 0 = place (m .sender .next) } }))
+      × (outBy s Z st c
+      ≡ identification (headOf (m .values) (m .texts)) ++ headerOctets s (headOf (m .values) (m .texts)) ++ m .body ++ drop (2 + H + B) (outOf c))
+  cutter-hands-out n st c d = (
+    d .told
+        ∙ ap (λ (b : List ℕ). some (record { refusal = refusalOf 0; header = H; body = length b; counter = record { 0 = place (m .sender .next) } }))
+        cutter-body,
+    d .written
+        ∙ ap
+        (λ (b : List ℕ).
+        identification (headOf (m .values) (m .texts)) ++ headerOctets s (headOf (m .values) (m .texts)) ++ b ++ drop (2 + H + length b) (outOf c))
+        cutter-body,
+  )
+
+-- and all of a list
+pub cutter-all : (s : Settings) (Z : ℕ) (ms : List Cutting) → ((m : Cutting) → List·Memᴰ m ms → Succeeds s Z m) →
+    (w : Sending) → List·Memᴰ w (map (sendingOf s) ms) → IsCut s Z w
+cutter-all s Z ms f w h =
+    let v = Memᴰ·of-map (sendingOf s) ms h in
+    subst (IsCut s Z) (v .2) (cutter-cut s Z (v .0) (f (v .0) (v .1)))

@@ -1,0 +1,57 @@
+-- Messages of demand 3 that the cutter makes (J-2): values, lent texts, a body, a limit P and a sender's numbers for which the count
+-- succeeds with two or more; their segments are the packets that `cut::packet` writes.
+-- Assumes nothing: these are definitions.
+use Prim.Native.Nat.{ℕ, _+_, _≤_, _<_}
+use mathlib.Core.Path.{_≡_}
+use mathlib.Core.List.{List}
+use lib.ListN.{length}
+use Rattle.octets.specs.Octets.{Octets}
+use Rattle.walk.specs.declared.Settings.{Settings}
+use Rattle.write.specs.declared.HeaderValues.{HeaderValues}
+use Rattle.write.specs.Given.{Lent, headOf}
+use Rattle.cut.specs.declared.Sender.{Sender}
+use Rattle.cut.specs.declared.Counted.{Counted}
+use Rattle.cut.specs.Cutting.{headerLength, countAnswer, bodyAt}
+use Rattle.fewest.specs.Cutting.{Lends, octetsAt}
+use Rattle.fewest.specs.Carrying.{firstOf}
+use Rattle.fewest.specs.Runs.{place}
+use Rattle.demand3.specs.Sendings.{Sending}
+
+-- what the cutter is given beside T, which is the limit P, the header's values and texts, the body, and the sender's numbers as they
+-- stood before the message
+pub record Cutting : Type 0 where
+  pub limit : ℕ
+  pub values : HeaderValues
+  pub texts : Lent
+  pub body : List ℕ
+  pub sender : Sender
+
+module _ (s : Settings) where
+  -- what the count answers
+  abbrev pub countOf : Cutting → Counted
+  countOf m = countAnswer s (m .limit) (m .values) (m .texts) (length (m .body)) (m .sender)
+
+  -- packet number i as it is cut
+  abbrev pub packetOf : Cutting → ℕ → List ℕ
+  packetOf m i = octetsAt s (m .limit) (m .values) (m .texts) (m .body) (m .sender) i
+
+  -- the message that it makes of this
+  abbrev pub sendingOf : Cutting → Sending
+  sendingOf m =
+      record {
+        head = headOf (m .values) (m .texts);
+        start = place (m .sender .next);
+        bodies = firstOf (bodyAt (m .limit) (headerLength s (m .values) (m .texts)) (m .body)) (countOf m .count);
+      }
+
+  -- the cutter succeeds, for cells of Z octets
+  pub record Succeeds (Z : ℕ) (m : Cutting) : Type 0 where
+    -- texts and body are octets, and a transaction id has 64 bits: what their types say
+    pub texts : Lends (m .values) (m .texts)
+    pub body : Octets (m .body)
+    -- the count succeeds, so that no counter passes 4,294,967,295: "none wrapping"
+    pub counts : countOf m .refusal .number ≡ 0
+    -- "messages cut into two or more segments"
+    pub many : 2 ≤ countOf m .count
+    -- "each fitting a cell", behind its mark
+    pub fits : (i : ℕ) → i < countOf m .count → 2 + length (packetOf m i) ≤ Z
