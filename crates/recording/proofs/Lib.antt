@@ -1,0 +1,4 @@
+mod Frames
+mod Places
+mod Joins
+mod Steps
