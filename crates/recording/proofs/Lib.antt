@@ -6,3 +6,4 @@ pub mod Kept
 pub mod Showing
 pub mod Pieces
 mod Calls
+pub mod Figure

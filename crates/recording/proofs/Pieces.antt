@@ -100,18 +100,18 @@ module _ (s : Settings) (Z : ℕ) (st : List ℕ) where
 -- ---- the steps over a whole recording
 
 module _ (s : Settings) (Z : ℕ) where
-  abbrev R : ℕ → List ℕ → List ℕ → List ℕ
+  abbrev pub R : ℕ → List ℕ → List ℕ → List ℕ
   R f st x = recordedFrom s Z f st x
 
   -- one step more
-  abbrev goOn : ℕ → List ℕ → List ℕ → Stepped → List ℕ
+  abbrev pub goOn : ℕ → List ℕ → List ℕ → Stepped → List ℕ
   goOn f st x d = writtenBy d ++ R f (storeBehind s Z st d) (drop (usedBy d) x)
 
-  one : (f : ℕ) (st x : List ℕ) → R (suc f) st x ≡ goOn f st x (stepped s Z st x true)
+  pub one : (f : ℕ) (st x : List ℕ) → R (suc f) st x ≡ goOn f st x (stepped s Z st x true)
   unfolding recordedFrom
   one f st x = refl
 
-  abbrev Stop : Stepped → Type 0
+  abbrev pub Stop : Stepped → Type 0
   Stop d = (d ≡ ended) ⊎ ((d ≡ unmarked) ⊎ (d ≡ torn))
 
   stop-on : (f : ℕ) (st x : List ℕ) (d : Stepped) → Stop d → goOn f st x d ≡ R f st x
@@ -120,7 +120,7 @@ module _ (s : Settings) (Z : ℕ) where
   stop-on f st x d (inr (inr e)) = ap (goOn f st x) e
 
   -- where it stops nothing more is written
-  stops : (f : ℕ) (st x : List ℕ) → Stop (stepped s Z st x true) → R f st x ≡ []
+  pub stops : (f : ℕ) (st x : List ℕ) → Stop (stepped s Z st x true) → R f st x ≡ []
   unfolding recordedFrom
   stops zero st x h = refl
   stops (suc f) st x h = one f st x ∙ stop-on f st x (stepped s Z st x true) h ∙ stops f st x h
@@ -140,7 +140,7 @@ module _ (s : Settings) (Z : ℕ) where
   unfolding stepped
   ways st x = ways-by st (foundIn x)
 
-  nothing-ends : (st : List ℕ) → stepped s Z st [] true ≡ ended
+  pub nothing-ends : (st : List ℕ) → stepped s Z st [] true ≡ ended
   unfolding stepped foundIn
   nothing-ends st = refl
 
