@@ -7,3 +7,4 @@ pub mod Showing
 pub mod Pieces
 mod Calls
 pub mod Figure
+pub mod Rooms
