@@ -2,25 +2,31 @@
 -- Assumes nothing.
 use Prim.Native.Nat.{ℕ, _+_, _≤_, _<_}
 use mathlib.Core.Path.{_≡_, refl, ap, sym, _∙_}
+use mathlib.Core.Logic.{_⊎_, inl, inr}
 use mathlib.Core.Bool.{Bool, true, false}
 use mathlib.Core.List.{List}
 use native.Mathlib.Omega.{arith}
-use lib.ListN.{length}
+use lib.ListN.{length, drop, length-take}
 use lib.Seq.{sets}
 use lib.Dec.{leb, eqb}
-use borrow.Author.Tests.{le-leb, lt-leb}
+use borrow.Author.Tests.{le-leb, lt-leb, leb-true}
 use Rattle.octets.specs.Octets.{pick}
 use Rattle.walk.specs.declared.Settings.{Settings}
 use Rattle.cells.specs.Rows.{sizeIn, packetIn}
-use Rattle.join.specs.Joining.{joining, storeJoined}
+use Rattle.octets.proofs.Lists.{bool}
+use Rattle.store.specs.Taking.{writing}
+use Rattle.join.specs.Joining.{Joining, inPacket, inOutput, unjoined, joining, storeJoined}
 use Rattle.recording.specs.declared.What.{What}
 use Rattle.recording.specs.declared.What.the-variants.{More, Ended, Unmarked, Torn}
 use Rattle.recording.specs.declared.Stands.{Stands}
 use Rattle.recording.specs.declared.Stands.the-variants.{Nothing, Other, Cut, Whole}
 use Rattle.recording.specs.declared.Done.{Done}
-use Rattle.recording.specs.Recording.{Found, nothing, other, cut, whole, begins, foundIn, longest, room, Came, over, cameBy, cameOf, storeAfter, wrote, stepBy, stepped, storeBehind, ended, wanting, torn, writtenBy}
+use Rattle.recording.specs.Recording.{Found, nothing, other, cut, whole, begins, foundIn, longest, room, over, refused, kept, cameBy, cameOf, storeAfter, without, wrote, Stepped, wanting, ended, unmarked, torn, came, stepBy, stepped, storeBehind, usedBy, writtenBy}
 use Rattle.recording.specs.Told.{standsOf, still, doneCame, doneOf}
 use Rattle.recording.specs.Inner.{stopAs}
+use Rattle.recording.proofs.Frames.{framed-long, without-long}
+use Rattle.recording.proofs.Joins.{joined-fits}
+use Rattle.recording.proofs.Showing.{whole-tells}
 
 -- ---- a packet by its length
 
@@ -147,3 +153,87 @@ module _ (s : Settings) (Z : ℕ) (st w : List ℕ) (e : Bool) (out : List ℕ) 
     pub step-whole : {q x y : List ℕ} → r ≡ Whole → q ≡ packetIn 0 w → Passes s Z st q out d x y → Steps d x y
     unfolding stepped
     step-whole h eq a = whole-by (foundIn w) (λ p f. whole-is w p f ∙ sym eq) er h a
+
+-- ---- how many octets a step uses up, and how many it writes
+
+module _ (s : Settings) (Z : ℕ) (st w : List ℕ) (e : Bool) where
+  used-by : (f : Found) → foundIn w ≡ f → usedBy (stepBy s Z st e f) ≤ length w
+  used-by nothing h = go e
+    where
+      go : (b : Bool) → usedBy (pick b ended wanting) ≤ length w
+      go true = omega arith
+      go false = omega arith
+  used-by other h = omega arith
+  used-by cut h = go e
+    where
+      go : (b : Bool) → usedBy (pick b torn wanting) ≤ length w
+      go true = omega arith
+      go false = omega arith
+  used-by (whole p) h =
+      let a = whole-tells w p h in
+      omega (arith, a .1, ap length (whole-is w p h), length-take (sizeIn 0 w) (drop 2 w))
+
+  -- no more than are in hand
+  used-most : usedBy (stepped s Z st w e) ≤ length w
+  unfolding stepped
+  used-most = used-by (foundIn w) refl
+
+  written-came : (p : List ℕ) → length (wrote p (cameOf s Z st p)) ≤ 6 + room
+  unfolding cameOf
+  written-came p = go (bool (leb (length p) longest))
+    where
+      joined : length p ≤ longest → (j : Joining) → joining s Z st p room ≡ j → length (wrote p (cameBy j)) ≤ 6 + room
+      joined l (inPacket place n) h = omega (arith, framed-long (without p), without-long p)
+      joined l (inOutput r) h = omega (arith, framed-long (writing r), joined-fits s Z st p room r h .fits)
+      joined l (unjoined k) h = left (eqb k 20)
+        where
+          left : (b : Bool) → length (wrote p (pick b kept (refused k))) ≤ 6 + room
+          left true = omega arith
+          left false = omega arith
+
+      go :
+          (leb (length p) longest ≡ true) ⊎ (leb (length p) longest ≡ false) →
+          length (wrote p (pick (leb (length p) longest) (cameBy (joining s Z st p room)) over)) ≤ 6 + room
+      go (inl h) = rw h (joined (leb-true (length p) longest h) (joining s Z st p room) refl)
+      go (inr h) = rw h (omega arith)
+
+  written-by : (f : Found) → length (writtenBy (stepBy s Z st e f)) ≤ 6 + room
+  written-by nothing = go e
+    where
+      go : (b : Bool) → length (writtenBy (pick b ended wanting)) ≤ 6 + room
+      go true = omega arith
+      go false = omega arith
+  written-by other = omega arith
+  written-by cut = go e
+    where
+      go : (b : Bool) → length (writtenBy (pick b torn wanting)) ≤ 6 + room
+      go true = omega arith
+      go false = omega arith
+  written-by (whole p) = written-came p
+
+  -- no more than the output has room for
+  written-most : length (writtenBy (stepped s Z st w e)) ≤ 6 + room
+  unfolding stepped
+  written-most = written-by (foundIn w)
+
+  done-used : (d : Stepped) → doneOf d .used ≡ usedBy d
+  done-used wanting = refl
+  done-used ended = refl
+  done-used unmarked = refl
+  done-used torn = refl
+  done-used (came p c) = refl
+
+  done-written : (d : Stepped) → doneOf d .written ≡ length (writtenBy d)
+  done-written wanting = refl
+  done-written ended = refl
+  done-written unmarked = refl
+  done-written torn = refl
+  done-written (came p c) = refl
+
+  -- what a step answers lies inside both buffers
+  pub step-within : {d : Done} → d ≡ doneOf (stepped s Z st w e) → (d .used ≤ length w) × (d .written ≤ 6 + room)
+  step-within h =
+      let g = stepped s Z st w e in (
+        omega (arith, ap (λ (x : Done). x .used) h ∙ done-used g, used-most),
+        omega (arith, ap (λ (x : Done). x .written) h ∙ done-written g, written-most),
+      )

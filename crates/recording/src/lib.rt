@@ -6,10 +6,10 @@
 // longest packet that a length field tells of. Settings and the store's order are checked once, by whoever begins; a step keeps them.
 ghost use mathlib.Core.Path.{_≡_};
 ghost use mathlib.Core.List.{_∷_};
-ghost use Prim.Native.Nat.{_+_, _≤_};
+ghost use Prim.Native.Nat.{_+_, _-_, _≤_};
 ghost use lib.ListN.{length};
 ghost use lib.Seq.{sets};
-ghost use Rattle.octets.specs.Octets.{wide};
+ghost use Rattle.octets.specs.Octets.{part, wide};
 ghost use Rattle.cells.specs.Rows.{zeroRow};
 ghost use Rattle.cells.specs.Order.{countIn};
 ghost use Rattle.store.specs.Inner.{gate};
@@ -271,5 +271,19 @@ pub fn step(
         Stands::Other => still(What::Unmarked),
         Stands::Cut => stop(ends, What::Torn),
         Stands::Whole => step_packet(s, store, n, zero, cells::packet_in(window), out),
+    }
+}
+
+// The octets of a buffer from a place up to another go to its front; the rest stays.
+pub fn front(buf: &mut [u8], from: usize, till: usize)
+    requires { ⌜ from ≤ till ⌝ }
+    requires { ⌜ till ≤ length (now buf) ⌝ }
+    ensures { λ r. ⌜ now (buf .exit) ≡ sets (now (buf .entry)) 0 (part (now (buf .entry)) from (till - from)) ⌝ }
+{
+    let n = till - from;
+    let mut i: usize = 0;
+    while i < n {
+        buf[i] = buf[from + i];
+        i += 1;
     }
 }
