@@ -97,7 +97,7 @@ module _ (next : ℕ → ℕ) (span : ℕ) (cs : List Cell) where
 
   module _ (f : ℕ → Cell) where
     -- what is picked opens in a cell
-    opening : (n i : ℕ) (r : Run) → pickIn next span cs (listed f n i) ≡ some r →
+    pub opening : (n i : ℕ) (r : Run) → pickIn next span cs (listed f n i) ≡ some r →
         (j : ℕ) × Among n i j × (f j ≡ held (r .head)) × (chain next span span cs (r .head .key) (next (r .head .counter)) ≡ some (r .rest))
     unfolding pickIn listed
     opening zero i r e = let z : _≡_ {A = ℕ} 0 1 = cc in absurd (omega arith)

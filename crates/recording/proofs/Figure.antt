@@ -1,0 +1,59 @@
+-- Document 01: "Figure 14 alone gives 4D 4D 00 00 00 17, then 18 05 and its 21 header octets."
+-- Assumes nothing.
+use Prim.Native.Nat.{ℕ, suc}
+use mathlib.Core.Path.{_≡_, refl, ap, ap₂, sym, _∙_}
+use mathlib.Core.Bool.{true}
+use mathlib.Core.Logic.{inl}
+use mathlib.Core.List.{List, [], _∷_, _++_, append-nil}
+use lib.ListN.{drop}
+use Rattle.octets.specs.Octets.{number, alike, wide}
+use Rattle.packet.specs.Reading.{readPacket}
+use Rattle.format.proofs.Figure14.{packet, reads}
+use Rattle.cells.specs.Order.{countIn}
+use Rattle.store.specs.Arriving.{Arrived, whole, arrivedIn, arrived}
+use Rattle.store.specs.Inner.{gate}
+use Rattle.store.proofs.Opening.{arrived-open}
+use Rattle.join.specs.Joining.{joinedBy, joining}
+use Rattle.recording.specs.Recording.{room, Came, wholly, cameBy, cameOf, framed, without, foundIn, Stepped, came, stepped, storeBehind, recordedFrom, recorded, settings, cellSize, emptyStore}
+use Rattle.recording.proofs.Kept.{begin-gate}
+use Rattle.recording.proofs.Pieces.{one, stops, nothing-ends, goOn}
+
+abbrev pub alone : List ℕ
+alone = 0x4d ∷ 0x50 ∷ packet
+
+abbrev pub given : List ℕ
+given =
+    0x4d ∷ 0x4d ∷ 0 ∷ 0 ∷ 0 ∷ 0x17 ∷ 0x18 ∷ 0x05 ∷ 0 ∷ 0 ∷ 1 ∷ 0 ∷ 2 ∷ 0 ∷ 3 ∷ 1 ∷ 0x20 ∷ 6 ∷ 0 ∷ 7 ∷ 0 ∷ 0 ∷ 0 ∷ 0 ∷ 0 ∷ 0 ∷ 0 ∷ 9 ∷ 0 ∷ []
+
+module _ (Z : ℕ) (st : List ℕ) (g : gate settings Z st ≡ 0) where
+  arrives-in : (n : ℕ) → arrivedIn settings Z st n packet ≡ whole
+  unfolding arrivedIn
+  arrives-in n = rw reads refl
+
+  arrives : arrived settings Z st packet ≡ whole
+  arrives = sym (arrived-open settings Z st packet g) ∙ arrives-in (countIn Z st)
+
+  comes : cameOf settings Z st packet ≡ wholly
+  unfolding cameOf joining
+  comes = ap (λ (b : Arrived). cameBy (joinedBy settings Z st packet room b)) arrives
+
+  steps : stepped settings Z st alone true ≡ came packet wholly
+  unfolding stepped foundIn alike number
+  steps = ap (came packet) comes
+
+  written : framed (without packet) ≡ given
+  unfolding framed wide
+  written = refl
+
+  pub alone-gives : (f : ℕ) → recordedFrom settings Z (suc f) st alone ≡ given
+  alone-gives f =
+      one settings Z f st alone
+      ∙ ap (goOn settings Z f st alone) steps
+      ∙ ap (λ (r : List ℕ). framed (without packet) ++ r)
+      (stops settings Z f (storeBehind settings Z st (came packet wholly)) [] (inl (nothing-ends settings Z (storeBehind settings Z st (came packet wholly)))))
+      ∙ append-nil (framed (without packet))
+      ∙ written
+
+pub figure-14 : recorded alone ≡ given
+unfolding recorded
+figure-14 = alone-gives cellSize emptyStore begin-gate 28

@@ -1,0 +1,40 @@
+-- `recording::join_behind` meets its contract: joining has the part of the output behind the room for mark and length.
+-- Assumes nothing.
+use denote.Ref.{now}
+use Prim.Native.Nat.{ℕ}
+use mathlib.Core.Path.{ap, _∙_}
+use lib.ListN.{length}
+use Rattle.join.specs.Joining.{joining, storeJoined}
+use Rattle.join.specs.Told.{joinedOf}
+use Rattle.recording.proofs.Joins.{lent-long, behind-out}
+use borrow.Author.Needs.{needs}
+use Rattle.recording.proofs.join_behind.Statement.{statement}
+use Rattle.recording.proofs.join_behind.Tie as tie
+
+add-to : tie.Need-add-to
+add-to c = search needs
+
+sub-join-in : tie.Need-sub-join-in
+sub-join-in c = search needs
+
+part-join-in-start : tie.Need-part-join-in-start
+part-join-in-start c = search needs
+
+part-join-in-end : tie.Need-part-join-in-end
+part-join-in-end c = search needs
+
+join-in-requires : tie.Need-join-in-requires
+join-in-requires c κs = search needs
+
+same-length : tie.Need-same-length
+same-length c = search needs
+
+same-length-2 : tie.Need-same-length-2
+same-length-2 c = search needs
+
+returns : tie.Need-returns
+returns c = let l = lent-long (c .before .before .before .before .before .before .before .before .before .before .before .args .s) (length (now (c .before .before .before .before .before .before .before .before .before .before .before .args .zero))) (now (c .before .before .before .before .before .before .before .before .before .before .before .args .store)) (now (c .before .before .before .before .before .before .before .before .before .before .before .args .p)) (now (c .before .before .before .before .before .before .before .before .before .before .before .args .out)) (c .before .before .before .before .before .before .before .before .before .before .before .pre .1 .1 .1) in (c .before .before .before .before .join-in .ensures .0 ∙ ap (λ (m : ℕ). joinedOf (joining (c .before .before .before .before .before .before .before .before .before .before .before .args .s) (length (now (c .before .before .before .before .before .before .before .before .before .before .before .args .zero))) (now (c .before .before .before .before .before .before .before .before .before .before .before .args .store)) (now (c .before .before .before .before .before .before .before .before .before .before .before .args .p)) m)) l, (c .before .before .before .before .join-in .ensures .1 .0 ∙ ap (λ (m : ℕ). storeJoined (c .before .before .before .before .before .before .before .before .before .before .before .args .s) (length (now (c .before .before .before .before .before .before .before .before .before .before .before .args .zero))) (now (c .before .before .before .before .before .before .before .before .before .before .before .args .store)) (now (c .before .before .before .before .before .before .before .before .before .before .before .args .p)) m) l, behind-out (c .before .before .before .before .before .before .before .before .before .before .before .args .s) (length (now (c .before .before .before .before .before .before .before .before .before .before .before .args .zero))) (now (c .before .before .before .before .before .before .before .before .before .before .before .args .store)) (now (c .before .before .before .before .before .before .before .before .before .before .before .args .p)) (now (c .before .before .before .before .before .before .before .before .before .before .before .args .out)) (c .before .before .before .before .before .before .before .before .before .before .before .pre .1 .1 .1) (c .before .before .before .before .join-in .ensures .1 .1)))
+
+pub join-behind-spec : {M : Type 1} → statement M
+join-behind-spec =
+    tie.close (tie.spec add-to sub-join-in part-join-in-start part-join-in-end join-in-requires same-length same-length-2 returns)

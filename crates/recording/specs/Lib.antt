@@ -1,0 +1,4 @@
+pub mod Recording
+pub mod Told
+pub mod Inner
+pub mod Handing
