@@ -1,20 +1,18 @@
 -- Document 01: "Figure 14 alone gives 4D 4D 00 00 00 17, then 18 05 and its 21 header octets."
 -- Assumes nothing.
 use Prim.Native.Nat.{ℕ, suc}
-use mathlib.Core.Path.{_≡_, refl, ap, ap₂, sym, _∙_}
+use mathlib.Core.Path.{_≡_, refl, ap, sym, _∙_}
 use mathlib.Core.Bool.{true}
 use mathlib.Core.Logic.{inl}
 use mathlib.Core.List.{List, [], _∷_, _++_, append-nil}
-use lib.ListN.{drop}
 use Rattle.octets.specs.Octets.{number, alike, wide}
-use Rattle.packet.specs.Reading.{readPacket}
 use Rattle.format.proofs.Figure14.{packet, reads}
 use Rattle.cells.specs.Order.{countIn}
 use Rattle.store.specs.Arriving.{Arrived, whole, arrivedIn, arrived}
 use Rattle.store.specs.Inner.{gate}
 use Rattle.store.proofs.Opening.{arrived-open}
 use Rattle.join.specs.Joining.{joinedBy, joining}
-use Rattle.recording.specs.Recording.{room, Came, wholly, cameBy, cameOf, framed, without, foundIn, Stepped, came, stepped, storeBehind, recordedFrom, recorded, settings, cellSize, emptyStore}
+use Rattle.recording.specs.Recording.{room, wholly, cameBy, cameOf, framed, without, foundIn, came, stepped, storeBehind, recordedFrom, recorded, settings, cellSize, emptyStore}
 use Rattle.recording.proofs.Kept.{begin-gate}
 use Rattle.recording.proofs.Pieces.{one, stops, nothing-ends, goOn}
 

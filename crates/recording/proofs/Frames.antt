@@ -1,11 +1,11 @@
 -- What a step lays over the output: a message behind the room for its mark and length, and then these.
 -- Assumes nothing.
-use Prim.Native.Nat.{ℕ, suc, _+_, _-_, _≤_, _<_}
+use Prim.Native.Nat.{ℕ, suc, _+_, _≤_, _<_}
 use mathlib.Core.Path.{_≡_, refl, ap, ap₂, sym, _∙_}
 use mathlib.Core.List.{List, [], _∷_, _++_, append-nil}
 use native.Mathlib.Omega.{arith}
 use lib.ListN.{length, take, drop, set, length-set, length-take, length-drop, take-append-drop, length-append}
-use lib.Seq.{sets, set-comm, set-append-left, length-take-le, length-sets, take-all}
+use lib.Seq.{sets, set-comm, set-append-left, length-take-le, take-all}
 use Rattle.octets.specs.Octets.{wide, part}
 use Rattle.octets.specs.Laying.{laid, together, Lays}
 use Rattle.octets.proofs.Lists.{sets-append}

@@ -1,15 +1,14 @@
 -- A packet that is joined: what the output holds behind it, and how long a message is.
 -- Assumes nothing.
-use Prim.Native.Nat.{ℕ, _+_, _-_, _≤_, _<_}
+use Prim.Native.Nat.{ℕ, _+_, _-_, _≤_}
 use mathlib.Core.Path.{_≡_, refl, ap, ap₂, sym, _∙_}
 use mathlib.Core.Logic.{⊎-elim}
 use mathlib.Core.Bool.{Bool, true, false}
-use mathlib.Core.List.{List, [], _∷_, _++_, List·Memᴰ·head}
+use mathlib.Core.List.{List, _∷_, _++_, List·Memᴰ·head}
 use native.Mathlib.Omega.{arith}
 use lib.ListN.{length, take, drop, length-append, length-take, length-drop}
 use lib.Seq.{sets, length-take-le}
 use lib.Dec.{eqb}
-use borrow.Author.Tests.{eq-eqb, ne-eqb}
 use Rattle.octets.specs.Octets.{pick, part, alike, wide}
 use Rattle.octets.proofs.Lists.{bool}
 use Rattle.walk.specs.declared.Settings.{Settings}
@@ -18,24 +17,22 @@ use Rattle.packet.specs.Reading.{readPacket, counterSize}
 use Rattle.packet.specs.declared.Header.{Header}
 use Rattle.packet.specs.Key.{keyOf, counterPlace}
 use Rattle.cells.specs.Segments.{Seg, segOf}
-use Rattle.cells.specs.Rows.{Cell, free, held, zeroRow, rowAt, packetIn, cellOf}
-use Rattle.cells.specs.Order.{isSound, cellAt}
-use Rattle.cells.proofs.Carries.{free-cell, holding}
-use Rattle.store.specs.Messages.{Run, bodyOf, segments}
+use Rattle.cells.specs.Rows.{free, held, zeroRow, rowAt, packetIn, cellOf}
+use Rattle.cells.specs.Order.{isSound}
+use Rattle.cells.proofs.Carries.{free-cell, Holding, holding}
+use Rattle.store.specs.Messages.{Run, bodyOf}
 use Rattle.store.specs.Arriving.{Arrived, whole, stored, again, refused, arrived, storeWith}
 use Rattle.store.specs.Taking.{Took, message, unable, writing, took, outWith}
 use Rattle.store.specs.Told.{refusalOf}
 use Rattle.keeping.proofs.Opens.{opens}
 use Rattle.keeping.proofs.Zeroed.{taken-tells, segment-held}
 use Rattle.join.specs.declared.Joined.{Joined}
-use Rattle.join.specs.declared.Which.{Which}
 use Rattle.join.specs.declared.Which.the-variants.{Packet, Joined as InJoined, Nothing}
 use Rattle.join.specs.Joining.{Joining, inPacket, inOutput, unjoined, tookAs, joinedBy, outBy, joining, outJoined}
 use Rattle.join.specs.Told.{joinedOf}
-use Rattle.recording.specs.declared.What.{What}
 use Rattle.recording.specs.declared.What.the-variants.{Refused, Kept, Whole, Joined as Made}
 use Rattle.recording.specs.declared.Done.{Done}
-use Rattle.recording.specs.Recording.{room, refused as passed, kept, cameBy, framed, without, wrote}
+use Rattle.recording.specs.Recording.{room, refused as passed, kept, cameBy, without, wrote}
 use Rattle.recording.specs.Told.{doneCame}
 use Rattle.recording.specs.Inner.{takenIn, leftAs}
 use Rattle.recording.proofs.Frames.{sets-part, frame-before, framed-long}
@@ -48,25 +45,31 @@ key-least p h l =
     omega
     (arith, length-append (part p 0 2) (part p 6 (counterPlace h - 6) ++ part p (counterPlace h + counterSize p) (h .body .at - (counterPlace h + counterSize p))), length-take 2 p)
 
--- its key has the two octets of identification
-pub held-key : (s : Settings) (Z : ℕ) (r : List ℕ) (t : Seg) → cellOf s Z r ≡ held t → 2 ≤ length (t .key)
-unfolding segOf
-held-key s Z r t e = ⊎-elim is-free is-held (bool (alike r (zeroRow Z)))
+-- the packet that a held cell holds
+pub held-is :
+    (s : Settings) (Z : ℕ) (r : List ℕ) (t : Seg) → cellOf s Z r ≡ held t → Holding s Z r × (segOf (packetIn Z r) (readPacket s (packetIn Z r)) ≡ t)
+held-is s Z r t e = ⊎-elim is-free is-held (bool (alike r (zeroRow Z)))
   where
-    is-free : alike r (zeroRow Z) ≡ true → 2 ≤ length (t .key)
+    is-free : alike r (zeroRow Z) ≡ true → Holding s Z r × (segOf (packetIn Z r) (readPacket s (packetIn Z r)) ≡ t)
     is-free a =
         let d : free ≡ held t = sym (free-cell s Z r a) ∙ e in
         let z : _≡_ {A = ℕ} 0 1 = cc d in
         absurd (omega arith)
 
-    is-held : alike r (zeroRow Z) ≡ false → 2 ≤ length (t .key)
+    is-held : alike r (zeroRow Z) ≡ false → Holding s Z r × (segOf (packetIn Z r) (readPacket s (packetIn Z r)) ≡ t)
     is-held a =
         let h = holding s Z r (ap isSound e) a in
-        let p : List ℕ = packetIn Z r in
-        let d : held (segOf p (readPacket s p)) ≡ held t = sym (h .cell) ∙ e in
-        let g : segOf p (readPacket s p) ≡ t = cc d in
-        let l = key-least p (readPacket s p) (opens s p (h .accepted) .six) in
-        omega (arith, ap (λ (u : Seg). length (u .key)) g)
+        let d : held (segOf (packetIn Z r) (readPacket s (packetIn Z r))) ≡ held t = sym (h .cell) ∙ e in
+        (h, cc d)
+
+-- its key has the two octets of identification
+held-key : (s : Settings) (Z : ℕ) (r : List ℕ) (t : Seg) → cellOf s Z r ≡ held t → 2 ≤ length (t .key)
+unfolding segOf
+held-key s Z r t e =
+    let h = held-is s Z r t e in
+    let p : List ℕ = packetIn Z r in
+    let l = key-least p (readPacket s p) (opens s p (h .0 .accepted) .six) in
+    omega (arith, l, ap (λ (u : Seg). length (u .key)) (h .1))
 
 module _ (s : Settings) (Z : ℕ) (st p : List ℕ) where
   -- ---- the output

@@ -1,22 +1,21 @@
 -- G-4: the steps from the first place to the stop write what the recording as a whole comes to, however it is handed over in pieces.
 -- Assumes nothing.
-use Prim.Native.Nat.{ℕ, zero, suc, _+_, _-_, _≤_, _<_}
+use Prim.Native.Nat.{ℕ, zero, suc, _+_, _≤_, _<_}
 use mathlib.Core.Path.{_≡_, refl, ap, ap₂, sym, _∙_}
 use mathlib.Core.Logic.{_⊎_, inl, inr}
 use mathlib.Core.Bool.{Bool, true, false}
 use mathlib.Core.List.{List, [], _∷_, _++_, List·Memᴰ, List·Memᴰ·head, List·Memᴰ·tail}
 use native.Mathlib.Omega.{arith}
-use lib.ListN.{length, take, drop, length-drop, take-append-drop}
+use lib.ListN.{length, drop, length-drop, take-append-drop}
 use lib.Seq.{take-all, length-take-le, getD-drop}
 use lib.Dec.{leb}
 use borrow.Author.Tests.{leb-true, le-leb}
-use Rattle.octets.specs.Octets.{pick, Octets}
+use Rattle.octets.specs.Octets.{Octets}
 use Rattle.octets.proofs.Lists.{bool, below-or}
 use Rattle.octets.proofs.Laying.{empty}
 use Rattle.octets.proofs.Has.{octets-part}
 use Rattle.octets.proofs.Numbers.{number-top}
 use Rattle.walk.specs.declared.Settings.{Settings}
-use Rattle.cells.specs.Segments.{both}
 use Rattle.cells.specs.Rows.{sizeIn}
 use Rattle.cells.proofs.Held.{both-true}
 use Rattle.recording.specs.Recording.{Found, nothing, other, cut, whole, begins, foundIn, Came, cameOf, wrote, Stepped, wanting, ended, unmarked, torn, came, stepBy, stepped, storeBehind, usedBy, writtenBy, recordedFrom, recorded, settings, cellSize, emptyStore}
@@ -261,3 +260,11 @@ module _ (s : Settings) (Z : ℕ) where
       let u : usedBy d ≡ 2 + length p = ap usedBy e in
       full-stops hs (storeBehind s Z st d) (drop (usedBy d) x) (octets-drop x (usedBy d) o) (λ g k. a g (List·Memᴰ·tail k))
       (omega (arith, length-drop (usedBy d) x)))
+
+-- a recording in full hands, as many as will do: the steps come to a stop, and have written what it comes to
+pub pieces-full :
+    (x : List ℕ) (hs : List Hand) → Octets x → ((h : Hand) → List·Memᴰ h hs → Full settings cellSize h) → length x < length hs →
+    (handed settings cellSize emptyStore x hs .stopped ≡ true) × (handed settings cellSize emptyStore x hs .output ≡ recorded x)
+pieces-full x hs o a l =
+    let t = full-stops settings cellSize hs emptyStore x o a l in
+    (t, pieces x hs t)

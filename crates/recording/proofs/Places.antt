@@ -1,6 +1,6 @@
 -- What stands at a place, by the tests of the code.
 -- Assumes nothing.
-use Prim.Native.Nat.{ℕ, _+_, _-_, _≤_, _<_, min}
+use Prim.Native.Nat.{ℕ, _+_, _-_, _≤_, _<_}
 use mathlib.Core.Path.{_≡_, refl, ap, ap₂, sym, _∙_}
 use mathlib.Core.Logic.{⊎-elim}
 use mathlib.Core.Bool.{Bool, true, false}
@@ -8,9 +8,8 @@ use mathlib.Core.List.{List}
 use native.Mathlib.Omega.{arith}
 use lib.ListN.{length, take, drop, length-take}
 use lib.Seq.{take-all}
-use lib.Dec.{leb, eqb}
 use borrow.Author.Tests.{eq-eqb, ne-eqb, le-leb, lt-leb}
-use Rattle.octets.specs.Octets.{pick, part, number, Octets, alike, roomOf}
+use Rattle.octets.specs.Octets.{part, Octets, alike, roomOf}
 use Rattle.octets.proofs.Lists.{below-or}
 use Rattle.octets.proofs.Numbers.{number-top}
 use Rattle.cells.specs.Rows.{sizeIn, packetIn}

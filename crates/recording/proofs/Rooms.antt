@@ -1,38 +1,37 @@
 -- The room for a message suffices: a store of 32 cells of 1,024 octets holds no message of more than 65,536 octets, so that more room
 -- would change nothing, and joining in a recording is never refused by 21 for want of room.
 -- Assumes nothing.
-use Prim.Native.Nat.{ℕ, zero, suc, _+_, _-_, _*_, _/_, _≤_, _<_}
-use mathlib.Core.Path.{_≡_, refl, ap, ap₂, sym, _∙_}
-use mathlib.Core.Logic.{_⊎_, inl, inr, ⊎-elim}
+use Prim.Native.Nat.{ℕ, zero, suc, _+_, _-_, _*_, _≤_, _<_}
+use mathlib.Core.Path.{_≡_, refl, ap, sym, _∙_}
+use mathlib.Core.Logic.{_⊎_, inl, inr}
 use mathlib.Core.Bool.{Bool, true, false}
 use mathlib.Core.List.{List, [], _∷_, _++_, List·Memᴰ·head, List·Memᴰ·tail}
 use mathlib.Core.Option.{Option, none, some}
 use native.Mathlib.Omega.{arith}
-use native.Mathlib.Nat.{suc-mul, mul-le-mul-right, mul-le-mul-left}
-use lib.ListN.{length, take, drop, length-append, length-take, length-drop}
-use lib.Dec.{leb, eqb}
+use native.Mathlib.Nat.{suc-mul, mul-le-mul-right}
+use lib.ListN.{length, drop, length-append, length-take, length-drop}
+use lib.Dec.{leb}
 use borrow.Author.Tests.{le-leb, lt-leb}
-use Rattle.octets.specs.Octets.{pick, part, alike}
-use Rattle.octets.proofs.Lists.{bool, below-or}
+use Rattle.octets.specs.Octets.{pick, part}
+use Rattle.octets.proofs.Lists.{below-or}
 use Rattle.walk.specs.declared.Settings.{Settings}
-use Rattle.walk.specs.Walk.{begun}
 use Rattle.packet.specs.declared.Header.{Header}
 use Rattle.packet.specs.Reading.{readPacket, counterSize}
 use Rattle.packet.specs.Key.{keyOf, counterPlace}
-use Rattle.cells.specs.Segments.{Seg, segOf, carries}
-use Rattle.cells.specs.Rows.{Cell, free, held, broken, zeroRow, rowAt, packetIn, cellOf}
-use Rattle.cells.specs.Order.{isSound, cellAt, countIn, inOrder}
-use Rattle.cells.proofs.Carries.{free-cell, holding}
+use Rattle.cells.specs.Segments.{Seg, segOf}
+use Rattle.cells.specs.Rows.{Cell, free, held, broken, rowAt, packetIn, cellOf}
+use Rattle.cells.specs.Order.{cellAt, countIn}
 use Rattle.store.specs.Messages.{listed, cellsOf, look, Role, first, middle, last, roleOf, Run, bodies, bodyOf, segments, linkBy, link, chain, picked, top}
 use Rattle.store.specs.Arriving.{Arrived, whole, stored, again, refused, arrived, storeWith}
-use Rattle.store.specs.Taking.{message, unable, writing, drawn, tookIn, took, storeLess}
+use Rattle.store.specs.Taking.{writing, drawn, tookIn, took, storeLess}
 use Rattle.store.proofs.Distinct.{carries-true}
 use Rattle.keeping.proofs.Listed.{Among, among-cases}
 use Rattle.keeping.proofs.Looking.{look-some}
 use Rattle.keeping.proofs.Members.{In, opening, picked-held}
 use Rattle.keeping.proofs.Keeps.{arrive-long}
-use Rattle.join.specs.Joining.{Joining, tookAs, joinedBy, storeBy, joining, storeJoined}
+use Rattle.join.specs.Joining.{tookAs, joinedBy, storeBy, joining, storeJoined}
 use Rattle.recording.specs.Recording.{room}
+use Rattle.recording.proofs.Joins.{held-is}
 
 -- ---- no more segments than cells
 
@@ -171,26 +170,19 @@ pub record Small (Z : ℕ) (t : Seg) : Type 0 where
 
 pub held-small : (s : Settings) (Z : ℕ) (r : List ℕ) (t : Seg) → cellOf s Z r ≡ held t → Small Z t
 unfolding segOf
-held-small s Z r t e = ⊎-elim is-free is-held (bool (alike r (zeroRow Z)))
-  where
-    is-free : alike r (zeroRow Z) ≡ true → Small Z t
-    is-free a =
-        let d : free ≡ held t = sym (free-cell s Z r a) ∙ e in
-        let z : _≡_ {A = ℕ} 0 1 = cc d in
-        absurd (omega arith)
-
-    is-held : alike r (zeroRow Z) ≡ false → Small Z t
-    is-held a =
-        let h = holding s Z r (ap isSound e) a in
-        let p : List ℕ = packetIn Z r in
-        let d : held (segOf p (readPacket s p)) ≡ held t = sym (h .cell) ∙ e in
-        let g : segOf p (readPacket s p) ≡ t = cc d in
-        record {
-          key = omega (arith, key-short p (readPacket s p), h .fits, ap (λ (u : Seg). length (u .key)) g);
-          body =
-              omega
-              (arith, part-short p (readPacket s p .body .at) (readPacket s p .body .length), h .fits, ap (λ (u : Seg). length (u .body)) g);
-        }
+held-small s Z r t e =
+    let h = held-is s Z r t e in
+    let p : List ℕ = packetIn Z r in
+    record {
+      key = omega (arith, key-short p (readPacket s p), h .0 .fits, ap (λ (u : Seg). length (u .key)) (h .1));
+      body =
+          omega (
+            arith,
+            part-short p (readPacket s p .body .at) (readPacket s p .body .length),
+            h .0 .fits,
+            ap (λ (u : Seg). length (u .body)) (h .1),
+          );
+    }
 
 -- ---- so the room is enough
 

@@ -1,12 +1,12 @@
 -- A part of a recording shows what stands where it begins, or is too short to show it.
 -- Assumes nothing.
-use Prim.Native.Nat.{ℕ, suc, _+_, _-_, _*_, _≤_, _<_}
-use mathlib.Core.Path.{_≡_, refl, ap, ap₂, sym, _∙_}
-use mathlib.Core.Logic.{_⊎_, inl, inr, ⊎-elim}
+use Prim.Native.Nat.{ℕ, _+_, _*_, _≤_, _<_}
+use mathlib.Core.Path.{_≡_, refl, ap, ap₂, sym, _∙_, subst}
+use mathlib.Core.Logic.{_⊎_, inl, inr}
 use mathlib.Core.Bool.{Bool, true, false}
 use mathlib.Core.List.{List, [], _∷_, _++_}
 use native.Mathlib.Omega.{arith}
-use lib.ListN.{length, take, drop, getD, length-append, length-drop, List·getD-append}
+use lib.ListN.{length, take, drop, length-append, length-drop, List·getD-append}
 use lib.Seq.{take-nil, take-append-le, drop-append-le}
 use lib.Dec.{leb, eqb}
 use borrow.Author.Tests.{eqb-true, eqb-false, leb-true, leb-false}
@@ -61,57 +61,38 @@ packet-same w y h =
 -- ---- what stands there
 
 -- what the tests were
-other-tells : (x : List ℕ) → foundIn x ≡ other → (length x ≡ 0 → ⊥) × (begins x ≡ false)
-unfolding foundIn
-other-tells x e = told (bool (eqb (length x) 0)) (bool (begins x)) (bool (leb (2 + sizeIn 0 x) (length x)))
-  where
-    told :
-        (eqb (length x) 0 ≡ true) ⊎ (eqb (length x) 0 ≡ false) → (begins x ≡ true) ⊎ (begins x ≡ false) →
-        (leb (2 + sizeIn 0 x) (length x) ≡ true) ⊎ (leb (2 + sizeIn 0 x) (length x) ≡ false) →
-        (length x ≡ 0 → ⊥) × (begins x ≡ false)
-    told (inl a) b c = let d : nothing ≡ other = rw a at e in let z : _≡_ {A = ℕ} 0 1 = cc d in absurd (omega arith)
-    told (inr a) (inl b) (inl c) = let d : whole (packetIn 0 x) ≡ other = rw (a, b, c) at e in let z : _≡_ {A = ℕ} 0 1 = cc d in absurd (omega arith)
-    told (inr a) (inl b) (inr c) = let d : cut ≡ other = rw (a, b, c) at e in let z : _≡_ {A = ℕ} 0 1 = cc d in absurd (omega arith)
-    told (inr a) (inr b) c = (eqb-false (length x) 0 a, b)
+abbrev Tells : List ℕ → Found → Type 0
+Tells x nothing = length x ≡ 0
+Tells x other = (length x ≡ 0 → ⊥) × (begins x ≡ false)
+Tells x cut = (begins x ≡ true) × (length x < 2 + sizeIn 0 x)
+Tells x (whole p) = (begins x ≡ true) × ((2 + sizeIn 0 x ≤ length x) × (p ≡ packetIn 0 x))
 
-pub whole-tells : (x p : List ℕ) → foundIn x ≡ whole p → (begins x ≡ true) × (2 + sizeIn 0 x ≤ length x)
+found-tells : (x : List ℕ) → Tells x (foundIn x)
 unfolding foundIn
-whole-tells x p e = told (bool (eqb (length x) 0)) (bool (begins x)) (bool (leb (2 + sizeIn 0 x) (length x)))
+found-tells x = told (bool (eqb (length x) 0)) (bool (begins x)) (bool (leb (2 + sizeIn 0 x) (length x)))
   where
     told :
         (eqb (length x) 0 ≡ true) ⊎ (eqb (length x) 0 ≡ false) → (begins x ≡ true) ⊎ (begins x ≡ false) →
         (leb (2 + sizeIn 0 x) (length x) ≡ true) ⊎ (leb (2 + sizeIn 0 x) (length x) ≡ false) →
-        (begins x ≡ true) × (2 + sizeIn 0 x ≤ length x)
-    told (inl a) b c = let d : nothing ≡ whole p = rw a at e in let z : _≡_ {A = ℕ} 0 1 = cc d in absurd (omega arith)
-    told (inr a) (inl b) (inl c) = (b, leb-true (2 + sizeIn 0 x) (length x) c)
-    told (inr a) (inl b) (inr c) = let d : cut ≡ whole p = rw (a, b, c) at e in let z : _≡_ {A = ℕ} 0 1 = cc d in absurd (omega arith)
-    told (inr a) (inr b) c = let d : other ≡ whole p = rw (a, b) at e in let z : _≡_ {A = ℕ} 0 1 = cc d in absurd (omega arith)
-
-pub cut-tells : (x : List ℕ) → foundIn x ≡ cut → (begins x ≡ true) × (length x < 2 + sizeIn 0 x)
-unfolding foundIn
-cut-tells x e = told (bool (eqb (length x) 0)) (bool (begins x)) (bool (leb (2 + sizeIn 0 x) (length x)))
-  where
-    told :
-        (eqb (length x) 0 ≡ true) ⊎ (eqb (length x) 0 ≡ false) → (begins x ≡ true) ⊎ (begins x ≡ false) →
-        (leb (2 + sizeIn 0 x) (length x) ≡ true) ⊎ (leb (2 + sizeIn 0 x) (length x) ≡ false) →
-        (begins x ≡ true) × (length x < 2 + sizeIn 0 x)
-    told (inl a) b c = let d : nothing ≡ cut = rw a at e in let z : _≡_ {A = ℕ} 0 1 = cc d in absurd (omega arith)
-    told (inr a) (inl b) (inl c) = let d : whole (packetIn 0 x) ≡ cut = rw (a, b, c) at e in let z : _≡_ {A = ℕ} 0 1 = cc d in absurd (omega arith)
-    told (inr a) (inl b) (inr c) = (b, leb-false (2 + sizeIn 0 x) (length x) c)
-    told (inr a) (inr b) c = let d : other ≡ cut = rw (a, b) at e in let z : _≡_ {A = ℕ} 0 1 = cc d in absurd (omega arith)
+        Tells x (pick (eqb (length x) 0) nothing (pick (begins x) (pick (leb (2 + sizeIn 0 x) (length x)) (whole (packetIn 0 x)) cut) other))
+    told (inl a) b c = rw a (eqb-true (length x) 0 a)
+    told (inr a) (inl b) (inl c) = rw (a, b, c) (b, (leb-true (2 + sizeIn 0 x) (length x) c, refl))
+    told (inr a) (inl b) (inr c) = rw (a, b, c) (b, leb-false (2 + sizeIn 0 x) (length x) c)
+    told (inr a) (inr b) c = rw (a, b) (eqb-false (length x) 0 a, b)
 
 pub nothing-tells : (x : List ℕ) → foundIn x ≡ nothing → length x ≡ 0
-unfolding foundIn
-nothing-tells x e = told (bool (eqb (length x) 0))
-  where
-    no : (b c : Bool) → pick b (pick c (whole (packetIn 0 x)) cut) other ≡ nothing → ⊥
-    no true true d = let z : _≡_ {A = ℕ} 0 1 = cc d in omega arith
-    no true false d = let z : _≡_ {A = ℕ} 0 1 = cc d in omega arith
-    no false c d = let z : _≡_ {A = ℕ} 0 1 = cc d in omega arith
+nothing-tells x e = subst (Tells x) e (found-tells x)
 
-    told : (eqb (length x) 0 ≡ true) ⊎ (eqb (length x) 0 ≡ false) → length x ≡ 0
-    told (inl a) = eqb-true (length x) 0 a
-    told (inr a) = absurd (no (begins x) (leb (2 + sizeIn 0 x) (length x)) (rw a at e))
+other-tells : (x : List ℕ) → foundIn x ≡ other → (length x ≡ 0 → ⊥) × (begins x ≡ false)
+other-tells x e = subst (Tells x) e (found-tells x)
+
+pub cut-tells : (x : List ℕ) → foundIn x ≡ cut → (begins x ≡ true) × (length x < 2 + sizeIn 0 x)
+cut-tells x e = subst (Tells x) e (found-tells x)
+
+-- a whole packet is the one behind the mark
+pub whole-tells :
+    (x p : List ℕ) → foundIn x ≡ whole p → (begins x ≡ true) × ((2 + sizeIn 0 x ≤ length x) × (p ≡ packetIn 0 x))
+whole-tells x p e = subst (Tells x) e (found-tells x)
 
 -- more octets behind other octets, or behind a whole packet, change nothing
 pub other-more : (w y : List ℕ) → foundIn w ≡ other → foundIn (w ++ y) ≡ other
@@ -123,6 +104,6 @@ pub whole-more : (w y p : List ℕ) → foundIn w ≡ whole p → foundIn (w ++ 
 whole-more w y p e =
     let a = whole-tells w p e in
     let l = length-append w y in
-    found-whole (w ++ y) (λ h. omega arith) (begins-same w y (omega arith) ∙ a .0) (omega (arith, size-same w y (omega arith)))
-    ∙ ap whole (packet-same w y (a .1))
-    ∙ sym (found-whole w (λ h. omega arith) (a .0) (a .1))
+    found-whole (w ++ y) (λ h. omega (arith, a .1 .0)) (begins-same w y (omega (arith, a .1 .0)) ∙ a .0) (omega (arith, a .1 .0, size-same w y (omega (arith, a .1 .0))))
+    ∙ ap whole (packet-same w y (a .1 .0))
+    ∙ sym (found-whole w (λ h. omega (arith, a .1 .0)) (a .0) (a .1 .0))

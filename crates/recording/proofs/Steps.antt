@@ -16,12 +16,11 @@ use Rattle.cells.specs.Rows.{sizeIn, packetIn}
 use Rattle.octets.proofs.Lists.{bool}
 use Rattle.store.specs.Taking.{writing}
 use Rattle.join.specs.Joining.{Joining, inPacket, inOutput, unjoined, joining, storeJoined}
-use Rattle.recording.specs.declared.What.{What}
 use Rattle.recording.specs.declared.What.the-variants.{More, Ended, Unmarked, Torn}
 use Rattle.recording.specs.declared.Stands.{Stands}
 use Rattle.recording.specs.declared.Stands.the-variants.{Nothing, Other, Cut, Whole}
 use Rattle.recording.specs.declared.Done.{Done}
-use Rattle.recording.specs.Recording.{Found, nothing, other, cut, whole, begins, foundIn, longest, room, over, refused, kept, cameBy, cameOf, storeAfter, without, wrote, Stepped, wanting, ended, unmarked, torn, came, stepBy, stepped, storeBehind, usedBy, writtenBy}
+use Rattle.recording.specs.Recording.{Found, nothing, other, cut, whole, foundIn, longest, room, over, refused, kept, cameBy, cameOf, storeAfter, without, wrote, Stepped, wanting, ended, unmarked, torn, came, stepBy, stepped, storeBehind, usedBy, writtenBy}
 use Rattle.recording.specs.Told.{standsOf, still, doneCame, doneOf}
 use Rattle.recording.specs.Inner.{stopAs}
 use Rattle.recording.proofs.Frames.{framed-long, without-long}
@@ -61,17 +60,6 @@ module _ (s : Settings) (Z : ℕ) (st p out : List ℕ) where
       )
 
 -- ---- what stands at the place
-
--- a whole packet is the one behind the mark
-pub whole-is : (x q : List ℕ) → foundIn x ≡ whole q → q ≡ packetIn 0 x
-unfolding foundIn
-whole-is x q e = told (eqb (length x) 0) (begins x) (leb (2 + sizeIn 0 x) (length x)) e
-  where
-    told : (a b c : Bool) → pick a nothing (pick b (pick c (whole (packetIn 0 x)) cut) other) ≡ whole q → q ≡ packetIn 0 x
-    told true b c d = let z : _≡_ {A = ℕ} 0 1 = cc d in absurd (omega arith)
-    told false true true d = sym (cc d)
-    told false true false d = let z : _≡_ {A = ℕ} 0 1 = cc d in absurd (omega arith)
-    told false false c d = let z : _≡_ {A = ℕ} 0 1 = cc d in absurd (omega arith)
 
 module _ (s : Settings) (Z : ℕ) (st w : List ℕ) (e : Bool) (out : List ℕ) where
   abbrev By : Found → Done → List ℕ → List ℕ → Type 0
@@ -152,7 +140,7 @@ module _ (s : Settings) (Z : ℕ) (st w : List ℕ) (e : Bool) (out : List ℕ) 
 
     pub step-whole : {q x y : List ℕ} → r ≡ Whole → q ≡ packetIn 0 w → Passes s Z st q out d x y → Steps d x y
     unfolding stepped
-    step-whole h eq a = whole-by (foundIn w) (λ p f. whole-is w p f ∙ sym eq) er h a
+    step-whole h eq a = whole-by (foundIn w) (λ p f. whole-tells w p f .1 .1 ∙ sym eq) er h a
 
 -- ---- how many octets a step uses up, and how many it writes
 
@@ -171,7 +159,7 @@ module _ (s : Settings) (Z : ℕ) (st w : List ℕ) (e : Bool) where
       go false = omega arith
   used-by (whole p) h =
       let a = whole-tells w p h in
-      omega (arith, a .1, ap length (whole-is w p h), length-take (sizeIn 0 w) (drop 2 w))
+      omega (arith, a .1 .0, ap length (a .1 .1), length-take (sizeIn 0 w) (drop 2 w))
 
   -- no more than are in hand
   used-most : usedBy (stepped s Z st w e) ≤ length w

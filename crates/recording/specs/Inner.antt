@@ -1,11 +1,10 @@
 -- What the code hands about: what a joining wrote, and a step that may want more octets.
 -- Assumes nothing: these are definitions.
-use Prim.Native.Nat.{ℕ, _+_}
+use Prim.Native.Nat.{ℕ}
 use mathlib.Core.Bool.{Bool}
 use mathlib.Core.List.{List, []}
 use lib.Dec.{eqb}
 use Rattle.octets.specs.Octets.{pick}
-use Rattle.walk.specs.declared.Refusal.{Refusal}
 use Rattle.store.specs.Taking.{writing}
 use Rattle.store.specs.Told.{refusalOf}
 use Rattle.join.specs.Joining.{Joining, inPacket, inOutput, unjoined}

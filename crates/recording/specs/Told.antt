@@ -3,14 +3,13 @@
 use Prim.Native.Nat.{ℕ, _+_}
 use mathlib.Core.List.{List}
 use lib.ListN.{length}
-use Rattle.walk.specs.declared.Refusal.{Refusal}
 use Rattle.store.specs.Told.{refusalOf}
 use Rattle.recording.specs.declared.What.{What}
 use Rattle.recording.specs.declared.What.the-variants.{More, Ended, Unmarked, Torn, Passed, Refused, Kept, Whole, Joined}
 use Rattle.recording.specs.declared.Stands.{Stands}
 use Rattle.recording.specs.declared.Stands.the-variants.{Nothing, Other, Cut, Whole as InFull}
 use Rattle.recording.specs.declared.Done.{Done}
-use Rattle.recording.specs.Recording.{Found, nothing, other, cut, whole, Came, over, refused, kept, wholly, message, wrote, Stepped, wanting, ended, unmarked, torn, came, usedBy, writtenBy}
+use Rattle.recording.specs.Recording.{Found, nothing, other, cut, whole, Came, over, refused, kept, wholly, message, wrote, Stepped, wanting, ended, unmarked, torn, came}
 
 abbrev pub standsOf : Found → Stands
 standsOf nothing = Nothing

@@ -1,7 +1,6 @@
 -- `recording::front` meets its contract. The loop's invariant: so many octets have gone to the front.
 -- Assumes nothing.
 use Prim.Native.Nat.{_-_}
-use denote.Ref.{now}
 use native.Mathlib.Omega.{arith}
 use Rattle.recording.proofs.Moving.{Moving, moving-first, moving-turn, moving-done}
 use borrow.Author.Needs.{needs}

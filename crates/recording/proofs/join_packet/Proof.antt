@@ -4,7 +4,6 @@ use denote.Ref.{now}
 use mathlib.Core.Path.{refl}
 use native.Mathlib.Omega.{arith}
 use lib.ListN.{length}
-use lib.Seq.{length-sets}
 use Rattle.join.specs.Joining.{joining}
 use Rattle.recording.specs.Recording.{room}
 use Rattle.recording.proofs.Frames.{without-long}

@@ -2,7 +2,6 @@
 -- Assumes nothing.
 use borrow.Author.Tests.{eq-eqb, ne-eqb}
 use Rattle.recording.specs.Inner.{leftAs}
-use borrow.Author.Needs.{needs}
 use Rattle.recording.proofs.left.Statement.{statement}
 use Rattle.recording.proofs.left.Tie as tie
 

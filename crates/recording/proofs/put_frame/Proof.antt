@@ -1,6 +1,5 @@
 -- `recording::put_frame` meets its contract: the mark, and behind it the length.
 -- Assumes nothing.
-use denote.Ref.{now}
 use Prim.Native.Nat.{ℕ}
 use mathlib.Core.Path.{ap, _∙_}
 use mathlib.Core.List.{List}

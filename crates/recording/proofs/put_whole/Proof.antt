@@ -1,7 +1,6 @@
 -- `recording::put_whole` meets its contract: two parts of the packet, one behind the other.
 -- Assumes nothing.
 use denote.Ref.{now}
-use mathlib.Core.Path.{ap, _∙_}
 use native.Mathlib.Omega.{arith}
 use Rattle.recording.proofs.Frames.{whole-laid}
 use borrow.Author.Needs.{needs}

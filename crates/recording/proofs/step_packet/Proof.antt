@@ -1,7 +1,6 @@
 -- `recording::step_packet` meets its contract: by the packet's length.
 -- Assumes nothing.
 use denote.Ref.{now}
-use native.Mathlib.Omega.{arith}
 use lib.ListN.{length}
 use Rattle.recording.proofs.Steps.{passes-over, passes-joined}
 use borrow.Author.Needs.{needs}

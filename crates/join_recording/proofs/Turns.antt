@@ -1,0 +1,72 @@
+-- What holds from one step to the next: the store is in order and has its cells, the octets in hand lie in the window, the output has
+-- room.
+-- Assumes nothing.
+use Prim.Native.Nat.{ℕ, _+_, _-_, _≤_}
+use mathlib.Core.Path.{_≡_, ap, ap₂, sym, _∙_}
+use mathlib.Core.Bool.{Bool}
+use mathlib.Core.List.{List}
+use native.Mathlib.Omega.{arith}
+use lib.ListN.{length, take, drop, replicate, length-take, length-replicate}
+use Rattle.cells.specs.Rows.{zeroRow}
+use Rattle.cells.specs.Order.{countIn}
+use Rattle.store.specs.Inner.{gate}
+use Rattle.recording.specs.declared.Done.{Done}
+use Rattle.recording.specs.Recording.{room, settings, cellCount, stepped, storeBehind}
+use Rattle.recording.specs.Told.{doneOf}
+use Rattle.recording.proofs.Kept.{step-gate, step-count, begin-gate, begin-count}
+use Rattle.recording.proofs.Steps.{step-within}
+
+module _ (Z : ℕ) (st w : List ℕ) (e : Bool) where
+  pub next-gate : {x : List ℕ} → x ≡ storeBehind settings Z st (stepped settings Z st w e) → gate settings Z st ≡ 0 → gate settings Z x ≡ 0
+  next-gate h g = ap (gate settings Z) h ∙ step-gate settings Z st (stepped settings Z st w e) g
+
+  pub next-count :
+      {x : List ℕ} → x ≡ storeBehind settings Z st (stepped settings Z st w e) → cellCount ≡ countIn Z st → cellCount ≡ countIn Z x
+  next-count h g = step-count settings Z st (stepped settings Z st w e) g ∙ ap (countIn Z) (sym h)
+
+-- the octets used up lie in hand, and those to be written in the output
+pub window-within :
+    (Z : ℕ) (st buf : List ℕ) (e : Bool) (from till : ℕ) {d : Done} → d ≡ doneOf (stepped settings Z st (take (till - from) (drop from buf)) e) →
+    (d .used ≤ till - from) × (d .written ≤ 6 + room)
+window-within Z st buf e from till h =
+    let k = step-within settings Z st (take (till - from) (drop from buf)) e h in
+    (omega (arith, k .0, length-take (till - from) (drop from buf)), k .1)
+
+pub record Going (zero st₀ buf₀ out₀ st buf out : List ℕ) (from till : ℕ) : Type 0 where
+  pub order : gate settings (length zero) st ≡ 0
+  pub cells : cellCount ≡ countIn (length zero) st
+  pub room : 6 + room ≤ length out
+  pub inside : from ≤ till
+  pub window : till ≤ length buf
+  pub store-long : length st ≡ length st₀
+  pub window-long : length buf ≡ length buf₀
+  pub output-long : length out ≡ length out₀
+
+pub going-next :
+    {zero st₀ buf₀ out₀ st buf out st′ buf′ out′ : List ℕ} {from till from′ till′ : ℕ} → Going zero st₀ buf₀ out₀ st buf out from till →
+    gate settings (length zero) st′ ≡ 0 → cellCount ≡ countIn (length zero) st′ → from′ ≤ till′ → till′ ≤ length buf → length st′ ≡ length st →
+    length buf′ ≡ length buf → length out′ ≡ length out → Going zero st₀ buf₀ out₀ st′ buf′ out′ from′ till′
+going-next g o c i w ls lb lo =
+    record {
+      order = o;
+      cells = c;
+      room = omega (arith, g .room);
+      inside = i;
+      window = omega arith;
+      store-long = ls ∙ g .store-long;
+      window-long = lb ∙ g .window-long;
+      output-long = lo ∙ g .output-long;
+    }
+
+-- a program begins with a store of zeros
+pub begins-order : {zero st : List ℕ} → zero ≡ replicate 1024 0 → st ≡ replicate 32768 0 → gate settings (length zero) st ≡ 0
+begins-order ez es = ap₂ (λ (n : ℕ) (x : List ℕ). gate settings n x) (ap length ez ∙ length-replicate {A = ℕ} 1024 0) es ∙ begin-gate
+
+pub begins-cells : {zero st : List ℕ} → zero ≡ replicate 1024 0 → st ≡ replicate 32768 0 → cellCount ≡ countIn (length zero) st
+begins-cells ez es = begin-count ∙ sym (ap₂ (λ (n : ℕ) (x : List ℕ). countIn n x) (ap length ez ∙ length-replicate {A = ℕ} 1024 0) es)
+
+pub begins-zero : {zero : List ℕ} → zero ≡ replicate 1024 0 → zero ≡ zeroRow (length zero)
+begins-zero ez = ez ∙ sym (ap (λ (n : ℕ). replicate n 0) (ap length ez ∙ length-replicate {A = ℕ} 1024 0))
+
+pub begins-room : {out : List ℕ} → out ≡ replicate 65542 0 → 6 + room ≤ length out
+begins-room eo = omega (arith, ap length eo ∙ length-replicate {A = ℕ} 65542 0)
