@@ -1,8 +1,8 @@
 // The store of arrived segments: what a packet's arrival comes to, and taking a complete message out.
 //
 // The store is lent memory of 1 to 4,096 cells of 1,024 octets; an empty one is all zeros. Each public call checks T and the
-// store's order before anything else, and hands a store in order on to an inner function, so that whoever keeps a store in order
-// pays for the check once.
+// store's order before anything else, and hands a store in order on to an inner function. Whoever keeps a store in order calls
+// those: an arrival then costs no check, a taking one pass over the cells in which its chains are made.
 ghost use mathlib.Core.Path.{_≡_};
 ghost use mathlib.Core.Bool.{true};
 ghost use mathlib.Core.List.{_∷_, _++_};
