@@ -2,6 +2,7 @@
 -- Assumes nothing.
 use Prim.Native.Nat.{ℕ, suc, _+_, _-_, _*_, _/_, _%_, _≤_, _<_}
 use mathlib.Core.Path.{_≡_, refl, ap, sym, _∙_}
+use mathlib.Core.Logic.{⊎-elim}
 use mathlib.Core.Bool.{Bool, true, false}
 use mathlib.Core.List.{List}
 use native.Mathlib.Numerals.{add-one}
@@ -9,7 +10,8 @@ use native.Mathlib.Omega.{arith}
 use native.Mathlib.Nat.{mul-le-mul-right, suc-mul, div-zero}
 use lib.ListN.{length}
 use borrow.Author.Tests.{le-leb, lt-leb, eq-eqb, ne-eqb}
-use Rattle.octets.specs.Octets.{pick, alike}
+use Rattle.octets.specs.Octets.{pick, alike, octetAt}
+use Rattle.octets.proofs.Lists.{bool, alike-true}
 use Rattle.octets.proofs.Has.{part-length}
 use Rattle.walk.specs.declared.Settings.{Settings}
 use Rattle.packet.specs.Reading.{readPacket}
@@ -87,3 +89,10 @@ fits-nothing z n e = rw (e, div-zero n) (sym (same (lengthFits 0 n)))
     same : (b : Bool) → _≡_ {A = ℕ} (pick b 0 0) 0
     same true = refl
     same false = refl
+
+-- two rows that differ in the first octet differ
+pub first-differs : (a b : List ℕ) {x y : ℕ} → x ≡ octetAt a 0 → y ≡ octetAt b 0 → (x ≡ y → ⊥) → false ≡ alike a b
+first-differs a b ex ey ne = ⊎-elim same (λ e. sym e) (bool (alike a b))
+  where
+    same : alike a b ≡ true → false ≡ alike a b
+    same e = absurd (ne (ex ∙ ap (λ (l : List ℕ). octetAt l 0) (alike-true a b e) ∙ sym ey))

@@ -23,7 +23,7 @@ numbers-same (suc n) p q at h =
     ap₂ (λ (x y : ℕ). x * 256 + y) (numbers-same n p q at (λ k l. h k (omega arith))) (h n (omega arith))
 
 -- an octet of a part
-part-octet : (p : List ℕ) (at n k : ℕ) → k < n → octetAt (part p at n) k ≡ octetAt p (at + k)
+pub part-octet : (p : List ℕ) (at n k : ℕ) → k < n → octetAt (part p at n) k ≡ octetAt p (at + k)
 part-octet p at n k l = getD-take n (drop at p) k 0 l ∙ getD-drop at p k 0
 
 -- equal parts from octet 6 to the counter have the id in them

@@ -139,13 +139,23 @@ pub struct Judged {
     pub counter: u32,
 }
 
+// Whether a row is as the zero cell. A held one differs in its first octet, and is not compared any further.
+fn is_free(row: &[u8], zero: &[u8]) -> bool
+    ensures { λ r. ⌜ r ≡ alike (now (row .entry)) (now (zero .entry)) ⌝ }
+{
+    if octets::octet(row, 0) != octets::octet(zero, 0) {
+        return false;
+    }
+    octets::same(row, zero)
+}
+
 // What a row is, beside a zero cell of its size, by one reading of its packet.
 pub fn judge(s: Settings, row: &[u8], zero: &[u8]) -> Judged
     requires { ⌜ now zero ≡ zeroRow (length (now zero)) ⌝ }
     requires { ⌜ length (now row) ≡ length (now zero) ⌝ }
     ensures { λ r. ⌜ r ≡ judgedOf (bodyIn s (length (now (zero .entry))) (now (row .entry))) (cellOf s (length (now (zero .entry))) (now (row .entry))) ⌝ }
 {
-    if octets::same(row, zero) {
+    if is_free(row, zero) {
         return Judged {
             kind: 0,
             at: 0,
@@ -181,7 +191,7 @@ pub fn lowest_free(store: &[u8], n: usize, zero: &[u8]) -> usize
     let z = zero.len();
     let mut i: usize = 0;
     while i < n {
-        if octets::same(row(store, z, i), zero) {
+        if is_free(row(store, z, i), zero) {
             return i;
         }
         i += 1;
@@ -369,7 +379,7 @@ fn find_on(
     best
 }
 
-// The same as `find` by a walk along one chain.
+// The same as `find`, by a walk along one chain where the cells stand on chains.
 pub fn find_by(
     s: Settings,
     store: &[u8],
@@ -378,6 +388,7 @@ pub fn find_by(
     q: &[u8],
     stop: usize,
     c: u64,
+    chained: bool,
     heads: &[u16; CHAINS],
     links: &[u16; CELLS_MOST],
 ) -> usize
@@ -385,11 +396,14 @@ pub fn find_by(
     requires { ⌜ n * length (now zero) ≤ length (now store) ⌝ }
     requires { ⌜ sound s (length (now zero)) (now store) n ≡ true ⌝ }
     requires { ⌜ Asked s (now q) stop ⌝ }
-    requires { ⌜ Chained (bucketAt s (length (now zero)) (now store)) (now heads) (now links) n ⌝ }
+    requires { ⌜ (chained ≡ true → Chained (bucketAt s (length (now zero)) (now store)) (now heads) (now links) n) ⌝ }
     ensures { λ r. ⌜ r ≡ foundIn s (length (now (zero .entry))) (now (store .entry)) n (keyOf (now (q .entry)) (readPacket s (now (q .entry)))) c ⌝ }
 {
-    let b = bucket(q, stop, c);
-    find_on(s, store, n, zero, q, stop, c, b, heads, links)
+    if chained {
+        let b = bucket(q, stop, c);
+        return find_on(s, store, n, zero, q, stop, c, b, heads, links);
+    }
+    find(s, store, n, zero, q, stop, c)
 }
 
 // Cell i becomes the head of chain b, and the head that was its link.

@@ -22,6 +22,8 @@ use Rattle.store.proofs.Kind.{the-type}
 use Rattle.store.specs.Arriving.{Arrived, whole, stored, again, refused, arrived, storeWith}
 use Rattle.store.specs.Taking.{took, outWith, storeLess}
 use Rattle.store.specs.Told.{arrivalOf, takenOf}
+use Rattle.store.specs.Inner.{gate}
+use Rattle.store.proofs.Opening.{arrived-shut}
 use Rattle.join.specs.declared.Joined.{Joined}
 use Rattle.join.specs.Joining.{inPacket, unjoined, bodyFrom, tookAs, lessTaken, joinedBy, storeBy, outBy, joining, storeJoined, outJoined}
 use Rattle.join.specs.Told.{joinedOf}
@@ -46,6 +48,15 @@ module _ (s : Settings) (Z : ℕ) (st p out : List ℕ) where
   Joins j x y =
       (j ≡ joinedOf (joining s Z st p (length out)))
       × ((x ≡ storeJoined s Z st p (length out)) × (y ≡ outJoined s Z st p out))
+
+  -- T or the store's order refuses it
+  pub join-shut : (gate s Z st ≡ 0 → ⊥) → {k : ℕ} {j : Joined} → k ≡ gate s Z st → j ≡ joinedOf (unjoined k) → Joins j st out
+  unfolding joining storeJoined outJoined storeWith
+  join-shut h ek ej =
+      let e = sym (arrived-shut s Z st p h) in (
+        ej ∙ ap (λ (x : ℕ). joinedOf (unjoined x)) ek ∙ ap (λ (b : Arrived). joinedOf (joinedBy s Z st p (length out) b)) e,
+        (ap (storeBy s Z st p (length out)) e, ap (outBy s Z st p out) e),
+      )
 
   -- a taking from the store behind the arrival
   pub record Takes (x : List ℕ) (j : Joined) (after left : List ℕ) : Type 0 where

@@ -1,7 +1,8 @@
 // Joining: a packet arrives, and where it came whole its body is told, else what is complete is taken out; and the view of a body.
 //
 // Joining tells which buffer holds the body, its place and its length; the view hands that part out, read only. For a packet that
-// came whole neither the store nor the output is touched. If taking refuses, the arrived segment stays in the store.
+// came whole neither the store nor the output is touched. If taking refuses, the arrived segment stays in the store. T and the store's
+// order are checked once; what follows is an inner function, for whoever keeps a store in order.
 ghost use mathlib.Core.Path.{_≡_};
 ghost use Prim.Native.Nat.{_<_};
 ghost use lib.ListN.{length};
@@ -19,6 +20,9 @@ use store::Kind;
 use store::Taken;
 use walk::Refusal;
 use walk::Settings;
+
+// The octets of a cell.
+const CELL: usize = 1024;
 
 // Which buffer holds a body: the packet as it arrived, or the one where it was joined; nothing where there is no body.
 pub enum Which {
@@ -165,12 +169,11 @@ pub fn join(s: Settings, store: &mut [u8], p: &[u8], out: &mut [u8]) -> Joined
     ensures { λ r. ⌜ now (store .exit) ≡ storeJoined s 1024 (now (store .entry)) (now (p .entry)) (length (now (out .entry))) ⌝ }
     ensures { λ r. ⌜ now (out .exit) ≡ outJoined s 1024 (now (store .entry)) (now (p .entry)) (now (out .entry)) ⌝ }
 {
-    let got = store::arrive(s, store, p);
-    let Arrival::Answer(kind) = got else {
-        return refused(refusal_of(got));
-    };
-    if let Kind::Whole = kind {
-        return in_packet(s, p);
+    let zero = [0u8; CELL];
+    let o = store::check(s, store, &zero);
+    let shut = o.refusal;
+    if shut.number != 0 {
+        return refused(shut);
     }
-    in_output(store::take(s, store, out))
+    join_in(s, store, o.cells, &zero, p, out)
 }

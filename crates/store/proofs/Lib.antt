@@ -4,6 +4,7 @@ pub mod Arrivals
 pub mod Opening
 pub mod Following
 pub mod Counting
+pub mod Ends
 pub mod Running
 pub mod Picks
 pub mod Clearing

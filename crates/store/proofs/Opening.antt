@@ -176,12 +176,3 @@ module _ (s : Settings) (Z : ℕ) (st : List ℕ) where
 
       pub opened-sound : allSound s Z st (o .cells) ≡ true
       opened-sound = ap (allSound s Z st) opened-cells ∙ order-has s Z st (opened-order opened-gate) .sound
-
--- the chains that were made for a store in order are those of all its cells
-pub chained-all :
-    (s : Settings) (Z : ℕ) (st heads links : List ℕ) {n r : ℕ} → inOrder s Z st ≡ true → n ≡ countIn Z st → r ≡ pick (inOrder s Z st) (countIn Z st) 0 →
-    ((r ≡ 0 → ⊥) → Chained (bucketAt s Z st) heads links r) → Chained (bucketAt s Z st) heads links n
-chained-all s Z st heads links {n} {r} o en er h =
-    let e : r ≡ n = er ∙ ap (λ (b : Bool). pick b (countIn Z st) 0) o ∙ sym en in
-    let k = order-has s Z st o .least in
-    subst (Chained (bucketAt s Z st) heads links) e (h (λ z. omega (arith, e)))

@@ -1,6 +1,6 @@
 -- The message that opens in a cell, as the code finds it.
 -- Assumes nothing.
-use Prim.Native.Nat.{ℕ, zero, suc, _+_, _*_, _^_, _≤_, _<_}
+use Prim.Native.Nat.{ℕ, zero, suc, _+_, _*_, _/_, _^_, _≤_, _<_}
 use mathlib.Core.Path.{_≡_, refl, ap, ap₂, sym, _∙_}
 use mathlib.Core.Logic.{⊎-elim}
 use mathlib.Core.Bool.{Bool, true, false}
@@ -11,7 +11,8 @@ use native.Mathlib.Numerals.{add-one}
 use lib.ListN.{length, length-append}
 use lib.Dec.{eqb}
 use borrow.Author.Tests.{eqb-true}
-use Rattle.octets.specs.Octets.{pick, Octets, octetAt, part, number}
+use Rattle.octets.specs.Octets.{pick, Octets, octetAt, part, number, alike}
+use Rattle.octets.proofs.Lists.{bool, alike-true}
 use Rattle.octets.proofs.Has.{octets-part}
 use Rattle.octets.proofs.Numbers.{number-top}
 use Rattle.walk.specs.declared.Settings.{Settings}
@@ -19,15 +20,16 @@ use Rattle.packet.specs.declared.Header.{Header}
 use Rattle.packet.specs.Reading.{readPacket}
 use Rattle.packet.specs.Key.{keyOf}
 use Rattle.cells.specs.Segments.{Seg, segOf}
-use Rattle.cells.specs.Rows.{Cell, free, held, broken, rowAt, packetIn}
+use Rattle.cells.specs.Rows.{Cell, free, held, broken, rowAt, zeroRow, packetIn}
 use Rattle.cells.specs.Order.{cellAt, sound, lowest}
 use Rattle.cells.specs.Inner.{Asked}
 use Rattle.cells.proofs.Counters.{counter-told}
-use Rattle.cells.proofs.Carries.{free-cell, first-free, first-held, Holding, holding}
+use Rattle.cells.proofs.Carries.{free-cell, Holding, holding}
 use Rattle.cells.proofs.Apart.{sound-at}
 use Rattle.store.specs.Messages.{Role, first, middle, last, roleOf, Run, bodies, bodyOf, cellsOf, chain, opensBy, runFrom, runIn, top}
 use Rattle.store.specs.Follow.{segAt, follow, bodiesAt, total, answer}
 use Rattle.store.proofs.Found.{body-long, part-most}
+use Rattle.store.proofs.Ends.{zeros-at, flags-told}
 use Rattle.store.proofs.Following.{role-first, chain-places, bodies-places}
 
 -- a segment that is no first opens nothing
@@ -45,26 +47,51 @@ role-of-first f e = go (eqb f 1) (eqb f 2) (λ x. eqb-true f 1 x) e
     go false true h d = let z : _≡_ {A = ℕ} 0 1 = cc in absurd (omega arith)
     go false false h d = let z : _≡_ {A = ℕ} 0 1 = cc in absurd (omega arith)
 
-module _ (s : Settings) (Z : ℕ) (st : List ℕ) (n i : ℕ) (g : sound s Z st n ≡ true) (below : i < n) {r : List ℕ} (er : r ≡ rowAt Z st i) {x : ℕ} (ex : x ≡ octetAt r 0) where
+module _ (s : Settings) (Z : ℕ) (st : List ℕ) (n i : ℕ) (g : sound s Z st n ≡ true) (below : i < n) {r : List ℕ} (er : r ≡ rowAt Z st i) {f : ℕ} (ef : f ≡ octetAt r 4 / 64) where
   abbrev cs : List Cell
   cs = cellsOf s Z st n
 
-  first-is : x ≡ octetAt (rowAt Z st i) 0
-  first-is = ex ∙ ap (λ (y : List ℕ). octetAt y 0) er
+  abbrev t : Seg
+  t = segAt s Z st i
 
-  pub run-free : x ≡ 0 → 0 ≡ answer (runIn suc top cs (cellAt s Z st i))
-  run-free e = sym (ap (λ (y : Cell). answer (runIn suc top cs y)) (free-cell s Z (rowAt Z st i) (first-free s Z (rowAt Z st i) (sound-at s Z st n i g below refl) (sym first-is ∙ e))))
+  flags-row : f ≡ octetAt (rowAt Z st i) 4 / 64
+  flags-row = ef ∙ ap (λ (y : List ℕ). octetAt y 4 / 64) er
 
-  module _ (some-held : x ≡ 0 → ⊥) where
+  runs : Holding s Z (rowAt Z st i) → runIn suc top cs (cellAt s Z st i) ≡ opensBy (roleOf (t .flags)) t (chain suc top top cs (t .key) (suc (t .counter)))
+  unfolding runFrom
+  runs h = ap (runIn suc top cs) (h .cell)
+
+  holds-it : alike (rowAt Z st i) (zeroRow Z) ≡ false → Holding s Z (rowAt Z st i)
+  holds-it e = holding s Z (rowAt Z st i) (sound-at s Z st n i g below refl) e
+
+  -- a cell whose flags are not those of a first opens nothing
+  pub run-none : (f ≡ 1 → ⊥) → 0 ≡ answer (runIn suc top cs (cellAt s Z st i))
+  run-none ne = ⊎-elim free-it held-it (bool (alike (rowAt Z st i) (zeroRow Z)))
+    where
+      free-it : alike (rowAt Z st i) (zeroRow Z) ≡ true → 0 ≡ answer (runIn suc top cs (cellAt s Z st i))
+      free-it e = sym (ap (λ (y : Cell). answer (runIn suc top cs y)) (free-cell s Z (rowAt Z st i) e))
+
+      held-it : alike (rowAt Z st i) (zeroRow Z) ≡ false → 0 ≡ answer (runIn suc top cs (cellAt s Z st i))
+      held-it e =
+          let h = holds-it e in
+          sym
+          (ap answer
+          (runs h
+          ∙ opens-none (roleOf (t .flags)) t (chain suc top top cs (t .key) (suc (t .counter)))
+          (λ y. ne (flags-row ∙ sym (flags-told s Z st i h) ∙ role-of-first (t .flags) y))))
+
+  module _ (is-first : f ≡ 1) where
     pub there : Holding s Z (rowAt Z st i)
-    there = holding s Z (rowAt Z st i) (sound-at s Z st n i g below refl) (first-held Z (rowAt Z st i) (λ y. some-held (first-is ∙ y)))
+    there = holds-it (⊎-elim free-it (λ e. e) (bool (alike (rowAt Z st i) (zeroRow Z))))
+      where
+        free-it : alike (rowAt Z st i) (zeroRow Z) ≡ true → alike (rowAt Z st i) (zeroRow Z) ≡ false
+        free-it e =
+            let z : octetAt (rowAt Z st i) 4 ≡ 0 = ap (λ (x : List ℕ). octetAt x 4) (alike-true (rowAt Z st i) (zeroRow Z) e) ∙ zeros-at Z 4 in
+            let y : f ≡ 0 = flags-row ∙ ap (λ (x : ℕ). x / 64) z in
+            absurd (omega (arith, is-first))
 
-    abbrev t : Seg
-    t = segAt s Z st i
-
-    runs : runIn suc top cs (cellAt s Z st i) ≡ opensBy (roleOf (t .flags)) t (chain suc top top cs (t .key) (suc (t .counter)))
-    unfolding runFrom
-    runs = ap (runIn suc top cs) (there .cell)
+    one : t .flags ≡ 1
+    one = flags-told s Z st i there ∙ sym flags-row ∙ is-first
 
     opened : (js : List ℕ) → suc (length (t .body) + length (bodiesAt s Z st js)) ≡ suc (length (bodies (t ∷ map (segAt s Z st) js)))
     unfolding bodies
@@ -80,10 +107,6 @@ module _ (s : Settings) (Z : ℕ) (st : List ℕ) (n i : ℕ) (g : sound s Z st 
 
       read-is : h ≡ readPacket s (packetIn Z (rowAt Z st i))
       read-is = eh ∙ ap (readPacket s) packet-is
-
-      flags-is : h .primary .flags ≡ t .flags
-      unfolding segOf
-      flags-is = ap (λ (y : Header). y .primary .flags) read-is
 
       counter-is : h .ids .counter .0 ≡ t .counter
       unfolding segOf
@@ -121,21 +144,17 @@ module _ (s : Settings) (Z : ℕ) (st : List ℕ) (n i : ℕ) (g : sound s Z st 
           rw (sym (counter-told s (packetIn Z (rowAt Z st i)) plain (there .accepted) (there .segment))) (number-top 4 (packetIn Z (rowAt Z st i)) _ plain) in
           omega (arith, ap (λ (y : Header). y .ids .counter .0) read-is)
 
-      pub run-other : (h .primary .flags ≡ 1 → ⊥) → 0 ≡ answer (runIn suc top cs (cellAt s Z st i))
-      run-other e =
-          sym (ap answer (runs ∙ opens-none (roleOf (t .flags)) t (chain suc top top cs (t .key) (suc (t .counter))) (λ y. e (flags-is ∙ role-of-first (t .flags) y))))
-
       pub run-first :
-          h .primary .flags ≡ 1 → {b : ℕ} → b ≡ total s Z st (h .body .length) (follow s Z st n (keyOf q (readPacket s q)) 4294967295 (h .ids .counter .0 + 1)) →
+          {b : ℕ} → b ≡ total s Z st (h .body .length) (follow s Z st n (keyOf q (readPacket s q)) 4294967295 (h .ids .counter .0 + 1)) →
           b ≡ answer (runIn suc top cs (cellAt s Z st i))
-      run-first e {b} eb =
+      run-first {b} eb =
           eb
           ∙ ap₂ (λ (l : ℕ) (k : List ℕ). total s Z st l (follow s Z st n k 4294967295 (h .ids .counter .0 + 1))) long-is key-is
           ∙ ap (λ (c : ℕ). total s Z st (length (t .body)) (follow s Z st n (t .key) 4294967295 c)) (add-one (h .ids .counter .0) ∙ ap suc counter-is)
           ∙ told (follow s Z st n (t .key) 4294967295 (suc (t .counter)))
           ∙ ap (λ (o : Option (List Seg)). answer (opensBy first t o)) (sym (chain-places s Z st n (t .key) g top (suc (t .counter))))
-          ∙ ap (λ (y : Role). answer (opensBy y t (chain suc top top cs (t .key) (suc (t .counter))))) (sym (role-first (sym flags-is ∙ e)))
-          ∙ sym (ap answer runs)
+          ∙ ap (λ (y : Role). answer (opensBy y t (chain suc top top cs (t .key) (suc (t .counter))))) (sym (role-first one))
+          ∙ sym (ap answer (runs there))
         where
           told : (o : Option (List ℕ)) → total s Z st (length (t .body)) o ≡ answer (opensBy first t (Option·map (map (segAt s Z st)) o))
           told none = refl

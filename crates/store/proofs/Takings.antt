@@ -4,6 +4,7 @@ use Prim.Native.Nat.{ℕ, zero, suc, _+_, _-_, _*_, _≤_, _<_}
 use mathlib.Core.Path.{_≡_, refl, ap, ap₂, sym, _∙_}
 use mathlib.Core.Bool.{Bool, true, false}
 use mathlib.Core.List.{List}
+use mathlib.Core.Option.{Option}
 use native.Mathlib.Omega.{arith}
 use lib.ListN.{length, length-append, length-take, length-drop, drop}
 use Rattle.octets.specs.Octets.{Octets, part, number}
@@ -21,9 +22,10 @@ use Rattle.cells.specs.Rows.{rowAt, packetIn}
 use Rattle.cells.specs.Order.{sound, lowest, inOrder, countIn}
 use Rattle.cells.proofs.Carries.{Holding}
 use Rattle.store.specs.declared.Picked.{Picked}
-use Rattle.store.specs.Messages.{cellsOf, picked, top}
-use Rattle.store.specs.Taking.{unable, tookIn}
-use Rattle.store.specs.Follow.{segAt, answer, opensAt, pickedOf}
+use Rattle.store.specs.Messages.{Run, cellsOf, picked, top}
+use Rattle.store.specs.Taking.{unable, drawn, tookIn}
+use Rattle.store.specs.Follow.{segAt, answer, opensAt, endsAt, pickedOf}
+use Rattle.store.proofs.Ends.{nothing-complete}
 use Rattle.store.proofs.Opening.{order-has, cells-inside}
 use Rattle.store.proofs.Drawing.{Message, the-message, message-held, picked-below, took-none, took-short}
 
@@ -83,3 +85,11 @@ module _ (s : Settings) (Z : ℕ) (st : List ℕ) (n : ℕ) (order : inOrder s Z
 
         pub taking-room : (long : ℕ) → 2 + h .h + (u .body - 1) ≤ long → length (segAt s Z st (u .cell) .key) + (u .body - 1) ≤ long
         taking-room long k = omega (arith, key-long)
+
+-- where no cell holds a last, nothing is taken
+pub took-nothing :
+    (s : Settings) (Z : ℕ) (st : List ℕ) (n long : ℕ) → inOrder s Z st ≡ true → n ≡ countIn Z st → {r : ℕ} → r ≡ lowest (endsAt Z st) n 0 → n ≤ r →
+    tookIn s Z st n long ≡ unable 20
+unfolding tookIn
+took-nothing s Z st n long o en e h =
+    ap (λ (x : Option Run). drawn x long) (nothing-complete s Z st n (ap (sound s Z st) en ∙ order-has s Z st o .sound) e h)

@@ -1,13 +1,13 @@
 -- A message in the store by the places of its segments: what the loops of taking follow. The public promise is over `picked`.
 -- Assumes nothing: these are definitions.
-use Prim.Native.Nat.{ℕ, zero, suc, _+_, _-_, _≤_}
+use Prim.Native.Nat.{ℕ, zero, suc, _+_, _-_, _/_, _≤_}
 use mathlib.Core.Path.{_≡_}
 use mathlib.Core.Bool.{Bool, true, false}
 use mathlib.Core.List.{List, [], _∷_, _++_}
 use mathlib.Core.Option.{Option, none, some, Option·map}
 use lib.ListN.{length, set}
-use lib.Dec.{ltb}
-use Rattle.octets.specs.Octets.{pick}
+use lib.Dec.{ltb, eqb}
+use Rattle.octets.specs.Octets.{pick, octetAt}
 use Rattle.walk.specs.declared.Settings.{Settings}
 use Rattle.walk.specs.Walk.{refusal}
 use Rattle.cells.specs.Segments.{Seg}
@@ -70,6 +70,10 @@ isSome (some a) = true
 -- a complete message opens in cell i
 abbrev pub opensAt : Settings → ℕ → List ℕ → ℕ → ℕ → Bool
 opensAt s Z st n i = isSome (runIn suc top (cellsOf s Z st n) (cellAt s Z st i))
+
+-- the packet in row i is a last segment by its sequence flags
+abbrev pub endsAt : ℕ → List ℕ → ℕ → Bool
+endsAt Z st i = eqb (octetAt (rowAt Z st i) 4 / 64) 2
 
 unfoldable pub pickedOf : Settings → ℕ → List ℕ → ℕ → Picked
 pickedOf s Z st n =

@@ -6,7 +6,7 @@
 ghost use mathlib.Core.Path.{_≡_};
 ghost use mathlib.Core.Bool.{true};
 ghost use mathlib.Core.List.{_∷_, _++_};
-ghost use Prim.Native.Nat.{suc, _+_, _*_, _≤_, _<_};
+ghost use Prim.Native.Nat.{suc, _+_, _*_, _/_, _≤_, _<_};
 ghost use lib.ListN.{length};
 ghost use lib.Seq.{sets};
 ghost use lib.Dec.{eqb};
@@ -23,7 +23,7 @@ ghost use Rattle.store.specs.Arriving.{refused as refusedBy, placed, seg
 ghost use Rattle.store.specs.Taking.{unable, tookIn, took, outWith, clearedTo, storeLess};
 ghost use Rattle.store.specs.Told.{arrivalOf, takenOf};
 ghost use Rattle.store.specs.Inner.{segWith, segIn, pieceOf, openedOf};
-ghost use Rattle.store.specs.Follow.{segAt, follow as followed, placesFrom, bodiesAt, total, answer, opensAt, pickedOf, marked, toldOf, Ready, Opens};
+ghost use Rattle.store.specs.Follow.{segAt, follow as followed, placesFrom, bodiesAt, total, answer, opensAt, endsAt, pickedOf, marked, toldOf, Ready, Opens};
 use packet::SegmentCounter;
 use walk::Refusal;
 use walk::Settings;
@@ -70,9 +70,9 @@ struct Piece {
 }
 
 // A store whose settings and order were checked: 15 or 16, or how many cells it has.
-struct Opened {
-    refusal: Refusal,
-    cells: usize,
+pub struct Opened {
+    pub refusal: Refusal,
+    pub cells: usize,
 }
 
 // T and the order of the store are checked; the chains of its cells are made on the way.
@@ -110,7 +110,7 @@ fn check_by(
 }
 
 // T and the order of the store are checked.
-fn check(s: Settings, store: &[u8], zero: &[u8]) -> Opened
+pub fn check(s: Settings, store: &[u8], zero: &[u8]) -> Opened
     requires { ⌜ now zero ≡ zeroRow (length (now zero)) ⌝ }
     ensures { λ r. ⌜ r ≡ openedOf s (length (now (zero .entry))) (now (store .entry)) ⌝ }
 {
@@ -269,10 +269,11 @@ fn follow(
     stop: usize,
     from: u64,
     b: usize,
+    chained: bool,
     heads: &[u16; CHAINS],
     links: &[u16; CELLS_MOST],
 ) -> usize
-    requires { ⌜ Chained (bucketAt s (length (now zero)) (now store)) (now heads) (now links) n ⌝ }
+    requires { ⌜ (chained ≡ true → Chained (bucketAt s (length (now zero)) (now store)) (now heads) (now links) n) ⌝ }
     requires { ⌜ now zero ≡ zeroRow (length (now zero)) ⌝ }
     requires { ⌜ n * length (now zero) ≤ length (now store) ⌝ }
     requires { ⌜ sound s (length (now zero)) (now store) n ≡ true ⌝ }
@@ -285,7 +286,7 @@ fn follow(
     let mut left: u64 = 4294967295;
     let mut sum = b;
     while 0 < left {
-        let j = cells::find_by(s, store, n, zero, q, stop, c, heads, links);
+        let j = cells::find_by(s, store, n, zero, q, stop, c, chained, heads, links);
         if n <= j {
             return 0;
         }
@@ -303,6 +304,27 @@ fn follow(
     0
 }
 
+// The sequence flags of the packet in a row.
+fn flags_in(row: &[u8]) -> u8
+    ensures { λ r. ⌜ r ≡ octetAt (now (row .entry)) 4 / 64 ⌝ }
+{
+    octets::octet(row, 4) / 64
+}
+
+// The lowest of the first n cells whose packet is a last segment; n where there is none, and then no message is complete.
+fn lowest_last(store: &[u8], n: usize, z: usize) -> usize
+    ensures { λ r. ⌜ r ≡ lowest (endsAt z (now (store .entry))) n 0 ⌝ }
+{
+    let mut i: usize = 0;
+    while i < n {
+        if flags_in(cells::row(store, z, i)) == 2 {
+            return i;
+        }
+        i += 1;
+    }
+    n
+}
+
 // One more than the octets of the body of the message that opens in cell i, or 0 where none does that is complete.
 fn run_at(
     s: Settings,
@@ -310,10 +332,11 @@ fn run_at(
     n: usize,
     zero: &[u8],
     i: usize,
+    chained: bool,
     heads: &[u16; CHAINS],
     links: &[u16; CELLS_MOST],
 ) -> usize
-    requires { ⌜ Chained (bucketAt s (length (now zero)) (now store)) (now heads) (now links) n ⌝ }
+    requires { ⌜ (chained ≡ true → Chained (bucketAt s (length (now zero)) (now store)) (now heads) (now links) n) ⌝ }
     requires { ⌜ now zero ≡ zeroRow (length (now zero)) ⌝ }
     requires { ⌜ n * length (now zero) ≤ length (now store) ⌝ }
     requires { ⌜ sound s (length (now zero)) (now store) n ≡ true ⌝ }
@@ -321,18 +344,14 @@ fn run_at(
     ensures { λ r. ⌜ r ≡ answer (runIn suc top (cellsOf s (length (now (zero .entry))) (now (store .entry)) n) (cellAt s (length (now (zero .entry))) (now (store .entry)) i)) ⌝ }
 {
     let r = cells::row(store, zero.len(), i);
-    if octets::octet(r, 0) == 0 {
+    if flags_in(r) != 1 {
         return 0;
     }
     let q = cells::packet_in(r);
     let h = packet::read(s, q);
-    let primary = h.primary;
     let body = h.body;
     let ids = h.ids;
     let counter = ids.counter;
-    if primary.flags != 1 {
-        return 0;
-    }
     follow(
         s,
         store,
@@ -342,6 +361,7 @@ fn run_at(
         body.at,
         counter.0 as u64 + 1,
         body.length,
+        chained,
         heads,
         links,
     )
@@ -353,10 +373,11 @@ fn pick_message(
     store: &[u8],
     n: usize,
     zero: &[u8],
+    chained: bool,
     heads: &[u16; CHAINS],
     links: &[u16; CELLS_MOST],
 ) -> Picked
-    requires { ⌜ Chained (bucketAt s (length (now zero)) (now store)) (now heads) (now links) n ⌝ }
+    requires { ⌜ (chained ≡ true → Chained (bucketAt s (length (now zero)) (now store)) (now heads) (now links) n) ⌝ }
     requires { ⌜ now zero ≡ zeroRow (length (now zero)) ⌝ }
     requires { ⌜ n * length (now zero) ≤ length (now store) ⌝ }
     requires { ⌜ sound s (length (now zero)) (now store) n ≡ true ⌝ }
@@ -364,7 +385,7 @@ fn pick_message(
 {
     let mut i: usize = 0;
     while i < n {
-        let b = run_at(s, store, n, zero, i, heads, links);
+        let b = run_at(s, store, n, zero, i, chained, heads, links);
         if b != 0 {
             return Picked { cell: i, body: b };
         }
@@ -408,10 +429,11 @@ fn copy_rest(
     out: &mut [u8],
     place: usize,
     marks: &mut [u8],
+    chained: bool,
     heads: &[u16; CHAINS],
     links: &[u16; CELLS_MOST],
 )
-    requires { ⌜ Chained (bucketAt s (length (now zero)) (now store)) (now heads) (now links) n ⌝ }
+    requires { ⌜ (chained ≡ true → Chained (bucketAt s (length (now zero)) (now store)) (now heads) (now links) n) ⌝ }
     requires { ⌜ now zero ≡ zeroRow (length (now zero)) ⌝ }
     requires { ⌜ n * length (now zero) ≤ length (now store) ⌝ }
     requires { ⌜ sound s (length (now zero)) (now store) n ≡ true ⌝ }
@@ -426,7 +448,7 @@ fn copy_rest(
     let mut left: u64 = 4294967295;
     let mut at = place;
     while 0 < left {
-        let j = cells::find_by(s, store, n, zero, q, stop, c, heads, links);
+        let j = cells::find_by(s, store, n, zero, q, stop, c, chained, heads, links);
         let r = cells::row(store, z, j);
         let t = piece_in(s, r);
         at = put_body(out, at, r, t);
@@ -448,10 +470,11 @@ fn copy_message(
     i: usize,
     out: &mut [u8],
     marks: &mut [u8],
+    chained: bool,
     heads: &[u16; CHAINS],
     links: &[u16; CELLS_MOST],
 ) -> Taken
-    requires { ⌜ Chained (bucketAt s (length (now zero)) (now store)) (now heads) (now links) n ⌝ }
+    requires { ⌜ (chained ≡ true → Chained (bucketAt s (length (now zero)) (now store)) (now heads) (now links) n) ⌝ }
     requires { ⌜ now zero ≡ zeroRow (length (now zero)) ⌝ }
     requires { ⌜ n * length (now zero) ≤ length (now store) ⌝ }
     requires { ⌜ sound s (length (now zero)) (now store) n ≡ true ⌝ }
@@ -482,6 +505,7 @@ fn copy_message(
         out,
         at,
         marks,
+        chained,
         heads,
         links,
     );
@@ -525,10 +549,11 @@ fn draw(
     i: usize,
     b: usize,
     out: &mut [u8],
+    chained: bool,
     heads: &[u16; CHAINS],
     links: &[u16; CELLS_MOST],
 ) -> Taken
-    requires { ⌜ Chained (bucketAt s (length (now zero)) (now store)) (now heads) (now links) n ⌝ }
+    requires { ⌜ (chained ≡ true → Chained (bucketAt s (length (now zero)) (now store)) (now heads) (now links) n) ⌝ }
     requires { ⌜ now zero ≡ zeroRow (length (now zero)) ⌝ }
     requires { ⌜ inOrder s (length (now zero)) (now store) ≡ true ⌝ }
     requires { ⌜ n ≡ countIn (length (now zero)) (now store) ⌝ }
@@ -540,7 +565,7 @@ fn draw(
     ensures { λ r. ⌜ now (store .exit) ≡ storeLess s (length (now (zero .entry))) (now (store .entry)) n (tookIn s (length (now (zero .entry))) (now (store .entry)) n (length (now (out .entry)))) ⌝ }
 {
     let mut marks = [0u8; 4096];
-    let t = copy_message(s, store, n, zero, i, out, &mut marks, heads, links);
+    let t = copy_message(s, store, n, zero, i, out, &mut marks, chained, heads, links);
     let refusal = t.refusal;
     let counter = t.counter;
     clear(store, n, zero, &marks);
@@ -552,17 +577,18 @@ fn draw(
     }
 }
 
-// Taking from the n cells of a store in order, whose chains are made.
+// Taking from the n cells of a store in order, by its chains where they are made.
 fn take_by(
     s: Settings,
     store: &mut [u8],
     n: usize,
     zero: &[u8],
     out: &mut [u8],
+    chained: bool,
     heads: &[u16; CHAINS],
     links: &[u16; CELLS_MOST],
 ) -> Taken
-    requires { ⌜ Chained (bucketAt s (length (now zero)) (now store)) (now heads) (now links) n ⌝ }
+    requires { ⌜ (chained ≡ true → Chained (bucketAt s (length (now zero)) (now store)) (now heads) (now links) n) ⌝ }
     requires { ⌜ now zero ≡ zeroRow (length (now zero)) ⌝ }
     requires { ⌜ inOrder s (length (now zero)) (now store) ≡ true ⌝ }
     requires { ⌜ n ≡ countIn (length (now zero)) (now store) ⌝ }
@@ -570,7 +596,7 @@ fn take_by(
     ensures { λ r. ⌜ now (out .exit) ≡ outWith (now (out .entry)) (tookIn s (length (now (zero .entry))) (now (store .entry)) n (length (now (out .entry)))) ⌝ }
     ensures { λ r. ⌜ now (store .exit) ≡ storeLess s (length (now (zero .entry))) (now (store .entry)) n (tookIn s (length (now (zero .entry))) (now (store .entry)) n (length (now (out .entry)))) ⌝ }
 {
-    let m = pick_message(s, store, n, zero, heads, links);
+    let m = pick_message(s, store, n, zero, chained, heads, links);
     let cell = m.cell;
     if m.body == 0 {
         return not_taken(20);
@@ -587,10 +613,24 @@ fn take_by(
     if long - 2 - h.h < b {
         return not_taken(21);
     }
-    draw(s, store, n, zero, cell, b, out, heads, links)
+    draw(s, store, n, zero, cell, b, out, chained, heads, links)
 }
 
-// The same, for a caller that has not made the chains.
+// The same by plain searches, without chains.
+fn take_plain(s: Settings, store: &mut [u8], n: usize, zero: &[u8], out: &mut [u8]) -> Taken
+    requires { ⌜ now zero ≡ zeroRow (length (now zero)) ⌝ }
+    requires { ⌜ inOrder s (length (now zero)) (now store) ≡ true ⌝ }
+    requires { ⌜ n ≡ countIn (length (now zero)) (now store) ⌝ }
+    ensures { λ r. ⌜ r ≡ takenOf (tookIn s (length (now (zero .entry))) (now (store .entry)) n (length (now (out .entry)))) ⌝ }
+    ensures { λ r. ⌜ now (out .exit) ≡ outWith (now (out .entry)) (tookIn s (length (now (zero .entry))) (now (store .entry)) n (length (now (out .entry)))) ⌝ }
+    ensures { λ r. ⌜ now (store .exit) ≡ storeLess s (length (now (zero .entry))) (now (store .entry)) n (tookIn s (length (now (zero .entry))) (now (store .entry)) n (length (now (out .entry)))) ⌝ }
+{
+    let heads = [0u16; CHAINS];
+    let links = [0u16; CELLS_MOST];
+    take_by(s, store, n, zero, out, false, &heads, &links)
+}
+
+// The same for a caller that keeps a store in order: nothing is checked, and without a last segment nothing is searched.
 pub fn take_in(s: Settings, store: &mut [u8], n: usize, zero: &[u8], out: &mut [u8]) -> Taken
     requires { ⌜ now zero ≡ zeroRow (length (now zero)) ⌝ }
     requires { ⌜ inOrder s (length (now zero)) (now store) ≡ true ⌝ }
@@ -599,10 +639,10 @@ pub fn take_in(s: Settings, store: &mut [u8], n: usize, zero: &[u8], out: &mut [
     ensures { λ r. ⌜ now (out .exit) ≡ outWith (now (out .entry)) (tookIn s (length (now (zero .entry))) (now (store .entry)) n (length (now (out .entry)))) ⌝ }
     ensures { λ r. ⌜ now (store .exit) ≡ storeLess s (length (now (zero .entry))) (now (store .entry)) n (tookIn s (length (now (zero .entry))) (now (store .entry)) n (length (now (out .entry)))) ⌝ }
 {
-    let mut heads = [0u16; CHAINS];
-    let mut links = [0u16; CELLS_MOST];
-    cells::in_order_by(s, store, zero, &mut heads, &mut links);
-    take_by(s, store, n, zero, out, &heads, &links)
+    if n <= lowest_last(store, n, zero.len()) {
+        return not_taken(20);
+    }
+    take_plain(s, store, n, zero, out)
 }
 
 // The complete message whose first lies in the lowest cell is taken out.
@@ -619,5 +659,5 @@ pub fn take(s: Settings, store: &mut [u8], out: &mut [u8]) -> Taken
     if refusal.number != 0 {
         return not_taken(refusal.number);
     }
-    take_by(s, store, o.cells, &zero, out, &heads, &links)
+    take_by(s, store, o.cells, &zero, out, true, &heads, &links)
 }

@@ -12,10 +12,10 @@ use Rattle.store.proofs.copy_rest.Statement.{statement}
 use Rattle.store.proofs.copy_rest.Tie as tie
 
 abbrev Inv-loop : tie.InvT-loop
-Inv-loop s store n zero q stop start out₀ place marks₀ heads links z c₀ left₀ at₀ out marks c left at = Copying s (length zero) store n (keyOf q (readPacket s q)) (placesFrom s (length zero) store n (keyOf q (readPacket s q)) start) place out₀ marks₀ out marks c left at
+Inv-loop s store n zero q stop start out₀ place marks₀ chained heads links z c₀ left₀ at₀ out marks c left at = Copying s (length zero) store n (keyOf q (readPacket s q)) (placesFrom s (length zero) store n (keyOf q (readPacket s q)) start) place out₀ marks₀ out marks c left at
 
 abbrev μ-loop : tie.MeasureT-loop
-μ-loop s store n zero q stop start out₀ place marks₀ heads links z c₀ left₀ at₀ out marks c left at = left
+μ-loop s store n zero q stop start out₀ place marks₀ chained heads links z c₀ left₀ at₀ out marks c left at = left
 
 loop-holds : tie.Need-loop-holds Inv-loop μ-loop
 loop-holds c = copying-first (c .before .before .before .before .before .args .s) (length (now (c .before .before .before .before .before .args .zero))) (now (c .before .before .before .before .before .args .store)) (c .before .before .before .before .before .args .n) (keyOf (now (c .before .before .before .before .before .args .q)) (readPacket (c .before .before .before .before .before .args .s) (now (c .before .before .before .before .before .args .q)))) (c .before .before .before .before .before .args .start) (c .before .before .before .before .before .args .place) (now (c .before .before .before .before .before .args .out)) (now (c .before .before .before .before .before .args .marks)) (c .before .before .before .before .before .pre .1 .1 .1 .1 .1 .0) (c .before .before .before .before .before .pre .1 .1 .1 .1 .1 .1)

@@ -12,10 +12,10 @@ use Rattle.store.proofs.follow.Statement.{statement}
 use Rattle.store.proofs.follow.Tie as tie
 
 abbrev Inv-loop : tie.InvT-loop
-Inv-loop s store n zero q stop from b heads links z c₀ left₀ sum₀ c left sum = Counted s (length zero) store n (keyOf q (readPacket s q)) b from c left sum
+Inv-loop s store n zero q stop from b chained heads links z c₀ left₀ sum₀ c left sum = Counted s (length zero) store n (keyOf q (readPacket s q)) b from c left sum
 
 abbrev μ-loop : tie.MeasureT-loop
-μ-loop s store n zero q stop from b heads links z c₀ left₀ sum₀ c left sum = left
+μ-loop s store n zero q stop from b chained heads links z c₀ left₀ sum₀ c left sum = left
 
 loop-holds : tie.Need-loop-holds Inv-loop μ-loop
 loop-holds c = counted-first _ _ _ _ _ _ _

@@ -10,10 +10,10 @@ use Rattle.store.proofs.pick_message.Statement.{statement}
 use Rattle.store.proofs.pick_message.Tie as tie
 
 abbrev Inv-loop : tie.InvT-loop
-Inv-loop s store n zero heads links i₀ i = Picking s (length zero) store n i
+Inv-loop s store n zero chained heads links i₀ i = Picking s (length zero) store n i
 
 abbrev μ-loop : tie.MeasureT-loop
-μ-loop s store n zero heads links i₀ i = n - i
+μ-loop s store n zero chained heads links i₀ i = n - i
 
 loop-holds : tie.Need-loop-holds Inv-loop μ-loop
 loop-holds c = picking-first (c .before .before .args .s) (length (now (c .before .before .args .zero))) (now (c .before .before .args .store)) (c .before .before .args .n)

@@ -33,7 +33,7 @@ slice-aggregate-take-by : tie.Need-slice-aggregate-take-by
 slice-aggregate-take-by c = search needs
 
 take-by-requires : tie.Need-take-by-requires
-take-by-requires c κs = (c .before .before .before .before .before .before .before .before .check-by .ensures .1 (c .before .before .before .before .before .if1 .left), (refl, (opened-order (c .before .before .before .before .before .before .before .before .before .before .before .before .before .before .before .args .s) 1024 (now (c .before .before .before .before .before .before .before .before .before .before .before .before .before .before .before .args .store)) (opened-gate (c .before .before .before .before .before .before .before .before .before .before .before .before .before .before .before .args .s) 1024 (now (c .before .before .before .before .before .before .before .before .before .before .before .before .before .before .before .args .store)) (c .before .before .before .before .before .before .before .before .check-by .ensures .0) (c .before .before .before .before .before .if1 .left)), opened-cells (c .before .before .before .before .before .before .before .before .before .before .before .before .before .before .before .args .s) 1024 (now (c .before .before .before .before .before .before .before .before .before .before .before .before .before .before .before .args .store)) (c .before .before .before .before .before .before .before .before .check-by .ensures .0) (c .before .before .before .before .before .if1 .left))))
+take-by-requires c κs = ((λ e. c .before .before .before .before .before .before .before .before .check-by .ensures .1 (c .before .before .before .before .before .if1 .left)), (refl, (opened-order (c .before .before .before .before .before .before .before .before .before .before .before .before .before .before .before .args .s) 1024 (now (c .before .before .before .before .before .before .before .before .before .before .before .before .before .before .before .args .store)) (opened-gate (c .before .before .before .before .before .before .before .before .before .before .before .before .before .before .before .args .s) 1024 (now (c .before .before .before .before .before .before .before .before .before .before .before .before .before .before .before .args .store)) (c .before .before .before .before .before .before .before .before .check-by .ensures .0) (c .before .before .before .before .before .if1 .left)), opened-cells (c .before .before .before .before .before .before .before .before .before .before .before .before .before .before .before .args .s) 1024 (now (c .before .before .before .before .before .before .before .before .before .before .before .before .before .before .before .args .store)) (c .before .before .before .before .before .before .before .before .check-by .ensures .0) (c .before .before .before .before .before .if1 .left))))
 
 same-length-2 : tie.Need-same-length-2
 same-length-2 c = search needs

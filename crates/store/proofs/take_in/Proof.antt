@@ -1,29 +1,39 @@
--- `store::take_in` meets its contract: the chains are made, and then the message is taken.
+-- `store::take_in` meets its contract: without a last segment no message is complete.
 -- Assumes nothing.
-use Prim.Native.Nat.{ℕ}
+use mathlib.Core.Path.{ap, sym, _∙_}
 use denote.Ref.{now}
-use lib.ListN.{length, length-replicate}
-use Rattle.cells.proofs.Chaining.{chained-none}
-use Rattle.store.proofs.Opening.{chained-all}
+use lib.ListN.{length}
+use Rattle.store.specs.Told.{takenOf}
+use Rattle.store.specs.Taking.{outWith, storeLess}
+use Rattle.store.proofs.Takings.{took-nothing}
 use borrow.Author.Needs.{needs}
 use Rattle.store.proofs.take_in.Statement.{statement}
 use Rattle.store.proofs.take_in.Tie as tie
 
-in-order-by-requires : tie.Need-in-order-by-requires
-in-order-by-requires c κs = (c .before .before .before .before .before .before .pre .0, chained-none _ _ (length-replicate {A = ℕ} 4096 0))
+lowest-last-requires : tie.Need-lowest-last-requires
+lowest-last-requires c κs = search needs
 
-take-by-requires : tie.Need-take-by-requires
-take-by-requires c κs = (chained-all (c .before .before .before .before .before .before .before .before .before .before .before .args .s) (length (now (c .before .before .before .before .before .before .before .before .before .before .before .args .zero))) (now (c .before .before .before .before .before .before .before .before .before .before .before .args .store)) _ _ (c .before .before .before .before .before .before .before .before .before .before .before .pre .1 .0) (c .before .before .before .before .before .before .before .before .before .before .before .pre .1 .1) (c .before .before .before .before .in-order-by .ensures .0) (c .before .before .before .before .in-order-by .ensures .1), (c .before .before .before .before .before .before .before .before .before .before .before .pre .0, (c .before .before .before .before .before .before .before .before .before .before .before .pre .1 .0, c .before .before .before .before .before .before .before .before .before .before .before .pre .1 .1)))
+not-taken-requires : tie.Need-not-taken-requires
+not-taken-requires c κs = search needs
 
 same-length : tie.Need-same-length
 same-length c = search needs
 
+returns : tie.Need-returns
+unfolding outWith storeLess
+returns c = let e = took-nothing (c .before .before .before .before .before .before .before .args .s) (length (now (c .before .before .before .before .before .before .before .args .zero))) (now (c .before .before .before .before .before .before .before .args .store)) (c .before .before .before .before .before .before .before .args .n) (length (now (c .before .before .before .before .before .before .before .args .out))) (c .before .before .before .before .before .before .before .pre .1 .0) (c .before .before .before .before .before .before .before .pre .1 .1) (c .before .before .lowest-last .ensures) (c .before .if1 .taken) in (c .not-taken .ensures ∙ ap takenOf (sym e), (ap (outWith (now (c .before .before .before .before .before .before .before .args .out))) (sym e), ap (storeLess (c .before .before .before .before .before .before .before .args .s) (length (now (c .before .before .before .before .before .before .before .args .zero))) (now (c .before .before .before .before .before .before .before .args .store)) (c .before .before .before .before .before .before .before .args .n)) (sym e)))
+
+take-plain-requires : tie.Need-take-plain-requires
+take-plain-requires c κs = search needs
+
 same-length-2 : tie.Need-same-length-2
 same-length-2 c = search needs
 
-returns : tie.Need-returns
-returns c = search needs
+same-length-3 : tie.Need-same-length-3
+same-length-3 c = search needs
+
+returns-2 : tie.Need-returns-2
+returns-2 c = search needs
 
 pub take-in-spec : {M : Type 1} → statement M
-take-in-spec =
-    tie.close (tie.spec in-order-by-requires take-by-requires same-length same-length-2 returns)
+take-in-spec = tie.close (tie.spec lowest-last-requires not-taken-requires same-length returns take-plain-requires same-length-2 same-length-3 returns-2)
