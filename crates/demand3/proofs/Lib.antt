@@ -32,4 +32,5 @@ pub mod Day
 pub mod DayComes
 pub mod DayRun
 pub mod DayEnd
+pub mod Ways
 pub mod Refuted
