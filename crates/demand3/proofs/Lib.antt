@@ -28,6 +28,7 @@ pub mod Whole
 pub mod Cutter
 pub mod Bridges
 pub mod Acts
+pub mod Roomy
 pub mod Day
 pub mod DayComes
 pub mod DayRun
