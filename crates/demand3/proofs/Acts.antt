@@ -93,7 +93,7 @@ actOf s Z (arrival p) = comes (eventOf s Z p)
 actOf s Z (taking out) = draw (length out)
 actOf s Z (joining p out) = meets (eventOf s Z p) (length out)
 
-abbrev landsBeside : Option Seg → List Cell → Seg → Bool
+abbrev pub landsBeside : Option Seg → List Cell → Seg → Bool
 landsBeside none cs t = hasFree cs
 landsBeside (some u) cs t = sameRest u t
 
@@ -144,7 +144,7 @@ module _ (s : Settings) (Z n : ℕ) where
     pub draws-by : (p out : List ℕ) → draws s Z st (joining p out) ≡ lands cs (eventOf s Z p)
     draws-by p out = goes-on p
 
-    by-acts : (c : Call) → eventsBy s Z st c ≡ eventsOf cs (actOf s Z c)
+    pub by-acts : (c : Call) → eventsBy s Z st c ≡ eventsOf cs (actOf s Z c)
     by-acts (arrival p) = refl
     by-acts (taking out) = refl
     by-acts (joining p out) =

@@ -98,7 +98,7 @@ eveningActs = comes (arrives stray) ∷ meets passes 0 ∷ comes eleven ∷ come
 abbrev Z : ℕ
 Z = cellSize
 
-consed : {A : Type 0} {a b : A} {l k : List A} → a ≡ b → l ≡ k → a ∷ l ≡ b ∷ k
+pub consed : {A : Type 0} {a b : A} {l k : List A} → a ≡ b → l ≡ k → a ∷ l ≡ b ∷ k
 consed p q = ap₂ _∷_ p q
 
 pub evening-acts : map (actOf settings Z) evening ≡ eveningActs

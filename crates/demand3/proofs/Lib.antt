@@ -28,8 +28,10 @@ pub mod Whole
 pub mod Cutter
 pub mod Bridges
 pub mod Acts
+pub mod Roomy
 pub mod Day
 pub mod DayComes
 pub mod DayRun
 pub mod DayEnd
+pub mod Ways
 pub mod Refuted

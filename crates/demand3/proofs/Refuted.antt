@@ -1,42 +1,44 @@
 -- The wrong programs of document 01 that demand 3 shuts out (E-5): a store that refuses all or keeps nothing, so that its octets stay
--- zero whatever arrives; and a joining that works once and then pretends. Each is any program at all of which this is said: what it
--- leaves behind a list of calls, or what a call then takes. Each fails a part of demand 3 on the run of `Day`; the store meets it.
+-- zero whatever arrives; a joining that works once and then pretends; one that calls a message complete by number alone; one that
+-- matches by transaction id alone. The first three are any program at all of which this is said: what it leaves behind a list of calls,
+-- or what a call then takes. The last two are programs of `Ways`. Each fails a part of demand 3 on the run of `Day`; the store meets it.
 -- Assumes nothing.
 use Prim.Native.Nat.{ℕ, suc, _+_, _≤_, _<_}
-use mathlib.Core.Path.{_≡_, refl, ap, _∙_, subst}
+use mathlib.Core.Path.{_≡_, refl, ap, ap₂, sym, _∙_, subst}
 use mathlib.Core.Logic.{_⊎_, inl, inr}
 use mathlib.Core.Option.{Option, none, some, Option·map}
-use mathlib.Core.List.{List, [], _∷_, _++_, map, List·Memᴰ, List·Memᴰ·head, List·Memᴰ·tail}
+use mathlib.Core.List.{List, [], _∷_, _++_, map, List·Memᴰ, List·Memᴰ·head, List·Memᴰ·tail, Memᴰ·append-left, Memᴰ·append-right}
 use native.Mathlib.Omega.{arith}
 use lib.ListN.{length}
-use Rattle.octets.specs.Octets.{wide, alike}
+use Rattle.octets.specs.Octets.{Octets, wide, alike}
 use Rattle.octets.proofs.Lists.{below-or}
 use Rattle.fields.specs.Form.{split}
 use Rattle.packet.specs.Format.{presence, identification, fixedOctets, frontOctets, backOctets, headerOctets}
 use Rattle.write.specs.Given.{headOf}
 use Rattle.fewest.specs.Runs.{place}
-use Rattle.cells.specs.Segments.{carries}
+use Rattle.cells.specs.Segments.{carries, sameRest}
 use Rattle.store.specs.declared.Taken.{Taken}
-use Rattle.store.specs.Messages.{Run, look, roleOf, chain, runFrom, pickIn, picked, top}
+use Rattle.store.specs.Messages.{Run, look, roleOf, bodies, bodyOf, chain, runFrom, pickIn, picked, among, top}
 use Rattle.store.specs.Taking.{Took, message, unable}
 use Rattle.store.specs.Told.{refusalOf, takenOf}
-use Rattle.keeping.specs.Cells.{hasFree}
+use Rattle.keeping.specs.Cells.{put, hasFree}
 use Rattle.keeping.proofs.Empty.{empty-cells}
 use Rattle.demand3.specs.Complete.{Held}
-use Rattle.demand3.specs.Traffic.{empty, after}
-use Rattle.demand3.specs.Calls.{Call, arrival, taking, joining, Brings, tookBy, storeAfter}
+use Rattle.demand3.specs.Traffic.{Event, passes, empty, after}
+use Rattle.demand3.specs.Calls.{Call, arrival, taking, joining, Brings, Handed, tookBy, storeAfter}
 use Rattle.demand3.specs.Sendings.{segmentAt, headerSize}
-use Rattle.demand3.specs.Presupposed.{Came, AllCame, Traffic, Untaken, emptyStore, storeBehind, cellsIn, fresh, RoomIn}
+use Rattle.demand3.specs.Presupposed.{Came, AllCame, Its, MayCome, Traffic, Untaken, emptyStore, storeBehind, cellsIn, fresh, RoomIn}
 use Rattle.demand3.specs.Whole.{cellSize, IsComplete}
 use Rattle.demand3.proofs.Takings.{held-empty}
-use Rattle.demand3.proofs.Whole.{demand3·whole}
-use Rattle.demand3.proofs.Acts.{EachPacket, each-packet}
+use Rattle.demand3.proofs.Whole.{demand3·whole, soundness·whole}
+use Rattle.demand3.proofs.Acts.{EachPacket, each-packet, Act, comes, draw, meets, actOf}
 use Rattle.demand3.proofs.ReadAs.{repeat-reads}
 use Rattle.demand3.proofs.Cutter.{cutter-hands-out}
-use Rattle.demand3.proofs.Day.{settings, cutting, three, succeeds, messages, of-three, three-many, three-long, three-cut}
+use Rattle.demand3.proofs.Day.{settings, cutting, three, succeeds, messages, of-three, of-two, single, stub, huge, three-many, three-long, three-cut, seg, stray, is-seven, is-nine, is-ten, is-single, is-stub}
 use Rattle.demand3.proofs.DayComes.{Fine, three-fine}
-use Rattle.demand3.proofs.DayRun.{lentOut, morning, atNoon, noon, evening, in-use, traffic}
+use Rattle.demand3.proofs.DayRun.{lentOut, early, morning, atNoon, noon, evening, seven, nine, ten, noonActs, eveningActs, consed, day-acts, in-use, traffic}
 use Rattle.demand3.proofs.DayEnd.{cellsAtEnd, end-cells, theRun, the-key, the-start, promised}
+use Rattle.demand3.proofs.Ways.{goes, goesOn, behind, takenBy, by, ofKey, lastOf, heldFrom, numbered, numberWay, match, chainBy, opened, chosen, transactionWay}
 
 abbrev Z : ℕ
 Z = cellSize
@@ -96,7 +98,7 @@ all-come i l = go (below-or i 1) (below-or i 2)
 pub no-empty : (run : List Call → List ℕ) → ((cs : List Call) → run cs ≡ emptyStore Z 4) → Completes run → ⊥
 unfolding hasFree
 no-empty run e f =
-    let d = f all-three early roomy all-come in
+    let d = f all-three enough roomy all-come in
     let h = d .opens in
     held-empty 4 (h .0) (subst (Held (h .0)) (cells (map arrival all-three)) (h .1))
   where
@@ -106,8 +108,8 @@ no-empty run e f =
     roomy : RoomIn settings Z 4 run (map arrival all-three)
     roomy x y c p q b r g l n = ap hasFree (cells x)
 
-    early : Traffic settings Z messages (map arrival all-three)
-    early =
+    enough : Traffic settings Z messages (map arrival all-three)
+    enough =
         record {
           cut = traffic .cut;
           apart = traffic .apart;
@@ -117,11 +119,13 @@ no-empty run e f =
 
 -- ---- a joining that works once
 
+-- what is told of the first message: H, B and c
+abbrev pub told : Taken
+told = record { refusal = refusalOf 0; header = 21; body = 8; counter = record { 0 = 7 } }
+
 -- at the end of the run the first message, taken at noon, is complete anew: a taking with 31 octets or more tells it
 abbrev pub TakesAgain : (List Call → Call → Option Took) → Type 0
-TakesAgain by = (out : List ℕ) → 31 ≤ length out →
-    Option·map takenOf (by (noon ++ evening) (taking out)) ≡
-    some (record { refusal = refusalOf 0; header = 21; body = 8; counter = record { 0 = 7 } })
+TakesAgain by = (out : List ℕ) → 31 ≤ length out → Option·map takenOf (by (noon ++ evening) (taking out)) ≡ some told
 
 -- once a call has handed out a message, no later one does
 abbrev pub Once : (List Call → Call → Option Took) → Type 0
@@ -149,8 +153,98 @@ takes-again out l =
 pub no-once : (by : List Call → Call → Option Took) (r : Run) → by morning atNoon ≡ some (message r) → Once by → TakesAgain by → ⊥
 no-once by r e o f = go (by (noon ++ evening) (taking (lentOut 31))) refl (f (lentOut 31) (omega arith))
   where
-    go : (t : Option Took) → by (noon ++ evening) (taking (lentOut 31)) ≡ t →
-        Option·map takenOf t ≡ some (record { refusal = refusalOf 0; header = 21; body = 8; counter = record { 0 = 7 } }) → ⊥
+    go : (t : Option Took) → by (noon ++ evening) (taking (lentOut 31)) ≡ t → Option·map takenOf t ≡ some told → ⊥
     go none d g = let z : _≡_ {A = ℕ} 0 1 = cc in omega arith
     go (some (message q)) d g = o morning evening atNoon (taking (lentOut 31)) r q e d
     go (some (unable k)) d g = let z : _≡_ {A = ℕ} 0 21 = cc (ap (Option·map (λ (x : Taken). x .header)) g) in omega arith
+
+-- ---- a message complete by number alone
+
+-- of the run's calls, one that hands out something under the first message's key and first counter tells the message
+abbrev pub TellsIt : (List Call → Call → Option Took) → Type 0
+TellsIt by = (x y : List Call) (c : Call) (r : Run) → noon ++ evening ≡ x ++ c ∷ y → by x c ≡ some (message r) → Its settings three r →
+    Option·map takenOf (by x c) ≡ some told
+
+-- the store does so
+pub tells-it : TellsIt (λ cs c. tookBy settings Z (storeBehind settings Z 4 cs) c)
+unfolding place headOf split identification headerOctets fixedOctets presence frontOctets backOctets wide
+tells-it x y c r d e i =
+    let a : r .head .counter ≡ segmentAt settings three 0 .counter = omega (arith, i .1) in
+    let v =
+    soundness·whole settings 4 in-use messages [] x sooner three (List·Memᴰ·head refl) fresh .1 .takes c its .gives r e (i .0) 0
+    (omega (arith, three-many)) a in
+    cutter-hands-out settings Z cutting succeeds 4 (storeBehind settings Z 4 x) c v .0
+  where
+    part : (p : List ℕ) → Handed p (x ++ c ∷ y) → Octets p × MayCome settings Z messages p
+    part p h =
+        let k = subst (Handed p) (sym d) h in
+        (traffic .octets p k, traffic .packets p k)
+
+    before : (p : List ℕ) → Handed p x → Octets p × MayCome settings Z messages p
+    before p h = part p (h .0, Memᴰ·append-left (c ∷ y) (h .1), h .2)
+
+    its : (p : List ℕ) → Brings p c → Octets p × MayCome settings Z messages p
+    its p h = part p (c, Memᴰ·append-right x (List·Memᴰ·head refl), h)
+
+    sooner : Traffic settings Z messages x
+    sooner =
+        record { cut = traffic .cut; apart = traffic .apart; octets = λ p h. before p h .0; packets = λ p h. before p h .1 }
+
+told-body : (r : Run) → some (takenOf (message r)) ≡ some told → length (bodyOf r) ≡ 8
+told-body r h = let e : takenOf (message r) ≡ told = cc h in ap (λ (x : Taken). x .body) e
+
+-- the last and the first of the message have come, and the first of another of its key: three segments, of counters 7 to 9
+abbrev thirdComes : List Call
+thirdComes =
+    arrival (of-three 2 2) ∷ taking (lentOut 100) ∷ arrival (of-two 0 3) ∷ arrival stub ∷ arrival single ∷ []
+
+third-acts : map (actOf settings Z) thirdComes ≡ comes nine ∷ draw 100 ∷ comes ten ∷ comes passes ∷ comes passes ∷ []
+third-acts =
+    consed (ap comes (is-nine 2 (omega arith)))
+    (consed refl (consed (ap comes (is-ten 3 (omega arith))) (consed (ap comes is-stub) (consed (ap comes is-single) refl))))
+
+-- what is handed out then lacks the segment between
+abbrev lacking : Run
+lacking = record { head = seg 7 1 (1 ∷ 2 ∷ 3 ∷ []); rest = seg 9 2 (7 ∷ 8 ∷ []) ∷ [] }
+
+lacking-taken :
+    takenBy numberWay (behind numberWay (empty 4) (comes nine ∷ draw 100 ∷ comes ten ∷ comes passes ∷ comes passes ∷ [])) (meets seven 100)
+    ≡ some (message lacking)
+unfolding takenBy behind goesOn goes numbered ofKey lastOf heldFrom look carries sameRest alike put hasFree roleOf bodies
+lacking-taken = refl
+
+lacking-long : length (bodyOf lacking) ≡ 5
+unfolding bodies
+lacking-long = refl
+
+pub no-number : TellsIt (by numberWay settings Z 4) → ⊥
+no-number f =
+    let e : by numberWay settings Z 4 thirdComes (joining (of-three 0 0) (lentOut 100)) ≡ some (message lacking) =
+    ap₂ (λ (l : List Act) (a : Act). takenBy numberWay (behind numberWay (empty 4) l) a) third-acts
+    (ap (λ (t : Event). meets t 100) (is-seven 0 (omega arith)))
+    ∙ lacking-taken in
+    let g = f thirdComes rest (joining (of-three 0 0) (lentOut 100)) lacking refl e (the-key, the-start) in
+    omega (arith, told-body lacking (sym (ap (Option·map takenOf) e) ∙ g), lacking-long)
+  where
+    rest : List Call
+    rest = arrival (of-three 2 77) ∷ arrival huge ∷ early ∷ arrival (of-three 1 78) ∷ atNoon ∷ evening
+
+-- ---- segments matched by transaction id alone
+
+-- the segment of another key that stands at counter 8 is taken for the message's own
+abbrev mixed : Run
+mixed = record { head = seg 7 1 (1 ∷ 2 ∷ 3 ∷ []); rest = stray ∷ seg 9 2 (7 ∷ 8 ∷ []) ∷ [] }
+
+mixed-taken : takenBy transactionWay (behind transactionWay (empty 4) (noonActs ++ eveningActs)) (draw 31) ≡ some (message mixed)
+unfolding takenBy behind goesOn goes match chainBy opened chosen carries sameRest alike put hasFree roleOf bodies among
+mixed-taken = refl
+
+mixed-long : length (bodyOf mixed) ≡ 6
+unfolding bodies
+mixed-long = refl
+
+pub no-transaction : TakesAgain (by transactionWay settings Z 4) → ⊥
+no-transaction f =
+    let e : by transactionWay settings Z 4 (noon ++ evening) (taking (lentOut 31)) ≡ some (message mixed) =
+    ap (λ (l : List Act). takenBy transactionWay (behind transactionWay (empty 4) l) (draw 31)) day-acts ∙ mixed-taken in
+    omega (arith, told-body mixed (sym (ap (Option·map takenOf) e) ∙ f (lentOut 31) (omega arith)), mixed-long)

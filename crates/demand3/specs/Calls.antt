@@ -4,7 +4,7 @@
 -- Document 01: "Joining is arrival, answering "whole" with the body's place, or else taking's answer. If arrival refuses, so does
 -- joining; if taking refuses, the arrived segment stays stored".
 -- Assumes nothing: these are definitions.
-use Prim.Native.Nat.{ℕ}
+use Prim.Native.Nat.{ℕ, suc}
 use mathlib.Core.Path.{_≡_}
 use mathlib.Core.Logic.{_⊎_}
 use mathlib.Core.Bool.{Bool, true, false}
@@ -30,6 +30,13 @@ Brings p c = (c ≡ arrival p) ⊎ ((out : List ℕ) × (c ≡ joining p out))
 -- one of the calls does
 abbrev pub Handed : List ℕ → List Call → Type 0
 Handed p cs = (c : Call) × List·Memᴰ c cs × Brings p c
+
+-- how many packets some calls hand over: their arrivals and joinings
+unfoldable pub packetsIn : List Call → ℕ
+packetsIn [] = 0
+packetsIn (arrival p ∷ cs) = suc (packetsIn cs)
+packetsIn (taking out ∷ cs) = packetsIn cs
+packetsIn (joining p out ∷ cs) = suc (packetsIn cs)
 
 -- the lent output; an arrival has none
 abbrev pub outOf : Call → List ℕ

@@ -18,9 +18,9 @@ use Rattle.store.specs.Messages.{Run, picked, top}
 use Rattle.store.specs.Taking.{message, unable, writing}
 use Rattle.store.specs.Told.{refusalOf, takenOf}
 use Rattle.demand3.specs.Base.{CompleteFrom}
-use Rattle.demand3.specs.Calls.{Call, taking, Brings, outOf, draws, storeAt, tookBy, storeBy, outBy, storeAfter, outsAfter}
+use Rattle.demand3.specs.Calls.{Call, taking, Brings, packetsIn, outOf, draws, storeAt, tookBy, storeBy, outBy, storeAfter, outsAfter}
 use Rattle.demand3.specs.Sendings.{Sending, wholeBody, manyOf, segmentAt, identificationOf, headerOf, keyIn, headerSize, bodySize, startOf, endOf}
-use Rattle.demand3.specs.Presupposed.{InUse, emptyStore, storeBehind, cellsIn, AllCame, MayCome, Traffic, Given, Its, Untaken, Anew}
+use Rattle.demand3.specs.Presupposed.{InUse, emptyStore, storeBehind, cellsIn, AllCame, MayCome, Traffic, Given, Its, Untaken, Anew, Room}
 
 -- "Cells of 1,024 octets"
 abbrev pub cellSize : ℕ
@@ -102,6 +102,10 @@ abbrev pub WholeDemand3 : ℕ → Type 0
 WholeDemand3 Z = (s : Settings) (n : ℕ) → InUse s n → (ms : List Sending) (before since : List Call) → Given s Z n ms (before ++ since) →
     (m : Sending) → List·Memᴰ m ms → Anew s Z n m before → Untaken s Z m (storeBehind s Z n before) since →
     Promise s Z n ms m before since
+
+-- "whenever a new segment of any key arrives, a cell is free": as many cells as packets are handed over always suffice
+abbrev pub WholeRoom : ℕ → Type 0
+WholeRoom Z = (s : Settings) (n : ℕ) → InUse s n → (cs : List Call) → packetsIn cs ≤ n → Room s Z n cs
 
 -- without the room, also where segments were refused since no cell was free: a message is complete only when all its segments have
 -- arrived, and its taking gives the original

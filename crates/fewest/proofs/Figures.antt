@@ -1,9 +1,10 @@
--- Document 01's figures 7 to 12, by computation over the definitions, as one table; and two of its wrong programs refuted on figure 8
--- (E-5): a cutter that repeats packet 0, and an invented count. The header is figure 14's, H 21, and a body is so many zeros.
+-- What document 01's figures on cutting show beside their numbers: behind figure 12's two segments no counter is left, the laws speak of
+-- figure 8's message, and two of the wrong programs are refuted on it (E-5): a cutter that repeats packet 0, and an invented count.
+-- The header is figure 14's, H 21, and a body is so many zeros.
 -- Assumes nothing.
 use Prim.Native.Nat.{ℕ, zero, suc}
 use mathlib.Core.Path.{_≡_, refl, ap, _∙_}
-use mathlib.Core.List.{List, [], _∷_, map}
+use mathlib.Core.List.{List}
 use native.Mathlib.Omega.{arith}
 use lib.ListN.{length, replicate}
 use Rattle.octets.specs.Octets.{Octets, wide, number as numberAt}
@@ -20,7 +21,7 @@ use Rattle.cut.specs.declared.Sender.{Sender}
 use Rattle.cut.specs.declared.Counted.{Counted}
 use Rattle.cut.specs.declared.Next.the-variants.{At, NoneLeft}
 use Rattle.cut.specs.Sending.{nextCounter, afterSegment, afterSegments, countersFit, counterAt, countAt}
-use Rattle.cut.specs.Cutting.{packets, rounded, limitTest, valueTests, messageTests, headerLength, countRefusal, senderAfter, countAnswer, flagsAt, bodyAt, packetAt, givenAt}
+use Rattle.cut.specs.Cutting.{packets, rounded, limitTest, valueTests, messageTests, countRefusal, senderAfter, countAnswer, flagsAt, bodyAt, packetAt}
 use Rattle.fewest.specs.Carrying.{bodyOf, firstOf, Carries}
 use Rattle.fewest.specs.Cutting.{Lends, octetsAt, allPackets, AllBack}
 use Rattle.fewest.proofs.ReadBack.{packets-read-back, carries}
@@ -33,65 +34,6 @@ sender c = record { count = record { 0 = 0 }; next = At (record { 0 = c }) }
 
 abbrev pub zeros : ℕ → List ℕ
 zeros B = replicate B 0
-
--- ---- the figures
-
--- what is asked, by P and B (and a counter to start from, or a packet's number)
-pub data Ask : Type 0 where
-  -- how many packets, or 0 with a refusal
-  count : ℕ → ℕ → ℕ → Ask
-  -- the refusal
-  refusal : ℕ → ℕ → ℕ → Ask
-  -- the octets of packet i
-  packet : ℕ → ℕ → ℕ → Ask
-  -- its body's
-  body : ℕ → ℕ → ℕ → Ask
-  -- its length field
-  field : ℕ → ℕ → ℕ → Ask
-
-abbrev pub answer : Ask → ℕ
-answer (count P B c) = countAnswer settings P values texts B (sender c) .count
-answer (refusal P B c) = countAnswer settings P values texts B (sender c) .refusal .number
-answer (packet P B i) = length (octetsOf settings (givenAt settings P values texts (zeros B) (sender 0) i))
-answer (body P B i) = length (givenAt settings P values texts (zeros B) (sender 0) i .body)
-answer (field P B i) = numberAt 2 (octetsOf settings (givenAt settings P values texts (zeros B) (sender 0) i)) 4
-
--- a row: the figure's number, what is asked, and what document 01 says
-pub record Row : Type 0 where
-  pub figure : ℕ
-  pub asks : Ask
-  pub says : ℕ
-
-abbrev pub row : ℕ → Ask → ℕ → Row
-row f a n = record { figure = f; asks = a; says = n }
-
-abbrev pub table : List Row
-table =
-    row 7 (count 64 37 0) 1
-    ∷ row 7 (packet 64 37 0) 64
-    ∷ row 7 (field 64 37 0) 57
-    ∷ row 8 (count 64 38 0) 2
-    ∷ row 8 (body 64 38 0) 33
-    ∷ row 8 (body 64 38 1) 5
-    ∷ row 8 (packet 64 38 0) 64
-    ∷ row 8 (packet 64 38 1) 36
-    ∷ row 9 (count 64 99 0) 3
-    ∷ row 10 (count 64 100 0) 4
-    ∷ row 10 (body 64 100 3) 1
-    ∷ row 11 (count 31 4 0) 1
-    ∷ row 11 (refusal 31 5 0) 24
-    ∷ row 12 (refusal 64 38 4294967294) 0
-    ∷ row 12 (count 64 38 4294967294) 2
-    ∷ row 12 (refusal 64 38 4294967295) 25
-    ∷ []
-
-pub header : headerLength settings values texts ≡ 21
-unfolding headerOctets headOf fixedOctets frontOctets backOctets wide
-header = refl
-
-pub figures : map (λ (r : Row). answer (r .asks)) table ≡ map (λ (r : Row). r .says) table
-unfolding countAnswer countRefusal messageTests limitTest valueTests settingsTest partsTest unless unlessAll headerChecks nameChecks routingChecks idChecks textChecks sum packets rounded countersFit headOf split packetAt flagsAt bodyAt countAt counterAt octetsOf identification dataOctets secondaryOctets fixedOctets presence frontOctets counterOctets backOctets headerOctets wide numberAt
-figures = refl
 
 -- figure 12: the largest counter is used, and then none is left
 pub twelve-none : countAnswer settings 64 values texts 38 (sender 4294967294) .sender .next ≡ NoneLeft

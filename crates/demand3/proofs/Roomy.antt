@@ -1,0 +1,65 @@
+-- A store with as many cells as packets are handed over, by arrivals and joinings, has room for them, whatever is taken: over the
+-- octets, from the same over cells.
+-- Assumes nothing.
+use Prim.Native.Nat.{ℕ, suc, _+_, _≤_}
+use mathlib.Core.Path.{_≡_, refl, ap, _∙_}
+use mathlib.Core.Bool.{Bool, true, false}
+use mathlib.Core.List.{List, [], _∷_, _++_}
+use native.Mathlib.Omega.{arith}
+use Rattle.walk.specs.declared.Settings.{Settings}
+use Rattle.store.specs.Messages.{top}
+use Rattle.demand3.specs.Traffic.{Event, arrives, passes, takes}
+use Rattle.demand3.specs.Calls.{Call, arrival, taking, joining, packetsIn, draws, storeBy}
+use Rattle.demand3.specs.Presupposed.{emptyStore}
+use Rattle.demand3.specs.Whole.{cellSize, WholeRoom}
+use Rattle.demand3.proofs.Rooms.{arrivals, roomy}
+use Rattle.demand3.proofs.Steps.{eventOf}
+use Rattle.demand3.proofs.Events.{before, drawing, eventsBy, eventsIn}
+use Rattle.demand3.proofs.Acts.{room-told}
+
+arrivals-append : (a b : List Event) → arrivals (a ++ b) ≡ arrivals a + arrivals b
+unfolding arrivals
+arrivals-append [] b = omega arith
+arrivals-append (arrives t ∷ a) b = omega (arith, arrivals-append a b)
+arrivals-append (passes ∷ a) b = arrivals-append a b
+arrivals-append (takes n ∷ a) b = arrivals-append a b
+
+one-most : (e : Event) → arrivals (e ∷ []) ≤ 1
+unfolding arrivals
+one-most (arrives t) = omega arith
+one-most passes = omega arith
+one-most (takes n) = omega arith
+
+module _ (s : Settings) (Z : ℕ) where
+  none-drawn : (b : Bool) (c : Call) → arrivals (drawing s Z b c) ≡ 0
+  unfolding arrivals
+  none-drawn true c = refl
+  none-drawn false c = refl
+
+  -- a call hands over a packet, or brings no segment
+  call-most : (c : Call) (cs : List Call) → arrivals (before s Z c) + packetsIn cs ≤ packetsIn (c ∷ cs)
+  unfolding arrivals packetsIn
+  call-most (arrival p) cs = omega (arith, one-most (eventOf s Z p))
+  call-most (taking out) cs = omega arith
+  call-most (joining p out) cs = omega (arith, one-most (eventOf s Z p))
+
+  few : (cs : List Call) (st : List ℕ) → arrivals (eventsIn s Z st cs) ≤ packetsIn cs
+  unfolding eventsIn arrivals packetsIn
+  few [] st = omega arith
+  few (c ∷ cs) st =
+      omega (
+        arith,
+        arrivals-append (eventsBy s Z st c) (eventsIn s Z (storeBy s Z st c) cs),
+        arrivals-append (before s Z c) (drawing s Z (draws s Z st c) c),
+        none-drawn (draws s Z st c) c,
+        few cs (storeBy s Z st c),
+        call-most c cs,
+      )
+
+roomy-of : (Z : ℕ) → 1 ≤ Z → WholeRoom Z
+roomy-of Z one s n u cs h =
+    room-told s Z n one u cs
+    (roomy suc top n (eventsIn s Z (emptyStore Z n) cs) (let l = few s Z cs (emptyStore Z n) in omega arith))
+
+pub room·whole : WholeRoom cellSize
+room·whole = roomy-of cellSize (omega arith)

@@ -1,0 +1,250 @@
+-- Programs that store and take like the store but for two things that they are given: how they find a segment under a key and a
+-- counter, and which message they pick. Of document 01's faults there are two: one that calls a message complete by the number of its
+-- segments, and one that matches by transaction id alone. The store's own way comes to what its calls promise.
+-- Assumes nothing.
+use Prim.Native.Nat.{ℕ, zero, suc, _-_, _≤_}
+use mathlib.Core.Path.{_≡_, refl, ap, ap₂, sym, _∙_}
+use mathlib.Core.Logic.{_⊎_, inl, inr}
+use mathlib.Core.Bool.{Bool, true, false}
+use mathlib.Core.Option.{Option, none, some}
+use mathlib.Core.List.{List, [], _∷_, _++_, map}
+use lib.ListN.{length}
+use lib.Dec.{eqb}
+use Rattle.octets.specs.Octets.{pick, part, alike}
+use Rattle.octets.proofs.Lists.{bool}
+use Rattle.walk.specs.declared.Settings.{Settings}
+use Rattle.cells.specs.Segments.{Seg, both}
+use Rattle.cells.specs.Rows.{Cell, free, held, broken}
+use Rattle.store.specs.Messages.{Run, Role, first, middle, last, roleOf, cellsOf, orElse, look, link, opensBy, chain, runFrom, pickIn, picked, top}
+use Rattle.store.specs.Taking.{Took, drawn, took}
+use Rattle.keeping.proofs.Picking.{pick-yes}
+use Rattle.keeping.proofs.Empty.{empty-cells}
+use Rattle.demand3.specs.Traffic.{Event, arrives, passes, takes, stowed, lessened, empty, takenFrom, stepped, after}
+use Rattle.demand3.specs.Calls.{Call, arrival, taking, joining, draws, storeAt, tookBy, storeBy, storeAfter}
+use Rattle.demand3.specs.Presupposed.{InUse, emptyStore, storeBehind}
+use Rattle.demand3.proofs.Steps.{pick-no, eventOf, Kept}
+use Rattle.demand3.proofs.Simulates.{took-by, by-keeps, by-cells, run-keeps}
+use Rattle.demand3.proofs.Carried.{begins}
+use Rattle.demand3.proofs.Acts.{Act, comes, draw, meets, actOf, landsBeside, lands, eventsOf, draws-by, by-acts}
+
+-- what is held under a key and a counter, and the message that a taking picks
+pub record Way : Type 0 where
+  pub find : List Cell → List ℕ → ℕ → Option Seg
+  pub choose : List Cell → Option Run
+
+-- ---- a program that goes a way
+
+module _ (w : Way) where
+  unfoldable pub goes : List Cell → Event → List Cell
+  goes cs (arrives t) = stowed (w .find cs (t .key) (t .counter)) cs t
+  goes cs passes = cs
+  goes cs (takes long) = lessened (drawn (w .choose cs) long) cs
+
+  unfoldable pub goesOn : List Cell → List Event → List Cell
+  goesOn cs [] = cs
+  goesOn cs (e ∷ es) = goesOn (goes cs e) es
+
+  -- a joining goes on to a taking
+  abbrev pub joins : List Cell → Event → Bool
+  joins cs (arrives t) = landsBeside (w .find cs (t .key) (t .counter)) cs t
+  joins cs passes = false
+  joins cs (takes long) = false
+
+  -- a call's events
+  abbrev pub eventsFor : List Cell → Act → List Event
+  eventsFor cs (comes e) = e ∷ []
+  eventsFor cs (draw long) = takes long ∷ []
+  eventsFor cs (meets e long) = e ∷ pick (joins cs e) (takes long ∷ []) []
+
+  -- the cells behind a list of calls
+  unfoldable pub behind : List Cell → List Act → List Cell
+  behind cs [] = cs
+  behind cs (a ∷ l) = behind (goesOn cs (eventsFor cs a)) l
+
+  -- what a call takes
+  unfoldable pub takenBy : List Cell → Act → Option Took
+  takenBy cs (comes e) = none
+  takenBy cs (draw long) = some (drawn (w .choose cs) long)
+  takenBy cs (meets e long) = pick (joins cs e) (some (drawn (w .choose (goes cs e)) long)) none
+
+  -- and behind some calls, from an empty store of n cells on
+  abbrev pub by : Settings → ℕ → ℕ → List Call → Call → Option Took
+  by s Z n cs c = takenBy (behind (empty n) (map (actOf s Z) cs)) (actOf s Z c)
+
+-- ---- the store's way
+
+abbrev pub storeWay : Way
+storeWay = record { find = look; choose = picked suc top }
+
+goes-same : (cs : List Cell) (e : Event) → goes storeWay cs e ≡ stepped suc top cs e
+unfolding goes stepped takenFrom
+goes-same cs (arrives t) = refl
+goes-same cs passes = refl
+goes-same cs (takes long) = refl
+
+all-same : (es : List Event) (cs : List Cell) → goesOn storeWay cs es ≡ after suc top cs es
+unfolding goesOn after
+all-same [] cs = refl
+all-same (e ∷ es) cs = all-same es (goes storeWay cs e) ∙ ap (λ (x : List Cell). after suc top x es) (goes-same cs e)
+
+joins-same : (cs : List Cell) (e : Event) → joins storeWay cs e ≡ lands cs e
+joins-same cs (arrives t) = refl
+joins-same cs passes = refl
+joins-same cs (takes long) = refl
+
+events-same : (cs : List Cell) (a : Act) → eventsFor storeWay cs a ≡ eventsOf cs a
+events-same cs (comes e) = refl
+events-same cs (draw long) = refl
+events-same cs (meets e long) = ap (λ (b : Bool). e ∷ pick b (takes long ∷ []) []) (joins-same cs e)
+
+module _ (s : Settings) (Z n : ℕ) where
+  module _ (st : List ℕ) (k : Kept s Z n st) where
+    abbrev cs : List Cell
+    cs = cellsOf s Z st n
+
+    one-takes : (c : Call) → takenBy storeWay cs (actOf s Z c) ≡ tookBy s Z st c
+    unfolding takenBy tookBy takenFrom after
+    one-takes (arrival p) = refl
+    one-takes (taking out) = sym (took-by s Z n st k (taking out) refl)
+    one-takes (joining p out) =
+        ap (λ (b : Bool). pick b taken none) (joins-same cs (eventOf s Z p) ∙ sym (draws-by s Z n st k p out))
+        ∙ go (bool (draws s Z st (joining p out)))
+      where
+        taken : Option Took
+        taken = some (drawn (picked suc top (goes storeWay cs (eventOf s Z p))) (length out))
+
+        go : (draws s Z st (joining p out) ≡ true) ⊎ (draws s Z st (joining p out) ≡ false) →
+            pick (draws s Z st (joining p out)) taken none ≡ tookBy s Z st (joining p out)
+        go (inl d) =
+            pick-yes (draws s Z st (joining p out)) taken none d
+            ∙ ap (λ (x : List Cell). some (drawn (picked suc top x) (length out))) (goes-same cs (eventOf s Z p))
+            ∙ sym (took-by s Z n st k (joining p out) d)
+        go (inr d) =
+            pick-no (draws s Z st (joining p out)) taken none d
+            ∙ sym
+            (pick-no (draws s Z st (joining p out)) (some (took s Z (storeAt s Z st (joining p out)) (length out))) none d)
+
+    one-goes : (c : Call) → goesOn storeWay cs (eventsFor storeWay cs (actOf s Z c)) ≡ cellsOf s Z (storeBy s Z st c) n
+    one-goes c =
+        ap (goesOn storeWay cs) (events-same cs (actOf s Z c) ∙ sym (by-acts s Z n st k c))
+        ∙ all-same _ cs
+        ∙ sym (by-cells s Z n st k c)
+
+  all-go : (l : List Call) (st : List ℕ) → Kept s Z n st →
+      behind storeWay (cellsOf s Z st n) (map (actOf s Z) l) ≡ cellsOf s Z (storeAfter s Z st l) n
+  unfolding behind storeAfter
+  all-go [] st k = refl
+  all-go (c ∷ l) st k =
+      ap (λ (x : List Cell). behind storeWay x (map (actOf s Z) l)) (one-goes st k c)
+      ∙ all-go l (storeBy s Z st c) (by-keeps s Z n st k c)
+
+  -- a program that goes the store's way takes what the store's calls do
+  pub store-goes : 1 ≤ Z → InUse s n → (cs : List Call) (c : Call) → by storeWay s Z n cs c ≡ tookBy s Z (storeBehind s Z n cs) c
+  store-goes one u cs c =
+      let k = begins s Z n one u in
+      ap (λ (x : List Cell). takenBy storeWay (behind storeWay x (map (actOf s Z) cs)) (actOf s Z c)) (sym (empty-cells s Z n))
+      ∙ ap (λ (x : List Cell). takenBy storeWay x (actOf s Z c)) (all-go cs (emptyStore Z n) k)
+      ∙ one-takes (storeBehind s Z n cs) (run-keeps s Z n cs (emptyStore Z n) k) c
+
+-- ---- a message complete by the number of its segments
+
+-- the segments of a key
+unfoldable pub ofKey : List ℕ → List Cell → List Seg
+ofKey k [] = []
+ofKey k (free ∷ cs) = ofKey k cs
+ofKey k (held t ∷ cs) = pick (alike k (t .key)) (t ∷ ofKey k cs) (ofKey k cs)
+ofKey k (broken ∷ cs) = ofKey k cs
+
+-- a last among some segments
+abbrev lastOr : Role → Seg → Option Seg → Option Seg
+lastOr first t r = r
+lastOr middle t r = r
+lastOr last t r = some t
+
+unfoldable pub lastOf : List Seg → Option Seg
+lastOf [] = none
+lastOf (t ∷ ts) = lastOr (roleOf (t .flags)) t (lastOf ts)
+
+-- those that are held at n counters from c on, and no others
+abbrev among : Option Seg → List Seg → List Seg
+among none ts = ts
+among (some t) ts = t ∷ ts
+
+unfoldable pub heldFrom : ℕ → List Cell → List ℕ → ℕ → List Seg
+heldFrom zero cs k c = []
+heldFrom (suc n) cs k c = among (look cs k c) (heldFrom n cs k (suc c))
+
+-- there is a last, and of the key as many segments as the counters from the first to it
+abbrev enough : List Cell → List Seg → Seg → Option Seg → Option (List Seg)
+enough cs ts t none = none
+enough cs ts t (some u) =
+    pick (eqb (length ts) (suc (u .counter - t .counter)))
+    (some (heldFrom (u .counter - t .counter) cs (t .key) (suc (t .counter)))) none
+
+abbrev numberedFrom : List Cell → Cell → Option Run
+numberedFrom cs free = none
+numberedFrom cs (held t) = opensBy (roleOf (t .flags)) t (enough cs (ofKey (t .key) cs) t (lastOf (ofKey (t .key) cs)))
+numberedFrom cs broken = none
+
+unfoldable pub numbered : List Cell → List Cell → Option Run
+numbered cs [] = none
+numbered cs (x ∷ xs) = orElse (numberedFrom cs x) (numbered cs xs)
+
+abbrev pub numberWay : Way
+numberWay = record { find = look; choose = λ cs. numbered cs cs }
+
+-- ---- segments matched by their transaction id alone
+
+-- of a key, two octets of identification and the header, the eight of the transaction id
+abbrev pub transactionOf : List ℕ → List ℕ
+transactionOf k = part k 14 8
+
+abbrev matched : List ℕ → ℕ → Cell → Option Seg
+matched k c free = none
+matched k c (held t) = pick (both (eqb c (t .counter)) (alike (transactionOf k) (transactionOf (t .key)))) (some t) none
+matched k c broken = none
+
+unfoldable pub match : List Cell → List ℕ → ℕ → Option Seg
+match [] k c = none
+match (x ∷ xs) k c = orElse (matched k c x) (match xs k c)
+
+-- the message that is found so: as the store finds its own, but with another finding of a segment
+module _ (find : List Cell → List ℕ → ℕ → Option Seg) where
+  unfoldable pub chainBy : ℕ → List Cell → List ℕ → ℕ → Option (List Seg)
+  chainBy zero cs k c = none
+  chainBy (suc n) cs k c = let r = chainBy n cs k (suc c) in link (find cs k c) r
+
+  unfoldable pub opened : List Cell → Seg → Option Run
+  opened cs t = let r = chainBy top cs (t .key) (suc (t .counter)) in opensBy (roleOf (t .flags)) t r
+
+  abbrev openedIn : List Cell → Cell → Option Run
+  openedIn cs free = none
+  openedIn cs (held t) = opened cs t
+  openedIn cs broken = none
+
+  unfoldable pub chosen : List Cell → List Cell → Option Run
+  chosen cs [] = none
+  chosen cs (x ∷ xs) = let r = chosen cs xs in orElse (openedIn cs x) r
+
+  abbrev pub wayBy : Way
+  wayBy = record { find = find; choose = λ cs. chosen cs cs }
+
+abbrev pub transactionWay : Way
+transactionWay = wayBy match
+
+-- with the store's finding it is the store's way
+chain-same : (n : ℕ) (cs : List Cell) (k : List ℕ) (c : ℕ) → chainBy look n cs k c ≡ chain suc top n cs k c
+unfolding chainBy chain
+chain-same zero cs k c = refl
+chain-same (suc n) cs k c = ap (link (look cs k c)) (chain-same n cs k (suc c))
+
+opened-same : (cs : List Cell) (t : Seg) → opened look cs t ≡ runFrom suc top cs t
+unfolding opened runFrom
+opened-same cs t = ap (opensBy (roleOf (t .flags)) t) (chain-same top cs (t .key) (suc (t .counter)))
+
+pub chosen-same : (cs xs : List Cell) → chosen look cs xs ≡ pickIn suc top cs xs
+unfolding chosen pickIn
+chosen-same cs [] = refl
+chosen-same cs (free ∷ xs) = chosen-same cs xs
+chosen-same cs (held t ∷ xs) = ap₂ orElse (opened-same cs t) (chosen-same cs xs)
+chosen-same cs (broken ∷ xs) = chosen-same cs xs

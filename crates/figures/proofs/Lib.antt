@@ -1,0 +1,2 @@
+pub mod Thirteen
+pub mod Figures

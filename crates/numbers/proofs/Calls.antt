@@ -1,0 +1,62 @@
+-- Demand 1: "each public call ends with its answer or one numbered refusal from document 01". Over the generated contract of each public
+-- call that can refuse: the number in its answer is 0 or one of the call's own list.
+-- Assumes nothing.
+use Prim.Native.Nat.{ℕ}
+use mathlib.Core.Path.{_≡_, refl, ap, sym, _∙_, subst}
+use contract.Lifetimes as L
+use denote.Ref.{now}
+use lib.ListN.{length}
+use Rattle.packet.specs.declared.Header.{Header}
+use Rattle.packet.proofs.read.Reads as reads
+use Rattle.write.specs.declared.Written.{Written}
+use Rattle.write.specs.Writing.{writeAnswer}
+use Rattle.write.proofs.write.Reads as writes
+use Rattle.cut.specs.declared.Counted.{Counted}
+use Rattle.cut.specs.declared.Cut.{Cut}
+use Rattle.cut.specs.Cutting.{countAnswer, packetAnswer}
+use Rattle.cut.proofs.count.Reads as counts
+use Rattle.cut.proofs.packet.Reads as cuts
+use Rattle.store.specs.declared.Arrival.{Arrival}
+use Rattle.store.specs.declared.Taken.{Taken}
+use Rattle.store.specs.Arriving.{Arrived, whole, stored, again, refused, arrived}
+use Rattle.store.specs.Told.{Said, said, arrivalOf, saidOf}
+use Rattle.store.proofs.arrive.Reads as arrives
+use Rattle.store.proofs.take.Reads as takes
+use Rattle.join.specs.declared.Joined.{Joined}
+use Rattle.join.proofs.join.Reads as joins
+use Rattle.numbers.specs.Lists.{Numbered, ofReading, ofArrival, ofTaking, ofJoining, ofWriting, ofCount, ofCutting}
+use Rattle.numbers.proofs.Reading.{reading}
+use Rattle.numbers.proofs.Sending.{writing, count, cutting}
+use Rattle.numbers.proofs.Store.{arrival, taking, join}
+
+pub read-numbered : (κs : L.Lfts 1) (a : _) (r : _) (x : _) → reads.Post κs a r x → Numbered ofReading (r .refusal .number)
+read-numbered κs a r x k = subst (λ (h : Header). Numbered ofReading (h .refusal .number)) (sym (k .0)) (reading _ _)
+
+pub write-numbered : (κs : L.Lfts 8) (a : _) (r : _) (x : _) → writes.Post κs a r x → Numbered ofWriting (r .refusal .number)
+unfolding writeAnswer
+write-numbered κs a r x k = subst (λ (h : Written). Numbered ofWriting (h .refusal .number)) (sym (k .0)) (writing _ _ _ _ _ _)
+
+pub count-numbered : (κs : L.Lfts 6) (a : _) (r : _) (x : _) → counts.Post κs a r x → Numbered ofCount (r .refusal .number)
+unfolding countAnswer
+count-numbered κs a r x k = subst (λ (h : Counted). Numbered ofCount (h .refusal .number)) (sym k) (count _ _ _ _ _ _)
+
+pub packet-numbered : (κs : L.Lfts 8) (a : _) (r : _) (x : _) → cuts.Post κs a r x → Numbered ofCutting (r .refusal .number)
+unfolding packetAnswer
+packet-numbered κs a r x k = subst (λ (h : Cut). Numbered ofCutting (h .refusal .number)) (sym (k .0)) (cutting _ _ _ _ _ _ _ _)
+
+said-of : (a : Arrived) → said (arrivalOf a) ≡ saidOf a
+said-of whole = refl
+said-of (stored i) = refl
+said-of again = refl
+said-of (refused k) = refl
+
+pub arrive-numbered : (κs : L.Lfts 2) (a : _) (r : _) (x : _) → arrives.Post κs a r x → Numbered ofArrival (said r .number)
+arrive-numbered κs a r x k =
+    subst (λ (h : Said). Numbered ofArrival (h .number)) (sym (ap said (k .0) ∙ said-of (arrived (a .0) 1024 (now (a .1 .0)) (now (a .1 .1 .0)))))
+    (arrival (a .0) 1024 (now (a .1 .0)) (now (a .1 .1 .0)))
+
+pub take-numbered : (κs : L.Lfts 2) (a : _) (r : _) (x : _) → takes.Post κs a r x → Numbered ofTaking (r .refusal .number)
+take-numbered κs a r x k = subst (λ (h : Taken). Numbered ofTaking (h .refusal .number)) (sym (k .0)) (taking _ _ _ _)
+
+pub join-numbered : (κs : L.Lfts 3) (a : _) (r : _) (x : _) → joins.Post κs a r x → Numbered ofJoining (r .refusal .number)
+join-numbered κs a r x k = subst (λ (h : Joined). Numbered ofJoining (h .refusal .number)) (sym (k .0)) (join _ _ _ _ _)

@@ -1,0 +1,5 @@
+pub mod Among
+pub mod Reading
+pub mod Sending
+pub mod Store
+pub mod Calls

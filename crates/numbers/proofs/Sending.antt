@@ -1,0 +1,85 @@
+-- Writing one packet and cutting are refused by a number of their own lists: each test keeps the number or gives one of them.
+-- Assumes nothing.
+use Prim.Native.Nat.{ℕ, _+_}
+use mathlib.Core.Path.{_≡_, refl}
+use mathlib.Core.Bool.{Bool, true}
+use mathlib.Core.List.{List, [], _∷_, List·Memᴰ}
+use lib.ListN.{length}
+use lib.Dec.{eqb}
+use Rattle.walk.specs.declared.Settings.{Settings}
+use Rattle.walk.specs.declared.Refusal.{Refusal}
+use Rattle.walk.specs.Walk.{noRefusal, refusal, unless}
+use Rattle.write.specs.declared.HeaderValues.{HeaderValues}
+use Rattle.write.specs.declared.PacketValues.{PacketValues}
+use Rattle.write.specs.Given.{Lent, headerChecks, packetChecks, unlessAll}
+use Rattle.write.specs.Writing.{settingsTest, partsTest, sizeTests, valueRefusal, writeRefusal}
+use Rattle.cut.specs.declared.Sender.{Sender}
+use Rattle.cut.specs.Cutting.{limitTest, valueTests, messageTests, countRefusal, packetRefusal}
+use Rattle.numbers.specs.Lists.{Numbered, ofWriting, ofCount, ofCutting}
+use Rattle.numbers.proofs.Among.{has, among, among-all, picked}
+
+module _ (l : List ℕ) where
+  abbrev Ok : Refusal → Type 0
+  Ok r = List·Memᴰ (r .number) l
+
+  unless-ok : (b : Bool) (k : ℕ) (r : Refusal) → has l k ≡ true → Ok r → Ok (unless b k r)
+  unfolding unless
+  unless-ok b k r e h = picked Ok (eqb (r .number) 0) _ r (picked Ok b r (refusal k) h (among l k e)) h
+
+  all-ok : (bs : List Bool) (k : ℕ) (r : Refusal) → has l k ≡ true → Ok r → Ok (unlessAll bs k r)
+  unfolding unlessAll
+  all-ok [] k r e h = h
+  all-ok (b ∷ bs) k r e h = all-ok bs k (unless b k r) e (unless-ok b k r e h)
+
+  settings-ok : (s : Settings) (r : Refusal) → has l 15 ≡ true → Ok r → Ok (settingsTest s r)
+  unfolding settingsTest
+  settings-ok s r e h = unless-ok _ 15 _ e (unless-ok _ 15 r e h)
+
+  parts-ok : (t : Lent) (r : Refusal) → has l 13 ≡ true → Ok r → Ok (partsTest t r)
+  unfolding partsTest
+  parts-ok t r e h = unless-ok _ 13 r e h
+
+-- ---- writing
+
+abbrev W : List ℕ
+W = 0 ∷ ofWriting
+
+pub writing :
+    (s : Settings) (v : HeaderValues) (o : PacketValues) (t : Lent) (body : List ℕ) (room : ℕ) →
+    Numbered ofWriting (writeRefusal s v o t body room .number)
+unfolding writeRefusal sizeTests valueRefusal
+writing s v o t body room =
+    unless-ok W _ 21 _ refl
+    (unless-ok W _ 14 _ refl
+    (unless-ok W _ 12 _ refl
+    (unless-ok W _ 23 _ refl
+    (parts-ok W t _ refl
+    (all-ok W (packetChecks o) 22 _ refl
+    (all-ok W (headerChecks s v t) 22 _ refl (settings-ok W s noRefusal refl (among W 0 refl))))))))
+
+-- ---- cutting
+
+abbrev C : List ℕ
+C = 0 ∷ ofCount
+
+pub count : (s : Settings) (P : ℕ) (v : HeaderValues) (t : Lent) (B : ℕ) (d : Sender) → Numbered ofCount (countRefusal s P v t B d .number)
+unfolding countRefusal messageTests valueTests limitTest
+count s P v t B d =
+    unless-ok C _ 25 _ refl
+    (unless-ok C _ 24 _ refl
+    (unless-ok C _ 12 _ refl
+    (unless-ok C _ 23 _ refl
+    (parts-ok C t _ refl
+    (unless-ok C _ 22 _ refl
+    (all-ok C (headerChecks s v t) 22 _ refl
+    (unless-ok C _ 15 _ refl (unless-ok C _ 15 _ refl (settings-ok C s noRefusal refl (among C 0 refl))))))))))
+
+abbrev D : List ℕ
+D = 0 ∷ ofCutting
+
+pub cutting :
+    (s : Settings) (P : ℕ) (v : HeaderValues) (t : Lent) (body : List ℕ) (d : Sender) (i room : ℕ) →
+    Numbered ofCutting (packetRefusal s P v t body d i room .number)
+unfolding packetRefusal
+cutting s P v t body d i room =
+    unless-ok D _ 21 _ refl (unless-ok D _ 26 _ refl (among-all C D refl _ (count s P v t (length body) d)))

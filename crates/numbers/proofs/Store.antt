@@ -1,0 +1,88 @@
+-- Arrival, taking and joining are refused by a number of their own lists.
+-- Assumes nothing.
+use Prim.Native.Nat.{ℕ, suc, _+_}
+use mathlib.Core.Path.{_≡_, refl}
+use mathlib.Core.Bool.{true}
+use mathlib.Core.Option.{Option, none, some}
+use mathlib.Core.List.{List, [], _∷_, List·Memᴰ}
+use lib.ListN.{length}
+use lib.Dec.{leb, ltb, eqb}
+use Rattle.walk.specs.declared.Settings.{Settings}
+use Rattle.walk.specs.Walk.{begun}
+use Rattle.packet.specs.Reading.{readPacket, segmented}
+use Rattle.cells.specs.Segments.{Seg, segOf, sameRest}
+use Rattle.cells.specs.Order.{inOrder, countIn}
+use Rattle.store.specs.Messages.{Run, cellsOf, look, picked as pickedFrom, top}
+use Rattle.store.specs.Arriving.{Arrived, whole, stored, again, refused, placed, beside, lowestFree, segmentArrived, arrivedIn, arrived, storeWith}
+use Rattle.store.specs.Taking.{Took, message, unable, writing, drawn, tookIn, took}
+use Rattle.store.specs.Told.{saidOf, takenOf}
+use Rattle.join.specs.Joining.{Joining, tookAs, joinedBy, joining}
+use Rattle.join.specs.Told.{joinedOf}
+use Rattle.numbers.specs.Lists.{Numbered, ofReading, ofArrival, ofTaking, ofJoining}
+use Rattle.numbers.proofs.Among.{has, among, among-all, picked}
+use Rattle.numbers.proofs.Reading.{reading}
+
+-- ---- arrival
+
+abbrev Came : Arrived → Type 0
+Came a = Numbered ofArrival (saidOf a .number)
+
+came : (n : ℕ) → has (0 ∷ ofArrival) n ≡ true → Numbered ofArrival n
+came n e = among (0 ∷ ofArrival) n e
+
+segment-came : (s : Settings) (Z : ℕ) (st : List ℕ) (n : ℕ) (t : Seg) → Came (segmentArrived s Z st n t)
+unfolding segmentArrived placed
+segment-came s Z st n t = go (look (cellsOf s Z st n) (t .key) (t .counter))
+  where
+    go : (o : Option Seg) → Came (beside o t (placed n (lowestFree s Z st n)))
+    go none = picked Came (ltb (lowestFree s Z st n) n) (stored (lowestFree s Z st n)) (refused 19) (came 0 refl) (came 19 refl)
+    go (some u) = picked Came (sameRest u t) again (refused 18) (came 0 refl) (came 18 refl)
+
+pub arrival : (s : Settings) (Z : ℕ) (st p : List ℕ) → Numbered ofArrival (saidOf (arrived s Z st p) .number)
+unfolding arrived arrivedIn
+arrival s Z st p =
+    picked Came (eqb (begun s .refusal .number) 0) _ (refused 15)
+    (picked Came (inOrder s Z st) _ (refused 16)
+    (picked Came (eqb (readPacket s p .refusal .number) 0) _ (refused (readPacket s p .refusal .number))
+    (picked Came (segmented p) _ whole
+    (picked Came (leb (2 + length p) Z) _ (refused 17) (segment-came s Z st (countIn Z st) (segOf p (readPacket s p))) (came 17 refl))
+    (came 0 refl))
+    (among-all (0 ∷ ofReading) (0 ∷ ofArrival) refl _ (reading s p)))
+    (came 16 refl))
+    (came 15 refl)
+
+-- ---- taking
+
+abbrev Taken : Took → Type 0
+Taken t = Numbered ofTaking (takenOf t .refusal .number)
+
+some-taken : (n : ℕ) → has (0 ∷ ofTaking) n ≡ true → Numbered ofTaking n
+some-taken n e = among (0 ∷ ofTaking) n e
+
+pub taking : (s : Settings) (Z : ℕ) (st : List ℕ) (long : ℕ) → Numbered ofTaking (takenOf (took s Z st long) .refusal .number)
+unfolding took tookIn
+taking s Z st long =
+    picked Taken (eqb (begun s .refusal .number) 0) _ (unable 15)
+    (picked Taken (inOrder s Z st) _ (unable 16) (go (pickedFrom suc top (cellsOf s Z st (countIn Z st)))) (some-taken 16 refl))
+    (some-taken 15 refl)
+  where
+    go : (o : Option Run) → Taken (drawn o long)
+    go none = some-taken 20 refl
+    go (some r) =
+        picked Taken (leb (length (writing r)) long) (message r) (unable 21) (some-taken 0 refl) (some-taken 21 refl)
+
+-- ---- joining
+
+pub join : (s : Settings) (Z : ℕ) (st p : List ℕ) (long : ℕ) → Numbered ofJoining (joinedOf (joining s Z st p long) .refusal .number)
+unfolding joining
+join s Z st p long = go (arrived s Z st p) (arrival s Z st p)
+  where
+    took-as : (t : Took) → Taken t → Numbered ofJoining (joinedOf (tookAs t) .refusal .number)
+    took-as (message r) h = among (0 ∷ ofJoining) 0 refl
+    took-as (unable k) h = among-all (0 ∷ ofTaking) (0 ∷ ofJoining) refl k h
+
+    go : (a : Arrived) → Came a → Numbered ofJoining (joinedOf (joinedBy s Z st p long a) .refusal .number)
+    go whole h = among (0 ∷ ofJoining) 0 refl
+    go (stored i) h = took-as (took s Z (storeWith Z st p (stored i)) long) (taking s Z (storeWith Z st p (stored i)) long)
+    go again h = took-as (took s Z (storeWith Z st p again) long) (taking s Z (storeWith Z st p again) long)
+    go (refused k) h = among-all (0 ∷ ofArrival) (0 ∷ ofJoining) refl k h

@@ -1,0 +1,35 @@
+-- The refusals that a call may give, in the order in which document 01 has them tested.
+-- Assumes nothing: these are definitions.
+use Prim.Native.Nat.{ℕ}
+use mathlib.Core.List.{List, [], _∷_, _++_, List·Memᴰ}
+
+-- a call's number: 0 where it is not refused, or one of its list
+abbrev pub Numbered : List ℕ → ℕ → Type 0
+Numbered l n = List·Memᴰ n (0 ∷ l)
+
+-- what a packet alone is refused by, 14 last; between 5 and 14 the fields come from left to right
+abbrev pub ofPacket : List ℕ
+ofPacket = 1 ∷ 2 ∷ 3 ∷ 4 ∷ 5 ∷ 6 ∷ 7 ∷ 8 ∷ 9 ∷ 10 ∷ 11 ∷ 12 ∷ 13 ∷ 14 ∷ []
+
+abbrev pub ofReading : List ℕ
+ofReading = 15 ∷ ofPacket
+
+abbrev pub ofArrival : List ℕ
+ofArrival = 15 ∷ 16 ∷ ofPacket ++ (17 ∷ 18 ∷ 19 ∷ [])
+
+abbrev pub ofTaking : List ℕ
+ofTaking = 15 ∷ 16 ∷ 20 ∷ 21 ∷ []
+
+-- arrival's, and then taking's
+abbrev pub ofJoining : List ℕ
+ofJoining = ofArrival ++ (20 ∷ 21 ∷ [])
+
+abbrev pub ofWriting : List ℕ
+ofWriting = 15 ∷ 22 ∷ 13 ∷ 23 ∷ 12 ∷ 14 ∷ 21 ∷ []
+
+-- the count leaves out the last two of cutting's
+abbrev pub ofCount : List ℕ
+ofCount = 15 ∷ 22 ∷ 13 ∷ 23 ∷ 12 ∷ 24 ∷ 25 ∷ []
+
+abbrev pub ofCutting : List ℕ
+ofCutting = ofCount ++ (26 ∷ 21 ∷ [])
