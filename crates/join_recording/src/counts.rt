@@ -3,9 +3,10 @@
 // Places 1 to 26 count the packets refused with that number. A number that would pass 64 bits stays at the largest.
 use recording::What;
 
-pub const COUNTS: usize = 36;
+pub const COUNTS: usize = 38;
 
-// The packets: all; those that came whole; those that completed a message; those stored or held already; those too long.
+// What the summary tells, in this order: packets seen; those that came whole, that completed a message, that were stored or held
+// already, that were too long; the segments left in the store and their keys; the octets written; the packets refused.
 pub const SEEN: usize = 27;
 
 pub const WHOLE: usize = 28;
@@ -16,14 +17,20 @@ pub const KEPT: usize = 30;
 
 pub const PASSED: usize = 31;
 
-// The octets: read; used up by packets; written.
-pub const READ: usize = 32;
+pub const SEGMENTS: usize = 32;
 
-pub const USED: usize = 33;
+pub const KEYS: usize = 33;
 
 pub const WRITTEN: usize = 34;
 
 pub const REFUSED: usize = 35;
+
+pub const TOLD: usize = 9;
+
+// The octets read, and those of them that packets used up.
+pub const READ: usize = 36;
+
+pub const USED: usize = 37;
 
 // The largest refusal number.
 pub const NUMBERS: usize = 26;

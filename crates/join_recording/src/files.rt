@@ -53,7 +53,7 @@ fn write_some(fd: i32, x: &[u8]) -> usize
 }
 
 // How many octets of a slice were written: all, unless a write failed.
-fn write(fd: i32, x: &[u8]) -> usize {
+pub fn write(fd: i32, x: &[u8]) -> usize {
     let mut done: usize = 0;
     let whole = x.len();
     while done < whole {
@@ -66,13 +66,21 @@ fn write(fd: i32, x: &[u8]) -> usize {
     done
 }
 
+// Tells a failed write.
+fn not_written(counts: &[u64; COUNTS]) {
+    say::failed(
+        b"writing failed behind octet ",
+        counts::at(counts, counts::WRITTEN),
+    );
+}
+
 // Writes all of a slice to standard output, and counts the octets. Whether it was done; where not, that is told.
 pub fn put(x: &[u8], counts: &mut [u64; COUNTS]) -> bool {
     let n = write(OUTPUT, x);
     counts::add(counts, counts::WRITTEN, n as u64);
     let is_done = n == x.len();
     if !is_done {
-        say::failed_writing(counts::at(counts, counts::WRITTEN));
+        not_written(counts);
     }
     is_done
 }
@@ -107,7 +115,7 @@ pub fn input() -> i32 {
 pub fn close(counts: &[u64; COUNTS]) -> bool {
     let is_done = libc::close(OUTPUT) == 0;
     if !is_done {
-        say::failed_writing(counts::at(counts, counts::WRITTEN));
+        not_written(counts);
     }
     is_done
 }

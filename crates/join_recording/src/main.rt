@@ -47,7 +47,7 @@ struct Hand {
 fn took(got: isize, n: usize, counts: &mut [u64; COUNTS]) -> u8 {
     let before = counts::at(counts, counts::READ);
     if got < 0 {
-        say::failed_reading(before);
+        say::failed(b"reading failed at octet ", before);
         return say::NOT_READ;
     }
     counts::add(counts, counts::READ, n as u64);
@@ -178,10 +178,12 @@ fn run(
 }
 
 // The end of a run: the summary, and the report where all was read and written.
-fn end(store: &[u8], counts: &[u64; COUNTS], stop: u8) {
+fn end(store: &[u8], counts: &mut [u64; COUNTS], stop: u8) {
     let s = Settings { t: 8 };
     let left = tally::left(s, store);
-    say::summary(counts, left.segments as u64, left.keys as u64, stop);
+    counts::add(counts, counts::SEGMENTS, left.segments as u64);
+    counts::add(counts, counts::KEYS, left.keys as u64);
+    say::summary(counts, stop);
     let is_closed = files::close(counts);
     if stop <= say::TORN && is_closed {
         files::report();
@@ -196,7 +198,7 @@ fn join(fd: i32) {
     let mut out = [0u8; OUTPUT];
     let mut counts = [0u64; COUNTS];
     let stop = run(fd, &mut store, &zero, &mut buf, &mut out, &mut counts);
-    end(&store, &counts, stop);
+    end(&store, &mut counts, stop);
 }
 
 fn main() {

@@ -1,5 +1,8 @@
 // What the program says on standard error: progress at a terminal, failures, and at the end what it saw.
+ghost use Prim.Native.Nat.{_≤_};
+ghost use lib.ListN.{length};
 use crate::counts;
+use crate::files;
 use counts::COUNTS;
 
 const ERROR: i32 = 2;
@@ -15,9 +18,7 @@ const NEWLINE: u8 = 10;
 
 const RETURN: u8 = 13;
 
-const ESCAPE: u8 = 27;
-
-// Why a run stops.
+// Why a run stops: a line of `reasons`.
 pub const ENDED: u8 = 1;
 
 pub const UNMARKED: u8 = 2;
@@ -29,39 +30,29 @@ pub const NOT_READ: u8 = 4;
 pub const NOT_WRITTEN: u8 = 5;
 
 fn text(x: &[u8]) {
-    io::write_all(ERROR, x);
+    files::write(ERROR, x);
+}
+
+fn number(n: u64) {
+    let mut digits = [0u8; 20];
+    let k = io::decimal(n, &mut digits);
+    text(&digits[..k]);
 }
 
 // Words, a number, the end of the line.
 fn line(x: &[u8], n: u64) {
     text(x);
-    io::print_decimal(ERROR, n);
+    number(n);
     text(&[NEWLINE]);
-}
-
-// Words, a number, then why the last call failed.
-fn failed(x: &[u8], n: u64) {
-    text(x);
-    io::print_decimal(ERROR, n);
-    os::fail(b"");
 }
 
 // ---- progress
 
-// Takes away the line of progress.
-pub fn clear(read: u64) {
-    if read < STRIDE {
-        return;
-    }
-    if libc::isatty(ERROR) == TERMINAL {
-        text(&[RETURN, ESCAPE, b'[', b'K']);
-    }
-}
-
+// The cursor goes back to the beginning of the line, so that what is said next stands there.
 fn show(read: u64) {
-    text(&[RETURN]);
-    io::print_decimal(ERROR, read / MEBI);
+    number(read / MEBI);
     text(b" MiB read");
+    text(&[RETURN]);
 }
 
 // Shows progress at a terminal, where the octets read have passed the next stride.
@@ -76,97 +67,131 @@ pub fn progress(before: u64, after: u64) {
 
 // ---- failures
 
-pub fn failed_reading(read: u64) {
-    failed(b"reading failed at octet ", read);
+// Words, a number, then why the last call failed.
+pub fn failed(x: &[u8], n: u64) {
+    text(x);
+    number(n);
+    os::fail(b"");
 }
 
-pub fn failed_writing(written: u64) {
-    failed(b"writing failed behind octet ", written);
+// ---- tables of words
+
+// Where the line of a table that a place lies in ends.
+fn line_end(table: &[u8], from: usize) -> usize
+    requires { ⌜ from ≤ length (now table) ⌝ }
+    ensures { λ r. ⌜ (from ≤ r) × (r ≤ length (now (table .entry))) ⌝ }
+{
+    let mut at = from;
+    while at < table.len() {
+        if table[at] == NEWLINE {
+            return at;
+        }
+        at += 1;
+    }
+    at
+}
+
+// Where the line behind begins, or the end.
+fn behind(table: &[u8], at: usize) -> usize
+    ensures { λ r. ⌜ r ≤ length (now (table .entry)) ⌝ }
+{
+    let whole = table.len();
+    if at < whole {
+        return at + 1;
+    }
+    whole
+}
+
+// Where line k begins, the first one for 0.
+fn begins(table: &[u8], k: usize) -> usize
+    ensures { λ r. ⌜ r ≤ length (now (table .entry)) ⌝ }
+{
+    let mut from: usize = 0;
+    let mut left = k;
+    while 0 < left {
+        from = behind(table, line_end(table, from));
+        left -= 1;
+    }
+    from
+}
+
+fn entry(table: &[u8], k: usize) {
+    let from = begins(table, k);
+    let to = line_end(table, from);
+    text(&table[from..to]);
+}
+
+// What document 01 says of each refusal number, from 1 on. Those behind 21 are the writer's.
+fn refusal(k: usize) {
+    entry(
+        b"
+fewer than 6 octets
+packet version not 000
+secondary header flag 0
+APID 2047
+length is not length field + 7
+data field ends inside the secondary header
+binding version not 000
+SDU type 22 to 31
+session 3
+Varint not shortest or above 32 bits
+domain presence octet not 1
+secondary header past 256 octets
+more than 16 domain parts
+segmented packet with empty body
+T outside its range
+store not in order
+segmented packet above 1,022 octets
+contradicts a held segment
+no free cell
+nothing complete
+output too short
+",
+        k,
+    );
+}
+
+fn reason(k: usize) {
+    entry(
+        b"
+the recording ends there
+no mark there
+a torn packet there
+reading failed
+writing failed
+",
+        k,
+    );
+}
+
+// The names of the numbers, in the order of their places.
+fn label(k: usize) {
+    entry(
+        b"packets seen
+whole
+joined
+stored or held
+passed over as too long
+segments left in the store
+different keys among them
+octets written
+refused
+",
+        k,
+    );
 }
 
 // ---- the end
 
-// What a refusal number says, in document 01's words.
-fn words_to_7(number: usize) {
-    if number == 1 {
-        return text(b"fewer than 6 octets");
-    }
-    if number == 2 {
-        return text(b"packet version not 000");
-    }
-    if number == 3 {
-        return text(b"secondary header flag 0");
-    }
-    if number == 4 {
-        return text(b"APID 2047");
-    }
-    if number == 5 {
-        return text(b"length is not length field + 7");
-    }
-    if number == 6 {
-        return text(b"data field ends inside the secondary header");
-    }
-    if number == 7 {
-        text(b"binding version not 000");
-    }
-}
-
-fn words_to_14(number: usize) {
-    if number == 8 {
-        return text(b"SDU type 22 to 31");
-    }
-    if number == 9 {
-        return text(b"session 3");
-    }
-    if number == 10 {
-        return text(b"Varint not shortest or above 32 bits");
-    }
-    if number == 11 {
-        return text(b"domain presence octet not 1");
-    }
-    if number == 12 {
-        return text(b"secondary header past 256 octets");
-    }
-    if number == 13 {
-        return text(b"more than 16 domain parts");
-    }
-    if number == 14 {
-        text(b"segmented packet with empty body");
-    }
-}
-
-fn words_to_21(number: usize) {
-    if number == 15 {
-        return text(b"T outside its range");
-    }
-    if number == 16 {
-        return text(b"store not in order");
-    }
-    if number == 17 {
-        return text(b"segmented packet above 1,022 octets");
-    }
-    if number == 18 {
-        return text(b"contradicts a held segment");
-    }
-    if number == 19 {
-        return text(b"no free cell");
-    }
-    if number == 21 {
-        text(b"output too short");
-    }
-}
-
 // The line of a refusal number that occurred.
-fn refused(number: usize, n: u64) {
+fn refused(k: usize, n: u64) {
     if n == 0 {
         return;
     }
     text(b"  refused ");
-    io::print_decimal(ERROR, number as u64);
+    number(k as u64);
     text(b", ");
-    words_to_7(number);
-    words_to_14(number);
-    words_to_21(number);
+    refusal(k);
     line(b": ", n);
 }
 
@@ -178,56 +203,31 @@ fn refusals(counts: &[u64; COUNTS]) {
     }
 }
 
-fn packets(counts: &[u64; COUNTS]) {
-    line(b"packets seen: ", counts::at(counts, counts::SEEN));
-    line(b"whole: ", counts::at(counts, counts::WHOLE));
-    line(b"joined: ", counts::at(counts, counts::JOINED));
-    line(b"stored or held: ", counts::at(counts, counts::KEPT));
-    line(b"refused: ", counts::at(counts, counts::REFUSED));
+// The line of a number.
+fn told(k: usize, n: u64) {
+    label(k);
+    line(b": ", n);
 }
 
-fn left(segments: u64, keys: u64) {
-    text(b"left in the store: ");
-    io::print_decimal(ERROR, segments);
-    line(b" segments, different keys among them: ", keys);
-}
-
-fn why(stop: u8) {
-    if stop == ENDED {
-        return text(b"the recording ends there");
-    }
-    if stop == UNMARKED {
-        return text(b"no mark there");
-    }
-    if stop == TORN {
-        return text(b"a torn packet there");
-    }
-    if stop == NOT_READ {
-        return text(b"reading failed");
-    }
-    if stop == NOT_WRITTEN {
-        text(b"writing failed");
+fn numbers(counts: &[u64; COUNTS]) {
+    let mut k: usize = 0;
+    while k < counts::TOLD {
+        told(k, counts::at(counts, counts::SEEN + k));
+        k += 1;
     }
 }
 
 fn stopped(used: u64, stop: u8) {
     text(b"stopped at octet ");
-    io::print_decimal(ERROR, used);
+    number(used);
     text(b": ");
-    why(stop);
+    reason(stop as usize);
     text(&[NEWLINE]);
 }
 
-// A line each: what was seen, what is left in the store, where and why it stopped.
-pub fn summary(counts: &[u64; COUNTS], segments: u64, keys: u64, stop: u8) {
-    clear(counts::at(counts, counts::READ));
-    packets(counts);
+// A line each: what was seen, what is left in the store, which refusals occurred, where and why it stopped.
+pub fn summary(counts: &[u64; COUNTS], stop: u8) {
+    numbers(counts);
     refusals(counts);
-    line(
-        b"passed over as too long: ",
-        counts::at(counts, counts::PASSED),
-    );
-    left(segments, keys);
-    line(b"octets written: ", counts::at(counts, counts::WRITTEN));
     stopped(counts::at(counts, counts::USED), stop);
 }
