@@ -3,8 +3,9 @@
 
 First the cases of VECTORS_DIR/program.jsonl, each a whole recording and what it must give (VECTORS_DIR is ../shared/vectors beside this
 repository unless it is named; where there is none, they are left out). Then MUTATED recordings made from the samples by a fixed seed:
-octets changed, parts cut out, repeated, moved and put into another sample. The program must end by itself, in time, write what
-tests/model.py writes, and count what it counts. The program must have been built (`./orlyukan join` or `rt check join_recording`).
+octets changed, parts cut out, repeated, moved and put into another sample, packets resized and given other transaction ids. The
+program must end by itself, in time, write what tests/model.py writes, and count what it counts. The program must have been built
+(`./orlyukan join` or `rt check join_recording`).
 """
 
 import json
@@ -12,6 +13,7 @@ import multiprocessing
 import os
 import pathlib
 import random
+import shutil
 import subprocess
 import sys
 import tempfile
@@ -27,6 +29,16 @@ SEED = 524
 SECONDS = 20
 AT_ONCE = 50
 MOST_SHOWN = 5
+
+
+def words():
+    """The words that run the program: on another processor than x86-64 under the Rattle kit's emulator."""
+    machine = os.uname().machine
+    if machine == "x86_64":
+        return [PROGRAM]
+    kit = os.environ.get("RATTLE_HOME") or pathlib.Path(shutil.which("rt")).resolve().parent.parent
+    tools = pathlib.Path(kit) / "on" / machine / "toolchain"
+    return [tools / "bin" / "qemu-x86_64", tools / "lib" / "ld-linux-x86-64.so.2", "--library-path", tools / "lib", PROGRAM]
 
 
 def summary(joining):
@@ -50,7 +62,7 @@ def shortened(line):
 def fault(stream):
     """What is wrong with the program's run over a recording; nothing where all is right."""
     try:
-        ran = subprocess.run([PROGRAM], input=stream, capture_output=True, timeout=SECONDS, check=False)
+        ran = subprocess.run(words(), input=stream, capture_output=True, timeout=SECONDS, check=False)
     except subprocess.TimeoutExpired:
         return f"it did not end within {SECONDS} s"
     if ran.returncode != 0:
@@ -122,10 +134,40 @@ def pieces(stream):
         at = end
 
 
+def packets(samples):
+    """The marks and packets of all samples."""
+    return [piece for sample in samples for piece in pieces(sample)]
+
+
 def shuffled(pick, stream, samples):
     """The packets of all samples in some order, some of them left out and some repeated."""
-    parts = [piece for sample in samples for piece in pieces(sample)]
-    return b"".join(pick.choices(parts, k=pick.randrange(1, 60)))
+    return b"".join(pick.choices(packets(samples), k=pick.randrange(1, 60)))
+
+
+def renumbered(pick, stream, samples):
+    """Many packets, each with one of a few transaction ids, so that cells run out."""
+    few = pick.randrange(2, 40)
+    made = [piece[:27] + bytes([pick.randrange(few)]) + piece[28:] for piece in pick.choices(packets(samples), k=pick.randrange(40, 200))]
+    return b"".join(made)
+
+
+def resized(piece, long):
+    """A mark and a packet cut or lengthened to some octets, with a length field that fits."""
+    return piece[:6] + (long - 9).to_bytes(2, "big") + piece[8:long].ljust(long - 8, b"\0")
+
+
+def inserted(pick, stream, samples):
+    """A packet before the others: of another length, with an empty body, around the longest that is joined, or an idle one."""
+    piece = pick.choice(packets(samples))
+    made = pick.choice(
+        (
+            resized(piece, pick.randrange(9, 1100)),
+            resized(piece, pick.choice((28, 29, 32, 33, 34))),
+            resized(piece, 2 + 32768 + pick.randrange(-2, 3)),
+            piece[:2] + b"\x1f\xff" + piece[4:],
+        )
+    )
+    return made + stream
 
 
 def spliced(pick, stream, samples):
@@ -135,7 +177,7 @@ def spliced(pick, stream, samples):
     return stream[:place] + other[at : at + pick.randrange(1, 3000)] + stream[place:]
 
 
-KINDS = (changed, header_changed, header_changed, cut, without, repeated, shuffled, shuffled, spliced)
+KINDS = (changed, header_changed, header_changed, cut, without, repeated, shuffled, renumbered, inserted, inserted, spliced)
 
 
 def mutated(samples):
