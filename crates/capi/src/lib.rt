@@ -1,6 +1,8 @@
 // The calls for programs in other languages. `include/orlyukan.h` declares them for C and says what each number means.
 //
 // Each export hands its numbers and slices to a call of crate `flat` and puts what it answers into the lent array, the refusal first.
+mod stored;
+
 ghost use mathlib.Core.Path.{_≡_};
 ghost use Rattle.packet.specs.Reading.{readPacket};
 ghost use Rattle.flat.specs.Given.{settingsOf};
