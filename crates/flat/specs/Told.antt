@@ -13,6 +13,12 @@ use Rattle.packet.specs.declared.Present.{Present}
 use Rattle.packet.specs.declared.Ids.{Ids}
 use Rattle.packet.specs.declared.Texts.{Texts}
 use Rattle.packet.specs.declared.Header.{Header}
+use Rattle.write.specs.declared.Written.{Written}
+use Rattle.cut.specs.declared.Next.{Next}
+use Rattle.cut.specs.declared.Next.the-variants.{At, NoneLeft}
+use Rattle.cut.specs.declared.Sender.{Sender}
+use Rattle.cut.specs.declared.Counted.{Counted}
+use Rattle.cut.specs.declared.Cut.{Cut}
 
 -- ---- reading
 
@@ -64,3 +70,30 @@ readNumbers h =
     ++ (routingNumbers (h .fixed)
     ++ (presentNumbers (h .has)
     ++ (idsNumbers (h .ids) ++ (textNumbers (h .texts) ++ ((h .h ∷ []) ++ placeNumbers (h .body))))))))
+
+-- ---- writing and cutting
+
+-- the refusal, and the octets written
+abbrev pub writtenNumbers : Written → List ℕ
+writtenNumbers w = w .refusal .number ∷ w .length ∷ []
+
+-- whether a counter is left, and the counter, 0 where none is
+unfoldable pub leftNumber : Next → ℕ
+leftNumber (At c) = 1
+leftNumber NoneLeft = 0
+
+unfoldable pub counterNumber : Next → ℕ
+counterNumber (At c) = c .0
+counterNumber NoneLeft = 0
+
+-- a sender: its sequence count, and those two
+abbrev pub senderNumbers : Sender → List ℕ
+senderNumbers d = d .count .0 ∷ leftNumber (d .next) ∷ counterNumber (d .next) ∷ []
+
+-- the refusal, the number of packets, the sender
+abbrev pub countedNumbers : Counted → List ℕ
+countedNumbers r = r .refusal .number ∷ r .count ∷ senderNumbers (r .sender)
+
+-- the refusal, the octets written, the sender
+abbrev pub cutNumbers : Cut → List ℕ
+cutNumbers r = r .refusal .number ∷ r .length ∷ senderNumbers (r .sender)
