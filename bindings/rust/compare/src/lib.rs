@@ -2,5 +2,9 @@
 
 pub mod calls;
 pub mod cases;
+pub mod headers;
 pub mod json;
+pub mod packets;
+pub mod random;
+pub mod tally;
 mod told;
