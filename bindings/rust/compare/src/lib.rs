@@ -6,5 +6,7 @@ pub mod headers;
 pub mod json;
 pub mod packets;
 pub mod random;
+pub mod recordings;
+pub mod stores;
 pub mod tally;
 mod told;
