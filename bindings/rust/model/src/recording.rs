@@ -110,6 +110,12 @@ fn next_packet(recording: &[u8]) -> Option<(&[u8], &[u8])> {
 /// All messages of a recording, each after its mark and its length.
 pub fn join_recording(recording: &[u8]) -> Vec<u8> {
     let mut out = Vec::with_capacity(recording.len());
+    join_recording_into(recording, &mut out);
+    out
+}
+
+/// The same, behind what stands in the output already.
+pub fn join_recording_into(recording: &[u8], out: &mut Vec<u8>) {
     let mut rooms = Rooms { held: [None; ROOMS], counters: [0; ROOMS] };
     let mut rest = recording;
     while let Some((packet, behind)) = next_packet(rest) {
@@ -120,17 +126,16 @@ pub fn join_recording(recording: &[u8]) -> Vec<u8> {
         let Ok(reading) = read(T, packet) else { continue };
         if reading.flags == UNSEGMENTED {
             let (id, data) = whole(packet);
-            begin(id.len() + data.len(), &mut out);
+            begin(id.len() + data.len(), out);
             out.extend_from_slice(id);
             out.extend_from_slice(data);
         } else if packet.len() <= MOST_HELD {
             let segment = Segment::new(packet, &reading);
             if rooms.arrive(segment) {
                 if let Some(message) = rooms.message(&segment) {
-                    rooms.hand_out(&message, &mut out);
+                    rooms.hand_out(&message, out);
                 }
             }
         }
     }
-    out
 }
