@@ -3,9 +3,12 @@
 use std::hint::black_box;
 use std::time::{Duration, Instant};
 
-/// How often each program is timed, and for how long at least.
-const ROUNDS: usize = 15;
-const LEAST: Duration = Duration::from_millis(8);
+/// How often each program is timed, and for how long at least: many short runs, so that some of them are not broken into.
+const ROUNDS: usize = 300;
+const LEAST: Duration = Duration::from_micros(200);
+/// For calls that need their buffers made ready: at least so many rounds, and so much time in all.
+const READY_ROUNDS: usize = 12;
+const READY_LEAST: Duration = Duration::from_millis(400);
 
 /// What one timing comes to: the least time of a call, in nanoseconds.
 #[derive(Clone, Copy)]
@@ -61,7 +64,7 @@ pub fn both_made_ready<B>(
     let mut best = Times { ours: f64::MAX, model: f64::MAX };
     let mut total = Duration::ZERO;
     let mut rounds = 0;
-    while rounds < 2 * ROUNDS || total < 10 * LEAST {
+    while rounds < READY_ROUNDS || total < READY_LEAST {
         let mut one = |call: &dyn Fn(&mut B) -> u64| {
             ready(buffers);
             let start = Instant::now();
