@@ -191,11 +191,12 @@ fn recordings() {
     let size = Library.write(8, &header, compare::calls::Numbers { flags: 3, seq: 0, counter: 0 }, b"tile", &mut packet).length;
     let whole = [b"MP", &packet[..size as usize]].concat();
     let n = whole.len();
-    let cases: [(Vec<u8>, usize, u64); 7] = [
+    let cases: [(Vec<u8>, usize, u64); 8] = [
         (whole.clone(), n, 1),
         (vec![], 0, 1),
         ([&whole[..], b"x"].concat(), n, 2),
         ([&whole[..], b"MS", &whole].concat(), n, 2),
+        ([&whole[..], b"M"].concat(), n, 3),
         ([&whole[..], b"MP"].concat(), n, 3),
         ([&whole[..], &whole[..n - 1]].concat(), n, 3),
         ([&whole[..], &whole[..7]].concat(), n, 3),

@@ -17,7 +17,7 @@ mod write;
 pub use cut::{count, packet};
 pub use join::{join, view, Joined, Which};
 pub use read::{read, Reading, Span};
-pub use recording::{join_recording, join_recording_into};
+pub use recording::{join_recording, join_recording_into, recording_end, Stop};
 pub use store::{arrive, in_order, take, Kind, Order, Taken, CELL, CELLS};
 pub use values::{Refusal, Sender, Values};
 pub use varint::{read_varint, write_varint};

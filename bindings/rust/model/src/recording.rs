@@ -139,3 +139,29 @@ pub fn join_recording_into(recording: &[u8], out: &mut Vec<u8>) {
         }
     }
 }
+
+/// Why a recording ends where it does.
+#[derive(Clone, Copy, Debug, PartialEq, Eq)]
+pub enum Stop {
+    /// No octet is left.
+    Ended,
+    /// What is left does not begin as a mark does.
+    Unmarked,
+    /// A mark and packet begin and are not whole.
+    Torn,
+}
+
+/// Where the last whole packet of a recording ends, and why no other follows.
+pub fn recording_end(recording: &[u8]) -> (usize, Stop) {
+    let mut rest = recording;
+    while let Some((_, behind)) = next_packet(rest) {
+        rest = behind;
+    }
+    let begins = rest.iter().zip(PACKET_MARK).all(|(octet, mark)| *octet == mark);
+    let stop = match rest {
+        [] => Stop::Ended,
+        _ if begins => Stop::Torn,
+        _ => Stop::Unmarked,
+    };
+    (recording.len() - rest.len(), stop)
+}
