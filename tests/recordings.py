@@ -220,7 +220,7 @@ def main(arguments):
     folder = pathlib.Path(arguments[0]) if arguments else ROOT.parent / "shared" / "vectors"
     faults = 0
     if arguments or folder.is_dir():
-        faults += run("cases of the program", vectors(folder))
+        faults += run("cases of the program", list(vectors(folder)))
     samples = [(ROOT / "samples" / f"{name}.rec").read_bytes() for name in ("clean", "mixed", "torn")]
     faults += run("mutated recordings", mutated(samples))
     sys.exit(1 if faults else 0)
