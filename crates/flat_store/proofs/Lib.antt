@@ -1,3 +1,2 @@
 mod Telling
 pub mod Viewing
-mod Calls
