@@ -1,8 +1,8 @@
 /*
  * Orlyukan for C and C++: reading, writing, cutting, storing and joining MAL messages in CCSDS Space Packets.
  *
- * Link with libcapi.a, which `rt staticlib capi` writes for Linux on x86-64. The library keeps nothing between calls, allocates nothing, reads and
- * writes only the memory that it is lent, and always comes back.
+ * Link with libcapi.a, which `rt staticlib capi` writes for Linux on x86-64. The library keeps nothing between calls, allocates
+ * nothing, reads and writes only the memory that it is lent, and always comes back.
  *
  * How every call is made
  *
@@ -24,7 +24,7 @@
  *   may.
  * - While a call runs, no other thread writes what was lent to it, and none reads what it may write: one thread at a time for a
  *   store. Calls on separate memory may run at the same time.
- * - A few hundred kilobytes of stack, for the calls on a store.
+ * - There is stack enough: measured were 124 kilobytes for orl_join_recording, 30 for the calls on a store, 10 for the others.
  *
  * Refusals
  *

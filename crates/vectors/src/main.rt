@@ -18,7 +18,7 @@
 //
 // Module input reads standard input, case a case of it; print writes lines; lists has numbers and strings by their place. The
 // calls have a module each. A call takes what it needs of the numbers, the strings and the two buffers, and puts its answers into
-// a list, so that a new one is a line of `run` and a function beside the others.
+// a list, so that a new one is a line of `run_packet` or `run_store` and a function beside the others.
 mod case;
 mod cuts;
 mod headers;
@@ -27,6 +27,7 @@ mod joins;
 mod lists;
 mod print;
 mod reads;
+mod recordings;
 mod stores;
 mod varints;
 mod writes;
@@ -58,6 +59,8 @@ const JOIN: u8 = 10;
 
 const VIEW: u8 = 11;
 
+const RECORDING: u8 = 12;
+
 // The sizes of the buffers: input and text are emptied as the run goes, the others hold one case.
 const INPUT: usize = 65536;
 
@@ -73,7 +76,7 @@ const READ_ONLY: usize = 2097152;
 
 const STORE: usize = 4300800;
 
-const OUTPUT: usize = 131072;
+const OUTPUT: usize = 262144;
 
 // Between two cases: what is left of the input, how much of the text buffer is used, and whether to go on.
 struct State {
@@ -92,13 +95,12 @@ fn least(a: usize, b: usize) -> usize
     b
 }
 
-// Runs the call with this tag. The number of its answers, 0 where there is no such call.
-fn run(
+// Runs the call with this tag, of those that know no store. The number of its answers, 0 where there is no such call.
+fn run_packet(
     tag: u8,
     numbers: &[u64],
     strings: &[u8],
     ends: &[u64],
-    store: &mut [u8],
     out: &mut [u8],
     answer: &mut [u64],
 ) -> usize {
@@ -120,28 +122,55 @@ fn run(
     if tag == PACKET {
         return cuts::packet(numbers, strings, ends, out, answer);
     }
+    0
+}
+
+// The same of those that store and join.
+fn run_store(
+    tag: u8,
+    numbers: &[u64],
+    strings: &[u8],
+    ends: &[u64],
+    store: &mut [u8],
+    out: &mut [u8],
+    answer: &mut [u64],
+) -> usize {
+    let first = lists::part(strings, ends, 0);
     if tag == IN_ORDER {
         return stores::order(numbers, store, answer);
     }
     if tag == ARRIVE {
-        return stores::arrive(numbers, store, lists::part(strings, ends, 0), answer);
+        return stores::arrive(numbers, store, first, answer);
     }
     if tag == TAKE {
         return stores::take(numbers, store, out, answer);
     }
     if tag == JOIN {
-        return joins::join(numbers, store, lists::part(strings, ends, 0), out, answer);
+        return joins::join(numbers, store, first, out, answer);
     }
     if tag == VIEW {
-        return joins::view(
-            numbers,
-            lists::part(strings, ends, 0),
-            lists::part(strings, ends, 1),
-            out,
-            answer,
-        );
+        return joins::view(numbers, first, lists::part(strings, ends, 1), out, answer);
+    }
+    if tag == RECORDING {
+        return recordings::join(first, out, answer);
     }
     0
+}
+
+// Runs the call with this tag.
+fn run(
+    tag: u8,
+    numbers: &[u64],
+    strings: &[u8],
+    ends: &[u64],
+    store: &mut [u8],
+    out: &mut [u8],
+    answer: &mut [u64],
+) -> usize {
+    if tag < IN_ORDER {
+        return run_packet(tag, numbers, strings, ends, out, answer);
+    }
+    run_store(tag, numbers, strings, ends, store, out, answer)
 }
 
 // A line: the answers, then the lent buffers that the case has.
