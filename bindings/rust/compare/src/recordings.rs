@@ -13,7 +13,7 @@ fn arrivals(r: &mut Random) -> Vec<Vec<u8>> {
     for _ in 0..r.between(1, 4) {
         let message = stores::message(r, T);
         if r.once_in(3) {
-            all.extend(stores::near(r, &message).packets);
+            all.extend(stores::near(r, T, &message).packets);
         }
         all.extend(message.packets);
     }
