@@ -1,20 +1,20 @@
-// The calls over plain numbers: what `capi` hands to other languages.
+// The calls over plain numbers and slices, which `capi` hands to other languages.
 //
-// Every number is one of 64 bits. An answer is an array of numbers, the refusal first.
+// Every number is one of 64 bits, and an answer is an array of them, the refusal first. A number is tested against the type of its
+// field before it is made narrower: one too wide is 22, behind 15 for T or P. Then the call itself is made, and its answer told.
 ghost use mathlib.Core.Path.{_≡_};
-ghost use mathlib.Core.List.{[], _∷_};
 ghost use mathlib.Core.Bool.{true, false};
-ghost use Rattle.octets.specs.Octets.{pick};
+ghost use Prim.Native.Nat.{_+_, _≤_};
 ghost use lib.ListN.{length};
 ghost use lib.Dec.{eqb};
-ghost use Rattle.walk.specs.Walk.{noRefusal};
-ghost use Rattle.cut.specs.Cutting.{limitTest};
-ghost use Prim.Native.Nat.{_+_, _≤_};
 ghost use lib.Seq.{sets};
+ghost use Rattle.octets.specs.Octets.{pick};
+ghost use Rattle.walk.specs.Walk.{noRefusal};
 ghost use Rattle.packet.specs.Format.{bit};
 ghost use Rattle.packet.specs.Reading.{readPacket};
 ghost use Rattle.write.specs.Given.{lent};
-ghost use Rattle.flat.specs.Given.{settingsOf, numberAt, fitsTo, headerFits, presentOf, headerOf, packetFits, packetOf, senderFits, senderOf};
+ghost use Rattle.cut.specs.Cutting.{limitTest};
+ghost use Rattle.flat.specs.Given.{settingsOf, fitsTo, headerFits, presentOf, headerOf, packetFits, packetOf, senderFits, senderOf};
 ghost use Rattle.flat.specs.Answers.{tooWide, nextNumbers, writeRefused, writeNumbers, writeOut, afterPacketNumbers, afterSegmentNumbers, cutRefused, countNumbers, packetNumbers, packetOut};
 ghost use Rattle.flat.specs.Told.{primaryNumbers, nameNumbers, routingNumbers, presentNumbers, idsNumbers, placeNumbers, placesTo, textNumbers, readNumbers, writtenNumbers, leftNumber, counterNumber, senderNumbers, countedNumbers, cutNumbers};
 use cut::Counted;
@@ -40,6 +40,53 @@ use write::Written;
 
 // How many numbers reading answers.
 pub const READ: usize = 72;
+
+// The largest number of 16 and of 32 bits.
+const MOST_16: u64 = 65535;
+
+const MOST_32: u64 = 4294967295;
+
+// How many numbers a sender has, and how many its calls and those of cutting answer.
+pub const SENDER: usize = 3;
+
+pub const AFTER: usize = 4;
+
+pub const CUT: usize = 5;
+
+// The refusal of a number that is too wide for its field.
+const TOO_WIDE: u64 = 22;
+
+// How many numbers a header has, and the largest that the type of each field holds.
+pub const HEADER: usize = 24;
+
+const HEADER_WIDTHS: [u64; HEADER] = [
+    255,
+    MOST_16,
+    255,
+    MOST_32,
+    MOST_32,
+    MOST_32,
+    MOST_16,
+    255,
+    255,
+    255,
+    MOST_16,
+    MOST_32,
+    u64::MAX,
+    1,
+    1,
+    1,
+    1,
+    1,
+    1,
+    1,
+    1,
+    MOST_16,
+    MOST_16,
+    u64::MAX,
+];
+
+// ---- the answer of reading
 
 fn bit_of(b: bool) -> u64
     ensures { λ r. ⌜ r ≡ bit b ⌝ }
@@ -167,51 +214,6 @@ pub fn read(t: u64, packet: &[u8]) -> [u64; READ]
 }
 
 // ---- numbers to values
-
-// The largest number of 16 and of 32 bits.
-const MOST_16: u64 = 65535;
-
-const MOST_32: u64 = 4294967295;
-
-// How many numbers a sender has, and how many its calls and those of cutting answer.
-pub const SENDER: usize = 3;
-
-pub const AFTER: usize = 4;
-
-pub const CUT: usize = 5;
-
-// The refusal of a number that is too wide for its field.
-const TOO_WIDE: u64 = 22;
-
-// How many numbers a header has, and the largest that the type of each field holds.
-pub const HEADER: usize = 24;
-
-const HEADER_WIDTHS: [u64; HEADER] = [
-    255,
-    MOST_16,
-    255,
-    MOST_32,
-    MOST_32,
-    MOST_32,
-    MOST_16,
-    255,
-    255,
-    255,
-    MOST_16,
-    MOST_32,
-    u64::MAX,
-    1,
-    1,
-    1,
-    1,
-    1,
-    1,
-    1,
-    1,
-    MOST_16,
-    MOST_16,
-    u64::MAX,
-];
 
 fn also(ok: bool, next: bool) -> bool
     ensures { λ r. ⌜ r ≡ pick ok next false ⌝ }
