@@ -10,7 +10,7 @@ use Rattle.octets.specs.Octets.{Octets}
 use Rattle.walk.specs.declared.Settings.{Settings}
 use Rattle.walk.specs.declared.Refusal.{Refusal}
 use Rattle.packet.specs.Reading.{readPacket}
-use Rattle.cells.specs.Order.{countIn, sound, inOrder}
+use Rattle.cells.specs.Order.{countIn, inOrder}
 use Rattle.store.specs.declared.Kind.{Kind}
 use Rattle.store.specs.declared.Kind.the-variants.{Whole}
 use Rattle.store.specs.declared.Arrival.{Arrival}
@@ -20,7 +20,7 @@ use Rattle.store.specs.Arriving.{arrivedIn, arrived, storeWith}
 use Rattle.store.specs.Taking.{Took, tookIn, took, outWith, storeLess}
 use Rattle.store.specs.Told.{arrivalOf, takenOf}
 use Rattle.store.specs.Inner.{gate}
-use Rattle.store.proofs.Opening.{order-has, cells-inside, opened-order, arrived-open, took-open}
+use Rattle.store.proofs.Opening.{opened-order, arrived-open, took-open}
 use Rattle.keeping.proofs.Keeps.{arrive-long, arrive-keeps}
 use Rattle.join.specs.declared.Joined.{Joined}
 use Rattle.join.specs.Joining.{unjoined}
@@ -31,14 +31,6 @@ use Rattle.join.proofs.Kept.{gate-again}
 use Rattle.join.proofs.Joins.{Joins, join-refused, join-whole, join-taking}
 
 module _ (s : Settings) (Z : ℕ) (st p out : List ℕ) {n : ℕ} (g : gate s Z st ≡ 0) (en : n ≡ countIn Z st) where
-  -- ---- what the arrival needs
-
-  pub inner-inside : n * Z ≤ length st
-  inner-inside = rw en (cells-inside s Z st)
-
-  pub inner-sound : sound s Z st n ≡ true
-  inner-sound = ap (sound s Z st) en ∙ order-has s Z st (opened-order s Z st g) .sound
-
   arrives : arrivedIn s Z st n p ≡ arrived s Z st p
   arrives = ap (λ (m : ℕ). arrivedIn s Z st m p) en ∙ arrived-open s Z st p g
 

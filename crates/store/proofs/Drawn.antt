@@ -12,13 +12,13 @@ use Rattle.octets.specs.Octets.{octetAt}
 use Rattle.walk.specs.declared.Settings.{Settings}
 use Rattle.cells.specs.Segments.{Seg}
 use Rattle.cells.specs.Rows.{held}
-use Rattle.cells.specs.Order.{cellAt, sound, lowest, inOrder, countIn}
+use Rattle.cells.specs.Order.{cellAt, lowest, inOrder, countIn}
 use Rattle.store.specs.declared.Taken.{Taken}
 use Rattle.store.specs.Messages.{cellsOf, picked, amongIn, top}
 use Rattle.store.specs.Taking.{Took, message, tookIn, writing, outWith, clearedTo, storeLess}
 use Rattle.store.specs.Told.{takenOf}
 use Rattle.store.specs.Follow.{segAt, placesFrom, bodiesAt, answer, opensAt, marked, toldOf, Opens}
-use Rattle.store.proofs.Opening.{order-has, cells-inside}
+use Rattle.store.proofs.Opening.{order-has}
 use Rattle.store.proofs.Distinct.{distinct-apart}
 use Rattle.store.proofs.Drawing.{Message, the-message, runOf, writing-is, places-are, told-is, message-opens, took-message}
 use Rattle.store.proofs.Marks.{AllHeld, follow-held, cleared-message}
@@ -29,17 +29,11 @@ cellsFrom s Z st n i = i ∷ placesFrom s Z st n (segAt s Z st i .key) (suc (seg
 
 module _ (s : Settings) (Z : ℕ) (st out : List ℕ) (n i b : ℕ) (order : inOrder s Z st ≡ true) (en : n ≡ countIn Z st) (ei : i ≡ lowest (opensAt s Z st n) n 0) (below : i < n)
     (eb : suc b ≡ answer (picked suc top (cellsOf s Z st n))) (room : length (segAt s Z st i .key) + b ≤ length out) where
-  pub draw-sound : sound s Z st n ≡ true
-  draw-sound = ap (sound s Z st) en ∙ order-has s Z st order .sound
-
-  pub draw-inside : n * Z ≤ length st
-  draw-inside = rw en (cells-inside s Z st)
-
   m : Message s Z st n i
-  m = the-message s Z st n draw-sound ei below
+  m = the-message s Z st n ei below
 
-  pub draw-cell : (i < n) × (cellAt s Z st i ≡ held (segAt s Z st i))
-  draw-cell = (below, m .cell)
+  pub draw-cell : cellAt s Z st i ≡ held (segAt s Z st i)
+  draw-cell = m .cell
 
   pub draw-opens : Opens s Z st n i out
   draw-opens = message-opens s Z st n m eb out room
@@ -62,7 +56,7 @@ module _ (s : Settings) (Z : ℕ) (st out : List ℕ) (n i b : ℕ) (order : inO
       ∙ ap (outWith out) (sym took-is)
 
   all-held : AllHeld s Z st n (i ∷ m .places)
-  all-held = (draw-cell, follow-held s Z st n draw-sound (segAt s Z st i .key) 4294967295 (suc (segAt s Z st i .counter)) (m .places) (m .complete))
+  all-held = ((below, draw-cell), follow-held s Z st n (segAt s Z st i .key) 4294967295 (suc (segAt s Z st i .counter)) (m .places) (m .complete))
 
   pub draw-store :
       {marks x : List ℕ} → marks ≡ marked (replicate 4096 0) (cellsFrom s Z st n i) → x ≡ clearedTo (λ j. eqb (octetAt marks j) 1) Z n st →

@@ -24,10 +24,9 @@ use Rattle.format.proofs.Frame.{identification-long}
 use Rattle.format.proofs.Accepting.{accepted}
 use Rattle.cells.specs.Segments.{Seg, segOf}
 use Rattle.cells.specs.Rows.{free, held, rowAt, zeroRow, packetIn}
-use Rattle.cells.specs.Order.{cellAt, sound}
+use Rattle.cells.specs.Order.{cellAt}
 use Rattle.cells.specs.Inner.{Asked}
-use Rattle.cells.proofs.Carries.{free-cell, Holding, holding}
-use Rattle.cells.proofs.Apart.{sound-at}
+use Rattle.cells.proofs.Carries.{Holding, held-is}
 use Rattle.store.specs.declared.Piece.{Piece}
 use Rattle.store.specs.Inner.{pieceOf}
 use Rattle.store.specs.Follow.{segAt, follow, placesOf, placesFrom, bodiesAt, marked, toldOf, Ready, Opens}
@@ -40,16 +39,6 @@ three-laid o a b d =
     sets-append (sets o 0 a) (length a) b d
     ∙ ap (λ (n : ℕ). sets (sets o 0 a) n (b ++ d)) z
     ∙ sets-append o 0 a (b ++ d)
-
--- a cell that holds a segment is not free
-held-full : (s : Settings) (Z : ℕ) (st : List ℕ) (i : ℕ) (t : Seg) → cellAt s Z st i ≡ held t → alike (rowAt Z st i) (zeroRow Z) ≡ false
-held-full s Z st i t e = ⊎-elim free-it (λ x. x) (bool (alike (rowAt Z st i) (zeroRow Z)))
-  where
-    free-it : alike (rowAt Z st i) (zeroRow Z) ≡ true → alike (rowAt Z st i) (zeroRow Z) ≡ false
-    free-it a =
-        let b : free ≡ held t = sym (free-cell s Z (rowAt Z st i) a) ∙ e in
-        let y : _≡_ {A = ℕ} 0 1 = cc in
-        absurd (omega arith)
 
 -- H, by the key
 pub header-of : (s : Settings) (p : List ℕ) → Octets p → readPacket s p .refusal .number ≡ 0 → readPacket s p .h ≡ length (keyOf p (readPacket s p)) - 2
@@ -64,10 +53,10 @@ places-are : (s : Settings) (Z : ℕ) (st : List ℕ) (n : ℕ) (k : List ℕ) (
 unfolding placesFrom
 places-are s Z st n k c js e = ap placesOf e
 
-module _ (s : Settings) (Z : ℕ) (st : List ℕ) (n i : ℕ) (o : Octets st) (g : sound s Z st n ≡ true) (there : (i < n) × (cellAt s Z st i ≡ held (segAt s Z st i)))
+module _ (s : Settings) (Z : ℕ) (st : List ℕ) (n i : ℕ) (o : Octets st) (there : cellAt s Z st i ≡ held (segAt s Z st i))
     {r q : List ℕ} {h : Header} {t : Piece} (er : r ≡ rowAt Z st i) (eq : q ≡ packetIn 0 r) (eh : h ≡ readPacket s q) (et : t ≡ pieceOf (readPacket s (packetIn 0 r))) where
   holds-it : Holding s Z (rowAt Z st i)
-  holds-it = holding s Z (rowAt Z st i) (sound-at s Z st n i g (there .0) refl) (held-full s Z st i (segAt s Z st i) (there .1))
+  holds-it = held-is s Z (rowAt Z st i) (segAt s Z st i) there
 
   packet-is : q ≡ packetIn Z (rowAt Z st i)
   packet-is = eq ∙ ap (λ (x : List ℕ). packetIn Z x) er

@@ -16,7 +16,7 @@ use Rattle.octets.proofs.Lists.{bool, below-or}
 use Rattle.walk.specs.declared.Settings.{Settings}
 use Rattle.cells.specs.Segments.{Seg, carries}
 use Rattle.cells.specs.Rows.{Cell, free, held, broken, zeroRow}
-use Rattle.cells.specs.Order.{cellAt, sound, foundIn}
+use Rattle.cells.specs.Order.{cellAt, foundIn}
 use Rattle.cells.proofs.Held.{same-test}
 use Rattle.store.specs.Messages.{Role, first, middle, last, roleOf, or, among, amongIn}
 use Rattle.store.specs.Taking.{clearedTo}
@@ -80,7 +80,7 @@ module _ (s : Settings) (Z : ℕ) (st : List ℕ) (n : ℕ) where
   AllHeld [] = _≡_ {A = ℕ} 0 0
   AllHeld (x ∷ xs) = ((x < n) × (cellAt s Z st x ≡ held (segAt s Z st x))) × AllHeld xs
 
-  module _ (g : sound s Z st n ≡ true) (k : List ℕ) where
+  module _ (k : List ℕ) where
     on-held :
         (x : Role) (j : ℕ) (o : Option (List ℕ)) (js : List ℕ) → (j < n) × (cellAt s Z st j ≡ held (segAt s Z st j)) →
         ((ks : List ℕ) → o ≡ some ks → AllHeld ks) → onBy x j o ≡ some js → AllHeld js
@@ -97,7 +97,7 @@ module _ (s : Settings) (Z : ℕ) (st : List ℕ) (n : ℕ) where
         there : ((ks : List ℕ) → follow s Z st n k f (suc c) ≡ some ks → AllHeld ks) → foundIn s Z st n k c < n → AllHeld js
         there rest h =
             on-held (roleOf (segAt s Z st (foundIn s Z st n k c) .flags)) (foundIn s Z st n k c) (follow s Z st n k f (suc c)) js
-            (h, found-held s Z st n k c refl h g .cell) rest
+            (h, found-held s Z st n k c refl h .cell) rest
             (sym (follow-by s Z st n k f c refl h refl) ∙ e)
 
         nowhere : n ≤ foundIn s Z st n k c → AllHeld js

@@ -15,7 +15,7 @@ ghost use Rattle.packet.specs.Reading.{readPacket};
 ghost use Rattle.packet.specs.Key.{keyOf};
 ghost use Rattle.cells.specs.Segments.{sameRest};
 ghost use Rattle.cells.specs.Rows.{rowAt, zeroRow, packetIn, held};
-ghost use Rattle.cells.specs.Order.{lowest, sound, cellAt, inOrder, countIn};
+ghost use Rattle.cells.specs.Order.{lowest, cellAt, inOrder, countIn};
 ghost use Rattle.cells.specs.Inner.{Asked};
 ghost use Rattle.cells.specs.Chains.{Chained, bucketAt};
 ghost use Rattle.store.specs.Messages.{cellsOf, runIn, picked, top};
@@ -153,7 +153,6 @@ fn is_same(s: Settings, row: &[u8], p: &[u8], flags: u8, at: usize, long: usize)
 // A new segment at the first n cells.
 fn store_new(store: &mut [u8], n: usize, zero: &[u8], p: &[u8]) -> Arrival
     requires { ⌜ now zero ≡ zeroRow (length (now zero)) ⌝ }
-    requires { ⌜ n * length (now zero) ≤ length (now store) ⌝ }
     requires { ⌜ 2 + length (now p) ≤ length (now zero) ⌝ }
     ensures { λ r. ⌜ r ≡ arrivalOf (placed n (lowest (λ j. alike (rowAt (length (now (zero .entry))) (now (store .entry)) j) (now (zero .entry))) n 0)) ⌝ }
     ensures { λ r. ⌜ now (store .exit) ≡ storeWith (length (now (zero .entry))) (now (store .entry)) (now (p .entry)) (placed n (lowest (λ j. alike (rowAt (length (now (zero .entry))) (now (store .entry)) j) (now (zero .entry))) n 0)) ⌝ }
@@ -179,8 +178,6 @@ fn store_segment(
     counter: u32,
 ) -> Arrival
     requires { ⌜ now zero ≡ zeroRow (length (now zero)) ⌝ }
-    requires { ⌜ n * length (now zero) ≤ length (now store) ⌝ }
-    requires { ⌜ sound s (length (now zero)) (now store) n ≡ true ⌝ }
     requires { ⌜ Asked s (now p) at ⌝ }
     requires { ⌜ 2 + length (now p) ≤ length (now zero) ⌝ }
     ensures { λ r. ⌜ r ≡ arrivalOf (segmentArrived s (length (now (zero .entry))) (now (store .entry)) n (segWith s (now (p .entry)) flags at long counter)) ⌝ }
@@ -196,11 +193,9 @@ fn store_segment(
     refused(18)
 }
 
-// A packet at the first n cells of a store that is in order.
+// A packet at the first n cells of any octets.
 pub fn arrive_in(s: Settings, store: &mut [u8], n: usize, zero: &[u8], p: &[u8]) -> Arrival
     requires { ⌜ now zero ≡ zeroRow (length (now zero)) ⌝ }
-    requires { ⌜ n * length (now zero) ≤ length (now store) ⌝ }
-    requires { ⌜ sound s (length (now zero)) (now store) n ≡ true ⌝ }
     ensures { λ r. ⌜ r ≡ arrivalOf (arrivedIn s (length (now (zero .entry))) (now (store .entry)) n (now (p .entry))) ⌝ }
     ensures { λ r. ⌜ now (store .exit) ≡ storeWith (length (now (zero .entry))) (now (store .entry)) (now (p .entry)) (arrivedIn s (length (now (zero .entry))) (now (store .entry)) n (now (p .entry))) ⌝ }
 {
@@ -275,8 +270,6 @@ fn follow(
 ) -> usize
     requires { ⌜ (chained ≡ true → Chained (bucketAt s (length (now zero)) (now store)) (now heads) (now links) n) ⌝ }
     requires { ⌜ now zero ≡ zeroRow (length (now zero)) ⌝ }
-    requires { ⌜ n * length (now zero) ≤ length (now store) ⌝ }
-    requires { ⌜ sound s (length (now zero)) (now store) n ≡ true ⌝ }
     requires { ⌜ Asked s (now q) stop ⌝ }
     requires { ⌜ (from ≤ 4294967296) × (b ≤ 65542) ⌝ }
     ensures { λ r. ⌜ r ≡ total s (length (now (zero .entry))) (now (store .entry)) b (followed s (length (now (zero .entry))) (now (store .entry)) n (keyOf (now (q .entry)) (readPacket s (now (q .entry)))) 4294967295 from) ⌝ }
@@ -338,29 +331,26 @@ fn run_at(
 ) -> usize
     requires { ⌜ (chained ≡ true → Chained (bucketAt s (length (now zero)) (now store)) (now heads) (now links) n) ⌝ }
     requires { ⌜ now zero ≡ zeroRow (length (now zero)) ⌝ }
-    requires { ⌜ n * length (now zero) ≤ length (now store) ⌝ }
-    requires { ⌜ sound s (length (now zero)) (now store) n ≡ true ⌝ }
-    requires { ⌜ i < n ⌝ }
     ensures { λ r. ⌜ r ≡ answer (runIn suc top (cellsOf s (length (now (zero .entry))) (now (store .entry)) n) (cellAt s (length (now (zero .entry))) (now (store .entry)) i)) ⌝ }
 {
     let r = cells::row(store, zero.len(), i);
     if flags_in(r) != 1 {
         return 0;
     }
+    let t = cells::judge(s, r, zero);
+    if t.kind != 1 {
+        return 0;
+    }
     let q = cells::packet_in(r);
-    let h = packet::read(s, q);
-    let body = h.body;
-    let ids = h.ids;
-    let counter = ids.counter;
     follow(
         s,
         store,
         n,
         zero,
         q,
-        body.at,
-        counter.0 as u64 + 1,
-        body.length,
+        t.at,
+        t.counter as u64 + 1,
+        q.len() - t.at,
         chained,
         heads,
         links,
@@ -379,8 +369,6 @@ fn pick_message(
 ) -> Picked
     requires { ⌜ (chained ≡ true → Chained (bucketAt s (length (now zero)) (now store)) (now heads) (now links) n) ⌝ }
     requires { ⌜ now zero ≡ zeroRow (length (now zero)) ⌝ }
-    requires { ⌜ n * length (now zero) ≤ length (now store) ⌝ }
-    requires { ⌜ sound s (length (now zero)) (now store) n ≡ true ⌝ }
     ensures { λ r. ⌜ r ≡ pickedOf s (length (now (zero .entry))) (now (store .entry)) n ⌝ }
 {
     let mut i: usize = 0;
@@ -435,8 +423,6 @@ fn copy_rest(
 )
     requires { ⌜ (chained ≡ true → Chained (bucketAt s (length (now zero)) (now store)) (now heads) (now links) n) ⌝ }
     requires { ⌜ now zero ≡ zeroRow (length (now zero)) ⌝ }
-    requires { ⌜ n * length (now zero) ≤ length (now store) ⌝ }
-    requires { ⌜ sound s (length (now zero)) (now store) n ≡ true ⌝ }
     requires { ⌜ Asked s (now q) stop ⌝ }
     requires { ⌜ start ≤ 4294967296 ⌝ }
     requires { ⌜ Ready s (length (now zero)) (now store) n (keyOf (now q) (readPacket s (now q))) start place (now out) ⌝ }
@@ -476,9 +462,7 @@ fn copy_message(
 ) -> Taken
     requires { ⌜ (chained ≡ true → Chained (bucketAt s (length (now zero)) (now store)) (now heads) (now links) n) ⌝ }
     requires { ⌜ now zero ≡ zeroRow (length (now zero)) ⌝ }
-    requires { ⌜ n * length (now zero) ≤ length (now store) ⌝ }
-    requires { ⌜ sound s (length (now zero)) (now store) n ≡ true ⌝ }
-    requires { ⌜ (i < n) × (cellAt s (length (now zero)) (now store) i ≡ held (segAt s (length (now zero)) (now store) i)) ⌝ }
+    requires { ⌜ cellAt s (length (now zero)) (now store) i ≡ held (segAt s (length (now zero)) (now store) i) ⌝ }
     requires { ⌜ Opens s (length (now zero)) (now store) n i (now out) ⌝ }
     ensures { λ r. ⌜ r ≡ toldOf (segAt s (length (now (zero .entry))) (now (store .entry)) i) ⌝ }
     ensures { λ r. ⌜ now (out .exit) ≡ sets (now (out .entry)) 0 (segAt s (length (now (zero .entry))) (now (store .entry)) i .key ++ bodiesAt s (length (now (zero .entry))) (now (store .entry)) (i ∷ placesFrom s (length (now (zero .entry))) (now (store .entry)) n (segAt s (length (now (zero .entry))) (now (store .entry)) i .key) (suc (segAt s (length (now (zero .entry))) (now (store .entry)) i .counter)))) ⌝ }

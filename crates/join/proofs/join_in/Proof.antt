@@ -4,13 +4,13 @@ use native.Mathlib.Omega.{arith}
 use denote.Ref.{now}
 use lib.ListN.{length}
 use Rattle.join.proofs.Joins.{not-whole}
-use Rattle.join.proofs.Inner.{inner-inside, inner-sound, inner-order, inner-count, inner-fits, inner-refused, inner-whole, inner-taking}
+use Rattle.join.proofs.Inner.{inner-order, inner-count, inner-fits, inner-refused, inner-whole, inner-taking}
 use borrow.Author.Needs.{needs}
 use Rattle.join.proofs.join_in.Statement.{statement}
 use Rattle.join.proofs.join_in.Tie as tie
 
 arrive-in-requires : tie.Need-arrive-in-requires
-arrive-in-requires c κs = (c .before .before .before .before .before .pre .0, (inner-inside (c .before .before .before .before .before .args .s) (length (now (c .before .before .before .before .before .args .zero))) (now (c .before .before .before .before .before .args .store)) (now (c .before .before .before .before .before .args .p)) (now (c .before .before .before .before .before .args .out)) (c .before .before .before .before .before .pre .1 .0) (c .before .before .before .before .before .pre .1 .1), inner-sound (c .before .before .before .before .before .args .s) (length (now (c .before .before .before .before .before .args .zero))) (now (c .before .before .before .before .before .args .store)) (now (c .before .before .before .before .before .args .p)) (now (c .before .before .before .before .before .args .out)) (c .before .before .before .before .before .pre .1 .0) (c .before .before .before .before .before .pre .1 .1)))
+arrive-in-requires c κs = c .before .before .before .before .before .pre .0
 
 enum-known-got : tie.Need-enum-known-got
 enum-known-got c = search needs

@@ -13,15 +13,14 @@ use Rattle.store.proofs.copy_rest.Tie as tie
 
 abbrev Inv-loop : tie.InvT-loop
 Inv-loop s store n zero q stop start out₀ place marks₀ chained heads links z c₀ left₀ at₀ out marks c left at = Copying s (length zero) store n (keyOf q (readPacket s q)) (placesFrom s (length zero) store n (keyOf q (readPacket s q)) start) place out₀ marks₀ out marks c left at
-
 abbrev μ-loop : tie.MeasureT-loop
 μ-loop s store n zero q stop start out₀ place marks₀ chained heads links z c₀ left₀ at₀ out marks c left at = left
 
 loop-holds : tie.Need-loop-holds Inv-loop μ-loop
-loop-holds c = copying-first (c .before .before .before .before .before .args .s) (length (now (c .before .before .before .before .before .args .zero))) (now (c .before .before .before .before .before .args .store)) (c .before .before .before .before .before .args .n) (keyOf (now (c .before .before .before .before .before .args .q)) (readPacket (c .before .before .before .before .before .args .s) (now (c .before .before .before .before .before .args .q)))) (c .before .before .before .before .before .args .start) (c .before .before .before .before .before .args .place) (now (c .before .before .before .before .before .args .out)) (now (c .before .before .before .before .before .args .marks)) (c .before .before .before .before .before .pre .1 .1 .1 .1 .1 .0) (c .before .before .before .before .before .pre .1 .1 .1 .1 .1 .1)
+loop-holds c = copying-first (c .before .before .before .before .before .args .s) (length (now (c .before .before .before .before .before .args .zero))) (now (c .before .before .before .before .before .args .store)) (c .before .before .before .before .before .args .n) (keyOf (now (c .before .before .before .before .before .args .q)) (readPacket (c .before .before .before .before .before .args .s) (now (c .before .before .before .before .before .args .q)))) (c .before .before .before .before .before .args .start) (c .before .before .before .before .before .args .place) (now (c .before .before .before .before .before .args .out)) (now (c .before .before .before .before .before .args .marks)) (c .before .before .before .before .before .pre .1 .1 .1 .0) (c .before .before .before .before .before .pre .1 .1 .1 .1)
 
 find-by-requires : tie.Need-find-by-requires Inv-loop μ-loop
-find-by-requires c κs = (c .before .before .before .before .before .before .before .pre .1 .0, (c .before .before .before .before .before .before .before .pre .1 .1 .0, (c .before .before .before .before .before .before .before .pre .1 .1 .1 .0, (c .before .before .before .before .before .before .before .pre .1 .1 .1 .1 .0, c .before .before .before .before .before .before .before .pre .0))))
+find-by-requires c κs = (c .before .before .before .before .before .before .before .pre .1 .0, (c .before .before .before .before .before .before .before .pre .1 .1 .0, c .before .before .before .before .before .before .before .pre .0))
 
 row-requires : tie.Need-row-requires Inv-loop μ-loop
 row-requires c κs = search needs
@@ -66,5 +65,4 @@ returns-2 : tie.Need-returns-2 Inv-loop μ-loop
 returns-2 c = absurd (copying-ended (c .before .loop .inv) (c .loop-test .left))
 
 pub copy-rest-spec : {M : Type 1} → statement M
-copy-rest-spec =
-    tie.close (tie.spec Inv-loop μ-loop loop-holds find-by-requires row-requires piece-in-requires put-body-requires put-octet-requires same-length same-length-2 returns add-c sub-left loop-less loop-again same-length-3 same-length-4 returns-2)
+copy-rest-spec = tie.close (tie.spec Inv-loop μ-loop loop-holds find-by-requires row-requires piece-in-requires put-body-requires put-octet-requires same-length same-length-2 returns add-c sub-left loop-less loop-again same-length-3 same-length-4 returns-2)

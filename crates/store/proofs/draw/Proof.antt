@@ -2,7 +2,7 @@
 -- Assumes nothing.
 use denote.Ref.{now}
 use lib.ListN.{length}
-use Rattle.store.proofs.Drawn.{draw-sound, draw-inside, draw-cell, draw-opens, draw-told, draw-out, draw-store}
+use Rattle.store.proofs.Drawn.{draw-cell, draw-opens, draw-told, draw-out, draw-store}
 use borrow.Author.Needs.{needs}
 use Rattle.store.proofs.draw.Statement.{statement}
 use Rattle.store.proofs.draw.Tie as tie
@@ -11,7 +11,7 @@ slice-aggregate-copy-message : tie.Need-slice-aggregate-copy-message
 slice-aggregate-copy-message c = search needs
 
 copy-message-requires : tie.Need-copy-message-requires
-copy-message-requires c κs = (c .before .before .before .before .before .before .pre .0, (c .before .before .before .before .before .before .pre .1 .0, (draw-inside (c .before .before .before .before .before .before .args .s) (length (now (c .before .before .before .before .before .before .args .zero))) (now (c .before .before .before .before .before .before .args .store)) (now (c .before .before .before .before .before .before .args .out)) (c .before .before .before .before .before .before .args .n) (c .before .before .before .before .before .before .args .i) (c .before .before .before .before .before .before .args .b) (c .before .before .before .before .before .before .pre .1 .1 .0) (c .before .before .before .before .before .before .pre .1 .1 .1 .0) (c .before .before .before .before .before .before .pre .1 .1 .1 .1 .0) (c .before .before .before .before .before .before .pre .1 .1 .1 .1 .1 .0 .0) (c .before .before .before .before .before .before .pre .1 .1 .1 .1 .1 .0 .1) (c .before .before .before .before .before .before .pre .1 .1 .1 .1 .1 .1), (draw-sound (c .before .before .before .before .before .before .args .s) (length (now (c .before .before .before .before .before .before .args .zero))) (now (c .before .before .before .before .before .before .args .store)) (now (c .before .before .before .before .before .before .args .out)) (c .before .before .before .before .before .before .args .n) (c .before .before .before .before .before .before .args .i) (c .before .before .before .before .before .before .args .b) (c .before .before .before .before .before .before .pre .1 .1 .0) (c .before .before .before .before .before .before .pre .1 .1 .1 .0) (c .before .before .before .before .before .before .pre .1 .1 .1 .1 .0) (c .before .before .before .before .before .before .pre .1 .1 .1 .1 .1 .0 .0) (c .before .before .before .before .before .before .pre .1 .1 .1 .1 .1 .0 .1) (c .before .before .before .before .before .before .pre .1 .1 .1 .1 .1 .1), (draw-cell (c .before .before .before .before .before .before .args .s) (length (now (c .before .before .before .before .before .before .args .zero))) (now (c .before .before .before .before .before .before .args .store)) (now (c .before .before .before .before .before .before .args .out)) (c .before .before .before .before .before .before .args .n) (c .before .before .before .before .before .before .args .i) (c .before .before .before .before .before .before .args .b) (c .before .before .before .before .before .before .pre .1 .1 .0) (c .before .before .before .before .before .before .pre .1 .1 .1 .0) (c .before .before .before .before .before .before .pre .1 .1 .1 .1 .0) (c .before .before .before .before .before .before .pre .1 .1 .1 .1 .1 .0 .0) (c .before .before .before .before .before .before .pre .1 .1 .1 .1 .1 .0 .1) (c .before .before .before .before .before .before .pre .1 .1 .1 .1 .1 .1), draw-opens (c .before .before .before .before .before .before .args .s) (length (now (c .before .before .before .before .before .before .args .zero))) (now (c .before .before .before .before .before .before .args .store)) (now (c .before .before .before .before .before .before .args .out)) (c .before .before .before .before .before .before .args .n) (c .before .before .before .before .before .before .args .i) (c .before .before .before .before .before .before .args .b) (c .before .before .before .before .before .before .pre .1 .1 .0) (c .before .before .before .before .before .before .pre .1 .1 .1 .0) (c .before .before .before .before .before .before .pre .1 .1 .1 .1 .0) (c .before .before .before .before .before .before .pre .1 .1 .1 .1 .1 .0 .0) (c .before .before .before .before .before .before .pre .1 .1 .1 .1 .1 .0 .1) (c .before .before .before .before .before .before .pre .1 .1 .1 .1 .1 .1))))))
+copy-message-requires c κs = (c .before .before .before .before .before .before .pre .0, (c .before .before .before .before .before .before .pre .1 .0, (draw-cell (c .before .before .before .before .before .before .args .s) (length (now (c .before .before .before .before .before .before .args .zero))) (now (c .before .before .before .before .before .before .args .store)) (now (c .before .before .before .before .before .before .args .out)) (c .before .before .before .before .before .before .args .n) (c .before .before .before .before .before .before .args .i) (c .before .before .before .before .before .before .args .b) (c .before .before .before .before .before .before .pre .1 .1 .0) (c .before .before .before .before .before .before .pre .1 .1 .1 .0) (c .before .before .before .before .before .before .pre .1 .1 .1 .1 .0) (c .before .before .before .before .before .before .pre .1 .1 .1 .1 .1 .0 .0) (c .before .before .before .before .before .before .pre .1 .1 .1 .1 .1 .0 .1) (c .before .before .before .before .before .before .pre .1 .1 .1 .1 .1 .1), draw-opens (c .before .before .before .before .before .before .args .s) (length (now (c .before .before .before .before .before .before .args .zero))) (now (c .before .before .before .before .before .before .args .store)) (now (c .before .before .before .before .before .before .args .out)) (c .before .before .before .before .before .before .args .n) (c .before .before .before .before .before .before .args .i) (c .before .before .before .before .before .before .args .b) (c .before .before .before .before .before .before .pre .1 .1 .0) (c .before .before .before .before .before .before .pre .1 .1 .1 .0) (c .before .before .before .before .before .before .pre .1 .1 .1 .1 .0) (c .before .before .before .before .before .before .pre .1 .1 .1 .1 .1 .0 .0) (c .before .before .before .before .before .before .pre .1 .1 .1 .1 .1 .0 .1) (c .before .before .before .before .before .before .pre .1 .1 .1 .1 .1 .1))))
 
 slice-aggregate-clear : tie.Need-slice-aggregate-clear
 slice-aggregate-clear c = search needs
@@ -29,5 +29,4 @@ returns : tie.Need-returns
 returns c = (draw-told (c .before .before .before .before .before .before .before .before .before .before .before .before .before .before .before .before .before .args .s) (length (now (c .before .before .before .before .before .before .before .before .before .before .before .before .before .before .before .before .before .args .zero))) (now (c .before .before .before .before .before .before .before .before .before .before .before .before .before .before .before .before .before .args .store)) (now (c .before .before .before .before .before .before .before .before .before .before .before .before .before .before .before .before .before .args .out)) (c .before .before .before .before .before .before .before .before .before .before .before .before .before .before .before .before .before .args .n) (c .before .before .before .before .before .before .before .before .before .before .before .before .before .before .before .before .before .args .i) (c .before .before .before .before .before .before .before .before .before .before .before .before .before .before .before .before .before .args .b) (c .before .before .before .before .before .before .before .before .before .before .before .before .before .before .before .before .before .pre .1 .1 .0) (c .before .before .before .before .before .before .before .before .before .before .before .before .before .before .before .before .before .pre .1 .1 .1 .0) (c .before .before .before .before .before .before .before .before .before .before .before .before .before .before .before .before .before .pre .1 .1 .1 .1 .0) (c .before .before .before .before .before .before .before .before .before .before .before .before .before .before .before .before .before .pre .1 .1 .1 .1 .1 .0 .0) (c .before .before .before .before .before .before .before .before .before .before .before .before .before .before .before .before .before .pre .1 .1 .1 .1 .1 .0 .1) (c .before .before .before .before .before .before .before .before .before .before .before .before .before .before .before .before .before .pre .1 .1 .1 .1 .1 .1) (c .before .before .before .before .before .before .before .before .before .before .copy-message .ensures .0), (draw-out (c .before .before .before .before .before .before .before .before .before .before .before .before .before .before .before .before .before .args .s) (length (now (c .before .before .before .before .before .before .before .before .before .before .before .before .before .before .before .before .before .args .zero))) (now (c .before .before .before .before .before .before .before .before .before .before .before .before .before .before .before .before .before .args .store)) (now (c .before .before .before .before .before .before .before .before .before .before .before .before .before .before .before .before .before .args .out)) (c .before .before .before .before .before .before .before .before .before .before .before .before .before .before .before .before .before .args .n) (c .before .before .before .before .before .before .before .before .before .before .before .before .before .before .before .before .before .args .i) (c .before .before .before .before .before .before .before .before .before .before .before .before .before .before .before .before .before .args .b) (c .before .before .before .before .before .before .before .before .before .before .before .before .before .before .before .before .before .pre .1 .1 .0) (c .before .before .before .before .before .before .before .before .before .before .before .before .before .before .before .before .before .pre .1 .1 .1 .0) (c .before .before .before .before .before .before .before .before .before .before .before .before .before .before .before .before .before .pre .1 .1 .1 .1 .0) (c .before .before .before .before .before .before .before .before .before .before .before .before .before .before .before .before .before .pre .1 .1 .1 .1 .1 .0 .0) (c .before .before .before .before .before .before .before .before .before .before .before .before .before .before .before .before .before .pre .1 .1 .1 .1 .1 .0 .1) (c .before .before .before .before .before .before .before .before .before .before .before .before .before .before .before .before .before .pre .1 .1 .1 .1 .1 .1) (c .before .before .before .before .before .before .before .before .before .before .copy-message .ensures .1 .0), draw-store (c .before .before .before .before .before .before .before .before .before .before .before .before .before .before .before .before .before .args .s) (length (now (c .before .before .before .before .before .before .before .before .before .before .before .before .before .before .before .before .before .args .zero))) (now (c .before .before .before .before .before .before .before .before .before .before .before .before .before .before .before .before .before .args .store)) (now (c .before .before .before .before .before .before .before .before .before .before .before .before .before .before .before .before .before .args .out)) (c .before .before .before .before .before .before .before .before .before .before .before .before .before .before .before .before .before .args .n) (c .before .before .before .before .before .before .before .before .before .before .before .before .before .before .before .before .before .args .i) (c .before .before .before .before .before .before .before .before .before .before .before .before .before .before .before .before .before .args .b) (c .before .before .before .before .before .before .before .before .before .before .before .before .before .before .before .before .before .pre .1 .1 .0) (c .before .before .before .before .before .before .before .before .before .before .before .before .before .before .before .before .before .pre .1 .1 .1 .0) (c .before .before .before .before .before .before .before .before .before .before .before .before .before .before .before .before .before .pre .1 .1 .1 .1 .0) (c .before .before .before .before .before .before .before .before .before .before .before .before .before .before .before .before .before .pre .1 .1 .1 .1 .1 .0 .0) (c .before .before .before .before .before .before .before .before .before .before .before .before .before .before .before .before .before .pre .1 .1 .1 .1 .1 .0 .1) (c .before .before .before .before .before .before .before .before .before .before .before .before .before .before .before .before .before .pre .1 .1 .1 .1 .1 .1) (c .before .before .before .before .before .before .before .before .before .before .copy-message .ensures .1 .1) (c .before .before .clear .ensures)))
 
 pub draw-spec : {M : Type 1} → statement M
-draw-spec =
-    tie.close (tie.spec slice-aggregate-copy-message copy-message-requires slice-aggregate-clear clear-requires same-length same-length-2 returns)
+draw-spec = tie.close (tie.spec slice-aggregate-copy-message copy-message-requires slice-aggregate-clear clear-requires same-length same-length-2 returns)
