@@ -120,6 +120,11 @@ judged-at s Z r {t} e h =
     let f = e ∙ ap (judgedOf (bodyIn s Z r)) (h .cell) in
     (ap kind f, (ap (λ (x : Judged). x .at) f, ap (λ (x : Judged). x .counter) f))
 
+-- the counter of a segment that is held stands where its presence octet says
+pub held-counter : (s : Settings) (Z : ℕ) (r : List ℕ) → Octets r → Holding s Z r → counterIn (packetIn Z r) ≡ readPacket s (packetIn Z r) .ids .counter .0
+unfolding counterIn placeIn
+held-counter s Z r o h = counter-told s (packetIn Z r) (octets-part r 2 (number 2 r 6 + 7) o) (h .accepted) (h .segment)
+
 -- ---- as the code tests it
 
 module _ (s : Settings) (r z q : List ℕ) (stop c : ℕ) (o : Octets r) (a : Asked s q stop) where
@@ -139,13 +144,9 @@ module _ (s : Settings) (r z q : List ℕ) (stop c : ℕ) (o : Octets r) (a : As
       held-it h = let w : _≡_ {A = ℕ} 0x4d 0 = ap (λ (x : List ℕ). octetAt x 0) (sym (h .row)) ∙ sym e ∙ t in absurd (omega arith)
 
   module _ (there : Holding s (length z) r) where
-    counter-is : counterIn p ≡ readPacket s p .ids .counter .0
-    unfolding counterIn placeIn
-    counter-is = counter-told s p plain (there .accepted) (there .segment)
-
     told : carriesIn k c (cellOf s (length z) r) ≡ both (eqb c (counterIn p)) (alike k (keyOf p (readPacket s p)))
     unfolding carries segOf
-    told = ap (carriesIn k c) (there .cell) ∙ ap (λ (n : ℕ). both (eqb c n) (alike k (keyOf p (readPacket s p)))) (sym counter-is)
+    told = ap (carriesIn k c) (there .cell) ∙ ap (λ (n : ℕ). both (eqb c n) (alike k (keyOf p (readPacket s p)))) (sym (held-counter s (length z) r o there))
 
     keys : spansAlike q (readPacket s q .body .at) p (readPacket s p .body .at) ≡ alike k (keyOf p (readPacket s p))
     keys = keys-same s q p (a .octets) plain (a .accepted) (there .accepted) (a .segment) (there .segment)

@@ -16,7 +16,7 @@ ghost use Rattle.octets.specs.Octets.{pick, part, number, alike};
 ghost use lib.Dec.{eqb};
 ghost use Rattle.cells.specs.Segments.{both};
 ghost use Rattle.cells.specs.Rows.{rowAt, zeroRow, cellOf};
-ghost use Rattle.cells.specs.Inner.{heldRowTest, judgedOf, bodyIn, placeIn, counterIn, spansAlike, Asked};
+ghost use Rattle.cells.specs.Inner.{heldRowTest, judgedOf, bodyIn, placeIn, counterIn, spansAlike, withinIn, Asked};
 ghost use mathlib.Core.Bool.{true};
 ghost use Rattle.packet.specs.Reading.{readPacket};
 ghost use Rattle.packet.specs.Key.{keyOf};
@@ -240,6 +240,43 @@ pub fn carries_at(s: Settings, row: &[u8], zero: &[u8], q: &[u8], stop: usize, c
         return false;
     }
     same_key(q, stop, p, t.at)
+}
+
+// Whether octets are the key of a segment, told where its body begins.
+fn is_key(k: &[u8], p: &[u8], end: usize) -> bool
+    ensures { λ r. ⌜ r ≡ alike (now (k .entry)) (keyIn (now (p .entry)) end) ⌝ }
+{
+    let c = counter_place(p);
+    let ids = span(p, 0, 2);
+    let fore = span(p, 6, c - 6);
+    let aft = span(p, c + 4, less(end, c + 4));
+    let first = octets::same(span(k, 0, ids.len()), ids);
+    let second = octets::same(span(k, ids.len(), fore.len()), fore);
+    let third = octets::same(tail(k, ids.len() + fore.len()), aft);
+    and(first, and(second, third))
+}
+
+// Whether a cell holds a segment with this key and a counter from one number on and below another. The cheap tests come first.
+pub fn is_within(s: Settings, row: &[u8], zero: &[u8], k: &[u8], from: u64, to: u64) -> bool
+    requires { ⌜ now zero ≡ zeroRow (length (now zero)) ⌝ }
+    ensures { λ r. ⌜ r ≡ withinIn (now (k .entry)) from to (cellOf s (length (now (zero .entry))) (now (row .entry))) ⌝ }
+{
+    if octets::octet(row, 0) == 0 {
+        return false;
+    }
+    let p = packet_in(row);
+    let c = counter_in(p) as u64;
+    if c < from {
+        return false;
+    }
+    if to <= c {
+        return false;
+    }
+    let t = judge(s, row, zero);
+    if t.kind != 1 {
+        return false;
+    }
+    is_key(k, p, t.at)
 }
 
 // The lowest of the first n cells that carries the key and counter of the one that is looked for; n where there is none.

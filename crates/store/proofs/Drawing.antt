@@ -13,15 +13,16 @@ use borrow.Author.Tests.{le-leb, lt-leb}
 use Rattle.octets.specs.Octets.{pick, alike}
 use Rattle.octets.proofs.Lists.{bool, below-or}
 use Rattle.walk.specs.declared.Settings.{Settings}
+use Rattle.walk.specs.Walk.{refusal}
 use Rattle.cells.specs.Segments.{Seg}
 use Rattle.cells.specs.Rows.{Cell, free, held, broken, rowAt, zeroRow}
 use Rattle.cells.specs.Order.{cellAt, lowest, foundIn}
 use Rattle.cells.proofs.Carries.{Holding, held-is}
 use Rattle.store.specs.Messages.{Role, first, middle, last, roleOf, Run, bodies, bodyOf, listed, orElse, cellsOf, chain, opensBy, runFrom, runIn, pickIn, picked, top}
 use Rattle.store.specs.Taking.{Took, message, unable, writing, drawn, tookIn}
-use Rattle.store.specs.declared.Taken.{Taken}
+use Rattle.store.specs.declared.Copied.{Copied}
 use Rattle.store.specs.Told.{takenOf}
-use Rattle.store.specs.Follow.{segAt, follow, placesFrom, placesOf, bodiesAt, answer, isSome, opensAt, toldOf, Opens}
+use Rattle.store.specs.Follow.{segAt, follow, placesFrom, placesOf, bodiesAt, answer, isSome, opensAt, copiedOf, Opens}
 use Rattle.store.proofs.Looks.{lowest-holds}
 use Rattle.store.proofs.Found.{found-held}
 use Rattle.store.proofs.Following.{follow-none, follow-by, chain-places, bodies-places}
@@ -178,10 +179,10 @@ module _ (s : Settings) (Z : ℕ) (st : List ℕ) (n : ℕ) where
           d ∙ ap length body-is
 
       -- what is told of it
-      pub told-is : {u : Taken} → u ≡ toldOf (segAt s Z st i) → record { refusal = u .refusal; header = u .header; body = b; counter = u .counter } ≡ takenOf (message runOf)
-      unfolding toldOf
-      told-is {u} eu =
-          ap₂ (λ (x : Taken) (y : ℕ). record { refusal = x .refusal; header = x .header; body = y; counter = x .counter }) eu (body-long ∙ sym (ap length body-is))
+      pub told-is : {u : Copied} (k : ℕ) → u ≡ copiedOf (segAt s Z st i) k → record { refusal = refusal 0; header = u .header; body = b; counter = u .counter } ≡ takenOf (message runOf)
+      unfolding copiedOf
+      told-is {u} k eu =
+          ap₂ (λ (x : Copied) (y : ℕ). record { refusal = refusal 0; header = x .header; body = y; counter = x .counter }) eu (body-long ∙ sym (ap length body-is))
 
       writing-long : length (writing runOf) ≡ length (segAt s Z st i .key) + b
       writing-long = length-append (segAt s Z st i .key) (bodyOf runOf) ∙ ap (λ (x : ℕ). length (segAt s Z st i .key) + x) (ap length body-is ∙ sym body-long)

@@ -16,6 +16,7 @@ use Rattle.cells.proofs.find.Tie as tie
 
 abbrev Inv-loop : tie.InvT-loop
 Inv-loop s store n zero q stop c z j₀ j = Seeking (λ k. carriesIn (keyOf q (readPacket s q)) c (cellAt s (length zero) store k)) n j
+
 abbrev μ-loop : tie.MeasureT-loop
 μ-loop s store n zero q stop c z j₀ j = n - j
 

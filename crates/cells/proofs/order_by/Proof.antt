@@ -11,6 +11,7 @@ use Rattle.cells.proofs.order_by.Tie as tie
 
 abbrev Inv-loop : tie.InvT-loop
 Inv-loop s store n zero heads₀ links₀ o₀ i₀ heads links o i = Ordering s (length zero) store n heads links o i
+
 abbrev μ-loop : tie.MeasureT-loop
 μ-loop s store n zero heads₀ links₀ o₀ i₀ heads links o i = n - i
 

@@ -13,6 +13,7 @@ use Rattle.store.proofs.follow.Tie as tie
 
 abbrev Inv-loop : tie.InvT-loop
 Inv-loop s store n zero q stop from b chained heads links z c₀ left₀ sum₀ c left sum = Counted s (length zero) store n (keyOf q (readPacket s q)) b from c left sum
+
 abbrev μ-loop : tie.MeasureT-loop
 μ-loop s store n zero q stop from b chained heads links z c₀ left₀ sum₀ c left sum = left
 

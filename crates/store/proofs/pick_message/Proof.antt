@@ -11,6 +11,7 @@ use Rattle.store.proofs.pick_message.Tie as tie
 
 abbrev Inv-loop : tie.InvT-loop
 Inv-loop s store n zero chained heads links i₀ i = Picking s (length zero) store n i
+
 abbrev μ-loop : tie.MeasureT-loop
 μ-loop s store n zero chained heads links i₀ i = n - i
 
