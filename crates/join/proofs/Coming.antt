@@ -14,11 +14,13 @@ use borrow.Author.Tests.{eqb-true, leb-true, eq-eqb, ne-eqb}
 use Rattle.octets.specs.Octets.{pick, Octets}
 use Rattle.octets.proofs.Lists.{bool}
 use Rattle.walk.specs.declared.Settings.{Settings}
+use Rattle.walk.specs.Walk.{begun}
 use Rattle.packet.specs.Reading.{readPacket, segmented, counterSize}
 use Rattle.format.proofs.Accepting.{accepted}
 use Rattle.cells.specs.Segments.{Seg, segOf, sameRest}
+use Rattle.cells.specs.Order.{inOrder, countIn}
 use Rattle.store.specs.Messages.{Run, bodyOf, cellsOf, look, picked, top}
-use Rattle.store.specs.Arriving.{whole, stored, again, refused, placed, beside, lowestFree, segmentArrived, arrivedIn}
+use Rattle.store.specs.Arriving.{whole, stored, again, refused, placed, beside, lowestFree, segmentArrived, arrivedIn, arrived}
 use Rattle.store.specs.Taking.{message, unable, writing, drawn, tookIn}
 use Rattle.store.specs.declared.Taken.{Taken}
 use Rattle.store.specs.Told.{refusalOf, takenOf}
@@ -58,6 +60,17 @@ module _ (s : Settings) (Z : ℕ) (st p : List ℕ) where
       told (inl a) (inl b) (inr c) = let d : refused 17 ≡ whole = rw (a, b, c) at e in let z : _≡_ {A = ℕ} 0 1 = cc in absurd (omega arith)
       told (inr a) b c =
           let d : refused (readPacket s p .refusal .number) ≡ whole = rw a at e in let z : _≡_ {A = ℕ} 0 1 = cc in absurd (omega arith)
+
+  pub whole-tells : arrived s Z st p ≡ whole → (readPacket s p .refusal .number ≡ 0) × (segmented p ≡ false)
+  unfolding arrived
+  whole-tells e = told (eqb (begun s .refusal .number) 0) (inOrder s Z st) e
+    where
+      told :
+          (a b : Bool) → pick a (pick b (arrivedIn s Z st (countIn Z st) p) (refused 16)) (refused 15) ≡ whole →
+          (readPacket s p .refusal .number ≡ 0) × (segmented p ≡ false)
+      told true true d = whole-in (countIn Z st) d
+      told true false d = let z : _≡_ {A = ℕ} 0 1 = cc in absurd (omega arith)
+      told false b d = let z : _≡_ {A = ℕ} 0 1 = cc in absurd (omega arith)
 
 -- the body of an accepted unsegmented packet stands behind 6 + H octets and goes to the packet's end
 pub whole-place :
