@@ -1,8 +1,8 @@
--- Whether a sound cell carries a key and a counter, as the code tests it.
+-- Whether a cell carries a key and a counter, as the code tests it.
 -- Assumes nothing.
 use Prim.Native.Nat.{ℕ, zero, suc, _+_, _≤_}
 use mathlib.Core.Path.{_≡_, refl, ap, ap₂, sym, _∙_}
-use mathlib.Core.Logic.{⊎-elim}
+use mathlib.Core.Logic.{_⊎_, inl, inr, ⊎-elim}
 use mathlib.Core.Bool.{Bool, true, false}
 use mathlib.Core.List.{List, [], _∷_}
 use native.Mathlib.Omega.{arith}
@@ -11,7 +11,7 @@ use lib.Dec.{eqb, leb}
 use borrow.Author.Tests.{eqb-true, leb-true, eq-eqb, ne-eqb}
 use Rattle.octets.specs.Octets.{pick, Octets, octetAt, part, number, alike}
 use Rattle.octets.proofs.Has.{octets-part}
-use Rattle.octets.proofs.Lists.{bool, pick-false, alike-self, alike-true}
+use Rattle.octets.proofs.Lists.{bool, pick-false, alike-true}
 use Rattle.walk.specs.declared.Settings.{Settings}
 use Rattle.packet.specs.declared.Header.{Header}
 use Rattle.packet.specs.Reading.{readPacket, segmented}
@@ -19,8 +19,9 @@ use Rattle.packet.specs.Key.{keyOf, sameKey}
 use Rattle.cells.specs.Segments.{Seg, segOf, carries, both}
 use Rattle.cells.specs.Rows.{Cell, free, held, broken, zeroRow, heldRow, packetIn, mayHold, holds, cellOf}
 use Rattle.cells.specs.Order.{isSound, carriesIn}
-use Rattle.cells.specs.Inner.{placeIn, counterIn, spansAlike, Asked}
-use Rattle.cells.proofs.Held.{both-true, same-test}
+use Rattle.cells.specs.declared.Judged.{Judged}
+use Rattle.cells.specs.Inner.{placeIn, counterIn, spansAlike, bodyIn, judgedOf, Asked}
+use Rattle.cells.proofs.Held.{both-true}
 use Rattle.cells.proofs.Counters.{counter-told}
 use Rattle.cells.proofs.SameKeys.{keys-same}
 use Rattle.cells.proofs.Transactions.{spans-transaction}
@@ -68,86 +69,124 @@ holding s Z r g a = ⊎-elim yes-it no-it (bool (holds s Z r))
     no-it : holds s Z r ≡ false → Holding s Z r
     no-it b = let e : isSound broken ≡ true = ap isSound (sym (broken-cell s Z r a b)) ∙ g in let z : _≡_ {A = ℕ} 0 1 = cc in absurd (omega arith)
 
--- a sound cell is free exactly if its first octet is 0
-zeros-first : (Z : ℕ) → octetAt (zeroRow Z) 0 ≡ 0
-zeros-first zero = refl
-zeros-first (suc Z) = refl
+-- a row holds a segment, or is free or broken
+pub kinds : (s : Settings) (Z : ℕ) (r : List ℕ) → Holding s Z r ⊎ ((cellOf s Z r ≡ free) ⊎ (cellOf s Z r ≡ broken))
+kinds s Z r =
+    ⊎-elim
+    (λ a. inr (inl (free-cell s Z r a)))
+    (λ a. ⊎-elim (λ b. inl (made s Z r a b)) (λ b. inr (inr (broken-cell s Z r a b))) (bool (holds s Z r)))
+    (bool (alike r (zeroRow Z)))
 
-pub first-free : (s : Settings) (Z : ℕ) (r : List ℕ) → isSound (cellOf s Z r) ≡ true → octetAt r 0 ≡ 0 → alike r (zeroRow Z) ≡ true
-first-free s Z r g e = ⊎-elim (λ t. t) held-it (bool (alike r (zeroRow Z)))
+pub held-is : (s : Settings) (Z : ℕ) (r : List ℕ) (t : Seg) → cellOf s Z r ≡ held t → Holding s Z r
+held-is s Z r t e = ⊎-elim (λ h. h) (λ h. absurd (⊎-elim no-free no-broken h)) (kinds s Z r)
   where
-    held-it : alike r (zeroRow Z) ≡ false → alike r (zeroRow Z) ≡ true
-    held-it a = let z : _≡_ {A = ℕ} 0x4d 0 = ap (λ (x : List ℕ). octetAt x 0) (sym (holding s Z r g a .row)) ∙ e in absurd (omega arith)
+    no-free : cellOf s Z r ≡ free → ⊥
+    no-free d = let f : free ≡ held t = sym d ∙ e in let z : _≡_ {A = ℕ} 0 1 = cc in omega arith
 
-pub first-held : (Z : ℕ) (r : List ℕ) → (octetAt r 0 ≡ 0 → ⊥) → alike r (zeroRow Z) ≡ false
-first-held Z r h = ⊎-elim free-it (λ t. t) (bool (alike r (zeroRow Z)))
+    no-broken : cellOf s Z r ≡ broken → ⊥
+    no-broken d = let f : broken ≡ held t = sym d ∙ e in let z : _≡_ {A = ℕ} 0 1 = cc in omega arith
+
+-- a row that carries something holds it
+pub carrying : (s : Settings) (Z : ℕ) (r k : List ℕ) (c : ℕ) → carriesIn k c (cellOf s Z r) ≡ true → Holding s Z r
+carrying s Z r k c e = go (cellOf s Z r) refl e
   where
-    free-it : alike r (zeroRow Z) ≡ true → alike r (zeroRow Z) ≡ false
-    free-it a = absurd (h (ap (λ (x : List ℕ). octetAt x 0) (alike-true r (zeroRow Z) a) ∙ zeros-first Z))
+    go : (x : Cell) → cellOf s Z r ≡ x → carriesIn k c x ≡ true → Holding s Z r
+    go free d f = let z : _≡_ {A = ℕ} 0 1 = cc in absurd (omega arith)
+    go (held t) d f = held-is s Z r t d
+    go broken d f = let z : _≡_ {A = ℕ} 0 1 = cc in absurd (omega arith)
 
-alike-turned : (a b : List ℕ) → alike a b ≡ alike b a
-alike-turned a b =
-    same-test (alike a b) (alike b a)
-    (λ e. rw (alike-true a b e) (alike-self b))
-    (λ e. rw (alike-true b a e) (alike-self a))
+-- so one that could only carry what it holds carries nothing where it does not
+unless-held : (s : Settings) (Z : ℕ) (r k : List ℕ) (c : ℕ) → (Holding s Z r → false ≡ carriesIn k c (cellOf s Z r)) → false ≡ carriesIn k c (cellOf s Z r)
+unless-held s Z r k c h = ⊎-elim (λ e. h (carrying s Z r k c e)) (λ e. sym e) (bool (carriesIn k c (cellOf s Z r)))
+
+-- a row that is judged held is
+abbrev kind : Judged → ℕ
+kind t = t .kind
+
+pub judged-one : (s : Settings) (Z : ℕ) (r : List ℕ) {t : Judged} → t ≡ judgedOf (bodyIn s Z r) (cellOf s Z r) → t .kind ≡ 1 → Holding s Z r
+judged-one s Z r {t} e h = go (cellOf s Z r) refl (ap kind (sym e) ∙ h)
+  where
+    go : (x : Cell) → cellOf s Z r ≡ x → judgedOf (bodyIn s Z r) x .kind ≡ 1 → Holding s Z r
+    go free d f = absurd (omega (arith, f))
+    go (held u) d f = held-is s Z r u d
+    go broken d f = absurd (omega (arith, f))
+
+-- and tells where its body begins, and its counter
+pub judged-at :
+    (s : Settings) (Z : ℕ) (r : List ℕ) {t : Judged} → t ≡ judgedOf (bodyIn s Z r) (cellOf s Z r) → Holding s Z r →
+    (t .kind ≡ 1) × ((t .at ≡ readPacket s (packetIn Z r) .body .at) × (t .counter ≡ readPacket s (packetIn Z r) .ids .counter .0))
+unfolding segOf
+judged-at s Z r {t} e h =
+    let f = e ∙ ap (judgedOf (bodyIn s Z r)) (h .cell) in
+    (ap kind f, (ap (λ (x : Judged). x .at) f, ap (λ (x : Judged). x .counter) f))
+
+-- the counter of a segment that is held stands where its presence octet says
+pub held-counter : (s : Settings) (Z : ℕ) (r : List ℕ) → Octets r → Holding s Z r → counterIn (packetIn Z r) ≡ readPacket s (packetIn Z r) .ids .counter .0
+unfolding counterIn placeIn
+held-counter s Z r o h = counter-told s (packetIn Z r) (octets-part r 2 (number 2 r 6 + 7) o) (h .accepted) (h .segment)
 
 -- ---- as the code tests it
 
-module _ (s : Settings) (r z q : List ℕ) (stop c : ℕ) (ez : z ≡ zeroRow (length z)) (o : Octets r) (g : isSound (cellOf s (length z) r) ≡ true) (a : Asked s q stop) where
+module _ (s : Settings) (r z q : List ℕ) (stop c : ℕ) (o : Octets r) (a : Asked s q stop) where
   abbrev k : List ℕ
   k = keyOf q (readPacket s q)
 
+  abbrev p : List ℕ
+  p = packetIn (length z) r
+
+  plain : Octets p
+  plain = octets-part r 2 (number 2 r 6 + 7) o
+
   pub carries-free : {b : ℕ} → b ≡ octetAt r 0 → b ≡ 0 → false ≡ carriesIn k c (cellOf s (length z) r)
-  carries-free e t = rw (free-cell s (length z) r (first-free s (length z) r g (sym e ∙ t))) refl
+  carries-free {b} e t = unless-held s (length z) r k c held-it
+    where
+      held-it : Holding s (length z) r → false ≡ carriesIn k c (cellOf s (length z) r)
+      held-it h = let w : _≡_ {A = ℕ} 0x4d 0 = ap (λ (x : List ℕ). octetAt x 0) (sym (h .row)) ∙ sym e ∙ t in absurd (omega arith)
 
-  module _ {b : ℕ} (eb : b ≡ octetAt r 0) (no : b ≡ 0 → ⊥) where
-    abbrev p : List ℕ
-    p = packetIn (length z) r
-
-    there : Holding s (length z) r
-    there = holding s (length z) r g (first-held (length z) r (λ y. no (eb ∙ y)))
-
-    plain : Octets p
-    plain = octets-part r 2 (number 2 r 6 + 7) o
-
-    counter-is : counterIn p ≡ readPacket s p .ids .counter .0
-    unfolding counterIn placeIn
-    counter-is = counter-told s p plain (there .accepted) (there .segment)
-
+  module _ (there : Holding s (length z) r) where
     told : carriesIn k c (cellOf s (length z) r) ≡ both (eqb c (counterIn p)) (alike k (keyOf p (readPacket s p)))
     unfolding carries segOf
-    told = ap (carriesIn k c) (there .cell) ∙ ap (λ (n : ℕ). both (eqb c n) (alike k (keyOf p (readPacket s p)))) (sym counter-is)
+    told = ap (carriesIn k c) (there .cell) ∙ ap (λ (n : ℕ). both (eqb c n) (alike k (keyOf p (readPacket s p)))) (sym (held-counter s (length z) r o there))
 
-    pub carries-other : {x : List ℕ} {n : ℕ} → x ≡ p → n ≡ counterIn x → (n ≡ c → ⊥) → false ≡ carriesIn k c (cellOf s (length z) r)
-    carries-other {x} {n} ex en h =
-        let e : n ≡ counterIn p = en ∙ ap counterIn ex in
-        sym (told ∙ ap (λ (t : Bool). both t (alike k (keyOf p (readPacket s p)))) (ne-eqb c (counterIn p) (λ y. h (e ∙ sym y))))
+    keys : spansAlike q (readPacket s q .body .at) p (readPacket s p .body .at) ≡ alike k (keyOf p (readPacket s p))
+    keys = keys-same s q p (a .octets) plain (a .accepted) (there .accepted) (a .segment) (there .segment)
 
     -- another transaction id, another key
     other-key : (number 8 p 18 ≡ number 8 q 18 → ⊥) → alike k (keyOf p (readPacket s p)) ≡ false
     other-key h = ⊎-elim same-key (λ t. t) (bool (alike k (keyOf p (readPacket s p))))
       where
-        spans : alike k (keyOf p (readPacket s p)) ≡ true → spansAlike q (readPacket s q .body .at) p (readPacket s p .body .at) ≡ true
-        spans t = keys-same s q p (a .octets) plain (a .accepted) (there .accepted) (a .segment) (there .segment) ∙ t
-
         same-key : alike k (keyOf p (readPacket s p)) ≡ true → alike k (keyOf p (readPacket s p)) ≡ false
-        same-key t = absurd (h (sym (spans-transaction q p _ _ (spans t))))
+        same-key t = absurd (h (sym (spans-transaction q p _ _ (keys ∙ t))))
 
-    pub carries-apart :
-        {x : List ℕ} {m n : ℕ} → x ≡ p → m ≡ number 8 x 18 → n ≡ number 8 q 18 → (m ≡ n → ⊥) → false ≡ carriesIn k c (cellOf s (length z) r)
-    carries-apart {x} {m} {n} ex em en h =
-        let e : m ≡ number 8 p 18 = em ∙ ap (λ (y : List ℕ). number 8 y 18) ex in
-        let f = other-key (λ y. h (e ∙ y ∙ sym en)) in
-        sym (told ∙ ap (both (eqb c (counterIn p))) f ∙ pick-false (eqb c (counterIn p)))
+  pub carries-other : {x : List ℕ} {n : ℕ} → x ≡ p → n ≡ counterIn x → (n ≡ c → ⊥) → false ≡ carriesIn k c (cellOf s (length z) r)
+  carries-other {x} {n} ex en h =
+      let e : n ≡ counterIn p = en ∙ ap counterIn ex in
+      unless-held s (length z) r k c
+      (λ there. sym (told there ∙ ap (λ (t : Bool). both t (alike k (keyOf p (readPacket s p)))) (ne-eqb c (counterIn p) (λ y. h (e ∙ sym y)))))
+
+  pub carries-apart :
+      {x : List ℕ} {m n : ℕ} → x ≡ p → m ≡ number 8 x 18 → n ≡ number 8 q 18 → (m ≡ n → ⊥) → false ≡ carriesIn k c (cellOf s (length z) r)
+  carries-apart {x} {m} {n} ex em en h =
+      let e : m ≡ number 8 p 18 = em ∙ ap (λ (y : List ℕ). number 8 y 18) ex in
+      unless-held s (length z) r k c
+      (λ there.
+      sym
+      (told there
+      ∙ ap (both (eqb c (counterIn p))) (other-key there (λ y. h (e ∙ y ∙ sym en)))
+      ∙ pick-false (eqb c (counterIn p))))
+
+  module _ {t : Judged} (et : t ≡ judgedOf (bodyIn s (length z) r) (cellOf s (length z) r)) where
+    pub carries-not : (t .kind ≡ 1 → ⊥) → false ≡ carriesIn k c (cellOf s (length z) r)
+    carries-not h = unless-held s (length z) r k c (λ there. absurd (h (judged-at s (length z) r et there .0)))
 
     pub carries-same :
-        {x : List ℕ} {n : ℕ} {h : Header} {t : Bool} → x ≡ p → n ≡ counterIn x → n ≡ c → h ≡ readPacket s x → t ≡ spansAlike q stop x (h .body .at) →
-        t ≡ carriesIn k c (cellOf s (length z) r)
-    carries-same {x} {n} {h} {t} ex en ec eh et =
+        {x : List ℕ} {n : ℕ} {b : Bool} → t .kind ≡ 1 → x ≡ p → n ≡ counterIn x → n ≡ c → b ≡ spansAlike q stop x (t .at) →
+        b ≡ carriesIn k c (cellOf s (length z) r)
+    carries-same {x} {n} {b} one ex en ec eb =
+        let there = judged-one s (length z) r et one in
         let e : c ≡ counterIn p = sym ec ∙ en ∙ ap counterIn ex in
-        let f : h .body .at ≡ readPacket s p .body .at = ap (λ (y : Header). y .body .at) eh ∙ ap (λ (y : List ℕ). readPacket s y .body .at) ex in
-        et
-        ∙ ap₂ (λ (y : List ℕ) (m : ℕ). spansAlike q stop y m) ex f
+        eb
+        ∙ ap₂ (λ (y : List ℕ) (m : ℕ). spansAlike q stop y m) ex (judged-at s (length z) r et there .1 .0)
         ∙ ap (λ (m : ℕ). spansAlike q m p (readPacket s p .body .at)) (a .body)
-        ∙ keys-same s q p (a .octets) plain (a .accepted) (there .accepted) (a .segment) (there .segment)
-        ∙ sym (told ∙ ap (λ (y : Bool). both y (alike k (keyOf p (readPacket s p)))) (eq-eqb c (counterIn p) e))
+        ∙ keys there
+        ∙ sym (told there ∙ ap (λ (y : Bool). both y (alike k (keyOf p (readPacket s p)))) (eq-eqb c (counterIn p) e))

@@ -10,7 +10,7 @@ use native.Mathlib.Nat.{sub-zero}
 use lib.ListN.{length, take, drop, replicate, length-append, length-replicate, length-take, length-drop, drop-of-length-le}
 use lib.Seq.{take-all, take-nil}
 use lib.Dec.{leb, eqb}
-use borrow.Author.Tests.{le-leb, lt-leb, eq-eqb, ne-eqb, eqb-true}
+use borrow.Author.Tests.{le-leb, lt-leb, leb-true, eq-eqb, ne-eqb, eqb-true, eqb-false}
 use Rattle.octets.specs.Octets.{pick, octetAt, part, number, roomOf, alike}
 use Rattle.octets.proofs.Lists.{bool, below-or, alike-true}
 use Rattle.walk.specs.declared.Settings.{Settings}
@@ -96,15 +96,46 @@ part-fits Z k r e h = omega (arith, length-take k (drop 2 r), length-drop 2 r)
 abbrev noted : Header → Judged
 noted h = record { kind = 1; at = h .body .at; counter = h .ids .counter .0 }
 
-module _ (s : Settings) (Z : ℕ) (r : List ℕ) (long : length r ≡ Z) where
+nothing : (a b c d : Bool) → c ≡ false → both a (both b (both c d)) ≡ false
+nothing true true c d e = rw e refl
+nothing true false c d e = refl
+nothing false b c d e = refl
+
+not-both : (a b : Bool) → (a ≡ true → b ≡ true → ⊥) → both a b ≡ false
+not-both true true h = absurd (h refl refl)
+not-both true false h = refl
+not-both false b h = refl
+
+module _ (s : Settings) (Z : ℕ) (r : List ℕ) where
   abbrev p : List ℕ
   p = packetIn Z r
 
-  pub holds-same :
+  abbrev tested : Bool
+  tested =
       both (heldRowTest r (2 + length p) (zeroRow Z)) (both (eqb (readPacket s p .refusal .number) 0) (not (eqb (readPacket s p .primary .flags) 3)))
-      ≡ holds s Z r
+
+  -- a row of another length is none that holds a packet
+  other-test : (length r ≡ Z → ⊥) → tested ≡ false
+  unfolding heldRowTest
+  other-test h =
+      ap
+      (λ (x : Bool). both x (both (eqb (readPacket s p .refusal .number) 0) (not (eqb (readPacket s p .primary .flags) 3))))
+      {y = false}
+      (nothing (eqb (octetAt r 0) 0x4d) (eqb (octetAt r 1) 0x53) (eqb (length r) (length (zeroRow Z))) _
+      (ne-eqb (length r) (length (zeroRow Z)) (λ y. h (y ∙ length-replicate Z 0))))
+
+  other-holds : (length r ≡ Z → ⊥) → holds s Z r ≡ false
   unfolding holds mayHold
-  holds-same =
+  other-holds h = not-both (alike r (heldRow Z p)) (mayHold s Z p) (λ a b. h (fits a (both-true (leb (2 + length p) Z) _ b .0)))
+    where
+      fits : alike r (heldRow Z p) ≡ true → leb (2 + length p) Z ≡ true → length r ≡ Z
+      fits a l =
+          omega
+          (arith, ap length (alike-true r (heldRow Z p) a), length-append p (replicate (Z - (2 + length p)) 0), length-replicate {A = ℕ} (Z - (2 + length p)) 0, leb-true (2 + length p) Z l)
+
+  own-length : length r ≡ Z → tested ≡ holds s Z r
+  unfolding holds mayHold
+  own-length long =
       rw (row-same Z (number 2 r 6 + 7) r long)
       (⊎-elim
       (λ a.
@@ -114,6 +145,13 @@ module _ (s : Settings) (Z : ℕ) (r : List ℕ) (long : length r ≡ Z) where
       rw (a, l) (may-same s p))
       (λ a. rw a refl)
       (bool (alike r (heldRow Z p))))
+
+  pub holds-same : tested ≡ holds s Z r
+  holds-same =
+      ⊎-elim
+      (λ e. own-length (eqb-true (length r) Z e))
+      (λ e. let h = eqb-false (length r) Z e in other-test h ∙ sym (other-holds h))
+      (bool (eqb (length r) Z))
 
   -- what the row is
   pub judged-free : alike r (zeroRow Z) ≡ true → record { kind = 0; at = 0; counter = 0 } ≡ judgedOf (bodyIn s Z r) (cellOf s Z r)
@@ -150,9 +188,9 @@ tail-is x n {from} e = ⊎-elim past inside (below-or (length x) n)
 pub part-room : (r : List ℕ) (k : ℕ) {n : ℕ} → n ≡ length (part r 2 k) → length r < 18446744073709551616 → 2 + n < 18446744073709551616
 part-room r k e h = omega (arith, length-take k (drop 2 r), length-drop 2 r)
 
-module _ (s : Settings) (r z : List ℕ) (ez : z ≡ zeroRow (length z)) (el : length r ≡ length z) where
+module _ (s : Settings) (r z : List ℕ) (ez : z ≡ zeroRow (length z)) where
   pub told-free : {b : Bool} → b ≡ alike r z → b ≡ true → record { kind = 0; at = 0; counter = 0 } ≡ judgedOf (bodyIn s (length z) r) (cellOf s (length z) r)
-  told-free e t = judged-free s (length z) r el (ap (alike r) (sym ez) ∙ sym e ∙ t)
+  told-free e t = judged-free s (length z) r (ap (alike r) (sym ez) ∙ sym e ∙ t)
 
   module _ {b m t : Bool} {p : List ℕ} {h : Header} (eb : b ≡ alike r z) (no : b ≡ false) (ep : p ≡ part r 2 (number 2 r 6 + 7)) (eh : h ≡ readPacket s p)
       (em : m ≡ heldRowTest r (2 + length p) z) (et : t ≡ both m (both (eqb (h .refusal .number) 0) (not (eqb (h .primary .flags) 3)))) where
@@ -170,13 +208,13 @@ module _ (s : Settings) (r z : List ℕ) (ez : z ≡ zeroRow (length z)) (el : l
         both (heldRowTest r (2 + length y) (zeroRow (length z)))
         (both (eqb (readPacket s y .refusal .number) 0) (not (eqb (readPacket s y .primary .flags) 3))))
         ep
-        ∙ holds-same s (length z) r el
+        ∙ holds-same s (length z) r
 
     pub told-held : t ≡ true → noted h ≡ judgedOf (bodyIn s (length z) r) (cellOf s (length z) r)
-    told-held e = ap noted (eh ∙ ap (readPacket s) ep) ∙ judged-held s (length z) r el row-free (sym row-holds ∙ e)
+    told-held e = ap noted (eh ∙ ap (readPacket s) ep) ∙ judged-held s (length z) r row-free (sym row-holds ∙ e)
 
     pub told-broken : t ≡ false → record { kind = 2; at = 0; counter = 0 } ≡ judgedOf (bodyIn s (length z) r) (cellOf s (length z) r)
-    told-broken e = judged-broken s (length z) r el row-free (sym row-holds ∙ e)
+    told-broken e = judged-broken s (length z) r row-free (sym row-holds ∙ e)
 
 -- a counter's place is one of three
 pub place-least : (p : List ℕ) → (27 ≤ placeIn p) × (placeIn p ≤ 29)

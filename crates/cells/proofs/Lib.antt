@@ -15,3 +15,4 @@ pub mod Ordering
 pub mod Ordered
 pub mod Putting
 pub mod Laid
+pub mod Within

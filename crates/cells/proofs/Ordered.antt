@@ -1,17 +1,16 @@
 -- A store in order, from the tests that the code makes one after another.
 -- Assumes nothing.
 use Prim.Native.Nat.{ℕ, _*_, _/_, _%_, _≤_}
-use mathlib.Core.Path.{_≡_, refl, ap, sym, _∙_}
+use mathlib.Core.Path.{_≡_, refl, ap, ap₂, sym, _∙_}
 use mathlib.Core.Logic.{⊎-elim}
 use mathlib.Core.Bool.{Bool, true, false}
 use mathlib.Core.List.{List}
 use native.Mathlib.Omega.{arith}
-use native.Mathlib.Nat.{div-mul-le-self}
 use lib.ListN.{length}
 use lib.Dec.{leb, eqb}
 use borrow.Author.Tests.{leb-true}
 use Rattle.octets.specs.Octets.{pick}
-use Rattle.octets.proofs.Lists.{bool}
+use Rattle.octets.proofs.Lists.{bool, pick-false}
 use Rattle.walk.specs.declared.Settings.{Settings}
 use Rattle.cells.specs.Segments.{both}
 use Rattle.cells.specs.Order.{cellsMost, lengthFits, countIn, sound, distinct, inOrder}
@@ -44,10 +43,6 @@ module _ (s : Settings) (Z : ℕ) (st : List ℕ) {n : ℕ} (en : n ≡ pick (le
       (λ e. absurd (h (en ∙ ap (λ (b : Bool). pick b (length st / Z) 0) e)))
       (bool (lengthFits Z (length st)))
 
-  -- so all of them lie inside
-  pub cells-inside : (n ≡ 0 → ⊥) → n * Z ≤ length st
-  cells-inside h = rw (fitting h .1) (div-mul-le-self (length st) Z)
-
   -- no cells: the length does not fit
   pub order-length : n ≡ 0 → 0 ≡ pick (inOrder s Z st) (countIn Z st) 0
   order-length z =
@@ -60,14 +55,20 @@ module _ (s : Settings) (Z : ℕ) (st : List ℕ) {n : ℕ} (en : n ≡ pick (le
   cells-most h = rw (fitting h .1) (fits-most Z (length st) (fitting h .0))
 
   -- the cells tell the rest
-  module _ (h : n ≡ 0 → ⊥) {t : Bool} (e : t ≡ both (sound s Z st n) (distinct s Z st n)) where
-    cells-told : {b : Bool} → t ≡ b → inOrder s Z st ≡ b
+  module _ (h : n ≡ 0 → ⊥) {a b : Bool} (ea : a ≡ sound s Z st n) (eb : b ≡ distinct s Z st n) where
+    cells-told : {c : Bool} → both a b ≡ c → inOrder s Z st ≡ c
     cells-told f =
         order-told s Z st (fitting h .0)
-        (ap (λ (k : ℕ). both (sound s Z st k) (distinct s Z st k)) (sym (fitting h .1)) ∙ sym e ∙ f)
+        (ap (λ (k : ℕ). both (sound s Z st k) (distinct s Z st k)) (sym (fitting h .1)) ∙ sym (ap₂ both ea eb) ∙ f)
 
-    pub order-fault : t ≡ false → 0 ≡ pick (inOrder s Z st) (countIn Z st) 0
-    order-fault f = sym (ap (λ (x : Bool). pick x (countIn Z st) 0) (cells-told f))
+    fault : both a b ≡ false → 0 ≡ pick (inOrder s Z st) (countIn Z st) 0
+    fault f = sym (ap (λ (x : Bool). pick x (countIn Z st) 0) (cells-told f))
 
-    pub order-held : t ≡ true → n ≡ pick (inOrder s Z st) (countIn Z st) 0
-    order-held f = fitting h .1 ∙ sym (ap (λ (x : Bool). pick x (countIn Z st) 0) (cells-told f))
+    pub order-unsound : a ≡ false → 0 ≡ pick (inOrder s Z st) (countIn Z st) 0
+    order-unsound e = fault (ap (λ (x : Bool). both x b) e)
+
+    pub order-twice : b ≡ false → 0 ≡ pick (inOrder s Z st) (countIn Z st) 0
+    order-twice e = fault (ap (both a) e ∙ pick-false a)
+
+    pub order-held : a ≡ true → b ≡ true → n ≡ pick (inOrder s Z st) (countIn Z st) 0
+    order-held e f = fitting h .1 ∙ sym (ap (λ (x : Bool). pick x (countIn Z st) 0) (cells-told (ap₂ both e f)))

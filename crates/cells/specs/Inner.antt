@@ -5,7 +5,7 @@ use mathlib.Core.Path.{_≡_}
 use mathlib.Core.List.{List}
 use mathlib.Core.Bool.{Bool, true, false}
 use lib.ListN.{length, drop}
-use lib.Dec.{eqb}
+use lib.Dec.{leb, ltb, eqb}
 use Rattle.octets.specs.Octets.{Octets, octetAt, part, number, alike}
 use Rattle.walk.specs.declared.Settings.{Settings}
 use Rattle.packet.specs.Reading.{readPacket, segmented}
@@ -42,6 +42,12 @@ abbrev pub judgedOf : ℕ → Cell → Judged
 judgedOf at free = record { kind = 0; at = 0; counter = 0 }
 judgedOf at (held t) = record { kind = 1; at = at; counter = t .counter }
 judgedOf at broken = record { kind = 2; at = 0; counter = 0 }
+
+-- the cell holds a segment of this key, with a counter from c on and below d
+abbrev pub withinIn : List ℕ → ℕ → ℕ → Cell → Bool
+withinIn k c d free = false
+withinIn k c d (held t) = both (both (leb c (t .counter)) (ltb (t .counter) d)) (alike k (t .key))
+withinIn k c d broken = false
 
 -- a segment whose key is looked for: what reading answered of it, and where its body begins
 pub record Asked (s : Settings) (q : List ℕ) (stop : ℕ) : Type 0 where

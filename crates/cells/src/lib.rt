@@ -16,11 +16,11 @@ ghost use Rattle.octets.specs.Octets.{pick, part, number, alike};
 ghost use lib.Dec.{eqb};
 ghost use Rattle.cells.specs.Segments.{both};
 ghost use Rattle.cells.specs.Rows.{rowAt, zeroRow, cellOf};
-ghost use Rattle.cells.specs.Inner.{heldRowTest, judgedOf, bodyIn, placeIn, counterIn, spansAlike, Asked};
+ghost use Rattle.cells.specs.Inner.{heldRowTest, judgedOf, bodyIn, placeIn, counterIn, spansAlike, withinIn, Asked};
 ghost use mathlib.Core.Bool.{true};
 ghost use Rattle.packet.specs.Reading.{readPacket};
 ghost use Rattle.packet.specs.Key.{keyOf};
-ghost use Rattle.cells.specs.Order.{cellsMost, lowest, lengthFits, sound, isSound, carriesIn, enters, distinct, inOrder, countIn, foundIn};
+ghost use Rattle.cells.specs.Order.{cellsMost, lowest, lengthFits, sound, isSound, cellAt, carriesIn, newTo, newAt, distinct, inOrder, countIn, foundIn};
 ghost use Rattle.cells.specs.Chains.{mixIn, mixed, chainIn, bucketOf, keyIn, chainsAll, bucketAt, Chained};
 use walk::Settings;
 
@@ -149,10 +149,9 @@ fn is_free(row: &[u8], zero: &[u8]) -> bool
     octets::same(row, zero)
 }
 
-// What a row is, beside a zero cell of its size, by one reading of its packet.
+// What a row is, beside a zero cell, by one reading of its packet. A row of another length is broken.
 pub fn judge(s: Settings, row: &[u8], zero: &[u8]) -> Judged
     requires { ⌜ now zero ≡ zeroRow (length (now zero)) ⌝ }
-    requires { ⌜ length (now row) ≡ length (now zero) ⌝ }
     ensures { λ r. ⌜ r ≡ judgedOf (bodyIn s (length (now (zero .entry))) (now (row .entry))) (cellOf s (length (now (zero .entry))) (now (row .entry))) ⌝ }
 {
     if is_free(row, zero) {
@@ -219,12 +218,10 @@ pub fn count(len: usize, z: usize) -> usize
     n
 }
 
-// Whether a sound cell holds a segment with the key and counter of the one that is looked for. The cheap tests come first: the header is
-// read only where counter and transaction id agree.
+// Whether a cell holds a segment with the key and counter of the one that is looked for. The cheap tests come first: the row is judged
+// only where counter and transaction id agree.
 pub fn carries_at(s: Settings, row: &[u8], zero: &[u8], q: &[u8], stop: usize, c: u64) -> bool
     requires { ⌜ now zero ≡ zeroRow (length (now zero)) ⌝ }
-    requires { ⌜ length (now row) ≡ length (now zero) ⌝ }
-    requires { ⌜ isSound (cellOf s (length (now zero)) (now row)) ≡ true ⌝ }
     requires { ⌜ Asked s (now q) stop ⌝ }
     ensures { λ r. ⌜ r ≡ carriesIn (keyOf (now (q .entry)) (readPacket s (now (q .entry)))) c (cellOf s (length (now (zero .entry))) (now (row .entry))) ⌝ }
 {
@@ -238,12 +235,51 @@ pub fn carries_at(s: Settings, row: &[u8], zero: &[u8], q: &[u8], stop: usize, c
     if octets::be64(p, TRANSACTION_PLACE) != octets::be64(q, TRANSACTION_PLACE) {
         return false;
     }
-    let h = packet::read(s, p);
-    let body = h.body;
-    same_key(q, stop, p, body.at)
+    let t = judge(s, row, zero);
+    if t.kind != 1 {
+        return false;
+    }
+    same_key(q, stop, p, t.at)
 }
 
-// The lowest of the first n cells, all sound, that carries the key and counter of the one that is looked for; n where there is none.
+// Whether octets are the key of a segment, told where its body begins.
+fn is_key(k: &[u8], p: &[u8], end: usize) -> bool
+    ensures { λ r. ⌜ r ≡ alike (now (k .entry)) (keyIn (now (p .entry)) end) ⌝ }
+{
+    let c = counter_place(p);
+    let ids = span(p, 0, 2);
+    let fore = span(p, 6, c - 6);
+    let aft = span(p, c + 4, less(end, c + 4));
+    let first = octets::same(span(k, 0, ids.len()), ids);
+    let second = octets::same(span(k, ids.len(), fore.len()), fore);
+    let third = octets::same(tail(k, ids.len() + fore.len()), aft);
+    and(first, and(second, third))
+}
+
+// Whether a cell holds a segment with this key and a counter from one number on and below another. The cheap tests come first.
+pub fn is_within(s: Settings, row: &[u8], zero: &[u8], k: &[u8], from: u64, to: u64) -> bool
+    requires { ⌜ now zero ≡ zeroRow (length (now zero)) ⌝ }
+    ensures { λ r. ⌜ r ≡ withinIn (now (k .entry)) from to (cellOf s (length (now (zero .entry))) (now (row .entry))) ⌝ }
+{
+    if octets::octet(row, 0) == 0 {
+        return false;
+    }
+    let p = packet_in(row);
+    let c = counter_in(p) as u64;
+    if c < from {
+        return false;
+    }
+    if to <= c {
+        return false;
+    }
+    let t = judge(s, row, zero);
+    if t.kind != 1 {
+        return false;
+    }
+    is_key(k, p, t.at)
+}
+
+// The lowest of the first n cells that carries the key and counter of the one that is looked for; n where there is none.
 pub fn find(
     s: Settings,
     store: &[u8],
@@ -254,8 +290,6 @@ pub fn find(
     c: u64,
 ) -> usize
     requires { ⌜ now zero ≡ zeroRow (length (now zero)) ⌝ }
-    requires { ⌜ n * length (now zero) ≤ length (now store) ⌝ }
-    requires { ⌜ sound s (length (now zero)) (now store) n ≡ true ⌝ }
     requires { ⌜ Asked s (now q) stop ⌝ }
     ensures { λ r. ⌜ r ≡ foundIn s (length (now (zero .entry))) (now (store .entry)) n (keyOf (now (q .entry)) (readPacket s (now (q .entry)))) c ⌝ }
 {
@@ -359,8 +393,6 @@ fn find_on(
     links: &[u16; CELLS_MOST],
 ) -> usize
     requires { ⌜ now zero ≡ zeroRow (length (now zero)) ⌝ }
-    requires { ⌜ n * length (now zero) ≤ length (now store) ⌝ }
-    requires { ⌜ sound s (length (now zero)) (now store) n ≡ true ⌝ }
     requires { ⌜ Asked s (now q) stop ⌝ }
     requires { ⌜ Chained (bucketAt s (length (now zero)) (now store)) (now heads) (now links) n ⌝ }
     requires { ⌜ b ≡ bucketOf (keyIn (now q) stop) c ⌝ }
@@ -393,8 +425,6 @@ pub fn find_by(
     links: &[u16; CELLS_MOST],
 ) -> usize
     requires { ⌜ now zero ≡ zeroRow (length (now zero)) ⌝ }
-    requires { ⌜ n * length (now zero) ≤ length (now store) ⌝ }
-    requires { ⌜ sound s (length (now zero)) (now store) n ≡ true ⌝ }
     requires { ⌜ Asked s (now q) stop ⌝ }
     requires { ⌜ (chained ≡ true → Chained (bucketAt s (length (now zero)) (now store)) (now heads) (now links) n) ⌝ }
     ensures { λ r. ⌜ r ≡ foundIn s (length (now (zero .entry))) (now (store .entry)) n (keyOf (now (q .entry)) (readPacket s (now (q .entry)))) c ⌝ }
@@ -417,43 +447,81 @@ fn push(i: usize, b: usize, heads: &mut [u16; CHAINS], links: &mut [u16; CELLS_M
     heads[b] = (i + 1) as u16;
 }
 
-// Whether cell i is free or held, and no cell below it has its key and counter; a held one then goes onto its chain.
+// Whether cells are all free or held, and whether no two of them have equal key and counter.
+pub struct Orderly {
+    pub sound: bool,
+    pub distinct: bool,
+}
+
+// Whether no cell below i has the key and counter of the one that is looked for, where those below are apart so far.
+fn is_new(
+    s: Settings,
+    store: &[u8],
+    i: usize,
+    zero: &[u8],
+    q: &[u8],
+    stop: usize,
+    c: u64,
+    b: usize,
+    apart: bool,
+    heads: &[u16; CHAINS],
+    links: &[u16; CELLS_MOST],
+) -> bool
+    requires { ⌜ now zero ≡ zeroRow (length (now zero)) ⌝ }
+    requires { ⌜ Asked s (now q) stop ⌝ }
+    requires { ⌜ Chained (bucketAt s (length (now zero)) (now store)) (now heads) (now links) i ⌝ }
+    requires { ⌜ b ≡ bucketOf (keyIn (now q) stop) c ⌝ }
+    ensures { λ r. ⌜ r ≡ both apart (newTo s (length (now (zero .entry))) (now (store .entry)) i (keyOf (now (q .entry)) (readPacket s (now (q .entry)))) c) ⌝ }
+{
+    if apart {
+        return find_on(s, store, i, zero, q, stop, c, b, heads, links) == i;
+    }
+    false
+}
+
+// Cell i beside those below it: whether they all are free or held, and apart. A held one goes onto its chain; a broken one is on none.
+// Once two are not apart no search is made any more.
 fn enter(
     s: Settings,
     store: &[u8],
     i: usize,
     zero: &[u8],
+    o: Orderly,
     heads: &mut [u16; CHAINS],
     links: &mut [u16; CELLS_MOST],
-) -> bool
+) -> Orderly
     requires { ⌜ now zero ≡ zeroRow (length (now zero)) ⌝ }
-    requires { ⌜ (i + 1) * length (now zero) ≤ length (now store) ⌝ }
-    requires { ⌜ sound s (length (now zero)) (now store) i ≡ true ⌝ }
     requires { ⌜ i < cellsMost ⌝ }
     requires { ⌜ Chained (bucketAt s (length (now zero)) (now store)) (now heads) (now links) i ⌝ }
-    ensures { λ r. ⌜ r ≡ enters s (length (now (zero .entry))) (now (store .entry)) i ⌝ }
-    ensures { λ r. ⌜ (r ≡ true → Chained (bucketAt s (length (now (zero .entry))) (now (store .entry))) (now (heads .exit)) (now (links .exit)) (i + 1)) ⌝ }
+    ensures { λ r. ⌜ r .sound ≡ both (o .sound) (isSound (cellAt s (length (now (zero .entry))) (now (store .entry)) i)) ⌝ }
+    ensures { λ r. ⌜ r .distinct ≡ both (o .distinct) (newAt s (length (now (zero .entry))) (now (store .entry)) i (cellAt s (length (now (zero .entry))) (now (store .entry)) i)) ⌝ }
+    ensures { λ r. ⌜ Chained (bucketAt s (length (now (zero .entry))) (now (store .entry))) (now (heads .exit)) (now (links .exit)) (i + 1) ⌝ }
 {
     let r = row(store, zero.len(), i);
     let t = judge(s, r, zero);
     if t.kind == 2 {
-        return false;
+        return Orderly {
+            sound: false,
+            distinct: o.distinct,
+        };
     }
     if t.kind == 0 {
-        return true;
+        return o;
     }
     let q = packet_in(r);
     let stop = t.at;
     let c = t.counter as u64;
     let b = bucket(q, stop, c);
-    if find_on(s, store, i, zero, q, stop, c, b, heads, links) != i {
-        return false;
-    }
+    let new = is_new(s, store, i, zero, q, stop, c, b, o.distinct, heads, links);
     push(i, b, heads, links);
-    true
+    Orderly {
+        sound: o.sound,
+        distinct: new,
+    }
 }
 
-// Whether the first n cells are all free or held, and no two have equal key and counter; they then stand on their chains. One pass.
+// Whether the first n cells are all free or held; and whether no two of them have equal key and counter. One pass, for any octets; the
+// held ones stand on their chains behind it.
 pub fn order_by(
     s: Settings,
     store: &[u8],
@@ -461,22 +529,24 @@ pub fn order_by(
     zero: &[u8],
     heads: &mut [u16; CHAINS],
     links: &mut [u16; CELLS_MOST],
-) -> bool
+) -> Orderly
     requires { ⌜ now zero ≡ zeroRow (length (now zero)) ⌝ }
-    requires { ⌜ n * length (now zero) ≤ length (now store) ⌝ }
     requires { ⌜ n ≤ cellsMost ⌝ }
     requires { ⌜ Chained (bucketAt s (length (now zero)) (now store)) (now heads) (now links) 0 ⌝ }
-    ensures { λ r. ⌜ r ≡ both (sound s (length (now (zero .entry))) (now (store .entry)) n) (distinct s (length (now (zero .entry))) (now (store .entry)) n) ⌝ }
-    ensures { λ r. ⌜ (r ≡ true → Chained (bucketAt s (length (now (zero .entry))) (now (store .entry))) (now (heads .exit)) (now (links .exit)) n) ⌝ }
+    ensures { λ r. ⌜ r .sound ≡ sound s (length (now (zero .entry))) (now (store .entry)) n ⌝ }
+    ensures { λ r. ⌜ r .distinct ≡ distinct s (length (now (zero .entry))) (now (store .entry)) n ⌝ }
+    ensures { λ r. ⌜ Chained (bucketAt s (length (now (zero .entry))) (now (store .entry))) (now (heads .exit)) (now (links .exit)) n ⌝ }
 {
+    let mut o = Orderly {
+        sound: true,
+        distinct: true,
+    };
     let mut i: usize = 0;
     while i < n {
-        if !enter(s, store, i, zero, heads, links) {
-            return false;
-        }
+        o = enter(s, store, i, zero, o, heads, links);
         i += 1;
     }
-    true
+    o
 }
 
 // How many cells a store in order has, which then stand on their chains; 0 where it is not in order.
@@ -496,7 +566,11 @@ pub fn in_order_by(
     if n == 0 {
         return 0;
     }
-    if !order_by(s, store, n, zero, heads, links) {
+    let o = order_by(s, store, n, zero, heads, links);
+    if !o.sound {
+        return 0;
+    }
+    if !o.distinct {
         return 0;
     }
     n

@@ -21,7 +21,7 @@ use Rattle.cells.specs.Segments.{Seg, segOf, sameRest}
 use Rattle.cells.specs.Order.{inOrder, countIn}
 use Rattle.store.specs.Messages.{Run, bodyOf, cellsOf, look, picked, top}
 use Rattle.store.specs.Arriving.{whole, stored, again, refused, placed, beside, lowestFree, segmentArrived, arrivedIn, arrived}
-use Rattle.store.specs.Taking.{message, unable, writing, drawn, tookIn, took}
+use Rattle.store.specs.Taking.{message, unable, writing, drawn, tookIn}
 use Rattle.store.specs.declared.Taken.{Taken}
 use Rattle.store.specs.Told.{refusalOf, takenOf}
 use Rattle.join.specs.declared.Which.the-variants.{Joined as InJoined}
@@ -46,7 +46,7 @@ module _ (s : Settings) (Z : ℕ) (st p : List ℕ) where
       told none false d = let z : _≡_ {A = ℕ} 0 1 = cc in omega arith
       told (some u) b d = same (sameRest u t) d
 
-  whole-in : (n : ℕ) → arrivedIn s Z st n p ≡ whole → (readPacket s p .refusal .number ≡ 0) × (segmented p ≡ false)
+  pub whole-in : (n : ℕ) → arrivedIn s Z st n p ≡ whole → (readPacket s p .refusal .number ≡ 0) × (segmented p ≡ false)
   unfolding arrivedIn
   whole-in n e =
       told (bool (eqb (readPacket s p .refusal .number) 0)) (bool (segmented p)) (bool (leb (2 + length p) Z))
@@ -118,35 +118,19 @@ module _ (long : ℕ) where
       told true e = omega (arith, leb-true (length (writing r)) long e, length-append (r .head .key) (bodyOf r))
       told false e = omega arith
 
-  module _ (s : Settings) (Z : ℕ) (x : List ℕ) where
+  module _ (s : Settings) (Z : ℕ) (x : List ℕ) (n : ℕ) where
     -- taking's answer is joining's
-    pub took-as : takenAs (takenOf (took s Z x long)) ≡ joinedOf (tookAs (took s Z x long))
-    unfolding took tookIn takenAs
-    took-as = told (eqb (begun s .refusal .number) 0) (inOrder s Z x)
-      where
-        told :
-            (a b : Bool) →
-            takenAs (takenOf (pick a (pick b (drawn (picked suc top (cellsOf s Z x (countIn Z x))) long) (unable 16)) (unable 15)))
-            ≡ joinedOf (tookAs (pick a (pick b (drawn (picked suc top (cellsOf s Z x (countIn Z x))) long) (unable 16)) (unable 15)))
-        told true true = drawn-as (picked suc top (cellsOf s Z x (countIn Z x)))
-        told true false = refl
-        told false b = refl
+    pub took-as : takenAs (takenOf (tookIn s Z x n long)) ≡ joinedOf (tookAs (tookIn s Z x n long))
+    unfolding tookIn
+    took-as = drawn-as (picked suc top (cellsOf s Z x n))
 
     -- H, where it is told, leaves room for the two octets of identification
-    pub took-fits : takenOf (took s Z x long) .header ≤ long - 2
-    unfolding took tookIn
-    took-fits = told (eqb (begun s .refusal .number) 0) (inOrder s Z x)
-      where
-        told :
-            (a b : Bool) →
-            takenOf (pick a (pick b (drawn (picked suc top (cellsOf s Z x (countIn Z x))) long) (unable 16)) (unable 15)) .header
-            ≤ long - 2
-        told true true = drawn-fits (picked suc top (cellsOf s Z x (countIn Z x)))
-        told true false = omega arith
-        told false b = omega arith
+    took-fits : takenOf (tookIn s Z x n long) .header ≤ long - 2
+    unfolding tookIn
+    took-fits = drawn-fits (picked suc top (cellsOf s Z x n))
 
 -- so the place of the body is a number that an output's length can be
 pub place-fits :
-    (s : Settings) (Z long : ℕ) {x y : List ℕ} {t : Taken} → x ≡ y → t ≡ takenOf (took s Z x long) → long < 18446744073709551616 →
+    (s : Settings) (Z : ℕ) (x : List ℕ) (n long : ℕ) {t : Taken} → t ≡ takenOf (tookIn s Z x n long) → long < 18446744073709551616 →
     t .header < 18446744073709551614
-place-fits s Z long {x} ex e h = omega (arith, took-fits long s Z x, ap (λ (t : Taken). t .header) e)
+place-fits s Z x n long e h = omega (arith, took-fits long s Z x n, ap (λ (t : Taken). t .header) e)

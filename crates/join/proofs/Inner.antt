@@ -1,91 +1,78 @@
--- Joining at a store whose settings and order were checked is joining at any octets: the arrival keeps the order, so that the taking
--- needs no second check.
+-- Joining at a store whose settings and order were tested is joining at any octets: the arrival keeps the order, so that the taking
+-- needs no second test.
 -- Assumes nothing.
-use Prim.Native.Nat.{ℕ, _*_, _/_, _≤_, _<_}
-use mathlib.Core.Path.{_≡_, ap, ap₂, sym, _∙_}
-use mathlib.Core.Bool.{true}
+use Prim.Native.Nat.{ℕ, _/_}
+use mathlib.Core.Path.{_≡_, refl, ap, ap₂, sym, _∙_}
 use mathlib.Core.List.{List}
 use lib.ListN.{length}
-use Rattle.octets.specs.Octets.{Octets}
 use Rattle.walk.specs.declared.Settings.{Settings}
-use Rattle.walk.specs.declared.Refusal.{Refusal}
-use Rattle.packet.specs.Reading.{readPacket}
-use Rattle.cells.specs.Order.{countIn, sound, inOrder}
-use Rattle.store.specs.declared.Kind.{Kind}
-use Rattle.store.specs.declared.Kind.the-variants.{Whole}
-use Rattle.store.specs.declared.Arrival.{Arrival}
-use Rattle.store.specs.declared.Arrival.the-variants.{Answer, Refused}
-use Rattle.store.specs.declared.Taken.{Taken}
-use Rattle.store.specs.Arriving.{arrivedIn, arrived, storeWith}
+use Rattle.cells.specs.Order.{countIn}
+use Rattle.store.specs.Arriving.{Arrived, whole, stored, again, refused, arrivedIn, arrived, storeWith}
 use Rattle.store.specs.Taking.{Took, tookIn, took, outWith, storeLess}
-use Rattle.store.specs.Told.{arrivalOf, takenOf}
 use Rattle.store.specs.Inner.{gate}
-use Rattle.store.proofs.Opening.{order-has, cells-inside, opened-order, arrived-open, took-open}
+use Rattle.store.proofs.Opening.{opened-order, arrived-open, took-open}
 use Rattle.keeping.proofs.Keeps.{arrive-long, arrive-keeps}
 use Rattle.join.specs.declared.Joined.{Joined}
-use Rattle.join.specs.Joining.{unjoined}
+use Rattle.join.specs.Joining.{Joining, tookAs, joinedBy, storeBy, outBy, joining, storeJoined, outJoined}
 use Rattle.join.specs.Told.{joinedOf}
-use Rattle.join.specs.Inner.{refusalIn, bodyIn, takenAs}
-use Rattle.join.proofs.Coming.{place-fits}
+use Rattle.join.specs.Inner.{joinedInBy, storeInBy, outInBy, joiningIn, storeJoinedIn, outJoinedIn}
 use Rattle.join.proofs.Kept.{gate-again}
-use Rattle.join.proofs.Joins.{Joins, join-refused, join-whole, join-taking}
+use Rattle.join.proofs.Joins.{Joins, JoinsIn}
 
-module _ (s : Settings) (Z : ℕ) (st p out : List ℕ) {n : ℕ} (g : gate s Z st ≡ 0) (en : n ≡ countIn Z st) where
-  -- ---- what the arrival needs
-
-  pub inner-inside : n * Z ≤ length st
-  inner-inside = rw en (cells-inside s Z st)
-
-  pub inner-sound : sound s Z st n ≡ true
-  inner-sound = ap (sound s Z st) en ∙ order-has s Z st (opened-order s Z st g) .sound
-
+module _ (s : Settings) (Z : ℕ) (st p : List ℕ) {n : ℕ} (g : gate s Z st ≡ 0) (en : n ≡ countIn Z st) where
   arrives : arrivedIn s Z st n p ≡ arrived s Z st p
   arrives = ap (λ (m : ℕ). arrivedIn s Z st m p) en ∙ arrived-open s Z st p g
 
-  -- ---- the store behind it
+  -- the store behind the arrival has as many cells, and is in order
+  module _ (b : Arrived) (eb : b ≡ arrived s Z st p) where
+    abbrev x : List ℕ
+    x = storeWith Z st p b
 
-  module _ {x : List ℕ} (ex : x ≡ storeWith Z st p (arrivedIn s Z st n p)) where
-    behind : x ≡ storeWith Z st p (arrived s Z st p)
-    behind = ex ∙ ap (storeWith Z st p) arrives
-
-    pub inner-order : inOrder s Z x ≡ true
-    inner-order = ap (inOrder s Z) behind ∙ arrive-keeps s Z st p (opened-order s Z st g)
-
-    pub inner-count : n ≡ countIn Z x
-    inner-count = en ∙ ap (λ (m : ℕ). m / Z) (sym (ap length behind ∙ arrive-long Z st p (arrived s Z st p)))
+    count-is : n ≡ countIn Z x
+    count-is = en ∙ ap (λ (m : ℕ). m / Z) (sym (arrive-long Z st p b))
 
     took-same : (long : ℕ) → tookIn s Z x n long ≡ took s Z x long
     took-same long =
-        ap (λ (m : ℕ). tookIn s Z x m long) inner-count ∙ took-open s Z x long (gate-again s Z st x g inner-order)
+        ap (λ (m : ℕ). tookIn s Z x m long) count-is
+        ∙ took-open s Z x long
+        (gate-again s Z st x g (rw eb (arrive-keeps s Z st p (opened-order s Z st g))))
 
-    pub inner-fits :
-        {t : Taken} → t ≡ takenOf (tookIn s Z x n (length out)) → length out < 18446744073709551616 → t .header < 18446744073709551614
-    inner-fits e h = place-fits s Z (length out) behind (e ∙ ap takenOf (took-same (length out))) h
+    less-same : (long : ℕ) → storeLess s Z x n (tookIn s Z x n long) ≡ storeLess s Z x (countIn Z x) (took s Z x long)
+    less-same long = ap₂ (λ (m : ℕ) (k : Took). storeLess s Z x m k) count-is (took-same long)
 
-    -- ---- what joining comes to
+  joined-by : (long : ℕ) (b : Arrived) → b ≡ arrived s Z st p → joinedInBy s Z st n p long b ≡ joinedBy s Z st p long b
+  joined-by long whole e = refl
+  joined-by long (stored i) e = ap tookAs (took-same (stored i) e long)
+  joined-by long again e = ap tookAs (took-same again e long)
+  joined-by long (refused k) e = refl
 
-    module _ {a : Arrival} (e : a ≡ arrivalOf (arrivedIn s Z st n p)) where
-      told : a ≡ arrivalOf (arrived s Z st p)
-      told = e ∙ ap arrivalOf arrives
+  store-by : (long : ℕ) (b : Arrived) → b ≡ arrived s Z st p → storeInBy s Z st n p long b ≡ storeBy s Z st p long b
+  store-by long whole e = refl
+  store-by long (stored i) e = less-same (stored i) e long
+  store-by long again e = less-same again e long
+  store-by long (refused k) e = refl
 
-      pub inner-refused :
-          {r f : Refusal} {j : Joined} → a ≡ Refused r → f ≡ refusalIn a → j ≡ joinedOf (unjoined (f .number)) → Joins s Z st p out j x out
-      inner-refused h ef ej = join-refused s Z st p out told behind h ef ej
+  out-by : (out : List ℕ) (b : Arrived) → b ≡ arrived s Z st p → outInBy s Z st n p out b ≡ outBy s Z st p out b
+  out-by out whole e = refl
+  out-by out (stored i) e = ap (outWith out) (took-same (stored i) e (length out))
+  out-by out again e = ap (outWith out) (took-same again e (length out))
+  out-by out (refused k) e = refl
 
-      pub inner-whole :
-          {k : Kind} {j : Joined} → Octets p → a ≡ Answer k → k ≡ Whole → j ≡ bodyIn (readPacket s p) → Joins s Z st p out j x out
-      inner-whole o h w ej = join-whole s Z st p out told behind o h w ej
+  pub joining-open : (long : ℕ) → joiningIn s Z st n p long ≡ joining s Z st p long
+  unfolding joiningIn joining
+  joining-open long = ap (joinedInBy s Z st n p long) arrives ∙ joined-by long (arrived s Z st p) refl
 
-      pub inner-taking :
-          {k : Kind} {j : Joined} {t : Taken} {after left : List ℕ} → a ≡ Answer k → (k ≡ Whole → ⊥) →
-          t ≡ takenOf (tookIn s Z x n (length out)) → left ≡ outWith out (tookIn s Z x n (length out)) →
-          after ≡ storeLess s Z x n (tookIn s Z x n (length out)) → j ≡ takenAs t → Joins s Z st p out j after left
-      inner-taking {t = t} h w et eo es ej =
-          join-taking s Z st p out told behind h w
-          (record {
-            taken = t;
-            told = et ∙ ap takenOf (took-same (length out));
-            answer = ej;
-            store = es ∙ ap₂ (λ (m : ℕ) (k : Took). storeLess s Z x m k) inner-count (took-same (length out));
-            output = eo ∙ ap (outWith out) (took-same (length out));
-          })
+  pub store-open : (long : ℕ) → storeJoinedIn s Z st n p long ≡ storeJoined s Z st p long
+  unfolding storeJoinedIn storeJoined
+  store-open long = ap (storeInBy s Z st n p long) arrives ∙ store-by long (arrived s Z st p) refl
+
+  pub out-open : (out : List ℕ) → outJoinedIn s Z st n p out ≡ outJoined s Z st p out
+  unfolding outJoinedIn outJoined
+  out-open out = ap (outInBy s Z st n p out) arrives ∙ out-by out (arrived s Z st p) refl
+
+  -- what holds of the one holds of the other
+  pub joins-open : (out : List ℕ) {j : Joined} {y l : List ℕ} → JoinsIn s Z st p out n j y l → Joins s Z st p out j y l
+  joins-open out w = (
+    w .0 ∙ ap joinedOf (joining-open (length out)),
+    (w .1 .0 ∙ store-open (length out), w .1 .1 ∙ out-open out),
+  )

@@ -12,23 +12,22 @@ use Rattle.octets.specs.Octets.{Octets}
 use Rattle.walk.specs.declared.Settings.{Settings}
 use Rattle.walk.specs.declared.Refusal.{Refusal}
 use Rattle.packet.specs.Reading.{readPacket}
-use Rattle.cells.specs.Order.{countIn}
 use Rattle.store.specs.declared.Kind.{Kind}
 use Rattle.store.specs.declared.Kind.the-variants.{Whole, Stored, Held}
 use Rattle.store.specs.declared.Arrival.{Arrival}
 use Rattle.store.specs.declared.Arrival.the-variants.{Answer, Refused}
 use Rattle.store.specs.declared.Taken.{Taken}
 use Rattle.store.proofs.Kind.{the-type}
-use Rattle.store.specs.Arriving.{Arrived, whole, stored, again, refused, arrived, storeWith}
-use Rattle.store.specs.Taking.{took, outWith, storeLess}
+use Rattle.store.specs.Arriving.{Arrived, whole, stored, again, refused, arrivedIn, arrived, storeWith}
+use Rattle.store.specs.Taking.{tookIn, outWith}
 use Rattle.store.specs.Told.{arrivalOf, takenOf}
 use Rattle.store.specs.Inner.{gate}
 use Rattle.store.proofs.Opening.{arrived-shut}
 use Rattle.join.specs.declared.Joined.{Joined}
-use Rattle.join.specs.Joining.{inPacket, unjoined, bodyFrom, tookAs, lessTaken, joinedBy, storeBy, outBy, joining, storeJoined, outJoined}
+use Rattle.join.specs.Joining.{inPacket, unjoined, bodyFrom, tookAs, joinedBy, storeBy, outBy, joining, storeJoined, outJoined}
 use Rattle.join.specs.Told.{joinedOf}
-use Rattle.join.specs.Inner.{refusalIn, bodyIn, takenAs}
-use Rattle.join.proofs.Coming.{whole-tells, whole-place, took-as}
+use Rattle.join.specs.Inner.{refusalIn, bodyIn, takenAs, joinedInBy, lessTakenIn, storeInBy, outInBy, joiningIn, storeJoinedIn, outJoinedIn}
+use Rattle.join.proofs.Coming.{whole-in, whole-place, took-as}
 
 -- the second kind or the third
 pub not-whole : (k : Kind) → OneOf (1 ∷ 2 ∷ []) (tagOf the-type k) → k ≡ Whole → ⊥
@@ -37,13 +36,10 @@ not-whole Whole (inr e) h = omega arith
 not-whole Stored e h = let z : _≡_ {A = ℕ} 0 1 = cc in omega arith
 not-whole Held e h = let z : _≡_ {A = ℕ} 0 1 = cc in omega arith
 
-module _ (s : Settings) (Z : ℕ) (st p out : List ℕ) where
-  -- the answer, the store and the output are those of an arrival that comes to b
-  abbrev By : Arrived → Joined → List ℕ → List ℕ → Type 0
-  By b j x y =
-      (j ≡ joinedOf (joinedBy s Z st p (length out) b)) × ((x ≡ storeBy s Z st p (length out) b) × (y ≡ outBy s Z st p out b))
+-- ---- with the tests of settings and order
 
-  -- and those of the joining
+module _ (s : Settings) (Z : ℕ) (st p out : List ℕ) where
+  -- the answer, the store and the output are those of the joining
   abbrev pub Joins : Joined → List ℕ → List ℕ → Type 0
   Joins j x y =
       (j ≡ joinedOf (joining s Z st p (length out)))
@@ -58,25 +54,39 @@ module _ (s : Settings) (Z : ℕ) (st p out : List ℕ) where
         (ap (storeBy s Z st p (length out)) e, ap (outBy s Z st p out) e),
       )
 
+-- ---- without them
+
+module _ (s : Settings) (Z : ℕ) (st p out : List ℕ) (n : ℕ) where
+  -- the answer, the store and the output are those of an arrival that comes to b
+  abbrev By : Arrived → Joined → List ℕ → List ℕ → Type 0
+  By b j x y =
+      (j ≡ joinedOf (joinedInBy s Z st n p (length out) b)) × ((x ≡ storeInBy s Z st n p (length out) b) × (y ≡ outInBy s Z st n p out b))
+
+  -- and those of the joining
+  abbrev pub JoinsIn : Joined → List ℕ → List ℕ → Type 0
+  JoinsIn j x y =
+      (j ≡ joinedOf (joiningIn s Z st n p (length out)))
+      × ((x ≡ storeJoinedIn s Z st n p (length out)) × (y ≡ outJoinedIn s Z st n p out))
+
   -- a taking from the store behind the arrival
   pub record Takes (x : List ℕ) (j : Joined) (after left : List ℕ) : Type 0 where
     pub taken : Taken
-    pub told : taken ≡ takenOf (took s Z x (length out))
+    pub told : taken ≡ takenOf (tookIn s Z x n (length out))
     pub answer : j ≡ takenAs taken
-    pub store : after ≡ storeLess s Z x (countIn Z x) (took s Z x (length out))
-    pub output : left ≡ outWith out (took s Z x (length out))
+    pub store : after ≡ lessTakenIn s Z x n (length out)
+    pub output : left ≡ outWith out (tookIn s Z x n (length out))
 
   drawn-by :
       {x y : List ℕ} {j : Joined} {after left : List ℕ} → x ≡ y → Takes x j after left →
-      (j ≡ joinedOf (tookAs (took s Z y (length out)))) × ((after ≡ lessTaken s Z y (length out)) × (left ≡ outWith out (took s Z y (length out))))
+      (j ≡ joinedOf (tookAs (tookIn s Z y n (length out)))) × ((after ≡ lessTakenIn s Z y n (length out)) × (left ≡ outWith out (tookIn s Z y n (length out))))
   drawn-by {x} ex t = (
     t .answer
         ∙ ap takenAs (t .told)
-        ∙ took-as (length out) s Z x
-        ∙ ap (λ (w : List ℕ). joinedOf (tookAs (took s Z w (length out)))) ex,
+        ∙ took-as (length out) s Z x n
+        ∙ ap (λ (w : List ℕ). joinedOf (tookAs (tookIn s Z w n (length out)))) ex,
     (
-      t .store ∙ ap (λ (w : List ℕ). lessTaken s Z w (length out)) ex,
-      t .output ∙ ap (λ (w : List ℕ). outWith out (took s Z w (length out))) ex,
+      t .store ∙ ap (λ (w : List ℕ). lessTakenIn s Z w n (length out)) ex,
+      t .output ∙ ap (λ (w : List ℕ). outWith out (tookIn s Z w n (length out))) ex,
     ),
   )
 
@@ -98,7 +108,7 @@ module _ (s : Settings) (Z : ℕ) (st p out : List ℕ) where
         (b : Arrived) {j : Joined} →
         (b ≡ whole → (readPacket s p .body .at ≡ bodyFrom s p) × (readPacket s p .body .length ≡ length p - bodyFrom s p)) →
         g ≡ arrivalOf b → x ≡ storeWith Z st p b → g ≡ Answer Whole → j ≡ bodyIn (readPacket s p) → By b j x out
-    whole-by whole pl e ex h ej = (ej ∙ ap₂ (λ (m n : ℕ). joinedOf (inPacket m n)) (pl refl .0) (pl refl .1), (ex, refl))
+    whole-by whole pl e ex h ej = (ej ∙ ap₂ (λ (a b : ℕ). joinedOf (inPacket a b)) (pl refl .0) (pl refl .1), (ex, refl))
     whole-by (stored i) pl e ex h ej = let z : _≡_ {A = ℕ} 0 1 = cc in absurd (omega arith)
     whole-by again pl e ex h ej = let z : _≡_ {A = ℕ} 0 1 = cc in absurd (omega arith)
     whole-by (refused k) pl e ex h ej = let z : _≡_ {A = ℕ} 0 1 = cc in absurd (omega arith)
@@ -108,27 +118,27 @@ module _ (s : Settings) (Z : ℕ) (st p out : List ℕ) where
     taking-by :
         (b : Arrived) {k : Kind} {j : Joined} {after left : List ℕ} → g ≡ arrivalOf b → x ≡ storeWith Z st p b → g ≡ Answer k →
         (k ≡ Whole → ⊥) → Takes x j after left → By b j after left
-    taking-by whole e ex h n t = let q : Answer Whole ≡ Answer _ = sym e ∙ h in absurd (n (sym (cc q)))
-    taking-by (stored i) e ex h n t = drawn-by ex t
-    taking-by again e ex h n t = drawn-by ex t
-    taking-by (refused k) e ex h n t = let z : _≡_ {A = ℕ} 0 1 = cc in absurd (omega arith)
+    taking-by whole e ex h w t = let q : Answer Whole ≡ Answer _ = sym e ∙ h in absurd (w (sym (cc q)))
+    taking-by (stored i) e ex h w t = drawn-by ex t
+    taking-by again e ex h w t = drawn-by ex t
+    taking-by (refused k) e ex h w t = let z : _≡_ {A = ℕ} 0 1 = cc in absurd (omega arith)
 
     -- ---- the three of them for the arrival that there is
 
-    module _ (e : g ≡ arrivalOf (arrived s Z st p)) (ex : x ≡ storeWith Z st p (arrived s Z st p)) where
-      pub join-refused : {r f : Refusal} {j : Joined} → g ≡ Refused r → f ≡ refusalIn g → j ≡ joinedOf (unjoined (f .number)) → Joins j x out
-      unfolding joining storeJoined outJoined
-      join-refused h ef ej = refused-by (arrived s Z st p) e ex h ef ej
+    module _ (e : g ≡ arrivalOf (arrivedIn s Z st n p)) (ex : x ≡ storeWith Z st p (arrivedIn s Z st n p)) where
+      pub join-refused : {r f : Refusal} {j : Joined} → g ≡ Refused r → f ≡ refusalIn g → j ≡ joinedOf (unjoined (f .number)) → JoinsIn j x out
+      unfolding joiningIn storeJoinedIn outJoinedIn
+      join-refused h ef ej = refused-by (arrivedIn s Z st n p) e ex h ef ej
 
-      pub join-whole : {k : Kind} {j : Joined} → Octets p → g ≡ Answer k → k ≡ Whole → j ≡ bodyIn (readPacket s p) → Joins j x out
-      unfolding joining storeJoined outJoined
+      pub join-whole : {k : Kind} {j : Joined} → Octets p → g ≡ Answer k → k ≡ Whole → j ≡ bodyIn (readPacket s p) → JoinsIn j x out
+      unfolding joiningIn storeJoinedIn outJoinedIn
       join-whole {k} o h w ej =
-          whole-by (arrived s Z st p)
-          (λ a. let t = whole-tells s Z st p a in whole-place s p o (t .0) (t .1))
+          whole-by (arrivedIn s Z st n p)
+          (λ a. let t = whole-in s Z st p n a in whole-place s p o (t .0) (t .1))
           e ex
           (h ∙ ap Answer w) ej
 
       pub join-taking :
-          {k : Kind} {j : Joined} {after left : List ℕ} → g ≡ Answer k → (k ≡ Whole → ⊥) → Takes x j after left → Joins j after left
-      unfolding joining storeJoined outJoined
-      join-taking h n t = taking-by (arrived s Z st p) e ex h n t
+          {k : Kind} {j : Joined} {after left : List ℕ} → g ≡ Answer k → (k ≡ Whole → ⊥) → Takes x j after left → JoinsIn j after left
+      unfolding joiningIn storeJoinedIn outJoinedIn
+      join-taking h w t = taking-by (arrivedIn s Z st n p) e ex h w t

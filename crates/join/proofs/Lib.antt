@@ -2,7 +2,7 @@ mod Parts
 mod Coming
 mod Joins
 pub mod Kept
-mod Inner
+pub mod Inner
 mod Calls
 pub mod Views
 pub mod Untouched

@@ -1,15 +1,22 @@
--- What the code hands about: the refusal of an arrival, and taking's answer as joining's.
+-- What the code hands about: the refusal of an arrival, and taking's answer as joining's; and joining where neither settings nor order are
+-- tested.
 -- Assumes nothing: these are definitions.
+use Prim.Native.Nat.{ℕ, _-_}
+use mathlib.Core.List.{List}
+use lib.ListN.{length}
 use lib.Dec.{eqb}
 use Rattle.octets.specs.Octets.{pick}
 use Rattle.walk.specs.declared.Refusal.{Refusal}
+use Rattle.walk.specs.declared.Settings.{Settings}
 use Rattle.packet.specs.declared.Header.{Header}
 use Rattle.store.specs.declared.Arrival.{Arrival}
 use Rattle.store.specs.declared.Arrival.the-variants.{Answer, Refused}
 use Rattle.store.specs.declared.Taken.{Taken}
+use Rattle.store.specs.Arriving.{Arrived, whole, stored, again, refused, arrivedIn, storeWith}
+use Rattle.store.specs.Taking.{tookIn, storeLess, outWith}
 use Rattle.store.specs.Told.{refusalOf}
 use Rattle.join.specs.declared.Joined.{Joined}
-use Rattle.join.specs.Joining.{inPacket, unjoined}
+use Rattle.join.specs.Joining.{Joining, inPacket, unjoined, bodyFrom, tookAs}
 use Rattle.join.specs.Told.{taken, joinedOf}
 
 -- the refusal of an arrival; 0 where it is answered
@@ -24,3 +31,37 @@ bodyIn h = joinedOf (inPacket (h .body .at) (h .body .length))
 -- a message that was taken, or taking's refusal
 unfoldable pub takenAs : Taken → Joined
 takenAs t = pick (eqb (t .refusal .number) 0) (taken t) (joinedOf (unjoined (t .refusal .number)))
+
+-- ---- joining at the first n cells of any octets: `joining` without the tests of settings and order
+
+-- by what the arrival comes to
+abbrev pub joinedInBy : Settings → ℕ → List ℕ → ℕ → List ℕ → ℕ → Arrived → Joining
+joinedInBy s Z st n p long whole = inPacket (bodyFrom s p) (length p - bodyFrom s p)
+joinedInBy s Z st n p long (stored i) = tookAs (tookIn s Z (storeWith Z st p (stored i)) n long)
+joinedInBy s Z st n p long again = tookAs (tookIn s Z (storeWith Z st p again) n long)
+joinedInBy s Z st n p long (refused k) = unjoined k
+
+abbrev pub lessTakenIn : Settings → ℕ → List ℕ → ℕ → ℕ → List ℕ
+lessTakenIn s Z x n long = storeLess s Z x n (tookIn s Z x n long)
+
+abbrev pub storeInBy : Settings → ℕ → List ℕ → ℕ → List ℕ → ℕ → Arrived → List ℕ
+storeInBy s Z st n p long whole = storeWith Z st p whole
+storeInBy s Z st n p long (stored i) = lessTakenIn s Z (storeWith Z st p (stored i)) n long
+storeInBy s Z st n p long again = lessTakenIn s Z (storeWith Z st p again) n long
+storeInBy s Z st n p long (refused k) = storeWith Z st p (refused k)
+
+abbrev pub outInBy : Settings → ℕ → List ℕ → ℕ → List ℕ → List ℕ → Arrived → List ℕ
+outInBy s Z st n p out whole = out
+outInBy s Z st n p out (stored i) = outWith out (tookIn s Z (storeWith Z st p (stored i)) n (length out))
+outInBy s Z st n p out again = outWith out (tookIn s Z (storeWith Z st p again) n (length out))
+outInBy s Z st n p out (refused k) = out
+
+-- what it comes to, the store and the output behind it
+unfoldable pub joiningIn : Settings → ℕ → List ℕ → ℕ → List ℕ → ℕ → Joining
+joiningIn s Z st n p long = joinedInBy s Z st n p long (arrivedIn s Z st n p)
+
+unfoldable pub storeJoinedIn : Settings → ℕ → List ℕ → ℕ → List ℕ → ℕ → List ℕ
+storeJoinedIn s Z st n p long = storeInBy s Z st n p long (arrivedIn s Z st n p)
+
+unfoldable pub outJoinedIn : Settings → ℕ → List ℕ → ℕ → List ℕ → List ℕ → List ℕ
+outJoinedIn s Z st n p out = outInBy s Z st n p out (arrivedIn s Z st n p)

@@ -2,18 +2,16 @@
 //
 // Joining tells which buffer holds the body, its place and its length; the view hands that part out, read only. For a packet that
 // came whole neither the store nor the output is touched. If taking refuses, the arrived segment stays in the store. T and the store's
-// order are checked once; what follows is an inner function, for whoever keeps a store in order.
+// order are checked once; what follows is an inner function that takes any octets, for whoever keeps a store in order.
 ghost use mathlib.Core.Path.{_≡_};
 ghost use Prim.Native.Nat.{_<_};
 ghost use lib.ListN.{length};
 ghost use Rattle.packet.specs.Reading.{readPacket};
 ghost use Rattle.cells.specs.Rows.{zeroRow};
-ghost use Rattle.cells.specs.Order.{countIn};
-ghost use Rattle.store.specs.Inner.{gate};
 ghost use Rattle.join.specs.Viewing.{inside, viewed};
 ghost use Rattle.join.specs.Joining.{unjoined, joining, storeJoined, outJoined};
 ghost use Rattle.join.specs.Told.{joinedOf};
-ghost use Rattle.join.specs.Inner.{refusalIn, bodyIn, takenAs};
+ghost use Rattle.join.specs.Inner.{refusalIn, bodyIn, takenAs, joiningIn, storeJoinedIn, outJoinedIn};
 use packet::SegmentCounter;
 use store::Arrival;
 use store::Kind;
@@ -137,7 +135,7 @@ fn in_output(t: Taken) -> Joined
     }
 }
 
-// Joining at the n cells of a store whose settings and order were checked.
+// Joining at the first n cells of any octets: neither settings nor order are tested.
 pub fn join_in(
     s: Settings,
     store: &mut [u8],
@@ -147,11 +145,9 @@ pub fn join_in(
     out: &mut [u8],
 ) -> Joined
     requires { ⌜ now zero ≡ zeroRow (length (now zero)) ⌝ }
-    requires { ⌜ gate s (length (now zero)) (now store) ≡ 0 ⌝ }
-    requires { ⌜ n ≡ countIn (length (now zero)) (now store) ⌝ }
-    ensures { λ r. ⌜ r ≡ joinedOf (joining s (length (now (zero .entry))) (now (store .entry)) (now (p .entry)) (length (now (out .entry)))) ⌝ }
-    ensures { λ r. ⌜ now (store .exit) ≡ storeJoined s (length (now (zero .entry))) (now (store .entry)) (now (p .entry)) (length (now (out .entry))) ⌝ }
-    ensures { λ r. ⌜ now (out .exit) ≡ outJoined s (length (now (zero .entry))) (now (store .entry)) (now (p .entry)) (now (out .entry)) ⌝ }
+    ensures { λ r. ⌜ r ≡ joinedOf (joiningIn s (length (now (zero .entry))) (now (store .entry)) n (now (p .entry)) (length (now (out .entry)))) ⌝ }
+    ensures { λ r. ⌜ now (store .exit) ≡ storeJoinedIn s (length (now (zero .entry))) (now (store .entry)) n (now (p .entry)) (length (now (out .entry))) ⌝ }
+    ensures { λ r. ⌜ now (out .exit) ≡ outJoinedIn s (length (now (zero .entry))) (now (store .entry)) n (now (p .entry)) (now (out .entry)) ⌝ }
 {
     let got = store::arrive_in(s, store, n, zero, p);
     let Arrival::Answer(kind) = got else {

@@ -6,8 +6,7 @@ use mathlib.Core.Bool.{Bool, true, false, not}
 use mathlib.Core.List.{List, [], _∷_}
 use mathlib.Core.Option.{Option, none, some}
 use native.Mathlib.Omega.{arith}
-use native.Mathlib.Nat.{mul-le-mul-right, suc-mul}
-use lib.ListN.{length}
+use lib.ListN.{length, drop, length-take, length-drop}
 use lib.Seq.{sets}
 use lib.Dec.{leb, ltb, eqb}
 use borrow.Author.Tests.{le-leb, lt-leb, eq-eqb, ne-eqb}
@@ -20,7 +19,7 @@ use Rattle.packet.specs.Key.{keyOf}
 use Rattle.cells.specs.Segments.{Seg, segOf, sameRest, both}
 use Rattle.cells.specs.Rows.{Cell, free, held, broken, rowAt, zeroRow, heldRow, packetIn, cellOf}
 use Rattle.cells.specs.Inner.{Asked}
-use Rattle.cells.specs.Order.{isFree, isSound, carriesIn, lowest, cellAt, sound, foundIn}
+use Rattle.cells.specs.Order.{isFree, isSound, carriesIn, lowest, cellAt, foundIn}
 use Rattle.cells.proofs.Scans.{free-is}
 use Rattle.cells.proofs.Held.{flags-same}
 use Rattle.cells.proofs.Laid.{held-laid}
@@ -47,16 +46,22 @@ module _ (st z p : List ℕ) (n : ℕ) where
     unfolding placed
     new-there = let k : suc low ≤ n = omega arith in ap (λ (b : Bool). pick b (stored low) (refused 19)) (le-leb (suc low) n k) ∙ ap stored (sym e)
 
-    pub new-inside : n * length z ≤ length st → 2 + length p ≤ length z → i * length z + (2 + length p) ≤ length st
-    new-inside a b = let k : suc i ≤ n = h in omega (arith, mul-le-mul-right (length z) k, suc-mul i (length z))
+    row-zero : rowAt (length z) st i ≡ z
+    row-zero =
+        let k : low < 0 + n = omega arith in
+        alike-true (rowAt (length z) st i) z
+        (ap (λ (j : ℕ). alike (rowAt (length z) st j) z) e ∙ lowest-holds (λ j. alike (rowAt (length z) st j) z) n 0 k)
+
+    -- a row as long as the zero cell lies inside
+    pub new-inside : 2 + length p ≤ length z → i * length z + (2 + length p) ≤ length st
+    new-inside b =
+        omega
+        (arith, ap length row-zero, length-take (length z) (drop (i * length z) st), length-drop (i * length z) st)
 
     pub new-laid :
         z ≡ zeroRow (length z) → 2 + length p ≤ length z →
         sets st (i * length z) (0x4d ∷ 0x53 ∷ p) ≡ sets st (i * length z) (heldRow (length z) p)
-    new-laid ez b =
-        let k : low < 0 + n = omega arith in
-        let a : alike (rowAt (length z) st i) z ≡ true = ap (λ (j : ℕ). alike (rowAt (length z) st j) z) e ∙ lowest-holds (λ j. alike (rowAt (length z) st j) z) n 0 k in
-        held-laid (length z) i st p (alike-true (rowAt (length z) st i) z a ∙ ez) b
+    new-laid ez b = held-laid (length z) i st p (row-zero ∙ ez) b
 
 -- ---- a segment
 
@@ -82,12 +87,12 @@ module _ (s : Settings) (st z p : List ℕ) (n flags at long c : ℕ) (ez : z �
         let m : 0 + n ≤ foundIn s Z st n k c = omega arith in
         ap₂ (λ (o : Option Seg) (i : ℕ). beside o t (placed n i)) (look-none (cellAt s Z st) k c n 0 m) free-low
 
-    module _ (h : j < n) (g : sound s Z st n ≡ true) where
+    module _ (h : j < n) where
       pub segment-beside : segmentArrived s Z st n t ≡ pick (sameRest (segIn s Z (rowAt Z st j)) t) again (refused 18)
       unfolding segmentArrived segWith foundIn
       segment-beside =
           let m : foundIn s Z st n k c < 0 + n = omega arith in
-          let o = look-found (cellAt s Z st) k c n 0 (segIn s Z (rowAt Z st j)) m (ap (cellAt s Z st) (sym e) ∙ found-held s Z st n k c e h g .cell) in
+          let o = look-found (cellAt s Z st) k c n 0 (segIn s Z (rowAt Z st j)) m (ap (cellAt s Z st) (sym e) ∙ found-held s Z st n k c e h .cell) in
           ap (λ (x : Option Seg). beside x t (placed n (lowestFree s Z st n))) o
 
       module _ {x : List ℕ} {b : Bool} (ex : x ≡ rowAt Z st j) (eb : b ≡ sameRest (segIn s 0 x) (segWith s p flags at long 0)) where

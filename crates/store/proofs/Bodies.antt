@@ -1,4 +1,4 @@
--- The bodies of a complete run laid one after another, and a mark for each of their cells: what the loop has done, and one turn of it.
+-- The bodies of a complete run laid one after another: what the loop has done, and one turn of it.
 -- Assumes nothing.
 use Prim.Native.Nat.{ℕ, suc, _+_, _-_, _≤_, _<_}
 use mathlib.Core.Path.{_≡_, refl, ap, ap₂, sym, _∙_}
@@ -8,7 +8,7 @@ use mathlib.Core.List.{List, [], _∷_, _++_, append-nil}
 use mathlib.Core.Option.{Option, none, some, Option·map}
 use native.Mathlib.Numerals.{add-one}
 use native.Mathlib.Omega.{arith}
-use lib.ListN.{length, set, length-append, length-set}
+use lib.ListN.{length, length-append}
 use lib.Seq.{sets, length-sets}
 use lib.Dec.{eqb, ltb}
 use borrow.Author.Tests.{ltb-true, eqb-true, eqb-false, ne-eqb}
@@ -22,7 +22,7 @@ use Rattle.cells.specs.Order.{foundIn}
 use Rattle.store.specs.declared.Piece.{Piece}
 use Rattle.store.specs.Messages.{first, middle, last, roleOf}
 use Rattle.store.specs.Inner.{segIn, pieceOf}
-use Rattle.store.specs.Follow.{segAt, onBy, onAt, follow, placesFrom, bodiesAt, marked, Ready}
+use Rattle.store.specs.Follow.{segAt, onBy, onAt, follow, placesFrom, bodiesAt, Ready}
 
 -- ---- the next cell of a run
 
@@ -114,44 +114,34 @@ bodies-last : (s : Settings) (Z : ℕ) (st : List ℕ) (j : ℕ) (ks : List ℕ)
 unfolding bodiesAt
 bodies-last s Z st j ks {x} e ex = bodies-first s Z st j [] ks e ex ∙ append-nil x
 
-marked-first : (m : List ℕ) (j : ℕ) (js ks : List ℕ) {l : List ℕ} → ks ≡ j ∷ js → l ≡ set m j 1 → marked m ks ≡ marked l js
-unfolding marked
-marked-first m j js ks e el = ap (marked m) e ∙ ap (λ (x : List ℕ). marked x js) (sym el)
-
-marked-last : (m : List ℕ) (j : ℕ) (ks : List ℕ) {l : List ℕ} → ks ≡ j ∷ [] → l ≡ set m j 1 → marked m ks ≡ l
-unfolding marked
-marked-last m j ks e el = marked-first m j [] ks e el
-
 -- ---- the loop
 
 -- what is done, over what is left to do: the run from the counter c on, its bodies from `at` on
-pub record Copying (s : Settings) (Z : ℕ) (st : List ℕ) (n : ℕ) (k js : List ℕ) (place : ℕ) (o m : List ℕ) (out marks : List ℕ) (c left at : ℕ) : Type 0 where
+pub record Copying (s : Settings) (Z : ℕ) (st : List ℕ) (n : ℕ) (k js : List ℕ) (place : ℕ) (o : List ℕ) (start : ℕ) (out : List ℕ) (c left at : ℕ) : Type 0 where
   pub rest : List ℕ
   pub ahead : follow s Z st n k left c ≡ some rest
   pub octets : sets out at (bodiesAt s Z st rest) ≡ sets o place (bodiesAt s Z st js)
   pub room : at + length (bodiesAt s Z st rest) ≤ length out
   pub long : length out ≡ length o
-  pub cells : marked marks rest ≡ marked m js
-  pub wide : length marks ≡ length m
+  pub told : c + length rest ≡ start + length js
   pub count : c + left ≤ 8589934591
 
 pub copying-first :
-    (s : Settings) (Z : ℕ) (st : List ℕ) (n : ℕ) (k : List ℕ) (c place : ℕ) (o m : List ℕ) → c ≤ 4294967296 → Ready s Z st n k c place o →
-    Copying s Z st n k (placesFrom s Z st n k c) place o m o m c 4294967295 place
-copying-first s Z st n k c place o m h r =
+    (s : Settings) (Z : ℕ) (st : List ℕ) (n : ℕ) (k : List ℕ) (c place : ℕ) (o : List ℕ) → c ≤ 4294967296 → Ready s Z st n k c place o →
+    Copying s Z st n k (placesFrom s Z st n k c) place o c o c 4294967295 place
+copying-first s Z st n k c place o h r =
     record {
       rest = placesFrom s Z st n k c;
       ahead = r .complete;
       octets = refl;
       room = r .room;
       long = refl;
-      cells = refl;
-      wide = refl;
+      told = refl;
       count = omega arith;
     }
 
-module _ {s : Settings} {Z : ℕ} {st : List ℕ} {n : ℕ} {k js : List ℕ} {place : ℕ} {o m out marks : List ℕ} {c left at : ℕ}
-    (w : Copying s Z st n k js place o m out marks c left at) where
+module _ {s : Settings} {Z : ℕ} {st : List ℕ} {n : ℕ} {k js : List ℕ} {place start : ℕ} {o out : List ℕ} {c left at : ℕ}
+    (w : Copying s Z st n k js place o start out c left at) where
   pub copying-ended : left ≤ 0 → ⊥
   copying-ended h = follow-none s Z st n k left c (w .rest) h (w .ahead)
 
@@ -168,21 +158,18 @@ module _ {s : Settings} {Z : ℕ} {st : List ℕ} {n : ℕ} {k js : List ℕ} {p
         let e = ap length (bodies-first s Z st j (y .0) (w .rest) (y .1) body-is) ∙ length-append x (bodiesAt s Z st (y .0)) in
         omega (arith, w .room)
 
-    module _ {place′ : ℕ} {out′ marks′ : List ℕ} (ea : place′ ≡ at + length x) (eo : out′ ≡ sets out at x) (em : marks′ ≡ set marks j 1) where
+    module _ {place′ : ℕ} {out′ : List ℕ} (ea : place′ ≡ at + length x) (eo : out′ ≡ sets out at x) where
       pub copying-long : length out′ ≡ length o
       copying-long = ap length eo ∙ length-sets out at x ∙ w .long
 
-      pub copying-wide : length marks′ ≡ length m
-      copying-wide = ap length em ∙ length-set marks j 1 ∙ w .wide
-
-      pub copying-last : t .flags ≡ 2 → (out′ ≡ sets o place (bodiesAt s Z st js)) × (marks′ ≡ marked m js)
+      pub copying-last : t .flags ≡ 2 → (c + 1 ≡ start + length js) × (out′ ≡ sets o place (bodiesAt s Z st js))
       copying-last f =
           let e = next-last s Z st n k left c (w .rest) h (w .ahead) ej (sym (flags-there s Z st j er et) ∙ f) in (
+            omega (arith, w .told, ap length e),
             eo ∙ ap (sets out at) (sym (bodies-last s Z st j (w .rest) e body-is)) ∙ w .octets,
-            sym (marked-last marks j (w .rest) e em) ∙ w .cells,
           )
 
-      pub copying-turn : (t .flags ≡ 2 → ⊥) → Copying s Z st n k js place o m out′ marks′ (c + 1) (left - 1) place′
+      pub copying-turn : (t .flags ≡ 2 → ⊥) → Copying s Z st n k js place o start out′ (c + 1) (left - 1) place′
       copying-turn f =
           let y = next-on s Z st n k left c (w .rest) h (w .ahead) ej (λ g. f (flags-there s Z st j er et ∙ g)) in
           let b = bodies-first s Z st j (y .0) (w .rest) (y .1) body-is in
@@ -197,7 +184,6 @@ module _ {s : Settings} {Z : ℕ} {st : List ℕ} {n : ℕ} {k js : List ℕ} {p
                 ∙ w .octets;
             room = omega (arith, w .room, ap length eo, length-sets out at x);
             long = copying-long;
-            cells = sym (marked-first marks j (y .0) (w .rest) (y .1) em) ∙ w .cells;
-            wide = copying-wide;
+            told = omega (arith, w .told, ap length (y .1));
             count = omega (arith, w .count);
           }

@@ -16,7 +16,7 @@ use Rattle.packet.specs.declared.Header.{Header}
 use Rattle.packet.specs.Reading.{readPacket}
 use Rattle.cells.specs.Segments.{Seg, segOf}
 use Rattle.cells.specs.Rows.{rowAt, packetIn}
-use Rattle.cells.specs.Order.{sound, foundIn}
+use Rattle.cells.specs.Order.{foundIn}
 use Rattle.store.specs.declared.Piece.{Piece}
 use Rattle.store.specs.Messages.{Role, first, middle, last, roleOf}
 use Rattle.store.specs.Inner.{pieceOf}
@@ -35,7 +35,7 @@ counted-first s Z st n k b from = record { same = refl; steps = refl; most = ome
 
 -- ---- the segment in a cell that was found, as the code reads it
 
-module _ (s : Settings) (Z : ℕ) (st : List ℕ) (n : ℕ) (k : List ℕ) (c : ℕ) {j : ℕ} (ej : j ≡ foundIn s Z st n k c) (h : j < n) (g : sound s Z st n ≡ true) {r : List ℕ} {u : Piece} (er : r ≡ rowAt Z st j) (eu : u ≡ pieceOf (readPacket s (packetIn 0 r))) where
+module _ (s : Settings) (Z : ℕ) (st : List ℕ) (n : ℕ) (k : List ℕ) (c : ℕ) {j : ℕ} (ej : j ≡ foundIn s Z st n k c) (h : j < n) {r : List ℕ} {u : Piece} (er : r ≡ rowAt Z st j) (eu : u ≡ pieceOf (readPacket s (packetIn 0 r))) where
   read-is : u ≡ pieceOf (readPacket s (packetIn Z (rowAt Z st j)))
   read-is = eu ∙ ap (λ (x : List ℕ). pieceOf (readPacket s (packetIn Z x))) er
 
@@ -47,7 +47,7 @@ module _ (s : Settings) (Z : ℕ) (st : List ℕ) (n : ℕ) (k : List ℕ) (c : 
   unfolding segOf pieceOf
   piece-long =
       ap (λ (x : Piece). x .length) read-is
-      ∙ sym (body-long s (packetIn Z (rowAt Z st j)) (found-held s Z st n k c ej h g .accepted))
+      ∙ sym (body-long s (packetIn Z (rowAt Z st j)) (found-held s Z st n k c ej h .accepted))
 
   pub piece-most : Octets st → u .length ≤ 65542
   unfolding segOf
@@ -67,26 +67,26 @@ module _ (s : Settings) (Z : ℕ) (st : List ℕ) (n : ℕ) (k : List ℕ) (b fr
   pub counted-none : n ≤ j → 0 ≡ total s Z st b (follow s Z st n k 4294967295 from)
   counted-none h = whole-is (follow-none s Z st n k (left - 1) c ej h)
 
-  module _ (h : j < n) (g : sound s Z st n ≡ true) {r : List ℕ} {u : Piece} (er : r ≡ rowAt Z st j) (eu : u ≡ pieceOf (readPacket s (packetIn 0 r))) where
+  module _ (h : j < n) {r : List ℕ} {u : Piece} (er : r ≡ rowAt Z st j) (eu : u ≡ pieceOf (readPacket s (packetIn 0 r))) where
     role-is : {x : Role} → roleOf (u .flags) ≡ x → roleOf (segAt s Z st j .flags) ≡ x
-    role-is e = ap roleOf (sym (piece-flags s Z st n k c ej h g er eu)) ∙ e
+    role-is e = ap roleOf (sym (piece-flags s Z st n k c ej h er eu)) ∙ e
 
     by : {x : Role} → roleOf (u .flags) ≡ x → total s Z st sum (onBy x j (follow s Z st n k (left - 1) (suc c))) ≡ total s Z st b (follow s Z st n k 4294967295 from)
     by e = whole-is (follow-by s Z st n k (left - 1) c ej h (role-is e))
 
     module _ (o : Octets st) (d : b ≤ 65542) where
       pub counted-room : sum + u .length < 18446744073709551616
-      counted-room = omega (arith, piece-most s Z st n k c ej h g er eu o, inv .most)
+      counted-room = omega (arith, piece-most s Z st n k c ej h er eu o, inv .most)
 
       pub counted-more : sum + u .length + 1 < 18446744073709551616
-      counted-more = omega (arith, piece-most s Z st n k c ej h g er eu o, inv .most)
+      counted-more = omega (arith, piece-most s Z st n k c ej h er eu o, inv .most)
 
     pub counted-broken : u .flags ≡ 1 → 0 ≡ total s Z st b (follow s Z st n k 4294967295 from)
     counted-broken e = by (role-first e)
 
     pub counted-last : u .flags ≡ 2 → sum + u .length + 1 ≡ total s Z st b (follow s Z st n k 4294967295 from)
     counted-last e =
-        ap (λ (x : ℕ). sum + x + 1) (piece-long s Z st n k c ej h g er eu)
+        ap (λ (x : ℕ). sum + x + 1) (piece-long s Z st n k c ej h er eu)
         ∙ sym (total-last s Z st n k sum j (follow s Z st n k (left - 1) (suc c)))
         ∙ by (role-last e)
 
@@ -96,12 +96,12 @@ module _ (s : Settings) (Z : ℕ) (st : List ℕ) (n : ℕ) (k : List ℕ) (b fr
         record {
           same =
               ap₂ (λ (a d : ℕ). total s Z st a (follow s Z st n k (left - 1) d))
-              (ap (λ (a : ℕ). sum + a) (piece-long s Z st n k c ej h g er eu))
+              (ap (λ (a : ℕ). sum + a) (piece-long s Z st n k c ej h er eu))
               (add-one c)
               ∙ sym (total-on s Z st n k sum j (follow s Z st n k (left - 1) (suc c)))
               ∙ by (role-middle x y);
           steps = omega (arith, inv .steps);
-          most = omega (arith, inv .most, piece-most s Z st n k c ej h g er eu o);
+          most = omega (arith, inv .most, piece-most s Z st n k c ej h er eu o);
         }
 
 pub counter-room : {s : Settings} {Z : ℕ} {st : List ℕ} {n : ℕ} {k : List ℕ} {b from c left sum : ℕ} → Counted s Z st n k b from c left sum → from ≤ 4294967296 → c + 1 < 18446744073709551616

@@ -13,16 +13,16 @@ use borrow.Author.Tests.{le-leb, lt-leb}
 use Rattle.octets.specs.Octets.{pick, alike}
 use Rattle.octets.proofs.Lists.{bool, below-or}
 use Rattle.walk.specs.declared.Settings.{Settings}
+use Rattle.walk.specs.Walk.{refusal}
 use Rattle.cells.specs.Segments.{Seg}
 use Rattle.cells.specs.Rows.{Cell, free, held, broken, rowAt, zeroRow}
-use Rattle.cells.specs.Order.{cellAt, sound, lowest, foundIn}
-use Rattle.cells.proofs.Carries.{free-cell, Holding, holding}
-use Rattle.cells.proofs.Apart.{sound-at}
+use Rattle.cells.specs.Order.{cellAt, lowest, foundIn}
+use Rattle.cells.proofs.Carries.{Holding, held-is}
 use Rattle.store.specs.Messages.{Role, first, middle, last, roleOf, Run, bodies, bodyOf, listed, orElse, cellsOf, chain, opensBy, runFrom, runIn, pickIn, picked, top}
 use Rattle.store.specs.Taking.{Took, message, unable, writing, drawn, tookIn}
-use Rattle.store.specs.declared.Taken.{Taken}
+use Rattle.store.specs.declared.Copied.{Copied}
 use Rattle.store.specs.Told.{takenOf}
-use Rattle.store.specs.Follow.{segAt, follow, placesFrom, placesOf, bodiesAt, answer, isSome, opensAt, toldOf, Opens}
+use Rattle.store.specs.Follow.{segAt, follow, placesFrom, placesOf, bodiesAt, answer, isSome, opensAt, copiedOf, Opens}
 use Rattle.store.proofs.Looks.{lowest-holds}
 use Rattle.store.proofs.Found.{found-held}
 use Rattle.store.proofs.Following.{follow-none, follow-by, chain-places, bodies-places}
@@ -114,22 +114,19 @@ module _ (s : Settings) (Z : ℕ) (st : List ℕ) (n : ℕ) where
     pub run : picked suc top cs ≡ some (record { head = segAt s Z st i; rest = map (segAt s Z st) places })
 
   -- a cell that opens a run holds a segment
-  opens-held : (i : ℕ) → (x : Cell) → cellAt s Z st i ≡ x → (r : Run) → runIn suc top cs x ≡ some r → alike (rowAt Z st i) (zeroRow Z) ≡ false
-  opens-held i x e r h = ⊎-elim free-it (λ y. y) (bool (alike (rowAt Z st i) (zeroRow Z)))
-    where
-      free-it : alike (rowAt Z st i) (zeroRow Z) ≡ true → alike (rowAt Z st i) (zeroRow Z) ≡ false
-      free-it a =
-          let d : _≡_ {A = Option Run} none (some r) = ap (runIn suc top cs) (sym (free-cell s Z (rowAt Z st i) a) ∙ e) ∙ h in
-          let z : _≡_ {A = ℕ} 0 1 = cc in absurd (omega arith)
+  opens-held : (i : ℕ) → (x : Cell) → cellAt s Z st i ≡ x → (r : Run) → runIn suc top cs x ≡ some r → Holding s Z (rowAt Z st i)
+  opens-held i free e r h = let z : _≡_ {A = ℕ} 0 1 = cc in absurd (omega arith)
+  opens-held i (held t) e r h = held-is s Z (rowAt Z st i) t e
+  opens-held i broken e r h = let z : _≡_ {A = ℕ} 0 1 = cc in absurd (omega arith)
 
-  module _ (g : sound s Z st n ≡ true) {i : ℕ} (ei : i ≡ lowest (opensAt s Z st n) n 0) (below : i < n) where
+  module _ {i : ℕ} (ei : i ≡ lowest (opensAt s Z st n) n 0) (below : i < n) where
     found-run : (r : Run) × (at i ≡ some r)
     found-run =
         let k : lowest (opensAt s Z st n) n 0 < 0 + n = omega arith in
         has-some (at i) (ap (opensAt s Z st n) ei ∙ lowest-holds (opensAt s Z st n) n 0 k)
 
     holds : Holding s Z (rowAt Z st i)
-    holds = holding s Z (rowAt Z st i) (sound-at s Z st n i g below refl) (opens-held i (cellAt s Z st i) refl (found-run .0) (found-run .1))
+    holds = opens-held i (cellAt s Z st i) refl (found-run .0) (found-run .1)
 
     pub message-held : Holding s Z (rowAt Z st i)
     message-held = holds
@@ -146,7 +143,7 @@ module _ (s : Settings) (Z : ℕ) (st : List ℕ) (n : ℕ) where
     pub the-message : Message i
     the-message =
         let o = opens-some (roleOf (segAt s Z st i .flags)) (segAt s Z st i) (chain suc top top cs (segAt s Z st i .key) (suc (segAt s Z st i .counter))) (found-run .0) opened in
-        let m = mapped (map (segAt s Z st)) (follow s Z st n (segAt s Z st i .key) top (suc (segAt s Z st i .counter))) (o .0) (sym (chain-places s Z st n (segAt s Z st i .key) g top (suc (segAt s Z st i .counter))) ∙ o .1) in
+        let m = mapped (map (segAt s Z st)) (follow s Z st n (segAt s Z st i .key) top (suc (segAt s Z st i .counter))) (o .0) (sym (chain-places s Z st n (segAt s Z st i .key) top (suc (segAt s Z st i .counter))) ∙ o .1) in
         record {
           places = m .0;
           cell = holds .cell;
@@ -182,10 +179,10 @@ module _ (s : Settings) (Z : ℕ) (st : List ℕ) (n : ℕ) where
           d ∙ ap length body-is
 
       -- what is told of it
-      pub told-is : {u : Taken} → u ≡ toldOf (segAt s Z st i) → record { refusal = u .refusal; header = u .header; body = b; counter = u .counter } ≡ takenOf (message runOf)
-      unfolding toldOf
-      told-is {u} eu =
-          ap₂ (λ (x : Taken) (y : ℕ). record { refusal = x .refusal; header = x .header; body = y; counter = x .counter }) eu (body-long ∙ sym (ap length body-is))
+      pub told-is : {u : Copied} (k : ℕ) → u ≡ copiedOf (segAt s Z st i) k → record { refusal = refusal 0; header = u .header; body = b; counter = u .counter } ≡ takenOf (message runOf)
+      unfolding copiedOf
+      told-is {u} k eu =
+          ap₂ (λ (x : Copied) (y : ℕ). record { refusal = refusal 0; header = x .header; body = y; counter = x .counter }) eu (body-long ∙ sym (ap length body-is))
 
       writing-long : length (writing runOf) ≡ length (segAt s Z st i .key) + b
       writing-long = length-append (segAt s Z st i .key) (bodyOf runOf) ∙ ap (λ (x : ℕ). length (segAt s Z st i .key) + x) (ap length body-is ∙ sym body-long)

@@ -14,11 +14,10 @@ use Rattle.octets.proofs.Lists.{bool}
 use Rattle.walk.specs.declared.Settings.{Settings}
 use Rattle.cells.specs.Segments.{Seg, carries, segOf}
 use Rattle.cells.specs.Rows.{Cell, free, held, broken, rowAt, zeroRow, packetIn}
-use Rattle.cells.specs.Order.{cellAt, sound, lowest}
+use Rattle.cells.specs.Order.{cellAt, lowest}
 use Rattle.cells.proofs.Held.{flags-same}
 use Rattle.cells.proofs.Transactions.{part-octet}
-use Rattle.cells.proofs.Carries.{Holding, holding, free-cell}
-use Rattle.cells.proofs.Apart.{sound-at}
+use Rattle.cells.proofs.Carries.{Holding, held-is}
 use Rattle.cells.proofs.Lowest.{same-or}
 use Rattle.store.specs.Messages.{Role, first, middle, last, roleOf, Run, orElse, listed, heldAs, look, cellsOf, linkBy, link, opensBy, chain, runFrom, runIn, pickIn, picked, top}
 use Rattle.store.specs.Follow.{segAt, endsAt}
@@ -119,11 +118,10 @@ lowest-misses f (suc n) i h j a b = ⊎-elim here (on (lowest-misses f n (suc i)
     on : (suc i + n ≤ lowest f n (suc i) → (m : ℕ) → suc i ≤ m → m < suc i + n → f m ≡ false) → f i ≡ false → f j ≡ false
     on rest e = ⊎-elim (λ (d : j ≡ i). ap f d ∙ e) (λ (d : j ≡ i → ⊥). rest (omega (arith, lowest-on f n i e)) j (omega (arith, d)) (omega arith)) (same-or j i)
 
-module _ (s : Settings) (Z : ℕ) (st : List ℕ) (n : ℕ) (g : sound s Z st n ≡ true) where
+module _ (s : Settings) (Z : ℕ) (st : List ℕ) (n : ℕ) where
   no-last : n ≤ lowest (endsAt Z st) n 0 → (j : ℕ) → j < 0 + n → (t : Seg) → cellAt s Z st j ≡ held t → t .flags ≡ 2 → ⊥
   no-last h j l t e d =
-      let k : j < n = omega arith in
-      let there = holding s Z (rowAt Z st j) (sound-at s Z st n j g k refl) (not-free (alike (rowAt Z st j) (zeroRow Z)) refl) in
+      let there = held-is s Z (rowAt Z st j) t e in
       let same : segAt s Z st j ≡ t = seg-same (sym (there .cell) ∙ e) in
       let two : octetAt (rowAt Z st j) 4 / 64 ≡ 2 = sym (flags-told s Z st j there) ∙ ap (λ (u : Seg). u .flags) same ∙ d in
       let f : endsAt Z st j ≡ false = lowest-misses (endsAt Z st) n 0 (omega arith) j (omega arith) l in
@@ -133,10 +131,6 @@ module _ (s : Settings) (Z : ℕ) (st : List ℕ) (n : ℕ) (g : sound s Z st n 
     where
       seg-same : {a b : Seg} → held a ≡ held b → a ≡ b
       seg-same x = cc
-
-      not-free : (b : Bool) → alike (rowAt Z st j) (zeroRow Z) ≡ b → b ≡ false
-      not-free false x = refl
-      not-free true x = let y : _≡_ {A = Cell} free (held t) = sym (free-cell s Z (rowAt Z st j) x) ∙ e in let z : _≡_ {A = ℕ} 0 1 = cc in absurd (omega arith)
 
   pub nothing-complete : {r : ℕ} → r ≡ lowest (endsAt Z st) n 0 → n ≤ r → picked suc top (cellsOf s Z st n) ≡ none
   nothing-complete e h =

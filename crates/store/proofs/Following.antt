@@ -15,7 +15,7 @@ use Rattle.octets.proofs.Lists.{below-or}
 use Rattle.walk.specs.declared.Settings.{Settings}
 use Rattle.cells.specs.Segments.{Seg}
 use Rattle.cells.specs.Rows.{Cell, held}
-use Rattle.cells.specs.Order.{cellAt, sound, foundIn}
+use Rattle.cells.specs.Order.{cellAt, foundIn}
 use Rattle.store.specs.Messages.{Role, first, middle, last, roleOf, bodies, cellsOf, look, link, linkBy, chain, top}
 use Rattle.store.specs.Follow.{segAt, onBy, onAt, follow, bodiesAt, total}
 use Rattle.store.proofs.Looks.{look-found, look-none}
@@ -46,9 +46,9 @@ unfolding foundIn
 found-look s Z st n k c {t} h e = look-found (cellAt s Z st) k c n 0 t (omega arith) e
 
 there-look :
-    (s : Settings) (Z : ℕ) (st : List ℕ) (n : ℕ) (k : List ℕ) (c : ℕ) → sound s Z st n ≡ true → foundIn s Z st n k c < n →
+    (s : Settings) (Z : ℕ) (st : List ℕ) (n : ℕ) (k : List ℕ) (c : ℕ) → foundIn s Z st n k c < n →
     look (cellsOf s Z st n) k c ≡ some (segAt s Z st (foundIn s Z st n k c))
-there-look s Z st n k c g h = found-look s Z st n k c h (found-held s Z st n k c refl h g .cell)
+there-look s Z st n k c h = found-look s Z st n k c h (found-held s Z st n k c refl h .cell)
 
 nowhere-look : (s : Settings) (Z : ℕ) (st : List ℕ) (n : ℕ) (k : List ℕ) (c : ℕ) → n ≤ foundIn s Z st n k c → look (cellsOf s Z st n) k c ≡ none
 unfolding foundIn
@@ -92,22 +92,22 @@ module _ (s : Settings) (Z : ℕ) (st : List ℕ) (n : ℕ) (k : List ℕ) where
   link-by middle j (some js) = refl
   link-by last j r = refl
 
-  chain-step : (g : sound s Z st n ≡ true) (c : ℕ) (r : Option (List ℕ)) → link (look (cellsOf s Z st n) k c) (segs r) ≡ segs (onAt s Z st n (foundIn s Z st n k c) r)
-  chain-step g c r = ⊎-elim there nowhere (below-or (foundIn s Z st n k c) n)
+  chain-step : (c : ℕ) (r : Option (List ℕ)) → link (look (cellsOf s Z st n) k c) (segs r) ≡ segs (onAt s Z st n (foundIn s Z st n k c) r)
+  chain-step c r = ⊎-elim there nowhere (below-or (foundIn s Z st n k c) n)
     where
       there : foundIn s Z st n k c < n → link (look (cellsOf s Z st n) k c) (segs r) ≡ segs (onAt s Z st n (foundIn s Z st n k c) r)
       there h =
-          ap (λ (o : Option Seg). link o (segs r)) (there-look s Z st n k c g h)
+          ap (λ (o : Option Seg). link o (segs r)) (there-look s Z st n k c h)
           ∙ link-by (roleOf (at (foundIn s Z st n k c) .flags)) (foundIn s Z st n k c) r
           ∙ ap segs (sym (on-by 0 c refl h refl r))
 
       nowhere : n ≤ foundIn s Z st n k c → link (look (cellsOf s Z st n) k c) (segs r) ≡ segs (onAt s Z st n (foundIn s Z st n k c) r)
       nowhere h = ap (λ (o : Option Seg). link o (segs r)) (nowhere-look s Z st n k c h) ∙ ap segs (sym (on-none 0 c refl h r))
 
-  pub chain-places : sound s Z st n ≡ true → (f c : ℕ) → chain suc top f (cellsOf s Z st n) k c ≡ segs (follow s Z st n k f c)
+  pub chain-places : (f c : ℕ) → chain suc top f (cellsOf s Z st n) k c ≡ segs (follow s Z st n k f c)
   unfolding chain follow
-  chain-places g zero c = refl
-  chain-places g (suc f) c = ap (link (look (cellsOf s Z st n) k c)) (chain-places g f (suc c)) ∙ chain-step g c (follow s Z st n k f (suc c))
+  chain-places zero c = refl
+  chain-places (suc f) c = ap (link (look (cellsOf s Z st n) k c)) (chain-places f (suc c)) ∙ chain-step c (follow s Z st n k f (suc c))
 
   -- ---- the octets of a run
 

@@ -2,13 +2,11 @@
 -- Assumes nothing.
 use Prim.Native.Nat.{ℕ, _+_, _-_, _≤_, _<_, _^_, min}
 use mathlib.Core.Path.{_≡_, refl, ap, sym, _∙_}
-use mathlib.Core.Logic.{⊎-elim}
 use mathlib.Core.Bool.{Bool, true, false}
 use mathlib.Core.List.{List}
 use native.Mathlib.Omega.{arith}
 use lib.ListN.{length, take, drop, length-take, length-drop}
-use Rattle.octets.specs.Octets.{Octets, part, number, alike}
-use Rattle.octets.proofs.Lists.{bool}
+use Rattle.octets.specs.Octets.{Octets, part, number}
 use Rattle.octets.proofs.Has.{octets-part}
 use Rattle.octets.proofs.Numbers.{number-top}
 use Rattle.walk.specs.declared.Settings.{Settings}
@@ -16,30 +14,20 @@ use Rattle.packet.specs.declared.Header.{Header}
 use Rattle.packet.specs.Reading.{readPacket, acceptedHeader, ended}
 use Rattle.format.proofs.Start.{answer}
 use Rattle.cells.specs.Segments.{segOf}
-use Rattle.cells.specs.Rows.{free, held, rowAt, zeroRow, packetIn}
-use Rattle.cells.specs.Order.{carriesIn, lowest, cellAt, sound, foundIn}
-use Rattle.cells.proofs.Carries.{free-cell, Holding, holding}
-use Rattle.cells.proofs.Apart.{sound-at}
+use Rattle.cells.specs.Rows.{rowAt, packetIn}
+use Rattle.cells.specs.Order.{carriesIn, lowest, cellAt, foundIn}
+use Rattle.cells.proofs.Carries.{Holding, carrying}
 use Rattle.store.proofs.Looks.{lowest-holds}
 
-module _ (s : Settings) (Z : ℕ) (st : List ℕ) (n : ℕ) (k : List ℕ) (c : ℕ) {j : ℕ} (e : j ≡ foundIn s Z st n k c) (h : j < n) (g : sound s Z st n ≡ true) where
+module _ (s : Settings) (Z : ℕ) (st : List ℕ) (n : ℕ) (k : List ℕ) (c : ℕ) {j : ℕ} (e : j ≡ foundIn s Z st n k c) (h : j < n) where
   pub found-carries : carriesIn k c (cellAt s Z st j) ≡ true
   unfolding foundIn
   found-carries =
       let m : foundIn s Z st n k c < 0 + n = omega arith in
       ap (λ (i : ℕ). carriesIn k c (cellAt s Z st i)) e ∙ lowest-holds (λ i. carriesIn k c (cellAt s Z st i)) n 0 m
 
-  not-free : alike (rowAt Z st j) (zeroRow Z) ≡ false
-  not-free = ⊎-elim free-it (λ x. x) (bool (alike (rowAt Z st j) (zeroRow Z)))
-    where
-      free-it : alike (rowAt Z st j) (zeroRow Z) ≡ true → alike (rowAt Z st j) (zeroRow Z) ≡ false
-      free-it a =
-          let b : carriesIn k c free ≡ true = ap (carriesIn k c) (sym (free-cell s Z (rowAt Z st j) a)) ∙ found-carries in
-          let y : _≡_ {A = ℕ} 0 1 = cc in
-          absurd (omega arith)
-
   pub found-held : Holding s Z (rowAt Z st j)
-  found-held = holding s Z (rowAt Z st j) (sound-at s Z st n j g h refl) not-free
+  found-held = carrying s Z (rowAt Z st j) k c found-carries
 
 -- ---- a held segment's body
 

@@ -8,13 +8,12 @@ use mathlib.Core.List.{List, _∷_, _++_}
 use mathlib.Core.Option.{some}
 use native.Mathlib.Numerals.{add-one}
 use native.Mathlib.Omega.{arith}
-use lib.ListN.{length, set, length-append}
+use lib.ListN.{length, length-append}
 use lib.Seq.{sets, length-sets}
 use Rattle.octets.specs.Octets.{Octets, part, number, alike}
 use Rattle.octets.proofs.Has.{octets-part}
 use Rattle.octets.proofs.Lists.{bool, sets-append}
 use Rattle.walk.specs.declared.Settings.{Settings}
-use Rattle.walk.specs.Walk.{refusal}
 use Rattle.packet.specs.declared.Header.{Header}
 use Rattle.packet.specs.Format.{identification, headerOctets}
 use Rattle.packet.specs.Reading.{readPacket}
@@ -24,13 +23,12 @@ use Rattle.format.proofs.Frame.{identification-long}
 use Rattle.format.proofs.Accepting.{accepted}
 use Rattle.cells.specs.Segments.{Seg, segOf}
 use Rattle.cells.specs.Rows.{free, held, rowAt, zeroRow, packetIn}
-use Rattle.cells.specs.Order.{cellAt, sound}
+use Rattle.cells.specs.Order.{cellAt}
 use Rattle.cells.specs.Inner.{Asked}
-use Rattle.cells.proofs.Carries.{free-cell, Holding, holding}
-use Rattle.cells.proofs.Apart.{sound-at}
+use Rattle.cells.proofs.Carries.{Holding, held-is}
 use Rattle.store.specs.declared.Piece.{Piece}
 use Rattle.store.specs.Inner.{pieceOf}
-use Rattle.store.specs.Follow.{segAt, follow, placesOf, placesFrom, bodiesAt, marked, toldOf, Ready, Opens}
+use Rattle.store.specs.Follow.{segAt, follow, placesOf, placesFrom, bodiesAt, copiedOf, Ready, Opens}
 use Rattle.store.proofs.Bodies.{body-there}
 
 -- one list after another from the front on
@@ -41,16 +39,6 @@ three-laid o a b d =
     ∙ ap (λ (n : ℕ). sets (sets o 0 a) n (b ++ d)) z
     ∙ sets-append o 0 a (b ++ d)
 
--- a cell that holds a segment is not free
-held-full : (s : Settings) (Z : ℕ) (st : List ℕ) (i : ℕ) (t : Seg) → cellAt s Z st i ≡ held t → alike (rowAt Z st i) (zeroRow Z) ≡ false
-held-full s Z st i t e = ⊎-elim free-it (λ x. x) (bool (alike (rowAt Z st i) (zeroRow Z)))
-  where
-    free-it : alike (rowAt Z st i) (zeroRow Z) ≡ true → alike (rowAt Z st i) (zeroRow Z) ≡ false
-    free-it a =
-        let b : free ≡ held t = sym (free-cell s Z (rowAt Z st i) a) ∙ e in
-        let y : _≡_ {A = ℕ} 0 1 = cc in
-        absurd (omega arith)
-
 -- H, by the key
 pub header-of : (s : Settings) (p : List ℕ) → Octets p → readPacket s p .refusal .number ≡ 0 → readPacket s p .h ≡ length (keyOf p (readPacket s p)) - 2
 header-of s p o z =
@@ -59,15 +47,23 @@ header-of s p o z =
     let l = ap length (a .key) ∙ length-append (identification v) (headerOctets s v) in
     omega (arith, a .h-is, identification-long v)
 
+-- a key has the two octets of identification
+pub key-two : (s : Settings) (p : List ℕ) → Octets p → readPacket s p .refusal .number ≡ 0 → 2 ≤ length (keyOf p (readPacket s p))
+key-two s p o z =
+    let a = accepted s p o z in
+    let v = valuesOf p (readPacket s p) .head in
+    let l = ap length (a .key) ∙ length-append (identification v) (headerOctets s v) in
+    omega (arith, identification-long v)
+
 -- the places of a run that is complete
 places-are : (s : Settings) (Z : ℕ) (st : List ℕ) (n : ℕ) (k : List ℕ) (c : ℕ) (js : List ℕ) → follow s Z st n k 4294967295 c ≡ some js → placesFrom s Z st n k c ≡ js
 unfolding placesFrom
 places-are s Z st n k c js e = ap placesOf e
 
-module _ (s : Settings) (Z : ℕ) (st : List ℕ) (n i : ℕ) (o : Octets st) (g : sound s Z st n ≡ true) (there : (i < n) × (cellAt s Z st i ≡ held (segAt s Z st i)))
+module _ (s : Settings) (Z : ℕ) (st : List ℕ) (n i : ℕ) (o : Octets st) (there : cellAt s Z st i ≡ held (segAt s Z st i))
     {r q : List ℕ} {h : Header} {t : Piece} (er : r ≡ rowAt Z st i) (eq : q ≡ packetIn 0 r) (eh : h ≡ readPacket s q) (et : t ≡ pieceOf (readPacket s (packetIn 0 r))) where
   holds-it : Holding s Z (rowAt Z st i)
-  holds-it = holding s Z (rowAt Z st i) (sound-at s Z st n i g (there .0) refl) (held-full s Z st i (segAt s Z st i) (there .1))
+  holds-it = held-is s Z (rowAt Z st i) (segAt s Z st i) there
 
   packet-is : q ≡ packetIn Z (rowAt Z st i)
   packet-is = eq ∙ ap (λ (x : List ℕ). packetIn Z x) er
@@ -92,20 +88,23 @@ module _ (s : Settings) (Z : ℕ) (st : List ℕ) (n i : ℕ) (o : Octets st) (g
   next-is : h .ids .counter .0 + 1 ≡ suc (segAt s Z st i .counter)
   next-is = add-one (h .ids .counter .0) ∙ ap suc counter-is
 
-  -- what is told
-  pub head-told : record { refusal = refusal 0; header = h .h; body = 0; counter = h .ids .counter } ≡ toldOf (segAt s Z st i)
-  unfolding toldOf
-  head-told =
-      let e : h .h ≡ length (segAt s Z st i .key) - 2 =
-      ap (λ (x : Header). x .h) eh ∙ header-of s q (head-asked .octets) (head-asked .accepted) ∙ ap (λ (x : List ℕ). length x - 2) key-is in
-      λ j. record { refusal = refusal 0; header = e j; body = 0; counter = record { 0 = counter-is j } }
-
   -- the places of the others
   abbrev js : List ℕ
   js = placesFrom s Z st n (segAt s Z st i .key) (suc (segAt s Z st i .counter))
 
   others-are : placesFrom s Z st n (keyOf q (readPacket s q)) (h .ids .counter .0 + 1) ≡ js
   others-are = ap₂ (λ (k : List ℕ) (c : ℕ). placesFrom s Z st n k c) key-is next-is
+
+  -- what is told
+  pub head-told :
+      {m : ℕ} → m ≡ h .ids .counter .0 + 1 + length (placesFrom s Z st n (keyOf q (readPacket s q)) (h .ids .counter .0 + 1)) →
+      record { header = h .h; counter = h .ids .counter; until = m } ≡ copiedOf (segAt s Z st i) (length js)
+  unfolding copiedOf
+  head-told em =
+      let e : h .h ≡ length (segAt s Z st i .key) - 2 =
+      ap (λ (x : Header). x .h) eh ∙ header-of s q (head-asked .octets) (head-asked .accepted) ∙ ap (λ (x : List ℕ). length x - 2) key-is in
+      let u = em ∙ ap₂ (λ (a : ℕ) (b : List ℕ). a + length b) next-is others-are in
+      λ k. record { header = e k; counter = record { 0 = counter-is k }; until = u k }
 
   abbrev x : List ℕ
   x = part (packetIn 0 r) (t .at) (t .length)
@@ -161,9 +160,3 @@ module _ (s : Settings) (Z : ℕ) (st : List ℕ) (n i : ℕ) (o : Octets st) (g
             (ea ∙ ap (λ (p : ℕ). p + length x) ek)
             ∙ three-laid out (keyOf q (readPacket s q)) x (bodiesAt s Z st js)
             ∙ ap (sets out 0) (sym whole-is)
-
-  pub head-marked :
-      (m : List ℕ) {l k : List ℕ} → l ≡ set m i 1 → k ≡ marked l (placesFrom s Z st n (keyOf q (readPacket s q)) (h .ids .counter .0 + 1)) →
-      k ≡ marked m (i ∷ js)
-  unfolding marked
-  head-marked m el ek = ek ∙ ap₂ (λ (a b : List ℕ). marked a b) el others-are

@@ -13,7 +13,7 @@ pub mod Bodies
 pub mod Heads
 pub mod Distinct
 pub mod Drawing
-pub mod Marks
+pub mod Among
 pub mod Drawn
 pub mod Takings
 pub mod Calls

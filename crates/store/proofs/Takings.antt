@@ -1,4 +1,4 @@
--- Taking from a store in order, case by case as the code tells them apart: nothing complete, an output too short, a message.
+-- Taking, case by case as the code tells them apart: nothing complete, an output too short, a message.
 -- Assumes nothing.
 use Prim.Native.Nat.{ℕ, zero, suc, _+_, _-_, _*_, _≤_, _<_}
 use mathlib.Core.Path.{_≡_, refl, ap, ap₂, sym, _∙_}
@@ -19,23 +19,16 @@ use Rattle.format.proofs.Frame.{identification-long}
 use Rattle.packet.specs.Format.{identification, headerOctets}
 use Rattle.cells.specs.Segments.{Seg, segOf}
 use Rattle.cells.specs.Rows.{rowAt, packetIn}
-use Rattle.cells.specs.Order.{sound, lowest, inOrder, countIn}
+use Rattle.cells.specs.Order.{lowest}
 use Rattle.cells.proofs.Carries.{Holding}
 use Rattle.store.specs.declared.Picked.{Picked}
 use Rattle.store.specs.Messages.{Run, cellsOf, picked, top}
 use Rattle.store.specs.Taking.{unable, drawn, tookIn}
 use Rattle.store.specs.Follow.{segAt, answer, opensAt, endsAt, pickedOf}
 use Rattle.store.proofs.Ends.{nothing-complete}
-use Rattle.store.proofs.Opening.{order-has, cells-inside}
 use Rattle.store.proofs.Drawing.{Message, the-message, message-held, picked-below, took-none, took-short}
 
-module _ (s : Settings) (Z : ℕ) (st : List ℕ) (n : ℕ) (order : inOrder s Z st ≡ true) (en : n ≡ countIn Z st) where
-  pub order-sound : sound s Z st n ≡ true
-  order-sound = ap (sound s Z st) en ∙ order-has s Z st order .sound
-
-  pub order-inside : n * Z ≤ length st
-  order-inside = rw en (cells-inside s Z st)
-
+module _ (s : Settings) (Z : ℕ) (st : List ℕ) (n : ℕ) where
   module _ {u : Picked} (eu : u ≡ pickedOf s Z st n) where
     pub cell-is : u .cell ≡ lowest (opensAt s Z st n) n 0
     unfolding pickedOf
@@ -63,7 +56,7 @@ module _ (s : Settings) (Z : ℕ) (st : List ℕ) (n : ℕ) (order : inOrder s Z
       taking-body = let e : suc (u .body - 1) ≡ u .body = omega (arith, taking-least) in e ∙ body-is
 
       m : Message s Z st n (u .cell)
-      m = the-message s Z st n order-sound cell-is taking-below
+      m = the-message s Z st n cell-is taking-below
 
       module _ (o : Octets st) {r q : List ℕ} {h : Header} (er : r ≡ rowAt Z st (u .cell)) (eq : q ≡ packetIn 0 r) (eh : h ≡ readPacket s q) where
         read-is : h ≡ readPacket s (packetIn Z (rowAt Z st (u .cell)))
@@ -75,7 +68,7 @@ module _ (s : Settings) (Z : ℕ) (st : List ℕ) (n : ℕ) (order : inOrder s Z
         key-long =
             let p = packetIn Z (rowAt Z st (u .cell)) in
             let plain = octets-part (rowAt Z st (u .cell)) 2 (number 2 (rowAt Z st (u .cell)) 6 + 7) (octets-part st (u .cell * Z) Z o) in
-            let a = accepted s p plain (message-held s Z st n order-sound cell-is taking-below .accepted) in
+            let a = accepted s p plain (message-held s Z st n cell-is taking-below .accepted) in
             let v = valuesOf p (readPacket s p) .head in
             let l = ap length (a .key) ∙ length-append (identification v) (headerOctets s v) in
             omega (arith, a .h-is, identification-long v, ap (λ (x : Header). x .h) read-is)
@@ -88,8 +81,7 @@ module _ (s : Settings) (Z : ℕ) (st : List ℕ) (n : ℕ) (order : inOrder s Z
 
 -- where no cell holds a last, nothing is taken
 pub took-nothing :
-    (s : Settings) (Z : ℕ) (st : List ℕ) (n long : ℕ) → inOrder s Z st ≡ true → n ≡ countIn Z st → {r : ℕ} → r ≡ lowest (endsAt Z st) n 0 → n ≤ r →
+    (s : Settings) (Z : ℕ) (st : List ℕ) (n long : ℕ) → {r : ℕ} → r ≡ lowest (endsAt Z st) n 0 → n ≤ r →
     tookIn s Z st n long ≡ unable 20
 unfolding tookIn
-took-nothing s Z st n long o en e h =
-    ap (λ (x : Option Run). drawn x long) (nothing-complete s Z st n (ap (sound s Z st) en ∙ order-has s Z st o .sound) e h)
+took-nothing s Z st n long e h = ap (λ (x : Option Run). drawn x long) (nothing-complete s Z st n e h)

@@ -5,16 +5,15 @@ use mathlib.Core.Path.{_≡_}
 use mathlib.Core.Bool.{Bool, true, false}
 use mathlib.Core.List.{List, [], _∷_, _++_}
 use mathlib.Core.Option.{Option, none, some, Option·map}
-use lib.ListN.{length, set}
+use lib.ListN.{length}
 use lib.Dec.{ltb, eqb}
 use Rattle.octets.specs.Octets.{pick, octetAt}
 use Rattle.walk.specs.declared.Settings.{Settings}
-use Rattle.walk.specs.Walk.{refusal}
 use Rattle.cells.specs.Segments.{Seg}
 use Rattle.cells.specs.Rows.{Cell, rowAt}
 use Rattle.cells.specs.Order.{cellAt, foundIn, lowest}
 use Rattle.store.specs.declared.Picked.{Picked}
-use Rattle.store.specs.declared.Taken.{Taken}
+use Rattle.store.specs.declared.Copied.{Copied}
 use Rattle.store.specs.Messages.{Role, first, middle, last, roleOf, Run, bodyOf, cellsOf, runIn, picked, top}
 use Rattle.store.specs.Inner.{segIn}
 
@@ -79,15 +78,10 @@ unfoldable pub pickedOf : Settings → ℕ → List ℕ → ℕ → Picked
 pickedOf s Z st n =
     record { cell = lowest (opensAt s Z st n) n 0; body = answer (picked suc top (cellsOf s Z st n)) }
 
--- marks set at these places
-unfoldable pub marked : List ℕ → List ℕ → List ℕ
-marked m [] = m
-marked m (j ∷ js) = marked (set m j 1) js
-
--- what is told of the message that opens in cell i, but for its body's length
-unfoldable pub toldOf : Seg → Taken
-toldOf t =
-    record { refusal = refusal 0; header = length (t .key) - 2; body = 0; counter = record { 0 = t .counter } }
+-- what is told of a message that opens with t and has m more segments: H, its first counter, and the one behind its last
+unfoldable pub copiedOf : Seg → ℕ → Copied
+copiedOf t m =
+    record { header = length (t .key) - 2; counter = record { 0 = t .counter }; until = suc (t .counter) + m }
 
 -- a run is complete, and there is room for its bodies from a place on
 pub record Ready (s : Settings) (Z : ℕ) (st : List ℕ) (n : ℕ) (k : List ℕ) (c place : ℕ) (out : List ℕ) : Type 0 where

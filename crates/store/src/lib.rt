@@ -1,29 +1,28 @@
 // The store of arrived segments: what a packet's arrival comes to, and taking a complete message out.
 //
 // The store is lent memory of 1 to 4,096 cells of 1,024 octets; an empty one is all zeros. Each public call checks T and the
-// store's order before anything else, and hands a store in order on to an inner function. Whoever keeps a store in order calls
-// those: an arrival then costs no check, a taking one pass over the cells in which its chains are made.
+// store's order before anything else, and then calls an inner function that takes any octets. Whoever keeps a store in order calls
+// those, and saves the check.
 ghost use mathlib.Core.Path.{_≡_};
 ghost use mathlib.Core.Bool.{true};
 ghost use mathlib.Core.List.{_∷_, _++_};
 ghost use Prim.Native.Nat.{suc, _+_, _*_, _/_, _≤_, _<_};
 ghost use lib.ListN.{length};
 ghost use lib.Seq.{sets};
-ghost use lib.Dec.{eqb};
 ghost use Rattle.octets.specs.Octets.{octetAt, part, alike};
 ghost use Rattle.packet.specs.Reading.{readPacket};
 ghost use Rattle.packet.specs.Key.{keyOf};
 ghost use Rattle.cells.specs.Segments.{sameRest};
 ghost use Rattle.cells.specs.Rows.{rowAt, zeroRow, packetIn, held};
-ghost use Rattle.cells.specs.Order.{lowest, sound, cellAt, inOrder, countIn};
-ghost use Rattle.cells.specs.Inner.{Asked};
+ghost use Rattle.cells.specs.Order.{lowest, cellAt, countIn};
+ghost use Rattle.cells.specs.Inner.{withinIn, Asked};
 ghost use Rattle.cells.specs.Chains.{Chained, bucketAt};
 ghost use Rattle.store.specs.Messages.{cellsOf, runIn, picked, top};
 ghost use Rattle.store.specs.Arriving.{refused as refusedBy, placed, segmentArrived, arrivedIn, arrived, storeWith};
 ghost use Rattle.store.specs.Taking.{unable, tookIn, took, outWith, clearedTo, storeLess};
 ghost use Rattle.store.specs.Told.{arrivalOf, takenOf};
 ghost use Rattle.store.specs.Inner.{segWith, segIn, pieceOf, openedOf};
-ghost use Rattle.store.specs.Follow.{segAt, follow as followed, placesFrom, bodiesAt, total, answer, opensAt, endsAt, pickedOf, marked, toldOf, Ready, Opens};
+ghost use Rattle.store.specs.Follow.{segAt, follow as followed, placesFrom, bodiesAt, total, answer, opensAt, endsAt, pickedOf, copiedOf, Ready, Opens};
 use packet::SegmentCounter;
 use walk::Refusal;
 use walk::Settings;
@@ -60,6 +59,13 @@ pub struct Taken {
 struct Picked {
     cell: usize,
     body: usize,
+}
+
+// A message that was copied: H, the counter of its first segment, and the one behind its last.
+struct Copied {
+    header: usize,
+    counter: SegmentCounter,
+    until: u64,
 }
 
 // A segment in its cell: its flags, and where its body stands in its packet.
@@ -153,7 +159,6 @@ fn is_same(s: Settings, row: &[u8], p: &[u8], flags: u8, at: usize, long: usize)
 // A new segment at the first n cells.
 fn store_new(store: &mut [u8], n: usize, zero: &[u8], p: &[u8]) -> Arrival
     requires { ⌜ now zero ≡ zeroRow (length (now zero)) ⌝ }
-    requires { ⌜ n * length (now zero) ≤ length (now store) ⌝ }
     requires { ⌜ 2 + length (now p) ≤ length (now zero) ⌝ }
     ensures { λ r. ⌜ r ≡ arrivalOf (placed n (lowest (λ j. alike (rowAt (length (now (zero .entry))) (now (store .entry)) j) (now (zero .entry))) n 0)) ⌝ }
     ensures { λ r. ⌜ now (store .exit) ≡ storeWith (length (now (zero .entry))) (now (store .entry)) (now (p .entry)) (placed n (lowest (λ j. alike (rowAt (length (now (zero .entry))) (now (store .entry)) j) (now (zero .entry))) n 0)) ⌝ }
@@ -179,8 +184,6 @@ fn store_segment(
     counter: u32,
 ) -> Arrival
     requires { ⌜ now zero ≡ zeroRow (length (now zero)) ⌝ }
-    requires { ⌜ n * length (now zero) ≤ length (now store) ⌝ }
-    requires { ⌜ sound s (length (now zero)) (now store) n ≡ true ⌝ }
     requires { ⌜ Asked s (now p) at ⌝ }
     requires { ⌜ 2 + length (now p) ≤ length (now zero) ⌝ }
     ensures { λ r. ⌜ r ≡ arrivalOf (segmentArrived s (length (now (zero .entry))) (now (store .entry)) n (segWith s (now (p .entry)) flags at long counter)) ⌝ }
@@ -196,11 +199,9 @@ fn store_segment(
     refused(18)
 }
 
-// A packet at the first n cells of a store that is in order.
+// A packet at the first n cells of any octets.
 pub fn arrive_in(s: Settings, store: &mut [u8], n: usize, zero: &[u8], p: &[u8]) -> Arrival
     requires { ⌜ now zero ≡ zeroRow (length (now zero)) ⌝ }
-    requires { ⌜ n * length (now zero) ≤ length (now store) ⌝ }
-    requires { ⌜ sound s (length (now zero)) (now store) n ≡ true ⌝ }
     ensures { λ r. ⌜ r ≡ arrivalOf (arrivedIn s (length (now (zero .entry))) (now (store .entry)) n (now (p .entry))) ⌝ }
     ensures { λ r. ⌜ now (store .exit) ≡ storeWith (length (now (zero .entry))) (now (store .entry)) (now (p .entry)) (arrivedIn s (length (now (zero .entry))) (now (store .entry)) n (now (p .entry))) ⌝ }
 {
@@ -275,8 +276,6 @@ fn follow(
 ) -> usize
     requires { ⌜ (chained ≡ true → Chained (bucketAt s (length (now zero)) (now store)) (now heads) (now links) n) ⌝ }
     requires { ⌜ now zero ≡ zeroRow (length (now zero)) ⌝ }
-    requires { ⌜ n * length (now zero) ≤ length (now store) ⌝ }
-    requires { ⌜ sound s (length (now zero)) (now store) n ≡ true ⌝ }
     requires { ⌜ Asked s (now q) stop ⌝ }
     requires { ⌜ (from ≤ 4294967296) × (b ≤ 65542) ⌝ }
     ensures { λ r. ⌜ r ≡ total s (length (now (zero .entry))) (now (store .entry)) b (followed s (length (now (zero .entry))) (now (store .entry)) n (keyOf (now (q .entry)) (readPacket s (now (q .entry)))) 4294967295 from) ⌝ }
@@ -338,29 +337,26 @@ fn run_at(
 ) -> usize
     requires { ⌜ (chained ≡ true → Chained (bucketAt s (length (now zero)) (now store)) (now heads) (now links) n) ⌝ }
     requires { ⌜ now zero ≡ zeroRow (length (now zero)) ⌝ }
-    requires { ⌜ n * length (now zero) ≤ length (now store) ⌝ }
-    requires { ⌜ sound s (length (now zero)) (now store) n ≡ true ⌝ }
-    requires { ⌜ i < n ⌝ }
     ensures { λ r. ⌜ r ≡ answer (runIn suc top (cellsOf s (length (now (zero .entry))) (now (store .entry)) n) (cellAt s (length (now (zero .entry))) (now (store .entry)) i)) ⌝ }
 {
     let r = cells::row(store, zero.len(), i);
     if flags_in(r) != 1 {
         return 0;
     }
+    let t = cells::judge(s, r, zero);
+    if t.kind != 1 {
+        return 0;
+    }
     let q = cells::packet_in(r);
-    let h = packet::read(s, q);
-    let body = h.body;
-    let ids = h.ids;
-    let counter = ids.counter;
     follow(
         s,
         store,
         n,
         zero,
         q,
-        body.at,
-        counter.0 as u64 + 1,
-        body.length,
+        t.at,
+        t.counter as u64 + 1,
+        q.len() - t.at,
         chained,
         heads,
         links,
@@ -379,8 +375,6 @@ fn pick_message(
 ) -> Picked
     requires { ⌜ (chained ≡ true → Chained (bucketAt s (length (now zero)) (now store)) (now heads) (now links) n) ⌝ }
     requires { ⌜ now zero ≡ zeroRow (length (now zero)) ⌝ }
-    requires { ⌜ n * length (now zero) ≤ length (now store) ⌝ }
-    requires { ⌜ sound s (length (now zero)) (now store) n ≡ true ⌝ }
     ensures { λ r. ⌜ r ≡ pickedOf s (length (now (zero .entry))) (now (store .entry)) n ⌝ }
 {
     let mut i: usize = 0;
@@ -417,7 +411,7 @@ fn put_body(out: &mut [u8], at: usize, row: &[u8], t: Piece) -> usize
     octets::lay(out, at, cells::span(p, t.at, t.length))
 }
 
-// The bodies of a complete run from a counter on to a place of the output, and a mark for each of their cells.
+// The bodies of a complete run from a counter on to a place of the output. The counter behind its last.
 fn copy_rest(
     s: Settings,
     store: &[u8],
@@ -428,20 +422,17 @@ fn copy_rest(
     start: u64,
     out: &mut [u8],
     place: usize,
-    marks: &mut [u8],
     chained: bool,
     heads: &[u16; CHAINS],
     links: &[u16; CELLS_MOST],
-)
+) -> u64
     requires { ⌜ (chained ≡ true → Chained (bucketAt s (length (now zero)) (now store)) (now heads) (now links) n) ⌝ }
     requires { ⌜ now zero ≡ zeroRow (length (now zero)) ⌝ }
-    requires { ⌜ n * length (now zero) ≤ length (now store) ⌝ }
-    requires { ⌜ sound s (length (now zero)) (now store) n ≡ true ⌝ }
     requires { ⌜ Asked s (now q) stop ⌝ }
     requires { ⌜ start ≤ 4294967296 ⌝ }
     requires { ⌜ Ready s (length (now zero)) (now store) n (keyOf (now q) (readPacket s (now q))) start place (now out) ⌝ }
+    ensures { λ r. ⌜ r ≡ start + length (placesFrom s (length (now (zero .entry))) (now (store .entry)) n (keyOf (now (q .entry)) (readPacket s (now (q .entry)))) start) ⌝ }
     ensures { λ r. ⌜ now (out .exit) ≡ sets (now (out .entry)) place (bodiesAt s (length (now (zero .entry))) (now (store .entry)) (placesFrom s (length (now (zero .entry))) (now (store .entry)) n (keyOf (now (q .entry)) (readPacket s (now (q .entry)))) start)) ⌝ }
-    ensures { λ r. ⌜ now (marks .exit) ≡ marked (now (marks .entry)) (placesFrom s (length (now (zero .entry))) (now (store .entry)) n (keyOf (now (q .entry)) (readPacket s (now (q .entry)))) start) ⌝ }
 {
     let z = zero.len();
     let mut c = start;
@@ -452,16 +443,16 @@ fn copy_rest(
         let r = cells::row(store, z, j);
         let t = piece_in(s, r);
         at = put_body(out, at, r, t);
-        octets::put_octet(marks, j, 1);
         if t.flags == 2 {
-            return;
+            return c + 1;
         }
         c += 1;
         left -= 1;
     }
+    c
 }
 
-// The message that opens in cell i to the output, and a mark for each of its cells; H and the first's counter.
+// The message that opens in cell i to the output.
 fn copy_message(
     s: Settings,
     store: &[u8],
@@ -469,20 +460,16 @@ fn copy_message(
     zero: &[u8],
     i: usize,
     out: &mut [u8],
-    marks: &mut [u8],
     chained: bool,
     heads: &[u16; CHAINS],
     links: &[u16; CELLS_MOST],
-) -> Taken
+) -> Copied
     requires { ⌜ (chained ≡ true → Chained (bucketAt s (length (now zero)) (now store)) (now heads) (now links) n) ⌝ }
     requires { ⌜ now zero ≡ zeroRow (length (now zero)) ⌝ }
-    requires { ⌜ n * length (now zero) ≤ length (now store) ⌝ }
-    requires { ⌜ sound s (length (now zero)) (now store) n ≡ true ⌝ }
-    requires { ⌜ (i < n) × (cellAt s (length (now zero)) (now store) i ≡ held (segAt s (length (now zero)) (now store) i)) ⌝ }
+    requires { ⌜ cellAt s (length (now zero)) (now store) i ≡ held (segAt s (length (now zero)) (now store) i) ⌝ }
     requires { ⌜ Opens s (length (now zero)) (now store) n i (now out) ⌝ }
-    ensures { λ r. ⌜ r ≡ toldOf (segAt s (length (now (zero .entry))) (now (store .entry)) i) ⌝ }
+    ensures { λ r. ⌜ r ≡ copiedOf (segAt s (length (now (zero .entry))) (now (store .entry)) i) (length (placesFrom s (length (now (zero .entry))) (now (store .entry)) n (segAt s (length (now (zero .entry))) (now (store .entry)) i .key) (suc (segAt s (length (now (zero .entry))) (now (store .entry)) i .counter)))) ⌝ }
     ensures { λ r. ⌜ now (out .exit) ≡ sets (now (out .entry)) 0 (segAt s (length (now (zero .entry))) (now (store .entry)) i .key ++ bodiesAt s (length (now (zero .entry))) (now (store .entry)) (i ∷ placesFrom s (length (now (zero .entry))) (now (store .entry)) n (segAt s (length (now (zero .entry))) (now (store .entry)) i .key) (suc (segAt s (length (now (zero .entry))) (now (store .entry)) i .counter)))) ⌝ }
-    ensures { λ r. ⌜ now (marks .exit) ≡ marked (now (marks .entry)) (i ∷ placesFrom s (length (now (zero .entry))) (now (store .entry)) n (segAt s (length (now (zero .entry))) (now (store .entry)) i .key) (suc (segAt s (length (now (zero .entry))) (now (store .entry)) i .counter))) ⌝ }
 {
     let r = cells::row(store, zero.len(), i);
     let q = cells::packet_in(r);
@@ -493,8 +480,7 @@ fn copy_message(
     let t = piece_in(s, r);
     let key = put_key(s, out, q, stop.at);
     let at = put_body(out, key, r, t);
-    octets::put_octet(marks, i, 1);
-    copy_rest(
+    let until = copy_rest(
         s,
         store,
         n,
@@ -504,16 +490,14 @@ fn copy_message(
         counter.0 as u64 + 1,
         out,
         at,
-        marks,
         chained,
         heads,
         links,
     );
-    Taken {
-        refusal: Refusal { number: 0 },
+    Copied {
         header: h.h,
-        body: 0,
         counter: counter,
+        until: until,
     }
 }
 
@@ -525,15 +509,15 @@ fn put_zero(store: &mut [u8], i: usize, zero: &[u8])
     octets::copy(store, at, zero);
 }
 
-// The marked ones of the first n cells are made zero.
-fn clear(store: &mut [u8], n: usize, zero: &[u8], marks: &[u8])
+// Those of the first n cells are made zero that hold a segment of this key, with a counter from one number on and below another.
+fn clear(s: Settings, store: &mut [u8], n: usize, zero: &[u8], key: &[u8], from: u64, to: u64)
     requires { ⌜ now zero ≡ zeroRow (length (now zero)) ⌝ }
-    ensures { λ r. ⌜ now (store .exit) ≡ clearedTo (λ i. eqb (octetAt (now (marks .entry)) i) 1) (length (now (zero .entry))) n (now (store .entry)) ⌝ }
+    ensures { λ r. ⌜ now (store .exit) ≡ clearedTo (λ i. withinIn (now (key .entry)) from to (cellAt s (length (now (zero .entry))) (now (store .entry)) i)) (length (now (zero .entry))) n (now (store .entry)) ⌝ }
 {
     let z = zero.len();
     let mut i: usize = 0;
     while i < n {
-        if octets::octet(marks, i) == 1 {
+        if cells::is_within(s, cells::row(store, z, i), zero, key, from, to) {
             put_zero(store, i, zero);
         }
         i += 1;
@@ -555,8 +539,6 @@ fn draw(
 ) -> Taken
     requires { ⌜ (chained ≡ true → Chained (bucketAt s (length (now zero)) (now store)) (now heads) (now links) n) ⌝ }
     requires { ⌜ now zero ≡ zeroRow (length (now zero)) ⌝ }
-    requires { ⌜ inOrder s (length (now zero)) (now store) ≡ true ⌝ }
-    requires { ⌜ n ≡ countIn (length (now zero)) (now store) ⌝ }
     requires { ⌜ i ≡ lowest (opensAt s (length (now zero)) (now store) n) n 0 ⌝ }
     requires { ⌜ (i < n) × (suc b ≡ answer (picked suc top (cellsOf s (length (now zero)) (now store) n))) ⌝ }
     requires { ⌜ length (segAt s (length (now zero)) (now store) i .key) + b ≤ length (now out) ⌝ }
@@ -564,20 +546,19 @@ fn draw(
     ensures { λ r. ⌜ now (out .exit) ≡ outWith (now (out .entry)) (tookIn s (length (now (zero .entry))) (now (store .entry)) n (length (now (out .entry)))) ⌝ }
     ensures { λ r. ⌜ now (store .exit) ≡ storeLess s (length (now (zero .entry))) (now (store .entry)) n (tookIn s (length (now (zero .entry))) (now (store .entry)) n (length (now (out .entry)))) ⌝ }
 {
-    let mut marks = [0u8; 4096];
-    let t = copy_message(s, store, n, zero, i, out, &mut marks, chained, heads, links);
-    let refusal = t.refusal;
+    let t = copy_message(s, store, n, zero, i, out, chained, heads, links);
     let counter = t.counter;
-    clear(store, n, zero, &marks);
+    let key = cells::span(out, 0, 2 + t.header);
+    clear(s, store, n, zero, key, counter.0 as u64, t.until);
     Taken {
-        refusal: refusal,
+        refusal: Refusal { number: 0 },
         header: t.header,
         body: b,
         counter: counter,
     }
 }
 
-// Taking from the n cells of a store in order, by its chains where they are made.
+// Taking from the first n cells of any octets, by their chains where they are made.
 fn take_by(
     s: Settings,
     store: &mut [u8],
@@ -590,8 +571,6 @@ fn take_by(
 ) -> Taken
     requires { ⌜ (chained ≡ true → Chained (bucketAt s (length (now zero)) (now store)) (now heads) (now links) n) ⌝ }
     requires { ⌜ now zero ≡ zeroRow (length (now zero)) ⌝ }
-    requires { ⌜ inOrder s (length (now zero)) (now store) ≡ true ⌝ }
-    requires { ⌜ n ≡ countIn (length (now zero)) (now store) ⌝ }
     ensures { λ r. ⌜ r ≡ takenOf (tookIn s (length (now (zero .entry))) (now (store .entry)) n (length (now (out .entry)))) ⌝ }
     ensures { λ r. ⌜ now (out .exit) ≡ outWith (now (out .entry)) (tookIn s (length (now (zero .entry))) (now (store .entry)) n (length (now (out .entry)))) ⌝ }
     ensures { λ r. ⌜ now (store .exit) ≡ storeLess s (length (now (zero .entry))) (now (store .entry)) n (tookIn s (length (now (zero .entry))) (now (store .entry)) n (length (now (out .entry)))) ⌝ }
@@ -619,8 +598,6 @@ fn take_by(
 // The same by plain searches, without chains.
 fn take_plain(s: Settings, store: &mut [u8], n: usize, zero: &[u8], out: &mut [u8]) -> Taken
     requires { ⌜ now zero ≡ zeroRow (length (now zero)) ⌝ }
-    requires { ⌜ inOrder s (length (now zero)) (now store) ≡ true ⌝ }
-    requires { ⌜ n ≡ countIn (length (now zero)) (now store) ⌝ }
     ensures { λ r. ⌜ r ≡ takenOf (tookIn s (length (now (zero .entry))) (now (store .entry)) n (length (now (out .entry)))) ⌝ }
     ensures { λ r. ⌜ now (out .exit) ≡ outWith (now (out .entry)) (tookIn s (length (now (zero .entry))) (now (store .entry)) n (length (now (out .entry)))) ⌝ }
     ensures { λ r. ⌜ now (store .exit) ≡ storeLess s (length (now (zero .entry))) (now (store .entry)) n (tookIn s (length (now (zero .entry))) (now (store .entry)) n (length (now (out .entry)))) ⌝ }
@@ -630,11 +607,9 @@ fn take_plain(s: Settings, store: &mut [u8], n: usize, zero: &[u8], out: &mut [u
     take_by(s, store, n, zero, out, false, &heads, &links)
 }
 
-// The same for a caller that keeps a store in order: nothing is checked, and without a last segment nothing is searched.
+// The same: without a last segment nothing is searched.
 pub fn take_in(s: Settings, store: &mut [u8], n: usize, zero: &[u8], out: &mut [u8]) -> Taken
     requires { ⌜ now zero ≡ zeroRow (length (now zero)) ⌝ }
-    requires { ⌜ inOrder s (length (now zero)) (now store) ≡ true ⌝ }
-    requires { ⌜ n ≡ countIn (length (now zero)) (now store) ⌝ }
     ensures { λ r. ⌜ r ≡ takenOf (tookIn s (length (now (zero .entry))) (now (store .entry)) n (length (now (out .entry)))) ⌝ }
     ensures { λ r. ⌜ now (out .exit) ≡ outWith (now (out .entry)) (tookIn s (length (now (zero .entry))) (now (store .entry)) n (length (now (out .entry)))) ⌝ }
     ensures { λ r. ⌜ now (store .exit) ≡ storeLess s (length (now (zero .entry))) (now (store .entry)) n (tookIn s (length (now (zero .entry))) (now (store .entry)) n (length (now (out .entry)))) ⌝ }

@@ -1,19 +1,18 @@
 -- `cells::find` meets its contract. The loop's invariant: none of the cells passed carries them.
 -- Assumes nothing.
 use Prim.Native.Nat.{ℕ, _-_}
-use borrow.Author.Needs.{needs}
 use denote.Ref.{now}
 use lib.ListN.{length}
 use mathlib.Core.List.{List}
 use mathlib.Core.Path.{ap, sym, _∙_}
-use Rattle.cells.proofs.Apart.{sound-at}
-use Rattle.cells.proofs.Scans.{row-long, Seeking, seeking-first, seeking-turn, seeking-found, seeking-none}
-use Rattle.cells.proofs.find.Statement.{statement}
-use Rattle.cells.proofs.find.Tie as tie
+use Rattle.cells.proofs.Scans.{Seeking, seeking-first, seeking-turn, seeking-found, seeking-none}
 use Rattle.cells.specs.Order.{carriesIn, cellAt, foundIn}
 use Rattle.cells.specs.Rows.{cellOf}
 use Rattle.packet.specs.Key.{keyOf}
 use Rattle.packet.specs.Reading.{readPacket}
+use borrow.Author.Needs.{needs}
+use Rattle.cells.proofs.find.Statement.{statement}
+use Rattle.cells.proofs.find.Tie as tie
 
 abbrev Inv-loop : tie.InvT-loop
 Inv-loop s store n zero q stop c z j₀ j = Seeking (λ k. carriesIn (keyOf q (readPacket s q)) c (cellAt s (length zero) store k)) n j
@@ -28,7 +27,7 @@ row-requires : tie.Need-row-requires Inv-loop μ-loop
 row-requires c κs = search needs
 
 carries-at-requires : tie.Need-carries-at-requires Inv-loop μ-loop
-carries-at-requires c κs = (c .before .before .before .before .before .before .pre .0, (ap length (c .row .ensures) ∙ row-long _ _ _ _ (c .before .loop-test .taken) (c .before .before .before .before .before .before .pre .1 .0), (sound-at (c .before .before .before .before .before .before .args .s) (length (now (c .before .before .before .before .before .before .args .zero))) (now (c .before .before .before .before .before .before .args .store)) (c .before .before .before .before .before .before .args .n) (c .before .before .loop .j) (c .before .before .before .before .before .before .pre .1 .1 .0) (c .before .loop-test .taken) (c .row .ensures), c .before .before .before .before .before .before .pre .1 .1 .1)))
+carries-at-requires c κs = c .before .before .before .before .before .before .pre
 
 returns : tie.Need-returns Inv-loop μ-loop
 unfolding foundIn
@@ -48,16 +47,4 @@ unfolding foundIn
 returns-2 c = seeking-none (c .before .loop .inv) (c .loop-test .left)
 
 pub find-spec : {M : Type 1} → statement M
-find-spec =
-    tie.close
-    (tie.spec
-    Inv-loop
-    μ-loop
-    loop-holds
-    row-requires
-    carries-at-requires
-    returns
-    add-j
-    loop-less
-    loop-again
-    returns-2)
+find-spec = tie.close (tie.spec Inv-loop μ-loop loop-holds row-requires carries-at-requires returns add-j loop-less loop-again returns-2)

@@ -8,13 +8,13 @@ bucket-requires : tie.Need-bucket-requires
 bucket-requires c κs = search needs
 
 find-on-requires : tie.Need-find-on-requires
-find-on-requires c κs = (c .before .before .before .before .before .pre .0, (c .before .before .before .before .before .pre .1 .0, (c .before .before .before .before .before .pre .1 .1 .0, (c .before .before .before .before .before .pre .1 .1 .1 .0, (c .before .before .before .before .before .pre .1 .1 .1 .1 (c .before .if1 .taken), c .bucket .ensures)))))
+find-on-requires c κs = (c .before .before .before .before .before .pre .0, (c .before .before .before .before .before .pre .1 .0, (c .before .before .before .before .before .pre .1 .1 (c .before .if1 .taken), c .bucket .ensures)))
 
 returns : tie.Need-returns
 returns c = search needs
 
 find-requires : tie.Need-find-requires
-find-requires c κs = search needs
+find-requires c κs = (c .before .before .before .before .pre .0, c .before .before .before .before .pre .1 .0)
 
 returns-2 : tie.Need-returns-2
 returns-2 c = search needs

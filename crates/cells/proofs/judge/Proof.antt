@@ -1,21 +1,21 @@
 -- `cells::judge` meets its contract, case by case.
 -- Assumes nothing.
 use Prim.Native.Nat.{_+_}
-use borrow.Author.Needs.{needs}
 use denote.Ref.{now}
 use lib.ListN.{length}
 use mathlib.Core.Path.{ap}
 use native.Mathlib.Omega.{arith}
 use Rattle.cells.proofs.Held.{part-room, told-free, told-held, told-broken}
+use Rattle.octets.specs.Octets.{number}
+use borrow.Author.Needs.{needs}
 use Rattle.cells.proofs.judge.Statement.{statement}
 use Rattle.cells.proofs.judge.Tie as tie
-use Rattle.octets.specs.Octets.{number}
 
 is-free-requires : tie.Need-is-free-requires
 is-free-requires c κs = search needs
 
 returns : tie.Need-returns
-returns c = told-free (c .before .before .before .before .args .s) (now (c .before .before .before .before .args .row)) (now (c .before .before .before .before .args .zero)) (c .before .before .before .before .pre .0) (c .before .before .before .before .pre .1) (c .before .is-free .ensures) (c .if1 .taken)
+returns c = told-free (c .before .before .before .before .args .s) (now (c .before .before .before .before .args .row)) (now (c .before .before .before .before .args .zero)) (c .before .before .before .before .pre) (c .before .is-free .ensures) (c .if1 .taken)
 
 packet-in-requires : tie.Need-packet-in-requires
 packet-in-requires c κs = search needs
@@ -36,22 +36,10 @@ and-requires-2 : tie.Need-and-requires-2
 and-requires-2 c κs = search needs
 
 returns-2 : tie.Need-returns-2
-returns-2 c = told-held (c .before .before .before .before .before .before .before .before .before .before .before .before .before .before .before .before .before .args .s) (now (c .before .before .before .before .before .before .before .before .before .before .before .before .before .before .before .before .before .args .row)) (now (c .before .before .before .before .before .before .before .before .before .before .before .before .before .before .before .before .before .args .zero)) (c .before .before .before .before .before .before .before .before .before .before .before .before .before .before .before .before .before .pre .0) (c .before .before .before .before .before .before .before .before .before .before .before .before .before .before .before .before .before .pre .1) (c .before .before .before .before .before .before .before .before .before .before .before .before .before .before .is-free .ensures) (c .before .before .before .before .before .before .before .before .before .before .before .before .before .if1 .left) (c .before .before .before .before .before .before .before .before .before .before .before .before .packet-in .ensures) (c .before .before .before .before .before .before .before .before .before .before .before .read .ensures .0) (c .before .before .before .before .before .is-held-row .ensures) (rw (c .before .before .and .ensures) at (c .before .and2 .ensures)) (c .if2 .taken)
+returns-2 c = told-held (c .before .before .before .before .before .before .before .before .before .before .before .before .before .before .before .before .before .args .s) (now (c .before .before .before .before .before .before .before .before .before .before .before .before .before .before .before .before .before .args .row)) (now (c .before .before .before .before .before .before .before .before .before .before .before .before .before .before .before .before .before .args .zero)) (c .before .before .before .before .before .before .before .before .before .before .before .before .before .before .before .before .before .pre) (c .before .before .before .before .before .before .before .before .before .before .before .before .before .before .is-free .ensures) (c .before .before .before .before .before .before .before .before .before .before .before .before .before .if1 .left) (c .before .before .before .before .before .before .before .before .before .before .before .before .packet-in .ensures) (c .before .before .before .before .before .before .before .before .before .before .before .read .ensures .0) (c .before .before .before .before .before .is-held-row .ensures) (rw (c .before .before .and .ensures) at (c .before .and2 .ensures)) (c .if2 .taken)
 
 returns-3 : tie.Need-returns-3
-returns-3 c = told-broken (c .before .before .before .before .before .before .before .before .before .before .before .before .before .before .before .before .before .args .s) (now (c .before .before .before .before .before .before .before .before .before .before .before .before .before .before .before .before .before .args .row)) (now (c .before .before .before .before .before .before .before .before .before .before .before .before .before .before .before .before .before .args .zero)) (c .before .before .before .before .before .before .before .before .before .before .before .before .before .before .before .before .before .pre .0) (c .before .before .before .before .before .before .before .before .before .before .before .before .before .before .before .before .before .pre .1) (c .before .before .before .before .before .before .before .before .before .before .before .before .before .before .is-free .ensures) (c .before .before .before .before .before .before .before .before .before .before .before .before .before .if1 .left) (c .before .before .before .before .before .before .before .before .before .before .before .before .packet-in .ensures) (c .before .before .before .before .before .before .before .before .before .before .before .read .ensures .0) (c .before .before .before .before .before .is-held-row .ensures) (rw (c .before .before .and .ensures) at (c .before .and2 .ensures)) (c .if2 .left)
+returns-3 c = told-broken (c .before .before .before .before .before .before .before .before .before .before .before .before .before .before .before .before .before .args .s) (now (c .before .before .before .before .before .before .before .before .before .before .before .before .before .before .before .before .before .args .row)) (now (c .before .before .before .before .before .before .before .before .before .before .before .before .before .before .before .before .before .args .zero)) (c .before .before .before .before .before .before .before .before .before .before .before .before .before .before .before .before .before .pre) (c .before .before .before .before .before .before .before .before .before .before .before .before .before .before .is-free .ensures) (c .before .before .before .before .before .before .before .before .before .before .before .before .before .if1 .left) (c .before .before .before .before .before .before .before .before .before .before .before .before .packet-in .ensures) (c .before .before .before .before .before .before .before .before .before .before .before .read .ensures .0) (c .before .before .before .before .before .is-held-row .ensures) (rw (c .before .before .and .ensures) at (c .before .and2 .ensures)) (c .if2 .left)
 
 pub judge-spec : {M : Type 1} → statement M
-judge-spec =
-    tie.close
-    (tie.spec
-    is-free-requires
-    returns
-    packet-in-requires
-    read-requires
-    add-is-held-row
-    is-held-row-requires
-    and-requires
-    and-requires-2
-    returns-2
-    returns-3)
+judge-spec = tie.close (tie.spec is-free-requires returns packet-in-requires read-requires add-is-held-row is-held-row-requires and-requires and-requires-2 returns-2 returns-3)

@@ -1,16 +1,17 @@
--- `join::join_in` meets its contract: as `join::join`, over a store that stays in order.
+-- `join::join_in` meets its contract: the arrival, and then what it asks for.
 -- Assumes nothing.
 use native.Mathlib.Omega.{arith}
+use mathlib.Core.Path.{refl}
 use denote.Ref.{now}
 use lib.ListN.{length}
-use Rattle.join.proofs.Joins.{not-whole}
-use Rattle.join.proofs.Inner.{inner-inside, inner-sound, inner-order, inner-count, inner-fits, inner-refused, inner-whole, inner-taking}
+use Rattle.join.proofs.Coming.{place-fits}
+use Rattle.join.proofs.Joins.{not-whole, join-refused, join-whole, join-taking}
 use borrow.Author.Needs.{needs}
 use Rattle.join.proofs.join_in.Statement.{statement}
 use Rattle.join.proofs.join_in.Tie as tie
 
 arrive-in-requires : tie.Need-arrive-in-requires
-arrive-in-requires c κs = (c .before .before .before .before .before .pre .0, (inner-inside (c .before .before .before .before .before .args .s) (length (now (c .before .before .before .before .before .args .zero))) (now (c .before .before .before .before .before .args .store)) (now (c .before .before .before .before .before .args .p)) (now (c .before .before .before .before .before .args .out)) (c .before .before .before .before .before .pre .1 .0) (c .before .before .before .before .before .pre .1 .1), inner-sound (c .before .before .before .before .before .args .s) (length (now (c .before .before .before .before .before .args .zero))) (now (c .before .before .before .before .before .args .store)) (now (c .before .before .before .before .before .args .p)) (now (c .before .before .before .before .before .args .out)) (c .before .before .before .before .before .pre .1 .0) (c .before .before .before .before .before .pre .1 .1)))
+arrive-in-requires c κs = c .before .before .before .before .before .pre
 
 enum-known-got : tie.Need-enum-known-got
 enum-known-got c = search needs
@@ -28,7 +29,7 @@ same-length : tie.Need-same-length
 same-length c = search needs
 
 returns : tie.Need-returns
-returns c = inner-refused (c .before .before .before .before .before .before .before .before .before .before .before .before .args .s) (length (now (c .before .before .before .before .before .before .before .before .before .before .before .before .args .zero))) (now (c .before .before .before .before .before .before .before .before .before .before .before .before .args .store)) (now (c .before .before .before .before .before .before .before .before .before .before .before .before .args .p)) (now (c .before .before .before .before .before .before .before .before .before .before .before .before .args .out)) (c .before .before .before .before .before .before .before .before .before .before .before .before .pre .1 .0) (c .before .before .before .before .before .before .before .before .before .before .before .before .pre .1 .1) (c .before .before .before .before .before .before .arrive-in .ensures .1) (c .before .before .before .before .before .before .arrive-in .ensures .0) (c .before .before .enum-told .given .1) (c .before .refusal-of .ensures) (c .refused .ensures)
+returns c = join-refused (c .before .before .before .before .before .before .before .before .before .before .before .before .args .s) (length (now (c .before .before .before .before .before .before .before .before .before .before .before .before .args .zero))) (now (c .before .before .before .before .before .before .before .before .before .before .before .before .args .store)) (now (c .before .before .before .before .before .before .before .before .before .before .before .before .args .p)) (now (c .before .before .before .before .before .before .before .before .before .before .before .before .args .out)) (c .before .before .before .before .before .before .before .before .before .before .before .before .args .n) (c .before .before .before .before .before .before .arrive-in .ensures .0) (c .before .before .before .before .before .before .arrive-in .ensures .1) (c .before .before .enum-told .given .1) (c .before .refusal-of .ensures) (c .refused .ensures)
 
 enum-told-2 : tie.Need-enum-told-2
 enum-told-2 c = search needs
@@ -40,13 +41,13 @@ same-length-2 : tie.Need-same-length-2
 same-length-2 c = search needs
 
 returns-2 : tie.Need-returns-2
-returns-2 c = inner-whole (c .before .before .before .before .before .before .before .before .before .before .before .before .before .before .args .s) (length (now (c .before .before .before .before .before .before .before .before .before .before .before .before .before .before .args .zero))) (now (c .before .before .before .before .before .before .before .before .before .before .before .before .before .before .args .store)) (now (c .before .before .before .before .before .before .before .before .before .before .before .before .before .before .args .p)) (now (c .before .before .before .before .before .before .before .before .before .before .before .before .before .before .args .out)) (c .before .before .before .before .before .before .before .before .before .before .before .before .before .before .pre .1 .0) (c .before .before .before .before .before .before .before .before .before .before .before .before .before .before .pre .1 .1) (c .before .before .before .before .before .before .before .before .arrive-in .ensures .1) (c .before .before .before .before .before .before .before .before .arrive-in .ensures .0) (λ i. c .before .before .before .before .before .before .before .before .before .before .before .shared-slice-known2 .given i .fits) (c .before .before .before .before .got .given .1) (c .before .enum-told2 .given .1) (c .in-packet .ensures)
+returns-2 c = join-whole (c .before .before .before .before .before .before .before .before .before .before .before .before .before .before .args .s) (length (now (c .before .before .before .before .before .before .before .before .before .before .before .before .before .before .args .zero))) (now (c .before .before .before .before .before .before .before .before .before .before .before .before .before .before .args .store)) (now (c .before .before .before .before .before .before .before .before .before .before .before .before .before .before .args .p)) (now (c .before .before .before .before .before .before .before .before .before .before .before .before .before .before .args .out)) (c .before .before .before .before .before .before .before .before .before .before .before .before .before .before .args .n) (c .before .before .before .before .before .before .before .before .arrive-in .ensures .0) (c .before .before .before .before .before .before .before .before .arrive-in .ensures .1) (λ i. c .before .before .before .before .before .before .before .before .before .before .before .shared-slice-known2 .given i .fits) (c .before .before .before .before .got .given .1) (c .before .enum-told2 .given .1) (c .in-packet .ensures)
 
 take-in-requires : tie.Need-take-in-requires
-take-in-requires c κs = (c .before .before .before .before .before .before .before .before .before .before .before .before .before .before .pre .0, (inner-order (c .before .before .before .before .before .before .before .before .before .before .before .before .before .before .args .s) (length (now (c .before .before .before .before .before .before .before .before .before .before .before .before .before .before .args .zero))) (now (c .before .before .before .before .before .before .before .before .before .before .before .before .before .before .args .store)) (now (c .before .before .before .before .before .before .before .before .before .before .before .before .before .before .args .p)) (now (c .before .before .before .before .before .before .before .before .before .before .before .before .before .before .args .out)) (c .before .before .before .before .before .before .before .before .before .before .before .before .before .before .pre .1 .0) (c .before .before .before .before .before .before .before .before .before .before .before .before .before .before .pre .1 .1) (c .before .before .before .before .before .before .before .before .arrive-in .ensures .1), inner-count (c .before .before .before .before .before .before .before .before .before .before .before .before .before .before .args .s) (length (now (c .before .before .before .before .before .before .before .before .before .before .before .before .before .before .args .zero))) (now (c .before .before .before .before .before .before .before .before .before .before .before .before .before .before .args .store)) (now (c .before .before .before .before .before .before .before .before .before .before .before .before .before .before .args .p)) (now (c .before .before .before .before .before .before .before .before .before .before .before .before .before .before .args .out)) (c .before .before .before .before .before .before .before .before .before .before .before .before .before .before .pre .1 .0) (c .before .before .before .before .before .before .before .before .before .before .before .before .before .before .pre .1 .1) (c .before .before .before .before .before .before .before .before .arrive-in .ensures .1)))
+take-in-requires c κs = c .before .before .before .before .before .before .before .before .before .before .before .before .before .before .pre
 
 in-output-requires : tie.Need-in-output-requires
-in-output-requires c κs = inner-fits (c .before .before .before .before .before .before .before .before .before .before .before .before .before .before .before .before .before .before .before .args .s) (length (now (c .before .before .before .before .before .before .before .before .before .before .before .before .before .before .before .before .before .before .before .args .zero))) (now (c .before .before .before .before .before .before .before .before .before .before .before .before .before .before .before .before .before .before .before .args .store)) (now (c .before .before .before .before .before .before .before .before .before .before .before .before .before .before .before .before .before .before .before .args .p)) (now (c .before .before .before .before .before .before .before .before .before .before .before .before .before .before .before .before .before .before .before .args .out)) (c .before .before .before .before .before .before .before .before .before .before .before .before .before .before .before .before .before .before .before .pre .1 .0) (c .before .before .before .before .before .before .before .before .before .before .before .before .before .before .before .before .before .before .before .pre .1 .1) (c .before .before .before .before .before .before .before .before .before .before .before .before .before .arrive-in .ensures .1) (c .before .before .before .before .take-in .ensures .0) (omega (arith, c .before .before .before .before .before .before .before .before .before .before .before .before .before .before .before .before .before .before .before .good .1 .1 .1 .1 .1 .0))
+in-output-requires c κs = place-fits _ _ _ _ _ (c .before .before .before .before .take-in .ensures .0) (omega (arith, c .before .before .before .before .before .before .before .before .before .before .before .before .before .before .before .before .before .before .before .good .1 .1 .1 .1 .1 .0))
 
 same-length-3 : tie.Need-same-length-3
 same-length-3 c = search needs
@@ -55,7 +56,7 @@ same-length-4 : tie.Need-same-length-4
 same-length-4 c = search needs
 
 returns-3 : tie.Need-returns-3
-returns-3 c = inner-taking (c .before .before .before .before .before .before .before .before .before .before .before .before .before .before .before .before .before .before .before .before .args .s) (length (now (c .before .before .before .before .before .before .before .before .before .before .before .before .before .before .before .before .before .before .before .before .args .zero))) (now (c .before .before .before .before .before .before .before .before .before .before .before .before .before .before .before .before .before .before .before .before .args .store)) (now (c .before .before .before .before .before .before .before .before .before .before .before .before .before .before .before .before .before .before .before .before .args .p)) (now (c .before .before .before .before .before .before .before .before .before .before .before .before .before .before .before .before .before .before .before .before .args .out)) (c .before .before .before .before .before .before .before .before .before .before .before .before .before .before .before .before .before .before .before .before .pre .1 .0) (c .before .before .before .before .before .before .before .before .before .before .before .before .before .before .before .before .before .before .before .before .pre .1 .1) (c .before .before .before .before .before .before .before .before .before .before .before .before .before .before .arrive-in .ensures .1) (c .before .before .before .before .before .before .before .before .before .before .before .before .before .before .arrive-in .ensures .0) (c .before .before .before .before .before .before .before .before .before .before .got .given .1) (not-whole _ (c .before .before .before .before .before .before .before .before .match2 .keys2)) (c .before .before .before .before .before .take-in .ensures .0) (c .before .before .before .before .before .take-in .ensures .1 .0) (c .before .before .before .before .before .take-in .ensures .1 .1) (c .in-output .ensures)
+returns-3 c = join-taking (c .before .before .before .before .before .before .before .before .before .before .before .before .before .before .before .before .before .before .before .before .args .s) (length (now (c .before .before .before .before .before .before .before .before .before .before .before .before .before .before .before .before .before .before .before .before .args .zero))) (now (c .before .before .before .before .before .before .before .before .before .before .before .before .before .before .before .before .before .before .before .before .args .store)) (now (c .before .before .before .before .before .before .before .before .before .before .before .before .before .before .before .before .before .before .before .before .args .p)) (now (c .before .before .before .before .before .before .before .before .before .before .before .before .before .before .before .before .before .before .before .before .args .out)) (c .before .before .before .before .before .before .before .before .before .before .before .before .before .before .before .before .before .before .before .before .args .n) (c .before .before .before .before .before .before .before .before .before .before .before .before .before .before .arrive-in .ensures .0) (c .before .before .before .before .before .before .before .before .before .before .before .before .before .before .arrive-in .ensures .1) (c .before .before .before .before .before .before .before .before .before .before .got .given .1) (not-whole _ (c .before .before .before .before .before .before .before .before .match2 .keys2)) (record { taken = _; told = c .before .before .before .before .before .take-in .ensures .0; answer = c .in-output .ensures; store = c .before .before .before .before .before .take-in .ensures .1 .1; output = c .before .before .before .before .before .take-in .ensures .1 .0 })
 
 pub join-in-spec : {M : Type 1} → statement M
 join-in-spec = tie.close (tie.spec arrive-in-requires enum-known-got enum-told refusal-of-requires refused-requires same-length returns enum-told-2 in-packet-requires same-length-2 returns-2 take-in-requires in-output-requires same-length-3 same-length-4 returns-3)

@@ -19,7 +19,7 @@ loop-holds : tie.Need-loop-holds Inv-loop μ-loop
 loop-holds c = picking-first (c .before .before .args .s) (length (now (c .before .before .args .zero))) (now (c .before .before .args .store)) (c .before .before .args .n)
 
 run-at-requires : tie.Need-run-at-requires Inv-loop μ-loop
-run-at-requires c κs = (c .before .before .before .before .pre .0, (c .before .before .before .before .pre .1 .0, (c .before .before .before .before .pre .1 .1 .0, (c .before .before .before .before .pre .1 .1 .1, c .loop-test .taken))))
+run-at-requires c κs = (c .before .before .before .before .pre .0, c .before .before .before .before .pre .1)
 
 returns : tie.Need-returns Inv-loop μ-loop
 returns c = picking-found (c .before .before .before .before .before .before .args .s) (length (now (c .before .before .before .before .before .before .args .zero))) (now (c .before .before .before .before .before .before .args .store)) (c .before .before .before .before .before .before .args .n) (c .before .before .before .loop .inv) (c .before .before .loop-test .taken) (c .before .run-at .ensures) (c .if1 .taken)
@@ -37,5 +37,4 @@ returns-2 : tie.Need-returns-2 Inv-loop μ-loop
 returns-2 c = picking-none (c .before .before .before .before .args .s) (length (now (c .before .before .before .before .args .zero))) (now (c .before .before .before .before .args .store)) (c .before .before .before .before .args .n) (c .before .loop .inv) (c .loop-test .left)
 
 pub pick-message-spec : {M : Type 1} → statement M
-pick-message-spec =
-    tie.close (tie.spec Inv-loop μ-loop loop-holds run-at-requires returns add-i loop-less loop-again returns-2)
+pick-message-spec = tie.close (tie.spec Inv-loop μ-loop loop-holds run-at-requires returns add-i loop-less loop-again returns-2)

@@ -8,7 +8,7 @@ use Rattle.cells.specs.Order.{countIn}
 use Rattle.cells.proofs.Chaining.{chained-none}
 use Rattle.store.specs.Told.{takenOf}
 use Rattle.store.specs.Taking.{unable, outWith, storeLess, tookIn}
-use Rattle.store.proofs.Opening.{took-open, took-shut, opened-number, opened-gate, opened-order, opened-cells}
+use Rattle.store.proofs.Opening.{took-open, took-shut, opened-number, opened-gate, opened-cells}
 use borrow.Author.Needs.{needs}
 use Rattle.store.proofs.take.Statement.{statement}
 use Rattle.store.proofs.take.Tie as tie
@@ -33,7 +33,7 @@ slice-aggregate-take-by : tie.Need-slice-aggregate-take-by
 slice-aggregate-take-by c = search needs
 
 take-by-requires : tie.Need-take-by-requires
-take-by-requires c κs = ((λ e. c .before .before .before .before .before .before .before .before .check-by .ensures .1 (c .before .before .before .before .before .if1 .left)), (refl, (opened-order (c .before .before .before .before .before .before .before .before .before .before .before .before .before .before .before .args .s) 1024 (now (c .before .before .before .before .before .before .before .before .before .before .before .before .before .before .before .args .store)) (opened-gate (c .before .before .before .before .before .before .before .before .before .before .before .before .before .before .before .args .s) 1024 (now (c .before .before .before .before .before .before .before .before .before .before .before .before .before .before .before .args .store)) (c .before .before .before .before .before .before .before .before .check-by .ensures .0) (c .before .before .before .before .before .if1 .left)), opened-cells (c .before .before .before .before .before .before .before .before .before .before .before .before .before .before .before .args .s) 1024 (now (c .before .before .before .before .before .before .before .before .before .before .before .before .before .before .before .args .store)) (c .before .before .before .before .before .before .before .before .check-by .ensures .0) (c .before .before .before .before .before .if1 .left))))
+take-by-requires c κs = ((λ e. c .before .before .before .before .before .before .before .before .check-by .ensures .1 (c .before .before .before .before .before .if1 .left)), refl)
 
 same-length-2 : tie.Need-same-length-2
 same-length-2 c = search needs
@@ -45,5 +45,4 @@ returns-2 : tie.Need-returns-2
 returns-2 c = let n = opened-cells (c .before .before .before .before .before .before .before .before .before .before .before .before .before .before .before .before .before .before .before .before .args .s) 1024 (now (c .before .before .before .before .before .before .before .before .before .before .before .before .before .before .before .before .before .before .before .before .args .store)) (c .before .before .before .before .before .before .before .before .before .before .before .before .before .check-by .ensures .0) (c .before .before .before .before .before .before .before .before .before .before .if1 .left) in let e = ap (λ k. tookIn (c .before .before .before .before .before .before .before .before .before .before .before .before .before .before .before .before .before .before .before .before .args .s) 1024 (now (c .before .before .before .before .before .before .before .before .before .before .before .before .before .before .before .before .before .before .before .before .args .store)) k (length (now (c .before .before .before .before .before .before .before .before .before .before .before .before .before .before .before .before .before .before .before .before .args .out)))) n ∙ took-open (c .before .before .before .before .before .before .before .before .before .before .before .before .before .before .before .before .before .before .before .before .args .s) 1024 (now (c .before .before .before .before .before .before .before .before .before .before .before .before .before .before .before .before .before .before .before .before .args .store)) (length (now (c .before .before .before .before .before .before .before .before .before .before .before .before .before .before .before .before .before .before .before .before .args .out))) (opened-gate (c .before .before .before .before .before .before .before .before .before .before .before .before .before .before .before .before .before .before .before .before .args .s) 1024 (now (c .before .before .before .before .before .before .before .before .before .before .before .before .before .before .before .before .before .before .before .before .args .store)) (c .before .before .before .before .before .before .before .before .before .before .before .before .before .check-by .ensures .0) (c .before .before .before .before .before .before .before .before .before .before .if1 .left)) in (c .before .before .before .before .take-by .ensures .0 ∙ ap takenOf e, (c .before .before .before .before .take-by .ensures .1 .0 ∙ ap (outWith (now (c .before .before .before .before .before .before .before .before .before .before .before .before .before .before .before .before .before .before .before .before .args .out))) e, c .before .before .before .before .take-by .ensures .1 .1 ∙ ap₂ (λ k t. storeLess (c .before .before .before .before .before .before .before .before .before .before .before .before .before .before .before .before .before .before .before .before .args .s) 1024 (now (c .before .before .before .before .before .before .before .before .before .before .before .before .before .before .before .before .before .before .before .before .args .store)) k t) n e))
 
 pub take-spec : {M : Type 1} → statement M
-take-spec =
-    tie.close (tie.spec slice-aggregate-check-by check-by-requires not-taken-requires same-length returns slice-aggregate-take-by take-by-requires same-length-2 same-length-3 returns-2)
+take-spec = tie.close (tie.spec slice-aggregate-check-by check-by-requires not-taken-requires same-length returns slice-aggregate-take-by take-by-requires same-length-2 same-length-3 returns-2)

@@ -21,10 +21,10 @@ same-length c = search needs
 
 returns : tie.Need-returns
 unfolding outWith storeLess
-returns c = let e = took-nothing (c .before .before .before .before .before .before .before .args .s) (length (now (c .before .before .before .before .before .before .before .args .zero))) (now (c .before .before .before .before .before .before .before .args .store)) (c .before .before .before .before .before .before .before .args .n) (length (now (c .before .before .before .before .before .before .before .args .out))) (c .before .before .before .before .before .before .before .pre .1 .0) (c .before .before .before .before .before .before .before .pre .1 .1) (c .before .before .lowest-last .ensures) (c .before .if1 .taken) in (c .not-taken .ensures ∙ ap takenOf (sym e), (ap (outWith (now (c .before .before .before .before .before .before .before .args .out))) (sym e), ap (storeLess (c .before .before .before .before .before .before .before .args .s) (length (now (c .before .before .before .before .before .before .before .args .zero))) (now (c .before .before .before .before .before .before .before .args .store)) (c .before .before .before .before .before .before .before .args .n)) (sym e)))
+returns c = let e = took-nothing (c .before .before .before .before .before .before .before .args .s) (length (now (c .before .before .before .before .before .before .before .args .zero))) (now (c .before .before .before .before .before .before .before .args .store)) (c .before .before .before .before .before .before .before .args .n) (length (now (c .before .before .before .before .before .before .before .args .out))) (c .before .before .lowest-last .ensures) (c .before .if1 .taken) in (c .not-taken .ensures ∙ ap takenOf (sym e), (ap (outWith (now (c .before .before .before .before .before .before .before .args .out))) (sym e), ap (storeLess (c .before .before .before .before .before .before .before .args .s) (length (now (c .before .before .before .before .before .before .before .args .zero))) (now (c .before .before .before .before .before .before .before .args .store)) (c .before .before .before .before .before .before .before .args .n)) (sym e)))
 
 take-plain-requires : tie.Need-take-plain-requires
-take-plain-requires c κs = search needs
+take-plain-requires c κs = c .before .before .before .before .before .before .before .before .pre
 
 same-length-2 : tie.Need-same-length-2
 same-length-2 c = search needs

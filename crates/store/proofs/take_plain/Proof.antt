@@ -8,7 +8,7 @@ use Rattle.store.proofs.take_plain.Statement.{statement}
 use Rattle.store.proofs.take_plain.Tie as tie
 
 take-by-requires : tie.Need-take-by-requires
-take-by-requires c κs = ((λ e. let z : _≡_ {A = ℕ} 0 1 = cc in absurd (omega arith)), (c .before .before .before .before .before .before .before .pre .0, (c .before .before .before .before .before .before .before .pre .1 .0, c .before .before .before .before .before .before .before .pre .1 .1)))
+take-by-requires c κs = ((λ e. let z : _≡_ {A = ℕ} 0 1 = cc in absurd (omega arith)), c .before .before .before .before .before .before .before .pre)
 
 same-length : tie.Need-same-length
 same-length c = search needs

@@ -1,0 +1,124 @@
+-- Octets that are a segment's key, and a cell that holds a segment of a key between two counters, as the code tests them.
+-- Assumes nothing.
+use Prim.Native.Nat.{ℕ, zero, suc, _+_, _-_, _≤_, _<_}
+use mathlib.Core.Path.{_≡_, refl, ap, ap₂, sym, _∙_}
+use mathlib.Core.Logic.{⊎-elim}
+use mathlib.Core.Bool.{Bool, true, false}
+use mathlib.Core.List.{List, [], _∷_, _++_}
+use native.Mathlib.Omega.{arith}
+use lib.ListN.{length, take, drop}
+use lib.Seq.{drop-drop}
+use lib.Dec.{eqb, leb, ltb}
+use borrow.Author.Tests.{le-leb, lt-leb}
+use Rattle.octets.specs.Octets.{pick, Octets, octetAt, part, number, alike}
+use Rattle.octets.proofs.Has.{octets-part}
+use Rattle.octets.proofs.Lists.{bool, pick-false}
+use Rattle.walk.specs.declared.Settings.{Settings}
+use Rattle.packet.specs.Reading.{readPacket}
+use Rattle.packet.specs.Key.{keyOf}
+use Rattle.cells.specs.declared.Judged.{Judged}
+use Rattle.cells.specs.Segments.{segOf, both}
+use Rattle.cells.specs.Rows.{Cell, free, held, broken, packetIn, cellOf}
+use Rattle.cells.specs.Inner.{placeIn, counterIn, bodyIn, judgedOf, withinIn, Asked}
+use Rattle.cells.specs.Chains.{keyIn}
+use Rattle.cells.proofs.Carries.{Holding, held-is, judged-one, judged-at, held-counter}
+use Rattle.cells.proofs.Mixing.{key-asked}
+
+-- ---- a key
+
+-- a list beside two others, one behind the other
+alike-parts : (k a b : List ℕ) → alike k (a ++ b) ≡ both (alike (take (length a) k) a) (alike (drop (length a) k) b)
+unfolding alike
+alike-parts k [] b = refl
+alike-parts [] (x ∷ a) b = refl
+alike-parts (y ∷ k) (x ∷ a) b = ⊎-elim (λ e. rw e (alike-parts k a b)) (λ e. rw e refl) (bool (eqb y x))
+
+module _ (k p : List ℕ) (end : ℕ) {c : ℕ} {i f : List ℕ} (ec : c ≡ placeIn p) (ei : i ≡ part p 0 2) (ef : f ≡ part p 6 (c - 6)) where
+  pub key-tested :
+      {t x y z : List ℕ} {a b d m n : Bool} → t ≡ part p (c + 4) (end - (c + 4)) → x ≡ part k 0 (length i) → a ≡ alike x i →
+      y ≡ part k (length i) (length f) → b ≡ alike y f → z ≡ drop (length i + length f) k → d ≡ alike z t → m ≡ both b d → n ≡ both a m →
+      n ≡ alike k (keyIn p end)
+  unfolding keyIn
+  key-tested {t} et ex ea ey eb ez ed em en =
+      en
+      ∙ ap₂ both
+      (ea ∙ ap (λ (w : List ℕ). alike w i) ex)
+      (em
+      ∙ ap₂ both
+      (eb ∙ ap (λ (w : List ℕ). alike w f) ey)
+      (ed ∙ ap (λ (w : List ℕ). alike w t) (ez ∙ sym (drop-drop (length f) (length i) k))))
+      ∙ ap (both (alike (take (length i) k) i)) (sym (alike-parts (drop (length i) k) f t))
+      ∙ sym (alike-parts k i (f ++ t))
+      ∙ ap (alike k)
+      (ap₂ _++_ ei
+      (ap₂ _++_
+      (ef ∙ ap (λ (n : ℕ). part p 6 (n - 6)) ec)
+      (et ∙ ap (λ (n : ℕ). part p (n + 4) (end - (n + 4))) ec)))
+
+-- ---- a cell
+
+module _ (s : Settings) (r z k : List ℕ) (from to : ℕ) (o : Octets r) where
+  abbrev here : Cell
+  here = cellOf s (length z) r
+
+  abbrev p : List ℕ
+  p = packetIn (length z) r
+
+  -- it holds a segment, or is none
+  unless-held : (Holding s (length z) r → false ≡ withinIn k from to here) → false ≡ withinIn k from to here
+  unless-held h = go here refl
+    where
+      go : (x : Cell) → cellOf s (length z) r ≡ x → false ≡ withinIn k from to here
+      go free d = sym (ap (withinIn k from to) d)
+      go (held t) d = h (held-is s (length z) r t d)
+      go broken d = sym (ap (withinIn k from to) d)
+
+  told : Holding s (length z) r → withinIn k from to here ≡ both (both (leb from (counterIn p)) (ltb (counterIn p) to)) (alike k (keyOf p (readPacket s p)))
+  unfolding segOf
+  told there =
+      ap (withinIn k from to) (there .cell)
+      ∙ ap (λ (n : ℕ). both (both (leb from n) (ltb n to)) (alike k (keyOf p (readPacket s p)))) (sym (held-counter s (length z) r o there))
+
+  pub within-free : {b : ℕ} → b ≡ octetAt r 0 → b ≡ 0 → false ≡ withinIn k from to here
+  within-free {b} e t = unless-held held-it
+    where
+      held-it : Holding s (length z) r → false ≡ withinIn k from to here
+      held-it h = let w : _≡_ {A = ℕ} 0x4d 0 = ap (λ (x : List ℕ). octetAt x 0) (sym (h .row)) ∙ sym e ∙ t in absurd (omega arith)
+
+  module _ {x : List ℕ} {n : ℕ} (ex : x ≡ p) (en : n ≡ counterIn x) where
+    counter-is : n ≡ counterIn p
+    counter-is = en ∙ ap counterIn ex
+
+    by-counter : {a : Bool} → both (leb from n) (ltb n to) ≡ a → Holding s (length z) r → withinIn k from to here ≡ both a (alike k (keyOf p (readPacket s p)))
+    by-counter e there =
+        told there
+        ∙ ap (λ (w : Bool). both w (alike k (keyOf p (readPacket s p))))
+        (ap (λ (m : ℕ). both (leb from m) (ltb m to)) (sym counter-is) ∙ e)
+
+    pub within-low : n < from → false ≡ withinIn k from to here
+    within-low h = unless-held (λ there. sym (by-counter (ap (λ (w : Bool). both w (ltb n to)) (lt-leb from n h)) there))
+
+    pub within-high : to ≤ n → false ≡ withinIn k from to here
+    within-high h =
+        let l : to < suc n = omega arith in
+        unless-held (λ there. sym (by-counter (ap (both (leb from n)) (lt-leb (suc n) to l) ∙ pick-false (leb from n)) there))
+
+    module _ {t : Judged} (et : t ≡ judgedOf (bodyIn s (length z) r) here) where
+      pub within-not : (t .kind ≡ 1 → ⊥) → false ≡ withinIn k from to here
+      within-not h = unless-held (λ there. absurd (h (judged-at s (length z) r et there .0)))
+
+      pub within-same : {b : Bool} → t .kind ≡ 1 → from ≤ n → n < to → b ≡ alike k (keyIn x (t .at)) → b ≡ withinIn k from to here
+      within-same {b} one lo hi eb =
+          let there = judged-one s (length z) r et one in
+          let a : Asked s p (t .at) =
+          record {
+            octets = octets-part r 2 (number 2 r 6 + 7) o;
+            accepted = there .accepted;
+            segment = there .segment;
+            body = judged-at s (length z) r et there .1 .0;
+          } in
+          let l : suc n ≤ to = omega arith in
+          eb
+          ∙ ap (λ (w : List ℕ). alike k (keyIn w (t .at))) ex
+          ∙ ap (alike k) (key-asked s p (t .at) a)
+          ∙ sym (by-counter (ap₂ both (le-leb from n lo) (le-leb (suc n) to l)) there)

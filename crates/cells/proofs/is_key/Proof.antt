@@ -1,0 +1,66 @@
+-- `cells::is_key` meets its contract: its tests, one behind the other, are the definition's.
+-- Assumes nothing.
+use denote.Ref.{now}
+use native.Mathlib.Omega.{arith}
+use Rattle.cells.proofs.Held.{place-least}
+use Rattle.cells.proofs.Within.{key-tested}
+use borrow.Author.Needs.{needs}
+use Rattle.cells.proofs.is_key.Statement.{statement}
+use Rattle.cells.proofs.is_key.Tie as tie
+
+counter-place-requires : tie.Need-counter-place-requires
+counter-place-requires c κs = search needs
+
+span-requires : tie.Need-span-requires
+span-requires c κs = search needs
+
+sub-span : tie.Need-sub-span
+sub-span c = omega (arith, c .before .counter-place .ensures, place-least (now (c .before .before .before .before .args .p)))
+
+span-requires-2 : tie.Need-span-requires-2
+span-requires-2 c κs = search needs
+
+add-span : tie.Need-add-span
+add-span c = omega (arith, c .before .before .counter-place .ensures, place-least (now (c .before .before .before .before .before .args .p)))
+
+add-less : tie.Need-add-less
+add-less c = omega (arith, c .before .before .counter-place .ensures, place-least (now (c .before .before .before .before .before .args .p)))
+
+less-requires : tie.Need-less-requires
+less-requires c κs = search needs
+
+span-requires-3 : tie.Need-span-requires-3
+span-requires-3 c κs = search needs
+
+span-requires-4 : tie.Need-span-requires-4
+span-requires-4 c κs = search needs
+
+same-requires : tie.Need-same-requires
+same-requires c κs = search needs
+
+span-requires-5 : tie.Need-span-requires-5
+span-requires-5 c κs = search needs
+
+same-requires-2 : tie.Need-same-requires-2
+same-requires-2 c κs = search needs
+
+add-tail : tie.Need-add-tail
+add-tail c = search needs
+
+tail-requires : tie.Need-tail-requires
+tail-requires c κs = search needs
+
+same-requires-3 : tie.Need-same-requires-3
+same-requires-3 c κs = search needs
+
+and-requires : tie.Need-and-requires
+and-requires c κs = search needs
+
+and-requires-2 : tie.Need-and-requires-2
+and-requires-2 c κs = search needs
+
+returns : tie.Need-returns
+returns c = key-tested (now (c .before .before .before .before .before .before .before .before .before .before .before .before .before .before .before .args .k)) (now (c .before .before .before .before .before .before .before .before .before .before .before .before .before .before .before .args .p)) (c .before .before .before .before .before .before .before .before .before .before .before .before .before .before .before .args .end) (c .before .before .before .before .before .before .before .before .before .before .before .before .counter-place .ensures) (c .before .before .before .before .before .before .before .before .before .before .before .span .ensures) (c .before .before .before .before .before .before .before .before .before .before .span2 .ensures) (rw (c .before .before .before .before .before .before .before .before .before .less .ensures) at (c .before .before .before .before .before .before .before .before .span3 .ensures)) (c .before .before .before .before .before .before .before .span4 .ensures) (c .before .before .before .before .before .before .same .ensures) (c .before .before .before .before .before .span5 .ensures) (c .before .before .before .before .same2 .ensures) (c .before .before .before .tail .ensures) (c .before .before .same3 .ensures) (c .before .and .ensures) (c .and2 .ensures)
+
+pub is-key-spec : {M : Type 1} → statement M
+is-key-spec = tie.close (tie.spec counter-place-requires span-requires sub-span span-requires-2 add-span add-less less-requires span-requires-3 span-requires-4 same-requires span-requires-5 same-requires-2 add-tail tail-requires same-requires-3 and-requires and-requires-2 returns)
