@@ -12,7 +12,7 @@ use Rattle.octets.specs.Octets.{pick}
 use Rattle.cells.specs.Segments.{both}
 use Rattle.walk.specs.declared.Settings.{Settings}
 use Rattle.cells.specs.Order.{cellsMost, allTo}
-use Rattle.cells.proofs.Ordered.{cells-inside, cells-most}
+use Rattle.cells.proofs.Ordered.{cells-most}
 use Rattle.tally.specs.declared.Tallied.{Tallied}
 use Rattle.tally.specs.Counting.{countTo, segmentsIn, keysIn, cellsIn, leftIn}
 
@@ -68,19 +68,11 @@ tested-turn {f} {n} {i} p h eb er =
 pub tested-done : {f : ℕ → Bool} {n i : ℕ} {a : Bool} → Tested f n a i → n ≤ i → a ≡ allTo (λ j. not (f j)) n
 tested-done {f} {n} {i} p h = let e : i ≡ n = omega (arith, p .most) in p .same ∙ ap (allTo (λ j. not (f j))) e
 
--- a cell among the first n lies inside the store with those below it
-pub cell-inside : (i n Z l : ℕ) → i < n → n * Z ≤ l → (i + 1) * Z ≤ l
-cell-inside i n Z l h k = let m : i + 1 ≤ n = omega arith in le-trans (mul-le-mul-right Z m) k
-
 abbrev tallied : ℕ → ℕ → Tallied
 tallied a b = record { segments = a; keys = b }
 
--- the cells of a store lie inside it, and are not too many
+-- the cells of a store are not too many
 module _ (s : Settings) (Z : ℕ) (st : List ℕ) where
-  pub cells-within : (n : ℕ) → n ≡ cellsIn Z st → n * Z ≤ length st
-  cells-within zero e = omega arith
-  cells-within (suc n) e = cells-inside s Z st e (λ z. omega arith)
-
   pub cells-few : (n : ℕ) → n ≡ cellsIn Z st → n ≤ cellsMost
   cells-few zero e = omega arith
   cells-few (suc n) e = cells-most s Z st e (λ z. omega arith)

@@ -47,7 +47,6 @@ fn without(a: bool, b: bool) -> bool
 // Whether a row is that of a held cell.
 fn held(s: Settings, row: &[u8], zero: &[u8]) -> bool
     requires { ⌜ now zero ≡ zeroRow (length (now zero)) ⌝ }
-    requires { ⌜ length (now row) ≡ length (now zero) ⌝ }
     ensures { λ r. ⌜ r ≡ isHeld (cellOf s (length (now (zero .entry))) (now (row .entry))) ⌝ }
 {
     let t = cells::judge(s, row, zero);
@@ -57,7 +56,6 @@ fn held(s: Settings, row: &[u8], zero: &[u8]) -> bool
 // Whether a row holds a segment with the key of q, whose body begins at stop.
 fn keyed(s: Settings, row: &[u8], zero: &[u8], q: &[u8], stop: usize) -> bool
     requires { ⌜ now zero ≡ zeroRow (length (now zero)) ⌝ }
-    requires { ⌜ length (now row) ≡ length (now zero) ⌝ }
     requires { ⌜ Asked s (now q) stop ⌝ }
     ensures { λ r. ⌜ r ≡ keyedAs (keyOf (now (q .entry)) (readPacket s (now (q .entry)))) (cellOf s (length (now (zero .entry))) (now (row .entry))) ⌝ }
 {
@@ -71,7 +69,6 @@ fn keyed(s: Settings, row: &[u8], zero: &[u8], q: &[u8], stop: usize) -> bool
 // Whether none of the first n cells holds a segment with the key of q.
 fn new_key(s: Settings, store: &[u8], n: usize, zero: &[u8], q: &[u8], stop: usize) -> bool
     requires { ⌜ now zero ≡ zeroRow (length (now zero)) ⌝ }
-    requires { ⌜ n * length (now zero) ≤ length (now store) ⌝ }
     requires { ⌜ Asked s (now q) stop ⌝ }
     ensures { λ r. ⌜ r ≡ newKeyTo s (length (now (zero .entry))) (now (store .entry)) n (keyOf (now (q .entry)) (readPacket s (now (q .entry)))) ⌝ }
 {
@@ -88,7 +85,6 @@ fn new_key(s: Settings, store: &[u8], n: usize, zero: &[u8], q: &[u8], stop: usi
 // Whether cell i is held, and no cell below it has its key.
 fn first(s: Settings, store: &[u8], i: usize, zero: &[u8]) -> bool
     requires { ⌜ now zero ≡ zeroRow (length (now zero)) ⌝ }
-    requires { ⌜ (i + 1) * length (now zero) ≤ length (now store) ⌝ }
     ensures { λ r. ⌜ r ≡ newKeyIn s (length (now (zero .entry))) (now (store .entry)) i (cellAt s (length (now (zero .entry))) (now (store .entry)) i) ⌝ }
 {
     let r = cells::row(store, zero.len(), i);
@@ -102,7 +98,6 @@ fn first(s: Settings, store: &[u8], i: usize, zero: &[u8]) -> bool
 // How many of the first n cells are held.
 fn segments(s: Settings, store: &[u8], n: usize, zero: &[u8]) -> usize
     requires { ⌜ now zero ≡ zeroRow (length (now zero)) ⌝ }
-    requires { ⌜ n * length (now zero) ≤ length (now store) ⌝ }
     requires { ⌜ n ≤ cellsMost ⌝ }
     ensures { λ r. ⌜ r ≡ segmentsIn s (length (now (zero .entry))) (now (store .entry)) n ⌝ }
 {
@@ -119,7 +114,6 @@ fn segments(s: Settings, store: &[u8], n: usize, zero: &[u8]) -> usize
 // How many different keys the first n cells have.
 fn keys(s: Settings, store: &[u8], n: usize, zero: &[u8]) -> usize
     requires { ⌜ now zero ≡ zeroRow (length (now zero)) ⌝ }
-    requires { ⌜ n * length (now zero) ≤ length (now store) ⌝ }
     requires { ⌜ n ≤ cellsMost ⌝ }
     ensures { λ r. ⌜ r ≡ keysIn s (length (now (zero .entry))) (now (store .entry)) n ⌝ }
 {

@@ -20,7 +20,7 @@ same-key-requires : tie.Need-same-key-requires
 same-key-requires c κs = search needs
 
 returns-2 : tie.Need-returns-2
-returns-2 c = key-told (c .before .before .before .before .before .before .before .before .args .s) (length (now (c .before .before .before .before .before .before .before .before .args .zero))) (now (c .before .before .before .before .before .before .before .before .args .row)) (c .before .before .before .before .judge .ensures) (c .before .before .if1 .left) (λ i. c .before .before .before .before .before .before .before .shared-slice-known .given i .fits) (c .before .before .before .before .before .before .before .before .pre .1 .1) (c .before .packet-in .ensures) (c .same-key .ensures)
+returns-2 c = key-told (c .before .before .before .before .before .before .before .before .args .s) (length (now (c .before .before .before .before .before .before .before .before .args .zero))) (now (c .before .before .before .before .before .before .before .before .args .row)) (c .before .before .before .before .judge .ensures) (c .before .before .if1 .left) (λ i. c .before .before .before .before .before .before .before .shared-slice-known .given i .fits) (c .before .before .before .before .before .before .before .before .pre .1) (c .before .packet-in .ensures) (c .same-key .ensures)
 
 pub keyed-spec : {M : Type 1} → statement M
 keyed-spec = tie.close (tie.spec judge-requires returns packet-in-requires same-key-requires returns-2)

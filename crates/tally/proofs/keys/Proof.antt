@@ -6,7 +6,7 @@ use denote.Ref.{now}
 use lib.ListN.{length}
 use Rattle.cells.specs.Order.{cellAt}
 use Rattle.tally.specs.Counting.{newKeyIn, keysIn}
-use Rattle.tally.proofs.Passing.{Counted, counted-first, counted-low, counted-turn, counted-done, cell-inside}
+use Rattle.tally.proofs.Passing.{Counted, counted-first, counted-low, counted-turn, counted-done}
 use Rattle.tally.proofs.keys.Statement.{statement}
 use Rattle.tally.proofs.keys.Tie as tie
 
@@ -20,10 +20,10 @@ loop-holds : tie.Need-loop-holds Inv-loop μ-loop
 loop-holds c = counted-first _ _
 
 first-requires : tie.Need-first-requires Inv-loop μ-loop
-first-requires c κs = (c .before .before .before .before .pre .0, cell-inside _ _ _ _ (c .loop-test .taken) (c .before .before .before .before .pre .1 .0))
+first-requires c κs = c .before .before .before .before .pre .0
 
 more-requires : tie.Need-more-requires Inv-loop μ-loop
-more-requires c κs = counted-low (c .before .before .loop .inv) (c .before .loop-test .taken) (c .before .before .before .before .before .pre .1 .1)
+more-requires c κs = counted-low (c .before .before .loop .inv) (c .before .loop-test .taken) (c .before .before .before .before .before .pre .1)
 
 add-i : tie.Need-add-i Inv-loop μ-loop
 add-i c = search needs

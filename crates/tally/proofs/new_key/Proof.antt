@@ -10,7 +10,6 @@ use Rattle.packet.specs.Reading.{readPacket}
 use Rattle.packet.specs.Key.{keyOf}
 use Rattle.cells.specs.Rows.{cellOf}
 use Rattle.cells.specs.Order.{cellAt}
-use Rattle.cells.proofs.Scans.{row-long}
 use Rattle.tally.specs.Counting.{keyed, newKeyTo}
 use Rattle.tally.proofs.Passing.{Tested, tested-first, tested-turn, tested-done}
 use Rattle.tally.proofs.new_key.Statement.{statement}
@@ -29,7 +28,7 @@ row-requires : tie.Need-row-requires Inv-loop μ-loop
 row-requires c κs = search needs
 
 keyed-requires : tie.Need-keyed-requires Inv-loop μ-loop
-keyed-requires c κs = (c .before .before .before .before .before .before .pre .0, (ap length (c .row .ensures) ∙ row-long _ _ _ _ (c .before .loop-test .taken) (c .before .before .before .before .before .before .pre .1 .0), c .before .before .before .before .before .before .pre .1 .1))
+keyed-requires c κs = (c .before .before .before .before .before .before .pre .0, c .before .before .before .before .before .before .pre .1)
 
 without-requires : tie.Need-without-requires Inv-loop μ-loop
 without-requires c κs = search needs

@@ -8,7 +8,6 @@ use mathlib.Core.List.{List}
 use mathlib.Core.Path.{ap, _∙_}
 use Rattle.cells.specs.Rows.{cellOf}
 use Rattle.cells.specs.Order.{cellAt}
-use Rattle.cells.proofs.Scans.{row-long}
 use Rattle.tally.specs.Counting.{isHeld, segmentsIn}
 use Rattle.tally.proofs.Passing.{Counted, counted-first, counted-low, counted-turn, counted-done}
 use Rattle.tally.proofs.segments.Statement.{statement}
@@ -27,10 +26,10 @@ row-requires : tie.Need-row-requires Inv-loop μ-loop
 row-requires c κs = search needs
 
 held-requires : tie.Need-held-requires Inv-loop μ-loop
-held-requires c κs = (c .before .before .before .before .before .pre .0, ap length (c .row .ensures) ∙ row-long _ _ _ _ (c .before .loop-test .taken) (c .before .before .before .before .before .pre .1 .0))
+held-requires c κs = c .before .before .before .before .before .pre .0
 
 more-requires : tie.Need-more-requires Inv-loop μ-loop
-more-requires c κs = counted-low (c .before .before .before .loop .inv) (c .before .before .loop-test .taken) (c .before .before .before .before .before .before .pre .1 .1)
+more-requires c κs = counted-low (c .before .before .before .loop .inv) (c .before .before .loop-test .taken) (c .before .before .before .before .before .before .pre .1)
 
 add-i : tie.Need-add-i Inv-loop μ-loop
 add-i c = search needs
