@@ -8,7 +8,8 @@ is told in crates/vectors/src/main.rt; a call is added by a row of CALLS.
 To the cases of reading those of damaged() are added: figure 14 with each octet changed, cut and lengthened. Their answers are
 those of tests/model.py, which must agree with the file on every case of its own. To the cases of writing and cutting are added
 figure 14 written, and numbers one above what the type of their field holds, which are refused by 22 and never cut to the width. To
-those of the view are added views of no buffer.
+those of the view are added views of no buffer, to those of a recording outputs just too short and just long enough. Where and why a
+recording stops is told by stop(), which knows marks and length fields and nothing else.
 """
 
 import itertools
@@ -169,6 +170,37 @@ def view_line(row):
     return line([len(seen)], seen + view_out(row)[len(seen) :])
 
 
+STOPS = ["", "ended", "unmarked", "torn"]
+
+
+def stop(stream):
+    """Where a recording stops and why: it ends, no mark follows, or a mark or packet that is not whole."""
+    at = 0
+    while at < len(stream):
+        if stream[at : at + 2] != b"MP"[: len(stream) - at]:
+            return at, "unmarked"
+        end = at + 2 + 7 + int.from_bytes(stream[at + 6 : at + 8], "big")
+        if len(stream) < at + 8 or len(stream) < end:
+            return at, "torn"
+        at = end
+    return at, "ended"
+
+
+def recording_out(row):
+    """The output of a recording: as long as the recording, or what the case says."""
+    return bytes([0xA5]) * row.get("out_length", len(octets(row["stream"])))
+
+
+def recording_line(row):
+    """The line of a recording: the refusal, the octets written, where and why it stopped; all of the output."""
+    out, refusal = recording_out(row), answer(row)["refusal"]
+    if refusal:
+        return line([refusal, 0, 0, 0], out)
+    written = octets(row["expect"]["out"])
+    place, why = stop(octets(row["stream"]))
+    return line([0, len(written), place, STOPS.index(why)], written + out[len(written) :])
+
+
 class Call:
     """A call: its tag, the numbers and the strings of a case, and the line that it must print."""
 
@@ -233,6 +265,12 @@ CALLS = {
         lambda row: [WHICH.index(row["which"]), row["place"], row["length"]],
         lambda row: [(READABLE, octets(row["packet"])), (READABLE, octets(row["joined"])), (OUTPUT, view_out(row))],
         view_line,
+    ),
+    "program": Call(
+        12,
+        lambda row: [],
+        lambda row: [(READABLE, octets(row["stream"])), (OUTPUT, recording_out(row))],
+        recording_line,
     ),
     "count": Call(
         5,
@@ -372,6 +410,13 @@ def taking_figure():
         yield CALLS["take"], row | {"expect": {"answer": told} | {name: s.hex() for name, s in after.items()}}
 
 
+def short_rows():
+    """Figure 14 behind its mark: an output of one octet less refuses it, one of an octet more is left as it was behind the message."""
+    stream, message = b"MP" + FIGURE_14, b"MM" + big(23, 4) + FIGURE_14[:2] + FIGURE_14[6:]
+    for long, refusal in ((0, 21), (28, 21), (29, 0), (30, 0)):
+        yield {"stream": stream.hex(), "out_length": long, "expect": {"answer": {"refusal": refusal}, "out": message.hex()}}
+
+
 def rows(vectors, call):
     """The cases of a call in its file."""
     with open(vectors / f"{call}.jsonl", encoding="ascii") as file:
@@ -403,6 +448,8 @@ def cases(vectors):
         yield "numbers too wide", CALLS["packet"], row
     for row in view_rows():
         yield "views of no buffer", CALLS["view"], row
+    for row in short_rows():
+        yield "outputs for a recording", CALLS["program"], row
 
 
 def main(arguments):

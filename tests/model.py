@@ -1,4 +1,5 @@
-"""A model of reading a packet, written word by word from document 01 and independent of the code: see read()."""
+"""A model of reading a packet and of joining a recording, written word by word from document 01 and independent of the code: see read()
+and Joining."""
 
 PRESENCE = ("source", "destination", "priority", "timestamp", "zone", "session_name", "domain", "authentication")
 HEADER_LIMIT = 256
@@ -174,3 +175,112 @@ def read(t, packet):
     a["H"] = data.at - 6 - (4 if a["flags"] != 3 else 0)
     a["body"] = {"place": data.at, "length": body}
     return a
+
+
+# Joining a recording.
+
+CELLS = 32
+CELL_MOST = 1022
+PACKET_MOST = 32768
+FIRST, CONTINUATION, LAST, UNSEGMENTED = 1, 0, 2, 3
+ENDED, UNMARKED, TORN = "the recording ends there", "no mark there", "a torn packet there"
+
+
+class Segment:
+    """A held segment: what it has of its packet, with what reading answered of that."""
+
+    def __init__(self, a, packet):
+        at = a["body"]["place"]
+        counter_at = 27 + a["has_source"] + a["has_destination"]
+        self.key = packet[:2] + packet[6:counter_at] + packet[counter_at + 4 : at]
+        self.counter, self.flags, self.body = a["counter"], a["flags"], packet[at:]
+
+
+class Joining:
+    """Document 01's small program over a whole recording: what it writes, and what it counts."""
+
+    def __init__(self, stream):
+        self.cells = [None] * CELLS
+        self.output = bytearray()
+        self.seen = self.whole = self.joined = self.kept = self.passed = 0
+        self.refused = {}
+        self.place = 0
+        while self.step(stream[self.place :]):
+            pass
+        held = [cell for cell in self.cells if cell]
+        self.segments, self.keys = len(held), len({cell.key for cell in held})
+
+    def step(self, rest):
+        """A mark and a packet, if they follow; where not, why it stops."""
+        if rest[:2] != b"MP"[: len(rest)] or not rest:
+            self.stop = UNMARKED if rest else ENDED
+            return False
+        size = 2 + int.from_bytes(rest[6:8], "big") + 7
+        if len(rest) < size:
+            self.stop = TORN
+            return False
+        self.packet(rest[2:size])
+        self.place += size
+        return True
+
+    def packet(self, packet):
+        """A packet is passed over as too long, or joined."""
+        self.seen += 1
+        if len(packet) > PACKET_MOST:
+            self.passed += 1
+            return
+        a = read(8, packet)
+        number = a["refusal"]
+        if number == 0 and a["flags"] == UNSEGMENTED:
+            self.whole += 1
+            self.write(packet[:2] + packet[6:])
+            return
+        number = number or self.arrive(packet, Segment(a, packet))
+        if number:
+            self.refused[number] = self.refused.get(number, 0) + 1
+        elif self.take():
+            self.joined += 1
+        else:
+            self.kept += 1
+
+    def arrive(self, packet, segment):
+        """A segment goes to the lowest free cell, unless it is held already: 17, 18, 19, or 0."""
+        if len(packet) > CELL_MOST:
+            return 17
+        held = self.find(segment.key, segment.counter)
+        if held is not None:
+            same = (held.flags, held.body) == (segment.flags, segment.body)
+            return 0 if same else 18
+        if None not in self.cells:
+            return 19
+        self.cells[self.cells.index(None)] = segment
+        return 0
+
+    def find(self, key, counter):
+        for cell in self.cells:
+            if cell and (cell.key, cell.counter) == (key, counter):
+                return cell
+        return None
+
+    def run(self, first):
+        """The segments of the message that a first begins, if all are there."""
+        run = [first]
+        while run[-1].flags != LAST:
+            after = self.find(first.key, run[-1].counter + 1)
+            if after is None or after.flags == FIRST:
+                return None
+            run.append(after)
+        return run
+
+    def take(self):
+        """The complete message whose first lies in the lowest cell is written, and its cells are free again."""
+        for cell in self.cells:
+            run = self.run(cell) if cell and cell.flags == FIRST else None
+            if run:
+                self.write(cell.key + b"".join(segment.body for segment in run))
+                self.cells = [None if cell in run else cell for cell in self.cells]
+                return True
+        return False
+
+    def write(self, message):
+        self.output += b"MM" + len(message).to_bytes(4, "big") + message

@@ -193,7 +193,7 @@ tells-it x y c r d e i =
 told-body : (r : Run) → some (takenOf (message r)) ≡ some told → length (bodyOf r) ≡ 8
 told-body r h = let e : takenOf (message r) ≡ told = cc h in ap (λ (x : Taken). x .body) e
 
--- the last and the first of the message have come, and the first of another of its key: three segments, of counters 7 to 9
+-- behind these calls a joining of the first: of the key there are then three segments, as many as the counters 7 to 9, and 8 is missing
 abbrev thirdComes : List Call
 thirdComes =
     arrival (of-three 2 2) ∷ taking (lentOut 100) ∷ arrival (of-two 0 3) ∷ arrival stub ∷ arrival single ∷ []

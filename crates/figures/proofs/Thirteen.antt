@@ -1,5 +1,5 @@
--- Figure 13: what a taking from two cells with the message of figure 8 writes. It is told by the store's cells: to compute over its
--- octets would take some hundred million steps.
+-- Figure 13: what a taking from two cells with the message of figure 8 writes. It is told by the store's cells, since over its octets
+-- the computation passes the limit of steps.
 -- Assumes nothing.
 use Prim.Native.Nat.{ℕ, suc, _≤_}
 use mathlib.Core.Path.{_≡_, refl, ap, ap₂, _∙_}

@@ -1,8 +1,18 @@
-// The small program of document 01: joins a recording from standard input and writes its messages to standard output.
+// The small program of document 01: joins a recording and writes its messages to standard output.
 //
-// The octets in hand stand in a window; `recording::step` says what to write and how many octets it used up, and where it wants more,
-// what is left goes to the window's front and more is read behind it. Proved here: the program is safe and ends, and each step meets
-// what it asks: the store stays in order from the first step to the last.
+//   join_recording [RECORDING [REPORT]]
+//
+// The recording is a file, or standard input where it is `-` or not named. The octets in hand stand in a window; `recording::step`
+// says what to write and how many octets it used up, and where it wants more, what is left goes to the window's front and more is
+// read behind it. A failed read or write is told on standard error, and at the end a summary of what was seen. A program has no exit
+// status, so REPORT is a file that is made only where all was read and written.
+//
+// Proved here: the program is safe and ends, and each step meets what it asks: the store stays in order from the first step to the
+// last. Module files reads and writes, counts has the numbers of the summary, say writes it.
+mod counts;
+mod files;
+mod say;
+
 ghost use mathlib.Core.Path.{_≡_};
 ghost use Prim.Native.Nat.{_+_, _≤_};
 ghost use lib.ListN.{length};
@@ -10,6 +20,7 @@ ghost use Rattle.cells.specs.Rows.{zeroRow};
 ghost use Rattle.cells.specs.Order.{countIn};
 ghost use Rattle.store.specs.Inner.{gate};
 ghost use Rattle.recording.specs.Recording.{room, settings, cellCount};
+use counts::COUNTS;
 use recording::What;
 use walk::Settings;
 
@@ -24,28 +35,28 @@ const WINDOW: usize = 131072;
 // The room for the longest message, its mark and its length.
 const OUTPUT: usize = 65542;
 
-const INPUT: i32 = 0;
-
-const WRITTEN: i32 = 1;
-
-// The octets in hand, from a place of the window up to another; whether the recording ends with them; whether to go on.
+// The octets in hand, from a place of the window up to another; whether the recording ends with them; why it stops, 0 where it goes on.
 struct Hand {
     from: usize,
     till: usize,
     ends: bool,
-    goes: bool,
+    stop: u8,
 }
 
-// Whether a call succeeded; where it did not, its name and the reason go to standard error.
-fn told(is_done: bool, call: &[u8]) -> bool {
-    if !is_done {
-        os::fail(call);
+// Counts the octets read, and tells a failure.
+fn took(got: isize, n: usize, counts: &mut [u64; COUNTS]) -> u8 {
+    let before = counts::at(counts, counts::READ);
+    if got < 0 {
+        say::failed(b"reading failed at octet ", before);
+        return say::NOT_READ;
     }
-    is_done
+    counts::add(counts, counts::READ, n as u64);
+    say::progress(before, counts::at(counts, counts::READ));
+    0
 }
 
 // More octets behind those in hand. The recording ends where none come.
-fn refill(buf: &mut [u8], from: usize, till: usize) -> Hand
+fn refill(fd: i32, buf: &mut [u8], from: usize, till: usize, counts: &mut [u64; COUNTS]) -> Hand
     requires { ⌜ from ≤ till ⌝ }
     requires { ⌜ till ≤ length (now buf) ⌝ }
     ensures { λ r. ⌜ r .from ≤ r .till ⌝ }
@@ -55,19 +66,40 @@ fn refill(buf: &mut [u8], from: usize, till: usize) -> Hand
     let had = till - from;
     let whole = buf.len();
     let space = &mut buf[had..whole];
-    let got = libc::read(INPUT, space);
+    let got = files::read(fd, space);
     let n = io::count(got, space);
-    let goes = told(got >= 0, b"read");
+    let stop = took(got, n, counts);
     Hand {
         from: 0,
         till: had + n,
         ends: n == 0,
-        goes: goes,
+        stop: stop,
     }
+}
+
+// Why a step that used up nothing stops.
+fn why(what: What) -> u8 {
+    if let What::Ended = what {
+        return say::ENDED;
+    }
+    if let What::Unmarked = what {
+        return say::UNMARKED;
+    }
+    say::TORN
+}
+
+// Writes what a packet came to, and counts it where that was done.
+fn settle(x: &[u8], what: What, number: u8, used: usize, counts: &mut [u64; COUNTS]) -> u8 {
+    if files::put(x, counts) {
+        counts::note(counts, what, number, used);
+        return 0;
+    }
+    say::NOT_WRITTEN
 }
 
 // One step, and what it says is written; where it wants more octets, they are read.
 fn turn(
+    fd: i32,
     store: &mut [u8],
     zero: &[u8],
     buf: &mut [u8],
@@ -75,6 +107,7 @@ fn turn(
     till: usize,
     ends: bool,
     out: &mut [u8],
+    counts: &mut [u64; COUNTS],
 ) -> Hand
     requires { ⌜ now zero ≡ zeroRow (length (now zero)) ⌝ }
     requires { ⌜ gate settings (length (now zero)) (now store) ≡ 0 ⌝ }
@@ -92,29 +125,36 @@ fn turn(
     let what = d.what;
     let used = d.used;
     let written = d.written;
+    let number = d.refusal.number;
     if let What::More = what {
-        return refill(buf, from, till);
+        return refill(fd, buf, from, till, counts);
     }
     if used == 0 {
         return Hand {
             from: from,
             till: till,
             ends: ends,
-            goes: false,
+            stop: why(what),
         };
     }
-    let is_written = io::write_all(WRITTEN, &out[0..written]);
-    let goes = told(is_written, b"write");
+    let stop = settle(&out[0..written], what, number, used, counts);
     Hand {
         from: from + used,
         till: till,
         ends: ends,
-        goes: goes,
+        stop: stop,
     }
 }
 
-// Steps until one stops. A proved loop has to end, so it counts down from a number that no run uses up.
-fn run(store: &mut [u8], zero: &[u8], buf: &mut [u8], out: &mut [u8])
+// Steps until one stops, and why. A proved loop has to end, so it counts down from a number that no run uses up.
+fn run(
+    fd: i32,
+    store: &mut [u8],
+    zero: &[u8],
+    buf: &mut [u8],
+    out: &mut [u8],
+    counts: &mut [u64; COUNTS],
+) -> u8
     requires { ⌜ now zero ≡ zeroRow (length (now zero)) ⌝ }
     requires { ⌜ gate settings (length (now zero)) (now store) ≡ 0 ⌝ }
     requires { ⌜ cellCount ≡ countIn (length (now zero)) (now store) ⌝ }
@@ -125,21 +165,45 @@ fn run(store: &mut [u8], zero: &[u8], buf: &mut [u8], out: &mut [u8])
     let mut ends = false;
     let mut turns = u64::MAX;
     while turns > 0 {
-        let h = turn(store, zero, buf, from, till, ends, out);
-        if !h.goes {
-            return;
+        let h = turn(fd, store, zero, buf, from, till, ends, out, counts);
+        if h.stop != 0 {
+            return h.stop;
         }
         from = h.from;
         till = h.till;
         ends = h.ends;
         turns -= 1;
     }
+    say::NOT_READ
 }
 
-fn main() {
+// The end of a run: the summary, and the report where all was read and written.
+fn end(store: &[u8], counts: &mut [u64; COUNTS], stop: u8) {
+    let s = Settings { t: 8 };
+    let left = tally::left(s, store);
+    counts::add(counts, counts::SEGMENTS, left.segments as u64);
+    counts::add(counts, counts::KEYS, left.keys as u64);
+    say::summary(counts, stop);
+    let is_closed = files::close(counts);
+    if stop <= say::TORN && is_closed {
+        files::report();
+    }
+}
+
+// Joins the recording that is open.
+fn join(fd: i32) {
     let zero = [0u8; 1024];
     let mut store = [0u8; STORE];
     let mut buf = [0u8; WINDOW];
     let mut out = [0u8; OUTPUT];
-    run(&mut store, &zero, &mut buf, &mut out);
+    let mut counts = [0u64; COUNTS];
+    let stop = run(fd, &mut store, &zero, &mut buf, &mut out, &mut counts);
+    end(&store, &mut counts, stop);
+}
+
+fn main() {
+    let fd = files::input();
+    if fd >= 0 {
+        join(fd);
+    }
 }

@@ -8,4 +8,8 @@ pub mod Pieces
 mod Calls
 pub mod Figure
 pub mod Rooms
+mod Weights
+pub mod Shorter
+mod Reaching
+mod Leaving
 mod Moving

@@ -135,7 +135,7 @@ module _ (s : Settings) (Z : ℕ) where
   ways-by st cut = stop (inr (inr refl))
   ways-by st (whole p) = goes p (cameOf s Z st p) refl
 
-  ways : (st x : List ℕ) → Ways (stepped s Z st x true)
+  pub ways : (st x : List ℕ) → Ways (stepped s Z st x true)
   unfolding stepped
   ways st x = ways-by st (foundIn x)
 

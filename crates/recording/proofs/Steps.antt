@@ -162,7 +162,7 @@ module _ (s : Settings) (Z : ℕ) (st w : List ℕ) (e : Bool) where
       omega (arith, a .1 .0, ap length (a .1 .1), length-take (sizeIn 0 w) (drop 2 w))
 
   -- no more than are in hand
-  used-most : usedBy (stepped s Z st w e) ≤ length w
+  pub used-most : usedBy (stepped s Z st w e) ≤ length w
   unfolding stepped
   used-most = used-by (foundIn w) refl
 
@@ -200,18 +200,18 @@ module _ (s : Settings) (Z : ℕ) (st w : List ℕ) (e : Bool) where
   written-by (whole p) = written-came p
 
   -- no more than the output has room for
-  written-most : length (writtenBy (stepped s Z st w e)) ≤ 6 + room
+  pub written-most : length (writtenBy (stepped s Z st w e)) ≤ 6 + room
   unfolding stepped
   written-most = written-by (foundIn w)
 
-  done-used : (d : Stepped) → doneOf d .used ≡ usedBy d
+  pub done-used : (d : Stepped) → doneOf d .used ≡ usedBy d
   done-used wanting = refl
   done-used ended = refl
   done-used unmarked = refl
   done-used torn = refl
   done-used (came p c) = refl
 
-  done-written : (d : Stepped) → doneOf d .written ≡ length (writtenBy d)
+  pub done-written : (d : Stepped) → doneOf d .written ≡ length (writtenBy d)
   done-written wanting = refl
   done-written ended = refl
   done-written unmarked = refl

@@ -2,3 +2,4 @@ pub mod Recording
 pub mod Told
 pub mod Inner
 pub mod Handing
+pub mod Ending

@@ -4,10 +4,14 @@
 // how many of the output are to be written: for a message 4D 4D, the four-octet length of what follows, then what taking writes, and
 // for a whole packet likewise. It goes on only over a whole packet, so 65,544 octets in hand are always enough: the mark, and the
 // longest packet that a length field tells of. Settings and the store's order are checked once, by whoever begins; a step keeps them.
+//
+// `join_all` goes along a whole recording in hand, with a store of its own. What comes out is never longer than the recording, so an
+// output of its length is always enough.
 ghost use mathlib.Core.Path.{_≡_};
+ghost use mathlib.Core.Bool.{true};
 ghost use mathlib.Core.List.{_∷_};
 ghost use Prim.Native.Nat.{_+_, _-_, _≤_};
-ghost use lib.ListN.{length};
+ghost use lib.ListN.{length, drop};
 ghost use lib.Seq.{sets};
 ghost use Rattle.octets.specs.Octets.{part, wide};
 ghost use Rattle.cells.specs.Rows.{zeroRow};
@@ -15,9 +19,10 @@ ghost use Rattle.cells.specs.Order.{countIn};
 ghost use Rattle.store.specs.Inner.{gate};
 ghost use Rattle.join.specs.Joining.{joining, storeJoined};
 ghost use Rattle.join.specs.Told.{joinedOf};
-ghost use Rattle.recording.specs.Recording.{foundIn, begins, room, longest, cameOf, cameBy, storeAfter, without, wrote, stepped, storeBehind, writtenBy};
+ghost use Rattle.recording.specs.Recording.{foundIn, begins, room, longest, cameOf, cameBy, storeAfter, without, wrote, stepped, storeBehind, writtenBy, recorded, settings, cellSize, cellCount, emptyStore};
 ghost use Rattle.recording.specs.Told.{standsOf, still as stillAs, doneCame, doneOf};
 ghost use Rattle.recording.specs.Inner.{takenIn, leftAs, stopAs};
+ghost use Rattle.recording.specs.Ending.{reach, whyAt, whyOf, recordedOf, outRecorded};
 use join::Joined;
 use join::Which;
 use walk::Refusal;
@@ -31,6 +36,14 @@ pub const ROOM: usize = 65536;
 
 // The octets of the mark and the length before a message.
 pub const FRAME: usize = 6;
+
+// The room for a message with its mark and length.
+const SPACE: usize = 65542;
+
+// The cells of the store that a recording in hand is joined with, and the octets of them all.
+const CELLS: usize = 32;
+
+const STORE: usize = 32768;
 
 // What a step comes to: more octets are wanted; the recording ends; no mark follows; a torn mark or packet follows; the packet is
 // passed over as too long; it is refused; it is stored or held already, and nothing is complete; it came whole; a message is joined.
@@ -52,6 +65,28 @@ pub struct Done {
     pub refusal: Refusal,
     pub used: usize,
     pub written: usize,
+}
+
+// Why a recording in hand was left: not said where it is refused; it ends there; no mark follows; a torn mark or packet follows.
+pub enum Why {
+    Unsaid,
+    Ended,
+    Unmarked,
+    Torn,
+}
+
+// What is told of a recording in hand: the refusal, why and at which place it stopped, and the octets of the output that are written.
+pub struct Recorded {
+    pub refusal: Refusal,
+    pub why: Why,
+    pub place: usize,
+    pub written: usize,
+}
+
+// How far the steps have come in a recording and in the output.
+struct Reached {
+    place: usize,
+    written: usize,
 }
 
 // What stands at a place: no octet, no mark, a mark and packet that are not whole, or whole ones.
@@ -285,5 +320,148 @@ pub fn front(buf: &mut [u8], from: usize, till: usize)
     while i < n {
         buf[i] = buf[from + i];
         i += 1;
+    }
+}
+
+// A step with the rest of a recording in hand; what it writes goes to the output from a place on, through a spare buffer.
+fn step_spare(
+    s: Settings,
+    store: &mut [u8],
+    n: usize,
+    zero: &[u8],
+    rest: &[u8],
+    spare: &mut [u8],
+    out: &mut [u8],
+    at: usize,
+) -> Done
+    requires { ⌜ now zero ≡ zeroRow (length (now zero)) ⌝ }
+    requires { ⌜ gate s (length (now zero)) (now store) ≡ 0 ⌝ }
+    requires { ⌜ n ≡ countIn (length (now zero)) (now store) ⌝ }
+    requires { ⌜ 6 + room ≤ length (now spare) ⌝ }
+    ensures { λ r. ⌜ r ≡ doneOf (stepped s (length (now (zero .entry))) (now (store .entry)) (now (rest .entry)) true) ⌝ }
+    ensures { λ r. ⌜ now (store .exit) ≡ storeBehind s (length (now (zero .entry))) (now (store .entry)) (stepped s (length (now (zero .entry))) (now (store .entry)) (now (rest .entry)) true) ⌝ }
+    ensures { λ r. ⌜ now (out .exit) ≡ sets (now (out .entry)) at (writtenBy (stepped s (length (now (zero .entry))) (now (store .entry)) (now (rest .entry)) true)) ⌝ }
+{
+    let d = step(s, store, n, zero, rest, true, spare);
+    let written = d.written;
+    octets::copy(out, at, &spare[0..written]);
+    d
+}
+
+// The same where the output has room for the longest message behind the place.
+fn step_there(
+    s: Settings,
+    store: &mut [u8],
+    n: usize,
+    zero: &[u8],
+    rest: &[u8],
+    out: &mut [u8],
+    at: usize,
+) -> Done
+    requires { ⌜ now zero ≡ zeroRow (length (now zero)) ⌝ }
+    requires { ⌜ gate s (length (now zero)) (now store) ≡ 0 ⌝ }
+    requires { ⌜ n ≡ countIn (length (now zero)) (now store) ⌝ }
+    requires { ⌜ at + (6 + room) ≤ length (now out) ⌝ }
+    ensures { λ r. ⌜ r ≡ doneOf (stepped s (length (now (zero .entry))) (now (store .entry)) (now (rest .entry)) true) ⌝ }
+    ensures { λ r. ⌜ now (store .exit) ≡ storeBehind s (length (now (zero .entry))) (now (store .entry)) (stepped s (length (now (zero .entry))) (now (store .entry)) (now (rest .entry)) true) ⌝ }
+    ensures { λ r. ⌜ now (out .exit) ≡ sets (now (out .entry)) at (writtenBy (stepped s (length (now (zero .entry))) (now (store .entry)) (now (rest .entry)) true)) ⌝ }
+{
+    let to = at + SPACE;
+    step(s, store, n, zero, rest, true, &mut out[at..to])
+}
+
+// Straight into the output, but for the messages that come near its end.
+fn step_at(
+    s: Settings,
+    store: &mut [u8],
+    n: usize,
+    zero: &[u8],
+    rest: &[u8],
+    spare: &mut [u8],
+    out: &mut [u8],
+    at: usize,
+) -> Done
+    requires { ⌜ now zero ≡ zeroRow (length (now zero)) ⌝ }
+    requires { ⌜ gate s (length (now zero)) (now store) ≡ 0 ⌝ }
+    requires { ⌜ n ≡ countIn (length (now zero)) (now store) ⌝ }
+    requires { ⌜ 6 + room ≤ length (now spare) ⌝ }
+    requires { ⌜ at ≤ length (now out) ⌝ }
+    ensures { λ r. ⌜ r ≡ doneOf (stepped s (length (now (zero .entry))) (now (store .entry)) (now (rest .entry)) true) ⌝ }
+    ensures { λ r. ⌜ now (store .exit) ≡ storeBehind s (length (now (zero .entry))) (now (store .entry)) (stepped s (length (now (zero .entry))) (now (store .entry)) (now (rest .entry)) true) ⌝ }
+    ensures { λ r. ⌜ now (out .exit) ≡ sets (now (out .entry)) at (writtenBy (stepped s (length (now (zero .entry))) (now (store .entry)) (now (rest .entry)) true)) ⌝ }
+{
+    if out.len() - at < SPACE {
+        return step_spare(s, store, n, zero, rest, spare, out, at);
+    }
+    step_there(s, store, n, zero, rest, out, at)
+}
+
+// All steps over a recording, from an empty store on, until one uses up no octet.
+fn along(store: &mut [u8], zero: &[u8], x: &[u8], spare: &mut [u8], out: &mut [u8]) -> Reached
+    requires { ⌜ now zero ≡ zeroRow cellSize ⌝ }
+    requires { ⌜ now store ≡ emptyStore ⌝ }
+    requires { ⌜ 6 + room ≤ length (now spare) ⌝ }
+    requires { ⌜ length (now x) ≤ length (now out) ⌝ }
+    ensures { λ r. ⌜ r .place ≡ reach (now (x .entry)) ⌝ }
+    ensures { λ r. ⌜ r .written ≡ length (recorded (now (x .entry))) ⌝ }
+    ensures { λ r. ⌜ now (out .exit) ≡ sets (now (out .entry)) 0 (recorded (now (x .entry))) ⌝ }
+{
+    let s = Settings { t: 8 };
+    let n = x.len();
+    let mut place: usize = 0;
+    let mut written: usize = 0;
+    loop {
+        let d = step_at(s, store, CELLS, zero, &x[place..n], spare, out, written);
+        let used = d.used;
+        let more = d.written;
+        if used == 0 {
+            return Reached {
+                place: place,
+                written: written,
+            };
+        }
+        place += used;
+        written += more;
+    }
+}
+
+// Why the steps stopped, by what stands there.
+fn why_at(rest: &[u8]) -> Why
+    ensures { λ r. ⌜ r ≡ whyAt (foundIn (now (rest .entry))) ⌝ }
+{
+    match look(rest) {
+        Stands::Nothing => Why::Ended,
+        Stands::Other => Why::Unmarked,
+        Stands::Cut => Why::Torn,
+        Stands::Whole => Why::Unsaid,
+    }
+}
+
+// Joins a whole recording in hand, with T 8 and 32 cells, and writes its messages one behind the other. The output may not be
+// shorter than the recording; what is written is never longer.
+pub fn join_all(recording: &[u8], out: &mut [u8]) -> Recorded
+    ensures { λ r. ⌜ r ≡ recordedOf (length (now (out .entry))) (now (recording .entry)) ⌝ }
+    ensures { λ r. ⌜ now (out .exit) ≡ outRecorded (now (out .entry)) (now (recording .entry)) ⌝ }
+{
+    let n = recording.len();
+    if out.len() < n {
+        return Recorded {
+            refusal: Refusal { number: 21 },
+            why: Why::Unsaid,
+            place: 0,
+            written: 0,
+        };
+    }
+    let zero = [0u8; 1024];
+    let mut store = [0u8; STORE];
+    let mut spare = [0u8; SPACE];
+    let end = along(&mut store, &zero, recording, &mut spare, out);
+    let place = end.place;
+    let why = why_at(&recording[place..n]);
+    Recorded {
+        refusal: Refusal { number: 0 },
+        why: why,
+        place: place,
+        written: end.written,
     }
 }

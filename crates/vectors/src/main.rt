@@ -18,7 +18,7 @@
 //
 // Module input reads standard input, case a case of it; print writes lines; lists has numbers and strings by their place. The
 // calls have a module each. A call takes what it needs of the numbers, the strings and the two buffers, and puts its answers into
-// a list, so that a new one is a line of `run` and a function beside the others.
+// a list, so that a new one is a line of a `run_` function here and a function beside the others.
 mod case;
 mod cuts;
 mod headers;
@@ -27,6 +27,7 @@ mod joins;
 mod lists;
 mod print;
 mod reads;
+mod recordings;
 mod stores;
 mod varints;
 mod writes;
@@ -58,6 +59,8 @@ const JOIN: u8 = 10;
 
 const VIEW: u8 = 11;
 
+const RECORDING: u8 = 12;
+
 // The sizes of the buffers: input and text are emptied as the run goes, the others hold one case.
 const INPUT: usize = 65536;
 
@@ -73,7 +76,7 @@ const READ_ONLY: usize = 2097152;
 
 const STORE: usize = 4300800;
 
-const OUTPUT: usize = 131072;
+const OUTPUT: usize = 262144;
 
 // Between two cases: what is left of the input, how much of the text buffer is used, and whether to go on.
 struct State {
@@ -92,7 +95,115 @@ fn least(a: usize, b: usize) -> usize
     b
 }
 
-// Runs the call with this tag. The number of its answers, 0 where there is no such call.
+// Runs the call with this tag, of those that write no output but a Varint's. The number of its answers, 0 where there is no such call.
+fn run_numbers(
+    tag: u8,
+    numbers: &[u64],
+    first: &[u8],
+    out: &mut [u8],
+    answer: &mut [u64],
+) -> usize {
+    if tag == VARINT_READ {
+        return varints::read(numbers, first, answer);
+    }
+    if tag == VARINT_WRITE {
+        return varints::write(numbers, out, answer);
+    }
+    if tag == READ {
+        return reads::read(numbers, first, answer);
+    }
+    0
+}
+
+// The same of those that write and cut.
+fn run_packets(
+    tag: u8,
+    numbers: &[u64],
+    strings: &[u8],
+    ends: &[u64],
+    out: &mut [u8],
+    answer: &mut [u64],
+) -> usize {
+    if tag == WRITE {
+        return writes::write(numbers, strings, ends, out, answer);
+    }
+    if tag == COUNT {
+        return cuts::count(numbers, strings, ends, answer);
+    }
+    cuts::packet(numbers, strings, ends, out, answer)
+}
+
+// The same of those at a store alone.
+fn run_store(
+    tag: u8,
+    numbers: &[u64],
+    first: &[u8],
+    store: &mut [u8],
+    out: &mut [u8],
+    answer: &mut [u64],
+) -> usize {
+    if tag == IN_ORDER {
+        return stores::order(numbers, store, answer);
+    }
+    if tag == ARRIVE {
+        return stores::arrive(numbers, store, first, answer);
+    }
+    if tag == TAKE {
+        return stores::take(numbers, store, out, answer);
+    }
+    joins::join(numbers, store, first, out, answer)
+}
+
+// The same of the others.
+fn run_view(
+    tag: u8,
+    numbers: &[u64],
+    first: &[u8],
+    second: &[u8],
+    out: &mut [u8],
+    answer: &mut [u64],
+) -> usize {
+    if tag == VIEW {
+        return joins::view(numbers, first, second, out, answer);
+    }
+    if tag == RECORDING {
+        return recordings::join(first, out, answer);
+    }
+    0
+}
+
+// Runs a call that knows no store.
+fn run_codec(
+    tag: u8,
+    numbers: &[u64],
+    strings: &[u8],
+    ends: &[u64],
+    out: &mut [u8],
+    answer: &mut [u64],
+) -> usize {
+    if tag < WRITE {
+        return run_numbers(tag, numbers, lists::part(strings, ends, 0), out, answer);
+    }
+    run_packets(tag, numbers, strings, ends, out, answer)
+}
+
+// Runs a call that stores, joins or shows.
+fn run_joins(
+    tag: u8,
+    numbers: &[u64],
+    first: &[u8],
+    second: &[u8],
+    store: &mut [u8],
+    out: &mut [u8],
+    answer: &mut [u64],
+) -> usize {
+    if tag < VIEW {
+        return run_store(tag, numbers, first, store, out, answer);
+    }
+    run_view(tag, numbers, first, second, out, answer)
+}
+
+// Runs the call with this tag.
 fn run(
     tag: u8,
     numbers: &[u64],
@@ -102,46 +213,12 @@ fn run(
     out: &mut [u8],
     answer: &mut [u64],
 ) -> usize {
-    if tag == VARINT_READ {
-        return varints::read(numbers, lists::part(strings, ends, 0), answer);
+    if tag < IN_ORDER {
+        return run_codec(tag, numbers, strings, ends, out, answer);
     }
-    if tag == VARINT_WRITE {
-        return varints::write(numbers, out, answer);
-    }
-    if tag == READ {
-        return reads::read(numbers, lists::part(strings, ends, 0), answer);
-    }
-    if tag == WRITE {
-        return writes::write(numbers, strings, ends, out, answer);
-    }
-    if tag == COUNT {
-        return cuts::count(numbers, strings, ends, answer);
-    }
-    if tag == PACKET {
-        return cuts::packet(numbers, strings, ends, out, answer);
-    }
-    if tag == IN_ORDER {
-        return stores::order(numbers, store, answer);
-    }
-    if tag == ARRIVE {
-        return stores::arrive(numbers, store, lists::part(strings, ends, 0), answer);
-    }
-    if tag == TAKE {
-        return stores::take(numbers, store, out, answer);
-    }
-    if tag == JOIN {
-        return joins::join(numbers, store, lists::part(strings, ends, 0), out, answer);
-    }
-    if tag == VIEW {
-        return joins::view(
-            numbers,
-            lists::part(strings, ends, 0),
-            lists::part(strings, ends, 1),
-            out,
-            answer,
-        );
-    }
-    0
+    let first = lists::part(strings, ends, 0);
+    let second = lists::part(strings, ends, 1);
+    run_joins(tag, numbers, first, second, store, out, answer)
 }
 
 // A line: the answers, then the lent buffers that the case has.

@@ -1,10 +1,10 @@
--- `join_recording::main` is safe and ends: a store of zeros is in order.
+-- `join_recording::join` is safe and ends: a store of zeros is in order.
 -- Assumes nothing.
 use mathlib.Core.Path.{refl}
 use Rattle.join_recording.proofs.Turns.{begins-zero, begins-order, begins-cells, begins-room}
 use borrow.Author.Needs.{needs}
-use Rattle.join_recording.proofs.main.Statement.{statement}
-use Rattle.join_recording.proofs.main.Tie as tie
+use Rattle.join_recording.proofs.join.Statement.{statement}
+use Rattle.join_recording.proofs.join.Tie as tie
 
 slice-aggregate-run : tie.Need-slice-aggregate-run
 slice-aggregate-run c = search needs
@@ -21,9 +21,24 @@ slice-aggregate-run-4 c = search needs
 run-requires : tie.Need-run-requires
 run-requires c κs = (begins-zero refl, (begins-order refl refl, (begins-cells refl refl, begins-room refl)))
 
+slice-aggregate-end : tie.Need-slice-aggregate-end
+slice-aggregate-end c = search needs
+
+end-requires : tie.Need-end-requires
+end-requires c κs = search needs
+
 returns : tie.Need-returns
 returns c = search needs
 
-pub main-spec : {M : Type 1} → statement M
-main-spec =
-    tie.close (tie.spec slice-aggregate-run slice-aggregate-run-2 slice-aggregate-run-3 slice-aggregate-run-4 run-requires returns)
+pub join-spec : {M : Type 1} → statement M
+join-spec =
+    tie.close
+    (tie.spec
+    slice-aggregate-run
+    slice-aggregate-run-2
+    slice-aggregate-run-3
+    slice-aggregate-run-4
+    run-requires
+    slice-aggregate-end
+    end-requires
+    returns)

@@ -1,0 +1,112 @@
+//! Reading, writing and cutting.
+
+use std::hint::black_box;
+
+use crate::measure::{both, line};
+use crate::shapes::{full, packet, plain, values, T};
+use orlyukan::{Header, Next, Reading, SegmentCounter, Sender, SequenceCount};
+
+/// Takes in every field of an answer.
+fn sum(r: &Reading) -> u64 {
+    let places = [r.timestamp, r.zone, r.session_name, r.authentication, r.body];
+    let texts: u64 = places.iter().chain(&r.domain).map(|p| p.place ^ p.length << 20).sum();
+    let has = [
+        r.has_source,
+        r.has_destination,
+        r.has_priority,
+        r.has_timestamp,
+        r.has_zone,
+        r.has_session_name,
+        r.has_domain,
+        r.has_authentication,
+    ];
+    let presence = has.iter().fold(0, |octet, flag| octet << 1 | flag);
+    let names = r.packet_type + r.apid.0 + r.flags + r.seq.0 + r.sdu + r.area + r.service + r.operation + r.area_version;
+    let ids = r.source + r.destination + r.counter.0 + r.priority + r.domain_count + r.h + r.refusal;
+    let routing = r.error + r.qos + r.session + r.secondary_apid.0 + r.qualifier;
+    r.transaction ^ (texts + presence + names + ids + routing)
+}
+
+/// Takes in every field of the model's answer; a timestamp's length is T.
+fn model_sum(answer: &Result<model::Reading, model::Refusal>) -> u64 {
+    let r = match answer {
+        Ok(reading) => reading,
+        Err(model::Refusal(number)) => return u64::from(*number),
+    };
+    let stamp = model::Span { place: r.timestamp, length: if r.has(3) { T as u32 } else { 0 } };
+    let places = [stamp, r.zone, r.session_name, r.authentication, r.body];
+    let texts: u64 = places.iter().chain(&r.domain).map(|p| u64::from(p.place) ^ u64::from(p.length) << 20).sum();
+    let names = u64::from(r.packet_type) + u64::from(r.apid) + u64::from(r.flags) + u64::from(r.seq) + u64::from(r.sdu);
+    let words = u64::from(r.area) + u64::from(r.service) + u64::from(r.operation) + u64::from(r.area_version);
+    let ids = u64::from(r.source) + u64::from(r.destination) + u64::from(r.counter) + u64::from(r.priority);
+    let ends = u64::from(r.domain_count) + u64::from(r.h) + u64::from(r.presence);
+    let routing =
+        u64::from(r.error) + u64::from(r.qos) + u64::from(r.session) + u64::from(r.secondary_apid) + u64::from(r.qualifier);
+    r.transaction ^ (texts + names + words + ids + ends + routing)
+}
+
+fn read(shape: &str, packet: &[u8]) {
+    let times = both(&mut || sum(&orlyukan::read(black_box(T), black_box(packet))), &mut || {
+        model_sum(&model::read(black_box(T), black_box(packet)))
+    });
+    line("read", shape, times, "1.0");
+}
+
+fn write(shape: &str, header: &Header, flags: u64, counter: u64, octets: usize) {
+    let made = packet(header, flags, 3, counter, octets);
+    let place = orlyukan::read(T, &made).body.place as usize;
+    let body = made[place..].to_vec();
+    let (mut ours, mut theirs) = (vec![0; 2000], vec![0; 2000]);
+    let lent = values(header);
+    let times = both(
+        &mut || {
+            let a = orlyukan::write(black_box(T), black_box(header), flags, 3, counter, black_box(&body), black_box(&mut ours));
+            a.refusal + a.length
+        },
+        &mut || {
+            let a = model::write(black_box(T), black_box(&lent), flags, 3, counter, black_box(&body), black_box(&mut theirs));
+            a.map_or_else(|refusal| refusal.0 as u64, |length| length as u64)
+        },
+    );
+    assert!(ours == theirs && ours[..octets] == made, "the outputs differ");
+    line("write", shape, times, "0.9");
+}
+
+/// The count, then every packet, all into one output.
+fn cut() {
+    let (header, body, p) = (plain(9), vec![0x5a; 1_048_576], 1022);
+    let lent = values(&header);
+    let (mut ours, mut theirs) = (vec![0; 1022], vec![0; 1022]);
+    let given = Sender { seq: SequenceCount(5), counter: Next::At(SegmentCounter(7)) };
+    let model_given = model::Sender { seq: 5, counter: Some(7) };
+    let times = both(
+        &mut || {
+            let counted = orlyukan::cut_count(T, p, black_box(&header), body.len() as u64, given);
+            let Next::At(SegmentCounter(next)) = counted.sender.counter else { return 0 };
+            let mut total = counted.refusal + counted.count + counted.sender.seq.0 + next;
+            for i in 0..counted.count {
+                let made = orlyukan::cut_packet(T, p, black_box(&header), black_box(&body), given, i, black_box(&mut ours));
+                total += made.refusal + made.length + made.sender.seq.0;
+            }
+            total
+        },
+        &mut || {
+            let Ok((count, after)) = model::count(T, p, black_box(&lent), body.len() as u64, model_given) else { return 0 };
+            let mut total = count + after.seq + after.counter.unwrap_or(0);
+            for i in 0..count {
+                let made = model::packet(T, p, black_box(&lent), black_box(&body), model_given, i, black_box(&mut theirs));
+                total += made.map_or_else(|refusal| refusal.0 as u64, |length| length as u64) + model_given.seq;
+            }
+            total
+        },
+    );
+    line("cut", "1 MiB at P 1,022: the count and 1,059 packets", times, "-");
+}
+
+pub fn run() {
+    read("60 octets, plain", &packet(&plain(9), 3, 3, 0, 60));
+    read("1,000 octets, every optional field, sixteen parts", &packet(&full(), 1, 3, 77, 1000));
+    write("60 octets, plain", &plain(9), 3, 0, 60);
+    write("1,000 octets, every optional field, sixteen parts", &full(), 1, 77, 1000);
+    cut();
+}

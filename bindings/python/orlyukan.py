@@ -1,0 +1,261 @@
+"""Orlyukan for Python: reading, writing, cutting, storing and joining MAL messages in CCSDS Space Packets.
+
+The work is done by the proved library, a shared object: the one that the environment variable ORLYUKAN_LIB names, else the one in
+target/native of the repository in which this file stands.
+
+Each call answers an object whose `refusal` is 0, or the number of document 01's table; then every other number is zero, but a
+sender's two, which stay. `store` and `out` are bytearrays, changed in place and by success alone (but see `join`). A header is an
+object or a dict; a sender is one of `seq` and `counter`, where None says that no counter is left. Octets are bytes or a bytearray.
+Numbers may be of any size: one that is negative or too wide is refused and never cut off. A call that lends a bytearray must be
+over before another thread touches it.
+"""
+
+import ctypes
+import functools
+import operator
+import os
+import pathlib
+import types
+
+__all__ = [
+    "arrive",
+    "cut_count",
+    "cut_packet",
+    "in_order",
+    "join",
+    "join_recording",
+    "read",
+    "take",
+    "view",
+    "write",
+]
+
+_MOST = 2**64 - 1
+_PARTS = 16
+_KINDS = ("", "whole", "stored", "held")
+_WHICH = ("", "packet", "joined")
+
+# The header's numbers and texts in the order in which C takes them.
+_NUMBERS = (
+    "packet_type apid sdu area service operation area_version error qos session secondary_apid qualifier transaction has_source"
+    " has_destination has_priority has_timestamp has_zone has_session_name has_domain has_authentication source destination priority"
+).split()
+_READ = (
+    "refusal packet_type apid flags seq sdu area service operation area_version error qos session secondary_apid qualifier"
+    " transaction has_source has_destination has_priority has_timestamp has_zone has_session_name has_domain has_authentication"
+    " source destination counter priority"
+).split()
+
+
+class Answer(types.SimpleNamespace):
+    """What a call answers: plain attributes, also by name in brackets."""
+
+    def __getitem__(self, name):
+        return getattr(self, name)
+
+
+# The shared object.
+
+
+def _path():
+    given = os.environ.get("ORLYUKAN_LIB")
+    if given:
+        return given
+    folder = pathlib.Path(__file__).resolve().parent.parent.parent / "target" / "native"
+    for name in ("liborlyukan.so", "libcapi.so"):
+        if (folder / name).exists():
+            return str(folder / name)
+    raise OSError(f"no liborlyukan.so in {folder}: tests/native builds it, or ORLYUKAN_LIB names another")
+
+
+@functools.lru_cache(maxsize=None)
+def _call(name):
+    """A call of the library. All of its numbers are 64 bits wide, and its lengths too."""
+    call = getattr(_library(), "orl_" + name)
+    call.restype = None
+    return call
+
+
+@functools.lru_cache(maxsize=None)
+def _library():
+    return ctypes.CDLL(_path())
+
+
+# What is lent.
+
+
+def _get(of, name):
+    return of[name] if isinstance(of, dict) else getattr(of, name)
+
+
+def _number(value):
+    return ctypes.c_uint64(value)
+
+
+def _fits(value):
+    return 0 <= operator.index(value) <= _MOST
+
+
+def _setting(value):
+    """T or P. No number outside 64 bits is in range, and neither is 0, which is given in its place."""
+    return _number(value if _fits(value) else 0)
+
+
+def _size(value):
+    """A number that has no width of its own: one that is too wide is larger than all that it is compared with."""
+    return _number(min(operator.index(value), _MOST))
+
+
+def _lent(octets):
+    """Octets to be read: a pointer and a length."""
+    octets = octets if isinstance(octets, bytes) else bytes(memoryview(octets))
+    return (ctypes.c_char_p(octets), ctypes.c_size_t(len(octets)))
+
+
+def _changed(buffer):
+    """A bytearray to be changed in place: a pointer and a length."""
+    if not isinstance(buffer, bytearray):
+        raise TypeError("a store or an output is a bytearray")
+    if not buffer:
+        return (ctypes.byref(ctypes.c_uint64()), ctypes.c_size_t(0))
+    return ((ctypes.c_ubyte * len(buffer)).from_buffer(buffer), ctypes.c_size_t(len(buffer)))
+
+
+def _apart(store, out):
+    if store is out:
+        raise ValueError("the store and the output are one bytearray")
+
+
+def _header(header, others):
+    """The header as C takes it. Where a number of it, or one of the others, is outside 64 bits, the packet type is out of range in
+    its place: the refusal is 22 either way."""
+    numbers = [_get(header, name) for name in _NUMBERS]
+    lengths = list(_get(header, "domain_lengths"))
+    if not all(map(_fits, [*numbers, *lengths, *others])):
+        numbers = [_MOST] + [0] * (len(_NUMBERS) - 1)
+        lengths = []
+    words = [ctypes.byref((ctypes.c_uint64 * len(numbers))(*numbers))]
+    for name in ("timestamp", "zone", "session_name", "domain"):
+        words += _lent(_get(header, name))
+    words += [(ctypes.c_uint64 * max(len(lengths), 1))(*lengths), ctypes.c_size_t(len(lengths))]
+    return [*words, *_lent(_get(header, "authentication"))]
+
+
+def _sender(sender):
+    """Sequence count, whether a counter is left, the counter."""
+    counter = _get(sender, "counter")
+    return [_get(sender, "seq"), int(counter is not None), 0 if counter is None else counter]
+
+
+def _run(name, count, *words):
+    """Calls with an answer of so many numbers: those numbers."""
+    answer = (ctypes.c_uint64 * count)()
+    _call(name)(*words, ctypes.byref(answer))
+    return list(answer)
+
+
+def _places(numbers):
+    return [Answer(place=place, length=length) for place, length in zip(numbers[::2], numbers[1::2])]
+
+
+# Reading, writing and cutting.
+
+
+def read(t, packet):
+    """Reads one packet whose timestamp, if it has one, is of t octets: every value of its header, every place, H and the body."""
+    n = _run("read", 72, _setting(t), *_lent(packet))
+    zone, session_name = _places(n[30:34])
+    parts = _places(n[35 : 35 + 2 * _PARTS])
+    authentication = _places(n[67:69])[0]
+    body = _places(n[70:72])[0]
+    return Answer(
+        **dict(zip(_READ, n)),
+        timestamp=n[28],
+        zone=zone,
+        session_name=session_name,
+        domain_count=n[34],
+        domain=parts,
+        authentication=authentication,
+        H=n[69],
+        body=body,
+    )
+
+
+def write(t, header, flags, seq, counter, body, out):
+    """Writes one packet over the front of out: the octets it took."""
+    own = (flags, seq, counter)
+    words = _header(header, own)
+    own = [value if _fits(value) else 0 for value in own]
+    n = _run("write", 2, _setting(t), *words, *map(_number, own), *_lent(body), *_changed(out))
+    return Answer(refusal=n[0], length=n[1])
+
+
+def _cut(name, what, t, p, header, sender, others, words):
+    """One of the cutting calls. On a refusal the sender's numbers stay as they were given, whatever they are."""
+    given = _sender(sender)
+    fields = _header(header, [*given, *others])
+    numbers = given if all(map(_fits, given)) else [0, 0, 0]
+    held = (ctypes.c_uint64 * 3)(*numbers)
+    n = _run(name, 5, _setting(t), _setting(p), *fields, *words(ctypes.byref(held)))
+    seq, has_counter, counter = n[2:] if n[0] == 0 else given
+    return Answer(refusal=n[0], sender=Answer(seq=seq, counter=counter if has_counter else None), **{what: n[1]})
+
+
+def cut_count(t, p, header, body_length, sender):
+    """How many packets of at most p octets a message takes, and the sender behind it."""
+    others = [min(operator.index(body_length), _MOST)]
+    return _cut("cut_count", "count", t, p, header, sender, others, lambda held: [_size(max(others[0], 0)), held])
+
+
+def cut_packet(t, p, header, body, sender, i, out):
+    """Writes packet number i of a message over the front of out, by the sender's numbers before the message: the octets it took."""
+    others = [min(operator.index(i), _MOST)]
+    lent, changed = _lent(body), _changed(out)
+    words = lambda held: [*lent, held, _size(max(others[0], 0)), *changed]
+    return _cut("cut_packet", "length", t, p, header, sender, others, words)
+
+
+# The store.
+
+
+def in_order(t, store):
+    """Whether a store is in order, and how many cells it has: 15 or 16 where it is not."""
+    n = _run("in_order", 2, _setting(t), *_lent(store))
+    return Answer(refusal=n[0], cells=n[1])
+
+
+def arrive(t, store, packet):
+    """Takes a packet into the store: 'whole', 'stored' or 'held'."""
+    n = _run("arrive", 2, _setting(t), *_changed(store), *_lent(packet))
+    return Answer(refusal=n[0], kind=_KINDS[n[1]])
+
+
+def take(t, store, out):
+    """Takes the complete message whose first lies in the lowest cell out of the store, into the front of out."""
+    _apart(store, out)
+    n = _run("take", 4, _setting(t), *_changed(store), *_changed(out))
+    return Answer(refusal=n[0], H=n[1], B=n[2], c=n[3])
+
+
+def join(t, store, packet, out):
+    """Arrival, and where the packet did not come whole, taking. Refused by 20 or 21 the store has changed by that arrival."""
+    _apart(store, out)
+    n = _run("join", 7, _setting(t), *_changed(store), *_lent(packet), *_changed(out))
+    return Answer(refusal=n[0], which=_WHICH[n[1]], place=n[2], length=n[3], H=n[4], B=n[5], c=n[6])
+
+
+def view(packet, joined, which, place, length):
+    """The octets that joining told of: a part of the packet or of the joined buffer, empty where it does not lie inside."""
+    if not _fits(place) or not _fits(length):
+        return b""
+    number = _number(_WHICH.index(which))
+    n = _run("view", 3, *_lent(packet), *_lent(joined), number, _number(place), _number(length))
+    buffer = {"packet": packet, "joined": joined}.get(which, b"")
+    return bytes(buffer[n[1] : n[1] + n[2]])
+
+
+def join_recording(octets):
+    """The messages of a recording, with T 8 and 32 cells: each after its mark and its length."""
+    out = bytearray(len(octets))
+    n = _run("join_recording", 4, *_lent(octets), *_changed(out))
+    return bytes(out[: n[1]])

@@ -1,0 +1,247 @@
+"""The Python module over the cases with their answers, and what Python alone can give: numbers of any size, one buffer lent twice."""
+
+import json
+import os
+import pathlib
+import sys
+import types
+import unittest
+
+sys.dont_write_bytecode = True
+sys.path.insert(0, str(pathlib.Path(__file__).resolve().parent))
+import orlyukan
+
+ROOT = pathlib.Path(__file__).resolve().parent.parent.parent
+VECTORS = pathlib.Path(os.environ.get("ORLYUKAN_VECTORS", ROOT.parent / "shared" / "vectors"))
+FIGURE_14 = bytes.fromhex("18 05 C0 00 00 14 00 00 01 00 02 00 03 01 20 06 00 07 00 00 00 00 00 00 00 09 00")
+HUGE = (-1, 2**64, 2**64 + 5, -(2**70), 2**200)
+PRESENCE = "source destination priority timestamp zone session_name domain authentication".split()
+
+
+def octets(text):
+    """The octets that a text of the cases stands for: hex, `xx*n` for a run, commas between."""
+    made = bytearray()
+    for piece in text.split(","):
+        value, star, times = piece.partition("*")
+        made += bytes.fromhex(value) * (int(times) if star else 1)
+    return bytes(made)
+
+
+def header(given):
+    """A case's header with its texts as octets."""
+    texts = ("timestamp", "zone", "session_name", "domain", "authentication")
+    return {name: octets(value) if name in texts else value for name, value in given.items()}
+
+
+def figure_14():
+    """The header of figure 14."""
+    values = {"packet_type": 1, "apid": 5, "sdu": 0, "area": 1, "service": 2, "operation": 3, "area_version": 1, "error": 0, "qos": 1}
+    values |= {"session": 0, "secondary_apid": 6, "qualifier": 7, "transaction": 9, "source": 0, "destination": 0, "priority": 0}
+    values |= {"has_" + name: 0 for name in PRESENCE}
+    return values | {"timestamp": b"", "zone": b"", "session_name": b"", "domain": b"", "domain_lengths": [], "authentication": b""}
+
+
+def told(answer):
+    """An answer as the cases write it."""
+    if isinstance(answer, list):
+        return [told(one) for one in answer]
+    if isinstance(answer, types.SimpleNamespace):
+        return {name: told(value) for name, value in vars(answer).items()}
+    return answer
+
+
+class Cases(unittest.TestCase):
+    """Every case of every call."""
+
+    maxDiff = None
+
+    def each(self, call, run):
+        if not VECTORS.is_dir():
+            self.skipTest(f"no folder {VECTORS} with cases")
+        with open(VECTORS / f"{call}.jsonl", encoding="utf-8") as lines:
+            for line in lines:
+                case = json.loads(line)
+                expect = case["expect"]
+                answer, buffers = run(case)
+                said = {name: value for name, value in expect["answer"].items() if name in answer}
+                self.assertEqual(said["refusal"], answer["refusal"], line)
+                self.assertEqual(said, answer, line)
+                for name, buffer in buffers.items():
+                    self.assertEqual(octets(expect[name]), bytes(buffer), line)
+
+    def test_read(self):
+        self.each("read", lambda case: (told(orlyukan.read(case["T"], octets(case["packet"]))), {}))
+
+    def test_write(self):
+        def run(case):
+            out = bytearray(octets(case["out"]))
+            values, own = header(case["header"]), (case["flags"], case["seq"], case["counter"])
+            return told(orlyukan.write(case["T"], values, *own, octets(case["body"]), out)), {"out": out}
+
+        self.each("write", run)
+
+    def test_count(self):
+        def run(case):
+            values = types.SimpleNamespace(**header(case["header"]))
+            sender = types.SimpleNamespace(**case["sender"])
+            return told(orlyukan.cut_count(case["T"], case["P"], values, case["body_length"], sender)), {}
+
+        self.each("count", run)
+
+    def test_packet(self):
+        def run(case):
+            out, values = bytearray(octets(case["out"])), header(case["header"])
+            body = octets(case["body"])
+            return told(orlyukan.cut_packet(case["T"], case["P"], values, body, case["sender"], case["i"], out)), {"out": out}
+
+        self.each("packet", run)
+
+    def test_in_order(self):
+        def run(case):
+            return {"refusal": orlyukan.in_order(case["T"], octets(case["store"])).refusal}, {}
+
+        self.each("in_order", run)
+
+    def test_arrive(self):
+        def run(case):
+            store = bytearray(octets(case["store"]))
+            return told(orlyukan.arrive(case["T"], store, octets(case["packet"]))), {"store": store}
+
+        self.each("arrive", run)
+
+    def test_take(self):
+        def run(case):
+            store, out = bytearray(octets(case["store"])), bytearray(octets(case["out"]))
+            return told(orlyukan.take(case["T"], store, out)), {"store": store, "out": out}
+
+        self.each("take", run)
+
+    def test_join(self):
+        def run(case):
+            store, out = bytearray(octets(case["store"])), bytearray(octets(case["out"]))
+            return told(orlyukan.join(case["T"], store, octets(case["packet"]), out)), {"store": store, "out": out}
+
+        self.each("join", run)
+
+    def test_view(self):
+        def run(case):
+            buffers = octets(case["packet"]), bytearray(octets(case["joined"]))
+            part = orlyukan.view(*buffers, case["which"], case["place"], case["length"])
+            self.assertEqual(octets(case["expect"]["answer"]["part"]), part)
+            return {"refusal": 0}, {}
+
+        self.each("view", run)
+
+    def test_program(self):
+        def run(case):
+            return {"refusal": 0}, {"out": orlyukan.join_recording(octets(case["stream"]))}
+
+        self.each("program", run)
+
+
+class Numbers(unittest.TestCase):
+    """Numbers that no field and no 64 bits can hold are refused and never cut off."""
+
+    sender = {"seq": 7, "counter": 5}
+
+    def test_figure_14(self):
+        out = bytearray(b"\xff" * 28)
+        self.assertEqual(told(orlyukan.write(8, figure_14(), 3, 0, 0, b"", out)), {"refusal": 0, "length": 27})
+        self.assertEqual(bytes(out), FIGURE_14 + b"\xff")
+        answer = orlyukan.read(8, bytearray(FIGURE_14))
+        self.assertEqual((answer.refusal, answer.apid, answer["transaction"], answer.H, answer.body.place), (0, 5, 9, 21, 27))
+        self.assertEqual(orlyukan.join_recording(b"MP" + FIGURE_14), bytes.fromhex("4D4D000000171805") + FIGURE_14[6:])
+
+    def test_settings(self):
+        for huge in HUGE:
+            self.assertEqual(orlyukan.read(huge, FIGURE_14).refusal, 15)
+            self.assertEqual(orlyukan.write(huge, figure_14(), 3, 0, 0, b"", bytearray(30)).refusal, 15)
+            self.assertEqual(orlyukan.arrive(huge, bytearray(1024), FIGURE_14).refusal, 15)
+            self.assertEqual(orlyukan.take(huge, bytearray(1024), bytearray(30)).refusal, 15)
+            self.assertEqual(orlyukan.join(huge, bytearray(1024), FIGURE_14, bytearray(30)).refusal, 15)
+            self.assertEqual(orlyukan.in_order(huge, bytearray(1024)).refusal, 15)
+            for t, p in ((huge, 64), (8, huge)):
+                self.assertEqual(orlyukan.cut_count(t, p, figure_14(), 5, self.sender).refusal, 15)
+                self.assertEqual(orlyukan.cut_packet(t, p, figure_14(), b"12345", self.sender, 0, bytearray(64)).refusal, 15)
+
+    def test_fields(self):
+        fields = [name for name, value in figure_14().items() if isinstance(value, int)]
+        for name in [*fields, "domain_lengths"]:
+            for huge in HUGE:
+                values = figure_14()
+                values[name] = [huge] if name == "domain_lengths" else huge
+                out = bytearray(b"\xee" * 64)
+                self.assertEqual(told(orlyukan.write(8, values, 3, 0, 0, b"", out)), {"refusal": 22, "length": 0}, name)
+                self.assertEqual(orlyukan.write(0, values, 3, 0, 0, b"", out).refusal, 15, name)
+                self.assertEqual(orlyukan.cut_count(8, 64, values, 5, self.sender).refusal, 22, name)
+                self.assertEqual(orlyukan.cut_packet(8, 64, values, b"5", self.sender, 0, out).refusal, 22, name)
+                self.assertEqual(out, b"\xee" * 64)
+
+    def test_own_numbers(self):
+        for huge in HUGE:
+            for own in ((huge, 0, 0), (3, huge, 0), (1, 0, huge)):
+                self.assertEqual(orlyukan.write(8, figure_14(), *own, b"1", bytearray(64)).refusal, 22)
+            for sender in ({"seq": huge, "counter": 0}, {"seq": 0, "counter": huge}, {"seq": huge, "counter": None}):
+                answer = orlyukan.cut_count(8, 64, figure_14(), 5, sender)
+                self.assertEqual(told(answer), {"refusal": 22, "count": 0, "sender": sender})
+                answer = orlyukan.cut_packet(8, 64, figure_14(), b"5", sender, 0, bytearray(64))
+                self.assertEqual(told(answer), {"refusal": 22, "length": 0, "sender": sender})
+
+    def test_lengths_and_places(self):
+        for huge in HUGE:
+            refusal = 22 if huge < 0 else 23
+            self.assertEqual(orlyukan.cut_count(8, 64, figure_14(), huge, self.sender).refusal, refusal)
+            refusal = 22 if huge < 0 else 26
+            out = bytearray(64)
+            self.assertEqual(orlyukan.cut_packet(8, 64, figure_14(), b"5", self.sender, huge, out).refusal, refusal)
+            self.assertEqual(orlyukan.view(b"abc", b"", "packet", huge, 1), b"")
+            self.assertEqual(orlyukan.view(b"abc", b"", "packet", 1, huge), b"")
+        self.assertEqual(orlyukan.view(b"abc", b"", "packet", 1, 2), b"bc")
+
+    def test_none_left(self):
+        out = bytearray(64)
+        for sender in ({"seq": 16383, "counter": None}, types.SimpleNamespace(seq=16383, counter=None)):
+            answer = orlyukan.cut_count(8, 64, figure_14(), 37, sender)
+            self.assertEqual(told(answer), {"refusal": 0, "count": 1, "sender": {"seq": 0, "counter": None}})
+            self.assertEqual(orlyukan.cut_packet(8, 64, figure_14(), bytes(38), sender, 0, out).refusal, 25)
+        last = orlyukan.cut_count(8, 64, figure_14(), 38, {"seq": 0, "counter": 4294967294})
+        self.assertEqual((last.refusal, last.count, last.sender.counter), (0, 2, None))
+
+
+class Buffers(unittest.TestCase):
+    """Lent buffers: changed in place, never one for two, never one that can't be changed."""
+
+    def test_in_place(self):
+        store, out = bytearray(2048), bytearray(100)
+        body, sender = bytes(range(38)), {"seq": 0, "counter": 3}
+        for i, kind in ((0, "stored"), (0, "held"), (1, "stored")):
+            packet = bytearray(64)
+            size = orlyukan.cut_packet(8, 64, figure_14(), body, sender, i, packet).length
+            self.assertEqual(told(orlyukan.arrive(8, store, packet[:size])), {"refusal": 0, "kind": kind})
+        self.assertEqual(told(orlyukan.take(8, store, out)), {"refusal": 0, "H": 21, "B": 38, "c": 3})
+        self.assertEqual(out[23:61], body)
+        self.assertEqual(store, bytes(2048))
+
+    def test_refused_words(self):
+        same = bytearray(1024)
+        with self.assertRaises(ValueError):
+            orlyukan.take(8, same, same)
+        with self.assertRaises(ValueError):
+            orlyukan.join(8, same, FIGURE_14, same)
+        with self.assertRaises(TypeError):
+            orlyukan.arrive(8, bytes(1024), FIGURE_14)
+        with self.assertRaises(TypeError):
+            orlyukan.read(8.0, FIGURE_14)
+        with self.assertRaises(TypeError):
+            orlyukan.read(8, 27)
+
+    def test_empty(self):
+        self.assertEqual(orlyukan.read(8, b"").refusal, 1)
+        self.assertEqual(orlyukan.arrive(8, bytearray(), FIGURE_14).refusal, 16)
+        self.assertEqual(orlyukan.join(8, bytearray(1024), FIGURE_14, bytearray()).which, "packet")
+        self.assertEqual(orlyukan.join_recording(b""), b"")
+        self.assertEqual(orlyukan.view(b"", b"", "", 0, 0), b"")
+
+
+if __name__ == "__main__":
+    unittest.main()

@@ -1,0 +1,139 @@
+//! Both programs behind one trait, each answering in the library's own terms.
+
+use crate::told;
+use orlyukan::{Arrived, Cut, CutPacket, Header, Joined, Next, Order, Reading, SegmentCounter, Sender, Taken, Which, Written};
+
+/// The values of a packet beside its header's.
+#[derive(Clone, Copy, Debug)]
+pub struct Numbers {
+    pub flags: u64,
+    pub seq: u64,
+    pub counter: u64,
+}
+
+pub trait Calls {
+    fn name(&self) -> &'static str;
+    fn read(&self, t: u64, packet: &[u8]) -> Reading;
+    fn write(&self, t: u64, header: &Header, numbers: Numbers, body: &[u8], out: &mut [u8]) -> Written;
+    fn cut_count(&self, t: u64, p: u64, header: &Header, body_length: u64, sender: Sender) -> Cut;
+    #[allow(clippy::too_many_arguments)]
+    fn cut_packet(&self, t: u64, p: u64, header: &Header, body: &[u8], sender: Sender, i: u64, out: &mut [u8]) -> CutPacket;
+    fn in_order(&self, t: u64, store: &[u8]) -> Order;
+    fn arrive(&self, t: u64, store: &mut [u8], packet: &[u8]) -> Arrived;
+    fn take(&self, t: u64, store: &mut [u8], out: &mut [u8]) -> Taken;
+    fn join(&self, t: u64, store: &mut [u8], packet: &[u8], out: &mut [u8]) -> Joined;
+    fn view<'a>(&self, packet: &'a [u8], joined: &'a [u8], which: Which, place: u64, length: u64) -> &'a [u8];
+    fn join_recording(&self, recording: &[u8]) -> Vec<u8>;
+}
+
+/// The proved library, through its wrappers.
+pub struct Library;
+
+impl Calls for Library {
+    fn name(&self) -> &'static str {
+        "the library"
+    }
+
+    fn read(&self, t: u64, packet: &[u8]) -> Reading {
+        orlyukan::read(t, packet)
+    }
+
+    fn write(&self, t: u64, header: &Header, n: Numbers, body: &[u8], out: &mut [u8]) -> Written {
+        orlyukan::write(t, header, n.flags, n.seq, n.counter, body, out)
+    }
+
+    fn cut_count(&self, t: u64, p: u64, header: &Header, body_length: u64, sender: Sender) -> Cut {
+        orlyukan::cut_count(t, p, header, body_length, sender)
+    }
+
+    fn cut_packet(&self, t: u64, p: u64, header: &Header, body: &[u8], sender: Sender, i: u64, out: &mut [u8]) -> CutPacket {
+        orlyukan::cut_packet(t, p, header, body, sender, i, out)
+    }
+
+    fn in_order(&self, t: u64, store: &[u8]) -> Order {
+        orlyukan::in_order(t, store)
+    }
+
+    fn arrive(&self, t: u64, store: &mut [u8], packet: &[u8]) -> Arrived {
+        orlyukan::arrive(t, store, packet)
+    }
+
+    fn take(&self, t: u64, store: &mut [u8], out: &mut [u8]) -> Taken {
+        orlyukan::take(t, store, out)
+    }
+
+    fn join(&self, t: u64, store: &mut [u8], packet: &[u8], out: &mut [u8]) -> Joined {
+        orlyukan::join(t, store, packet, out)
+    }
+
+    fn view<'a>(&self, packet: &'a [u8], joined: &'a [u8], which: Which, place: u64, length: u64) -> &'a [u8] {
+        orlyukan::view(packet, joined, which, place, length)
+    }
+
+    fn join_recording(&self, recording: &[u8]) -> Vec<u8> {
+        orlyukan::join_recording(recording)
+    }
+}
+
+/// The model, its answers told in the library's terms.
+pub struct Model;
+
+fn model_sender(sender: Sender) -> model::Sender {
+    let counter = match sender.counter {
+        Next::At(SegmentCounter(counter)) => Some(counter),
+        Next::NoneLeft => None,
+    };
+    model::Sender { seq: sender.seq.0, counter }
+}
+
+impl Calls for Model {
+    fn name(&self) -> &'static str {
+        "the model"
+    }
+
+    fn read(&self, t: u64, packet: &[u8]) -> Reading {
+        told::reading(t, model::read(t, packet))
+    }
+
+    fn write(&self, t: u64, header: &Header, n: Numbers, body: &[u8], out: &mut [u8]) -> Written {
+        told::written(model::write(t, &told::values(header), n.flags, n.seq, n.counter, body, out))
+    }
+
+    fn cut_count(&self, t: u64, p: u64, header: &Header, body_length: u64, sender: Sender) -> Cut {
+        told::cut(sender, model::count(t, p, &told::values(header), body_length, model_sender(sender)))
+    }
+
+    fn cut_packet(&self, t: u64, p: u64, header: &Header, body: &[u8], sender: Sender, i: u64, out: &mut [u8]) -> CutPacket {
+        let made = model::packet(t, p, &told::values(header), body, model_sender(sender), i, out);
+        told::cut_packet(sender, made)
+    }
+
+    fn in_order(&self, t: u64, store: &[u8]) -> Order {
+        told::order(model::in_order(t, store))
+    }
+
+    fn arrive(&self, t: u64, store: &mut [u8], packet: &[u8]) -> Arrived {
+        told::arrived(model::arrive(t, store, packet))
+    }
+
+    fn take(&self, t: u64, store: &mut [u8], out: &mut [u8]) -> Taken {
+        told::taken(model::take(t, store, out))
+    }
+
+    fn join(&self, t: u64, store: &mut [u8], packet: &[u8], out: &mut [u8]) -> Joined {
+        told::joined(model::join(t, store, packet, out))
+    }
+
+    fn view<'a>(&self, packet: &'a [u8], joined: &'a [u8], which: Which, place: u64, length: u64) -> &'a [u8] {
+        let which = match which {
+            Which::Nothing => model::Which::Nothing,
+            Which::Packet => model::Which::Packet,
+            Which::Joined => model::Which::Joined,
+        };
+        model::view(packet, joined, which, place, length)
+    }
+
+    fn join_recording(&self, recording: &[u8]) -> Vec<u8> {
+        model::join_recording(recording)
+    }
+}

@@ -1,0 +1,92 @@
+//! Numbers by chance from a fixed seed, and the edges that chance alone would miss.
+
+pub struct Random(u64);
+
+impl Random {
+    pub fn new(seed: u64) -> Self {
+        Random(seed)
+    }
+
+    /// Any number (splitmix64).
+    pub fn any(&mut self) -> u64 {
+        self.0 = self.0.wrapping_add(0x9e37_79b9_7f4a_7c15);
+        let a = (self.0 ^ self.0 >> 30).wrapping_mul(0xbf58_476d_1ce4_e5b9);
+        let b = (a ^ a >> 27).wrapping_mul(0x94d0_49bb_1331_11eb);
+        b ^ b >> 31
+    }
+
+    /// A number below n, which is not 0.
+    pub fn below(&mut self, n: u64) -> u64 {
+        self.any() % n
+    }
+
+    pub fn between(&mut self, least: u64, most: u64) -> u64 {
+        least + self.below(most - least + 1)
+    }
+
+    /// True once in n times.
+    pub fn once_in(&mut self, n: u64) -> bool {
+        self.below(n) == 0
+    }
+
+    pub fn pick<A: Copy>(&mut self, from: &[A]) -> A {
+        from[self.below(from.len() as u64) as usize]
+    }
+
+    pub fn index(&mut self, length: usize) -> usize {
+        self.below(length as u64) as usize
+    }
+
+    /// A number of at most so many bits, often an edge of its width.
+    pub fn bits(&mut self, width: u32) -> u64 {
+        let most = u64::MAX >> (64 - width);
+        match self.below(6) {
+            0 => 0,
+            1 => most,
+            2 => self.below(3).min(most),
+            3 => most - self.below(2),
+            _ => self.any() & most,
+        }
+    }
+
+    /// A number that is too wide for a field of so many values: just so, or far off.
+    pub fn too_wide(&mut self, values: u64) -> u64 {
+        let far = [values, values + 1, values + 256, values + 65_536, 1 << 32, 1 << 63, u64::MAX, u64::MAX - 1];
+        self.pick(&far).max(values)
+    }
+
+    /// Octets: all alike, from a few values that mean something, or any.
+    pub fn octets(&mut self, length: usize) -> Vec<u8> {
+        const TELLING: [u8; 12] = [0, 1, 2, 15, 16, 0x4d, 0x50, 0x53, 0x7f, 0x80, 0x81, 0xff];
+        match self.below(4) {
+            0 => vec![self.pick(&TELLING); length],
+            1 => (0..length).map(|_| self.pick(&TELLING)).collect(),
+            _ => (0..length).map(|_| self.any() as u8).collect(),
+        }
+    }
+
+    /// A length for a lent output that should hold `wanted` octets: mostly enough, else one short or far too short.
+    pub fn room(&mut self, wanted: usize) -> usize {
+        match self.below(8) {
+            0 => wanted.saturating_sub(1),
+            1 => self.index(wanted + 1),
+            2 => 0,
+            3 | 4 => wanted,
+            _ => wanted + self.index(40),
+        }
+    }
+
+    /// T: mostly in its range.
+    pub fn t(&mut self) -> u64 {
+        if self.once_in(40) {
+            return self.pick(&[0, 17, 18, 256, 65_536, 1 << 32, u64::MAX]);
+        }
+        self.between(1, 16)
+    }
+
+    pub fn shuffle<A>(&mut self, list: &mut [A]) {
+        for i in (1..list.len()).rev() {
+            list.swap(i, self.index(i + 1));
+        }
+    }
+}

@@ -1,0 +1,151 @@
+//! The model's answers in the library's terms: on a refusal its number and zeros.
+
+use model::Refusal;
+use orlyukan::{
+    Apid, Arrived, Cut, CutPacket, Header, Joined, Kind, Next, Order, Place, Reading, SecondaryApid, SegmentCounter, Sender,
+    SequenceCount, Taken, Which, Written,
+};
+
+fn place(span: model::Span) -> Place {
+    Place { place: span.place.into(), length: span.length.into() }
+}
+
+pub fn values<'a>(h: &Header<'a>) -> model::Values<'a> {
+    model::Values {
+        packet_type: h.packet_type,
+        apid: h.apid.0,
+        sdu: h.sdu,
+        area: h.area,
+        service: h.service,
+        operation: h.operation,
+        area_version: h.area_version,
+        error: h.error,
+        qos: h.qos,
+        session: h.session,
+        secondary_apid: h.secondary_apid.0,
+        qualifier: h.qualifier,
+        transaction: h.transaction,
+        has_source: h.has_source,
+        has_destination: h.has_destination,
+        has_priority: h.has_priority,
+        has_timestamp: h.has_timestamp,
+        has_zone: h.has_zone,
+        has_session_name: h.has_session_name,
+        has_domain: h.has_domain,
+        has_authentication: h.has_authentication,
+        source: h.source,
+        destination: h.destination,
+        priority: h.priority,
+        timestamp: h.timestamp,
+        zone: h.zone,
+        session_name: h.session_name,
+        domain: h.domain,
+        domain_lengths: h.domain_lengths,
+        authentication: h.authentication,
+    }
+}
+
+pub fn reading(t: u64, answer: Result<model::Reading, Refusal>) -> Reading {
+    let r = match answer {
+        Ok(reading) => reading,
+        Err(Refusal(number)) => return Reading { refusal: number.into(), ..Reading::default() },
+    };
+    let has = |k| u64::from(r.has(k));
+    Reading {
+        refusal: 0,
+        packet_type: r.packet_type.into(),
+        apid: Apid(r.apid.into()),
+        flags: r.flags.into(),
+        seq: SequenceCount(r.seq.into()),
+        sdu: r.sdu.into(),
+        area: r.area.into(),
+        service: r.service.into(),
+        operation: r.operation.into(),
+        area_version: r.area_version.into(),
+        error: r.error.into(),
+        qos: r.qos.into(),
+        session: r.session.into(),
+        secondary_apid: SecondaryApid(r.secondary_apid.into()),
+        qualifier: r.qualifier.into(),
+        transaction: r.transaction,
+        has_source: has(0),
+        has_destination: has(1),
+        has_priority: has(2),
+        has_timestamp: has(3),
+        has_zone: has(4),
+        has_session_name: has(5),
+        has_domain: has(6),
+        has_authentication: has(7),
+        source: r.source.into(),
+        destination: r.destination.into(),
+        counter: SegmentCounter(r.counter.into()),
+        priority: r.priority.into(),
+        timestamp: Place { place: r.timestamp.into(), length: t * has(3) },
+        zone: place(r.zone),
+        session_name: place(r.session_name),
+        domain_count: r.domain_count.into(),
+        domain: r.domain.map(place),
+        authentication: place(r.authentication),
+        h: r.h.into(),
+        body: place(r.body),
+    }
+}
+
+pub fn written(answer: Result<usize, Refusal>) -> Written {
+    match answer {
+        Ok(length) => Written { refusal: 0, length: length as u64 },
+        Err(Refusal(number)) => Written { refusal: number.into(), length: 0 },
+    }
+}
+
+pub fn cut(given: Sender, answer: Result<(u64, model::Sender), Refusal>) -> Cut {
+    match answer {
+        Ok((count, after)) => {
+            let counter = after.counter.map_or(Next::NoneLeft, |counter| Next::At(SegmentCounter(counter)));
+            Cut { refusal: 0, count, sender: Sender { seq: SequenceCount(after.seq), counter } }
+        }
+        Err(Refusal(number)) => Cut { refusal: number.into(), count: 0, sender: given },
+    }
+}
+
+pub fn cut_packet(given: Sender, answer: Result<usize, Refusal>) -> CutPacket {
+    let Written { refusal, length } = written(answer);
+    CutPacket { refusal, length, sender: given }
+}
+
+pub fn order(answer: Result<model::Order, Refusal>) -> Order {
+    match answer {
+        Ok(order) => Order { refusal: 0, cells: order.cells as u64 },
+        Err(Refusal(number)) => Order { refusal: number.into(), cells: 0 },
+    }
+}
+
+pub fn arrived(answer: Result<model::Kind, Refusal>) -> Arrived {
+    match answer {
+        Ok(model::Kind::Whole) => Arrived { refusal: 0, kind: Some(Kind::Whole) },
+        Ok(model::Kind::Stored) => Arrived { refusal: 0, kind: Some(Kind::Stored) },
+        Ok(model::Kind::Held) => Arrived { refusal: 0, kind: Some(Kind::Held) },
+        Err(Refusal(number)) => Arrived { refusal: number.into(), kind: None },
+    }
+}
+
+pub fn taken(answer: Result<model::Taken, Refusal>) -> Taken {
+    match answer {
+        Ok(model::Taken { h, b, c }) => Taken { refusal: 0, h: h as u64, b: b as u64, c: SegmentCounter(c.into()) },
+        Err(Refusal(number)) => Taken { refusal: number.into(), ..Taken::default() },
+    }
+}
+
+pub fn joined(answer: Result<model::Joined, Refusal>) -> Joined {
+    let j = match answer {
+        Ok(joined) => joined,
+        Err(Refusal(number)) => return Joined { refusal: number.into(), ..Joined::default() },
+    };
+    let which = match j.which {
+        model::Which::Nothing => Which::Nothing,
+        model::Which::Packet => Which::Packet,
+        model::Which::Joined => Which::Joined,
+    };
+    let c = SegmentCounter(j.c.into());
+    Joined { refusal: 0, which, place: j.place as u64, length: j.length as u64, h: j.h as u64, b: j.b as u64, c }
+}

@@ -1,0 +1,169 @@
+//! Reading, writing and cutting: the library and the model on the same inputs, by chance and at the edges.
+
+use compare::calls::{Calls, Library, Model, Numbers};
+use compare::headers::{self, Owned};
+use compare::packets;
+use compare::random::Random;
+use compare::tally::Tally;
+use orlyukan::{Next, SegmentCounter, Sender, SequenceCount};
+
+const CASES: u64 = 120_000;
+
+#[test]
+fn read() {
+    let (mut r, mut tally) = (Random::new(1), Tally::new("read"));
+    for case in 0..CASES {
+        let t = r.t();
+        let packet = packets::any(&mut r, t);
+        let (ours, theirs) = (Library.read(t, &packet), Model.read(t, &packet));
+        assert_eq!(ours, theirs, "case {case}: T {t}, {packet:02x?}");
+        tally.meet(ours.refusal);
+    }
+    tally.close(&(1..=15).collect::<Vec<u64>>(), CASES);
+}
+
+/// The largest packets, and slices that are too long to be one.
+#[test]
+fn read_long() {
+    for length in [65_534, 65_535, 65_536, 65_541, 65_542, 65_543, 65_549, 131_078, 200_000] {
+        let mut packet = vec![0; length];
+        packet[..27]
+            .copy_from_slice(&[0x18, 5, 0xc0, 0, 0, 0x14, 0, 0, 1, 0, 2, 0, 3, 1, 0x20, 6, 0, 7, 0, 0, 0, 0, 0, 0, 0, 9, 0]);
+        for field in [0xffff, 0xfffe, (length as u64).wrapping_sub(7) as u16, (length as u64).wrapping_sub(6) as u16, 0] {
+            packet[4..6].copy_from_slice(&u16::to_be_bytes(field));
+            assert_eq!(Library.read(8, &packet), Model.read(8, &packet), "{length} octets, length field {field}");
+        }
+    }
+}
+
+/// A header, mostly in range.
+fn header(r: &mut Random, t: u64) -> Owned {
+    let mut header = headers::fitting(r, t);
+    if r.once_in(4) {
+        headers::spoil(r, &mut header);
+    }
+    header
+}
+
+fn numbers(r: &mut Random) -> Numbers {
+    let flags = r.pick(&[0, 1, 2, 3, 3, 3]);
+    let counter = if flags == 3 && !r.once_in(30) { 0 } else { r.bits(32) };
+    let mut n = Numbers { flags, seq: r.bits(14), counter };
+    match r.below(60) {
+        0 => n.flags = r.too_wide(4),
+        1 => n.seq = r.too_wide(16_384),
+        2 => n.counter = r.too_wide(1 << 32),
+        _ => {}
+    }
+    n
+}
+
+#[test]
+fn write() {
+    let (mut r, mut tally) = (Random::new(2), Tally::new("write"));
+    for case in 0..CASES {
+        let t = r.t();
+        let (owned, n) = (header(&mut r, t), numbers(&mut r));
+        let length = match r.below(200) {
+            0 => 65_542 - 27 - r.index(60),
+            1 => 70_000,
+            2..=20 => 0,
+            _ => r.index(50),
+        };
+        let body = r.octets(length);
+        let size = owned.h(t).unwrap_or(40) + 10 + length;
+        let room = r.room(size);
+        let mut ours = r.octets(room);
+        let mut theirs = ours.clone();
+        let given = ours.clone();
+        let answer = Library.write(t, &owned.header(), n, &body, &mut ours);
+        assert_eq!(answer, Model.write(t, &owned.header(), n, &body, &mut theirs), "case {case}: T {t}, {n:?}, {owned:?}");
+        assert_eq!(ours, theirs, "case {case}: T {t}, {n:?}, {owned:?}");
+        assert!(answer.refusal == 0 || ours == given, "case {case}: octets changed on a refusal");
+        tally.meet(answer.refusal);
+    }
+    tally.close(&[12, 13, 14, 15, 21, 22, 23], CASES);
+}
+
+/// A message to cut: T, P, header, the body's length and the sender, near the edges where answers change.
+struct Message {
+    t: u64,
+    p: u64,
+    owned: Owned,
+    body: u64,
+    sender: Sender,
+}
+
+fn message(r: &mut Random) -> Message {
+    let t = r.t();
+    let owned = header(r, t);
+    let h = owned.h(t).unwrap_or(100) as u64;
+    let body = match r.below(40) {
+        0 => 0,
+        1 => r.pick(&[1_048_576, 1_048_577]),
+        2..=6 => r.below(5000),
+        _ => r.below(200),
+    };
+    let p = match r.below(12) {
+        0 => r.pick(&[0, 26, 65_543, 1 << 16, 1 << 32, u64::MAX]),
+        1 => r.pick(&[27, 28, 65_541, 65_542, 1022]),
+        2..=4 => (6 + h + body + r.below(4)).saturating_sub(2),
+        5..=7 => h + 8 + r.below(6),
+        8 | 9 => h + 11 + r.below(30),
+        _ => r.between(27, 400),
+    };
+    let carried = p.saturating_sub(h + 10).max(1);
+    let near = (1u64 << 32).saturating_sub(body.div_ceil(carried));
+    let counter = match r.below(12) {
+        0 => Next::NoneLeft,
+        1..=4 => Next::At(SegmentCounter((near + r.below(5)).saturating_sub(2).min(u64::from(u32::MAX)))),
+        5 => Next::At(SegmentCounter(if r.once_in(3) { r.too_wide(1 << 32) } else { r.bits(32) })),
+        _ => Next::At(SegmentCounter(r.bits(32))),
+    };
+    let seq = if r.once_in(60) { r.too_wide(16_384) } else { r.bits(14) };
+    Message { t, p, owned, body, sender: Sender { seq: SequenceCount(seq), counter } }
+}
+
+#[test]
+fn cut_count() {
+    let (mut r, mut tally) = (Random::new(3), Tally::new("cut_count"));
+    for case in 0..CASES {
+        let mut m = message(&mut r);
+        if r.once_in(100) {
+            m.body = r.pick(&[1 << 20, (1 << 20) + 1, 1 << 32, u64::MAX, u64::MAX - 40]);
+        }
+        let ours = Library.cut_count(m.t, m.p, &m.owned.header(), m.body, m.sender);
+        let theirs = Model.cut_count(m.t, m.p, &m.owned.header(), m.body, m.sender);
+        assert_eq!(ours, theirs, "case {case}: T {}, P {}, B {}, {:?}, {:?}", m.t, m.p, m.body, m.sender, m.owned);
+        tally.meet(ours.refusal);
+    }
+    tally.close(&[12, 13, 15, 22, 23, 24, 25], CASES);
+}
+
+#[test]
+fn cut_packet() {
+    let (mut r, mut tally) = (Random::new(4), Tally::new("cut_packet"));
+    let long = r.octets(1_048_577);
+    for case in 0..CASES {
+        let m = message(&mut r);
+        let given = &long[..m.body as usize];
+        let count = Model.cut_count(m.t, m.p, &m.owned.header(), m.body, m.sender).count;
+        let i = match r.below(8) {
+            0 => r.pick(&[count, count + 1, u64::MAX, 1 << 32]),
+            1 => count.saturating_sub(1),
+            2 => 0,
+            _ => r.below(count.max(1)),
+        };
+        let room = r.room(m.p.min(1500) as usize);
+        let mut ours = r.octets(room);
+        let mut theirs = ours.clone();
+        let before = ours.clone();
+        let answer = Library.cut_packet(m.t, m.p, &m.owned.header(), given, m.sender, i, &mut ours);
+        let expected = Model.cut_packet(m.t, m.p, &m.owned.header(), given, m.sender, i, &mut theirs);
+        assert_eq!(answer, expected, "case {case}: T {}, P {}, B {}, i {i}, {:?}, {:?}", m.t, m.p, m.body, m.sender, m.owned);
+        assert_eq!(ours, theirs, "case {case}: T {}, P {}, B {}, i {i}, {:?}, {:?}", m.t, m.p, m.body, m.sender, m.owned);
+        assert!(answer.refusal == 0 || ours == before, "case {case}: octets changed on a refusal");
+        tally.meet(answer.refusal);
+    }
+    tally.close(&[12, 13, 15, 21, 22, 23, 24, 25, 26], CASES);
+}

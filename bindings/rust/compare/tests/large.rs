@@ -1,0 +1,98 @@
+//! Stores of up to 4,096 cells, with keys that differ in little.
+
+use compare::calls::{Calls, Library, Model};
+use compare::random::Random;
+use orlyukan::{Apid, Header, CELL, CELLS};
+
+const T: u64 = 8;
+
+/// A segment: its transaction id, flags and counter, and a body that tells them.
+fn segment(transaction: u64, flags: u64, counter: u64) -> Vec<u8> {
+    let header = Header { apid: Apid(5), transaction, ..Header::default() };
+    let body = [transaction.to_be_bytes(), counter.to_be_bytes()].concat();
+    let mut out = vec![0; 64];
+    let n = compare::calls::Numbers { flags, seq: counter % 16_384, counter };
+    let size = Model.write(T, &header, n, &body, &mut out).length;
+    out.truncate(size as usize);
+    out
+}
+
+fn store(cells: usize, packets: &[Vec<u8>]) -> Vec<u8> {
+    let mut store = vec![0; cells * CELL];
+    for (cell, packet) in store.chunks_mut(CELL).zip(packets) {
+        cell[..2].copy_from_slice(b"MS");
+        cell[2..2 + packet.len()].copy_from_slice(packet);
+    }
+    store
+}
+
+/// An arrival and then a taking, by both programs.
+fn both(what: &str, given: &[u8], packet: &[u8], room: usize) -> (u64, u64) {
+    let (mut ours, mut theirs) = (given.to_vec(), given.to_vec());
+    let (mut our_out, mut their_out) = (vec![0xee; room], vec![0xee; room]);
+    let arrived = Library.arrive(T, &mut ours, packet);
+    assert_eq!(arrived, Model.arrive(T, &mut theirs, packet), "{what}");
+    assert!(ours == theirs, "{what}: the stores differ after an arrival");
+    let taken = Library.take(T, &mut ours, &mut our_out);
+    assert_eq!(taken, Model.take(T, &mut theirs, &mut their_out), "{what}");
+    assert!(ours == theirs && our_out == their_out, "{what}: the buffers differ after a taking");
+    (arrived.refusal, taken.refusal)
+}
+
+/// The segments of one message, the first and the last where they belong.
+fn message(transaction: u64, count: u64) -> Vec<Vec<u8>> {
+    let flags = |i| match i {
+        0 => 1,
+        _ if i + 1 == count => 2,
+        _ => 0,
+    };
+    (0..count).map(|i| segment(transaction, flags(i), i)).collect()
+}
+
+#[test]
+fn one_message_fills_it() {
+    let mut r = Random::new(41);
+    let all = message(9, CELLS as u64);
+    let room = 23 + CELLS * 16;
+    assert_eq!(both("in order", &store(CELLS, &all), &all[77], room), (0, 0));
+    assert_eq!(both("no room", &store(CELLS, &all), &all[77], room - 1), (0, 21));
+    assert_eq!(both("the last to come", &store(CELLS, &all[..CELLS - 1]), &all[CELLS - 1], room), (0, 0));
+    let mut mixed = all.clone();
+    r.shuffle(&mut mixed);
+    assert_eq!(both("in any order", &store(CELLS, &mixed), &segment(8, 1, 0), room), (19, 0));
+    mixed.swap_remove(1234);
+    assert_eq!(both("one missing", &store(CELLS, &mixed), &all[0], room), (0, 20));
+    assert_eq!(both("a cell too many", &vec![0; (CELLS + 1) * CELL], &all[0], room), (16, 16));
+}
+
+#[test]
+fn near_keys() {
+    let firsts: Vec<Vec<u8>> = (0..CELLS as u64).map(|k| segment(k, 1, 0)).collect();
+    for cells in [32, 256, CELLS] {
+        let full = store(cells, &firsts);
+        assert_eq!(both("held", &full, &firsts[cells - 1], 100), (0, 20));
+        assert_eq!(both("no cell", &full, &segment(9999, 1, 0), 100), (19, 20));
+        assert_eq!(both("contradicts", &full, &segment(7, 2, 0), 100), (18, 20));
+        let mut twice = full.clone();
+        twice.copy_within(0..CELL, (cells - 1) * CELL);
+        assert_eq!(both("twice", &twice, &firsts[3], 100), (16, 16));
+        assert_eq!(both("completes one", &store(cells, &firsts[..cells - 1]), &segment(5, 2, 1), 100), (0, 0));
+    }
+}
+
+/// Many messages at once: each taking picks the one whose first lies in the lowest cell.
+#[test]
+fn many_messages() {
+    let mut r = Random::new(42);
+    let mut packets: Vec<Vec<u8>> = (0..60).flat_map(|k| message(k, 2 + k % 6)).collect();
+    r.shuffle(&mut packets);
+    let (mut ours, mut theirs) = (store(300, &packets), store(300, &packets));
+    let (mut our_out, mut their_out) = (vec![0; 300], vec![0; 300]);
+    for k in 0..61 {
+        let taken = Library.take(T, &mut ours, &mut our_out);
+        assert_eq!(taken, Model.take(T, &mut theirs, &mut their_out));
+        assert!(ours == theirs && our_out == their_out);
+        assert_eq!(taken.refusal, if k < 60 { 0 } else { 20 });
+    }
+    assert!(ours.iter().all(|octet| *octet == 0), "every cell is free again");
+}

@@ -1,0 +1,230 @@
+//! The calls of C as they are: an answer is filled to its last number whatever stood there before, and numbers that the wrappers
+//! can't give are refused.
+
+use std::mem::MaybeUninit;
+
+use compare::calls::{Calls, Library};
+use compare::packets;
+use compare::random::Random;
+use compare::stores;
+use orlyukan::raw::{self, RawAfter, RawCut, RawHeader, RawJoined, RawNumber, RawRecording, RawSender, RawTaken, RawView};
+use orlyukan::{Header, Next, Place, Reading, SegmentCounter, Sender, SequenceCount};
+
+const CASES: u64 = 20_000;
+
+/// An answer with something in each of its numbers. All answers are made of numbers of 64 bits.
+fn spoiled<A>() -> A {
+    let mut answer = MaybeUninit::<A>::uninit();
+    // SAFETY: an answer is made of numbers, for which any octets will do.
+    unsafe {
+        std::ptr::write_bytes(answer.as_mut_ptr(), 0xaa, 1);
+        answer.assume_init()
+    }
+}
+
+#[test]
+fn answers_are_filled() {
+    let mut r = Random::new(31);
+    for case in 0..CASES {
+        let t = r.t();
+        let store = stores::any(&mut r, t);
+        let packet = if r.once_in(2) { packets::any(&mut r, t) } else { stores::arriving(&mut r, t, &store) };
+        let mut reading: Reading = spoiled();
+        unsafe { raw::orl_read(t, packet.as_ptr(), packet.len(), &mut reading) };
+        assert_eq!(reading, Library.read(t, &packet), "case {case}");
+
+        let (mut one, mut other) = (store.octets.clone(), store.octets.clone());
+        let mut arrived: RawNumber = spoiled();
+        unsafe { raw::orl_arrive(t, one.as_mut_ptr(), one.len(), packet.as_ptr(), packet.len(), &mut arrived) };
+        let answer = Library.arrive(t, &mut other, &packet);
+        assert_eq!(arrived, RawNumber { refusal: answer.refusal, number: answer.kind.map_or(0, |kind| kind as u64 + 1) });
+
+        let (mut out, mut second) = (vec![0; 3000], vec![0; 3000]);
+        let mut taken: RawTaken = spoiled();
+        unsafe { raw::orl_take(t, one.as_mut_ptr(), one.len(), out.as_mut_ptr(), out.len(), &mut taken) };
+        let answer = Library.take(t, &mut other, &mut second);
+        assert_eq!(taken, RawTaken { refusal: answer.refusal, h: answer.h, b: answer.b, c: answer.c.0 });
+
+        let mut joined: RawJoined = spoiled();
+        let (to, room) = (out.as_mut_ptr(), out.len());
+        unsafe { raw::orl_join(t, one.as_mut_ptr(), one.len(), packet.as_ptr(), packet.len(), to, room, &mut joined) };
+        let a = Library.join(t, &mut other, &packet, &mut second);
+        let which = a.which as u64;
+        let expected = RawJoined { refusal: a.refusal, which, place: a.place, length: a.length, h: a.h, b: a.b, c: a.c.0 };
+        assert_eq!(joined, expected, "case {case}");
+        assert!(one == other && out == second, "case {case}: buffers differ");
+
+        let mut order: RawNumber = spoiled();
+        unsafe { raw::orl_in_order(t, one.as_ptr(), one.len(), &mut order) };
+        let answer = Library.in_order(t, &one);
+        assert_eq!(order, RawNumber { refusal: answer.refusal, number: answer.cells });
+    }
+}
+
+/// Figure 14's header, for the raw calls.
+fn figure_14() -> RawHeader {
+    RawHeader {
+        packet_type: 1,
+        apid: 5,
+        area: 1,
+        service: 2,
+        operation: 3,
+        area_version: 1,
+        qos: 1,
+        secondary_apid: 6,
+        qualifier: 7,
+        transaction: 9,
+        ..RawHeader::default()
+    }
+}
+
+#[rustfmt::skip]
+fn raw_count(sender: RawSender) -> RawCut {
+    let (none, lengths, mut answer) = ([0u8; 1], [0u64; 1], spoiled::<RawCut>());
+    let e = none.as_ptr();
+    // SAFETY: pointers to what is there, with length 0.
+    unsafe { raw::orl_cut_count(8, 64, &figure_14(), e, 0, e, 0, e, 0, e, 0, lengths.as_ptr(), 0, e, 0, 38, &sender, &mut answer) };
+    answer
+}
+
+#[rustfmt::skip]
+fn raw_packet(sender: RawSender, i: u64, out: &mut [u8]) -> RawCut {
+    let (none, lengths, mut answer) = ([0u8; 38], [0u64; 1], spoiled::<RawCut>());
+    let e = none.as_ptr();
+    // SAFETY: pointers to what is there, with length 0 or the body's 38 octets.
+    unsafe {
+        raw::orl_cut_packet(8, 64, &figure_14(), e, 0, e, 0, e, 0, e, 0, lengths.as_ptr(), 0, e, 0, e, 38, &sender, i,
+            out.as_mut_ptr(), out.len(), &mut answer);
+    }
+    answer
+}
+
+/// A sender is out of range by its sequence count, its counter, its flag, or a counter beside a flag that says that none is left.
+#[test]
+fn senders() {
+    let fits = |s: RawSender| s.seq < 16_384 && s.counter <= u64::from(u32::MAX) && s.has_counter <= 1;
+    let (mut met, mut out) = ([0u64; 32], vec![0; 64]);
+    for seq in [0, 16_382, 16_383, 16_384, 65_535, 65_536, 1 << 32, u64::MAX] {
+        for has_counter in [0, 1, 2, 256, u64::MAX] {
+            for counter in [0, 1, 4_294_967_293, 4_294_967_294, 4_294_967_295, 1 << 32, u64::MAX] {
+                let given = RawSender { seq, has_counter, counter };
+                let plain = fits(given) && (has_counter == 1 || counter == 0);
+                let counted = raw_count(given);
+                let written = raw_packet(given, 0, &mut out);
+                met[counted.refusal as usize] += 1;
+                let expected = if !plain {
+                    RawCut { refusal: 22, number: 0, sender: given }
+                } else if has_counter == 0 || counter > 4_294_967_294 {
+                    RawCut { refusal: 25, number: 0, sender: given }
+                } else {
+                    let left = u64::from(counter < 4_294_967_294);
+                    let after = RawSender { seq: (seq + 2) % 16_384, has_counter: left, counter: left * (counter + 2) };
+                    RawCut { refusal: 0, number: 2, sender: after }
+                };
+                assert_eq!(counted, expected, "{given:?}");
+                assert_eq!((written.refusal, written.sender), (expected.refusal, given), "{given:?}");
+            }
+        }
+    }
+    assert!(met[0] > 0 && met[22] > 0 && met[25] > 0, "{met:?}");
+}
+
+/// A sender after one packet or one segment, and a sequence count alone: 22 above 16 bits, else on to the next, which is always below
+/// 16,384.
+#[test]
+fn moving_on() {
+    let mut r = Random::new(32);
+    for _ in 0..100_000 {
+        let seq = if r.once_in(5) { r.too_wide(16_384) } else { r.bits(17) };
+        let next = if seq >= 16_383 { 0 } else { seq + 1 };
+        let mut answer: RawNumber = spoiled();
+        unsafe { raw::orl_next_sequence_count(seq, &mut answer) };
+        let wide = seq > 65_535;
+        assert_eq!(answer, if wide { RawNumber { refusal: 22, number: 0 } } else { RawNumber { refusal: 0, number: next } });
+
+        let counter = if r.once_in(9) { r.too_wide(1 << 32) } else { r.bits(32) };
+        let has_counter = r.pick(&[0, 1, 1, 1, 2]);
+        let counter = if has_counter == 0 && !r.once_in(8) { 0 } else { counter };
+        let given = RawSender { seq, has_counter, counter };
+        let bad = wide || has_counter > 1 || counter > u64::from(u32::MAX) || (has_counter == 0 && counter != 0);
+        let last = counter == u64::from(u32::MAX);
+        let (mut packet, mut segment): (RawAfter, RawAfter) = (spoiled(), spoiled());
+        unsafe {
+            raw::orl_after_packet(&given, &mut packet);
+            raw::orl_after_segment(&given, &mut segment);
+        }
+        if bad {
+            assert_eq!([packet, segment], [RawAfter { refusal: 22, sender: given }; 2]);
+            continue;
+        }
+        assert_eq!(packet, RawAfter { refusal: 0, sender: RawSender { seq: next, has_counter, counter } });
+        let left = has_counter * u64::from(!last);
+        let after = RawSender { seq: next, has_counter: left, counter: left * (counter + 1) };
+        assert_eq!(segment, RawAfter { refusal: 0, sender: after }, "{given:?}");
+    }
+}
+
+/// A buffer's number above 2 is 22; place and length are told only where they lie inside.
+#[test]
+fn views() {
+    let (packet, joined) = ([1u8; 5], [2u8; 9]);
+    for which in [0, 1, 2, 3, 255, 256, 257, 1 << 32, u64::MAX] {
+        for place in [0, 1, 4, 5, 6, 9, 10, u64::MAX] {
+            for length in [0, 1, 4, 5, 9, 10, u64::MAX] {
+                let mut answer: RawView = spoiled();
+                unsafe { raw::orl_view(packet.as_ptr(), 5, joined.as_ptr(), 9, which, place, length, &mut answer) };
+                let size: u128 = [0, 5, 9].get(which as usize).copied().unwrap_or(0);
+                let inside = u128::from(place) + u128::from(length) <= size;
+                let part = if which <= 2 && inside && size > 0 { Place { place, length } } else { Place::default() };
+                let refusal = if which > 2 { 22 } else { 0 };
+                assert_eq!(answer, RawView { refusal, part }, "{which} {place} {length}");
+            }
+        }
+    }
+}
+
+/// 21 where the output is shorter than the recording; and why a recording stopped.
+#[test]
+fn recordings() {
+    let header = Header { packet_type: 1, ..Header::default() };
+    let mut packet = vec![0; 100];
+    let size = Library.write(8, &header, compare::calls::Numbers { flags: 3, seq: 0, counter: 0 }, b"tile", &mut packet).length;
+    let whole = [b"MP", &packet[..size as usize]].concat();
+    let n = whole.len();
+    let cases: [(Vec<u8>, usize, u64); 8] = [
+        (whole.clone(), n, 1),
+        (vec![], 0, 1),
+        ([&whole[..], b"x"].concat(), n, 2),
+        ([&whole[..], b"MS", &whole].concat(), n, 2),
+        ([&whole[..], b"M"].concat(), n, 3),
+        ([&whole[..], b"MP"].concat(), n, 3),
+        ([&whole[..], &whole[..n - 1]].concat(), n, 3),
+        ([&whole[..], &whole[..7]].concat(), n, 3),
+    ];
+    for (recording, place, stop) in cases {
+        let mut out = vec![0xee; recording.len() + 3];
+        let mut answer: RawRecording = spoiled();
+        unsafe { raw::orl_join_recording(recording.as_ptr(), recording.len(), out.as_mut_ptr(), recording.len(), &mut answer) };
+        let written = if recording.is_empty() { 0 } else { n as u64 };
+        assert_eq!(answer, RawRecording { refusal: 0, written, place: place as u64, stop }, "{recording:02x?}");
+        assert!(out[written as usize..].iter().all(|octet| *octet == 0xee), "octets behind the output changed");
+        if let Some(short) = recording.len().checked_sub(1) {
+            let mut out = vec![0xee; short];
+            unsafe { raw::orl_join_recording(recording.as_ptr(), recording.len(), out.as_mut_ptr(), short, &mut answer) };
+            assert_eq!(answer, RawRecording { refusal: 21, ..RawRecording::default() });
+            assert!(out.iter().all(|octet| *octet == 0xee), "octets changed on a refusal");
+        }
+    }
+}
+
+/// The wrappers tell a sender as it is.
+#[test]
+fn wrapped_senders() {
+    let at = |counter| Next::At(SegmentCounter(counter));
+    let sender = |seq, counter| Sender { seq: SequenceCount(seq), counter };
+    assert_eq!(orlyukan::next_sequence_count(SequenceCount(16_383)), SequenceCount(0));
+    assert_eq!(orlyukan::after_packet(sender(7, at(5))), Ok(sender(8, at(5))));
+    assert_eq!(orlyukan::after_segment(sender(16_383, at(4_294_967_295))), Ok(sender(0, Next::NoneLeft)));
+    assert_eq!(orlyukan::after_segment(sender(1, Next::NoneLeft)), Ok(sender(2, Next::NoneLeft)));
+    assert_eq!(orlyukan::after_segment(sender(1 << 20, at(0))), Err(orlyukan::Refusal(22)));
+}

@@ -1,0 +1,69 @@
+//! Cutting a message into packets of at most P octets.
+
+use crate::values::{hold, test_timestamp, Refusal, Sender, Values};
+use crate::write::{header_size, lay, test_values, Sequence};
+use crate::{CONTINUATION, FIRST, HEADER_LIMIT, LAST, PACKET_LIMIT, PRIMARY, SEQUENCE_COUNTS, UNSEGMENTED};
+
+/// The largest message body.
+const BODY_LIMIT: u64 = 1_048_576;
+/// The last counter.
+const LAST_COUNTER: u64 = u32::MAX as u64;
+
+/// How a message is cut.
+struct Plan {
+    header: usize,
+    /// How many packets: 1 is one unsegmented packet.
+    count: u64,
+    /// The body octets of each packet but the last.
+    carried: usize,
+}
+
+/// 15 to 25, in their order.
+fn plan(t: u64, p: u64, v: &Values, body: u64, sender: Sender) -> Result<Plan, Refusal> {
+    let t = test_timestamp(t)?;
+    hold((27..=PACKET_LIMIT as u64).contains(&p), 15)?;
+    hold(sender.seq < SEQUENCE_COUNTS && sender.counter.unwrap_or(0) <= LAST_COUNTER, 22)?;
+    test_values(t, v)?;
+    hold(body <= BODY_LIMIT, 23)?;
+    let header = header_size(v);
+    if (PRIMARY + header) as u64 + body <= p {
+        hold(header <= HEADER_LIMIT, 12)?;
+        return Ok(Plan { header, count: 1, carried: body as usize });
+    }
+    hold(header + 4 <= HEADER_LIMIT, 12)?;
+    let carried = (p as usize).checked_sub(header + 10).filter(|c| *c > 0).ok_or(Refusal(24))?;
+    let count = body.div_ceil(carried as u64);
+    let start = sender.counter.ok_or(Refusal(25))?;
+    hold(start + (count - 1) <= LAST_COUNTER, 25)?;
+    Ok(Plan { header, count, carried })
+}
+
+/// How many packets a message takes, and the sender's two numbers behind it.
+pub fn count(t: u64, p: u64, v: &Values, body: u64, sender: Sender) -> Result<(u64, Sender), Refusal> {
+    let plan = plan(t, p, v, body, sender)?;
+    let segments = if plan.count == 1 { 0 } else { plan.count };
+    let counter = sender.counter.map(|start| start + segments).filter(|next| *next <= LAST_COUNTER);
+    let seq = (sender.seq + plan.count) % SEQUENCE_COUNTS;
+    Ok((plan.count, Sender { seq, counter }))
+}
+
+/// Writes packet number i of a message over the front of an output: the octets it took.
+pub fn packet(t: u64, p: u64, v: &Values, body: &[u8], sender: Sender, i: u64, out: &mut [u8]) -> Result<usize, Refusal> {
+    let plan = plan(t, p, v, body.len() as u64, sender)?;
+    hold(i < plan.count, 26)?;
+    let from = i as usize * plan.carried;
+    let to = (from + plan.carried).min(body.len());
+    let flags = match i {
+        0 if plan.count == 1 => UNSEGMENTED,
+        0 => FIRST,
+        _ if i + 1 == plan.count => LAST,
+        _ => CONTINUATION,
+    };
+    let counted = if flags == UNSEGMENTED { 0 } else { 4 };
+    let size = PRIMARY + plan.header + counted + (to - from);
+    let out = out.get_mut(..size).ok_or(Refusal(21))?;
+    let seq = ((sender.seq + i) % SEQUENCE_COUNTS) as u16;
+    let counter = (sender.counter.unwrap_or(0) + i) as u32;
+    lay(v, Sequence { flags, seq, counter }, &body[from..to], out);
+    Ok(size)
+}

@@ -1,0 +1,213 @@
+//! Reading one packet.
+
+use crate::values::{hold, test_timestamp, Refusal};
+use crate::varint::varint_step;
+use crate::{HEADER_LIMIT, PARTS, PRIMARY, UNSEGMENTED};
+
+/// A place in the packet, counted from its first octet, and a length.
+#[derive(Clone, Copy, Debug, Default, PartialEq, Eq)]
+pub struct Span {
+    pub place: u32,
+    pub length: u32,
+}
+
+/// All that a packet says. The value of an absent field is zero.
+#[derive(Clone, Copy, Debug, Default, PartialEq, Eq)]
+pub struct Reading {
+    pub packet_type: u8,
+    pub apid: u16,
+    pub flags: u8,
+    pub seq: u16,
+    pub sdu: u8,
+    pub area: u16,
+    pub service: u16,
+    pub operation: u16,
+    pub area_version: u8,
+    pub error: u8,
+    pub qos: u8,
+    pub session: u8,
+    pub secondary_apid: u16,
+    pub qualifier: u16,
+    pub transaction: u64,
+    /// The eight presence flags as they stand in their octet, source id highest.
+    pub presence: u8,
+    pub source: u8,
+    pub destination: u8,
+    pub counter: u32,
+    pub priority: u32,
+    /// The timestamp's place; its length is T.
+    pub timestamp: u32,
+    pub zone: Span,
+    pub session_name: Span,
+    pub domain_count: u8,
+    pub domain: [Span; PARTS],
+    pub authentication: Span,
+    /// The secondary header's length without a counter.
+    pub h: u16,
+    pub body: Span,
+}
+
+impl Reading {
+    /// Whether field number k behind the fixed part is there: 0 source id, 1 destination id, and so on to 7, authentication id.
+    pub fn has(&self, k: u32) -> bool {
+        self.presence & (0x80 >> k) != 0
+    }
+}
+
+/// The data field behind the fixed part, walked from left to right.
+struct Walk<'a> {
+    packet: &'a [u8],
+    at: usize,
+}
+
+/// The place behind the last octet that a secondary header may have.
+const LIMIT: usize = PRIMARY + HEADER_LIMIT;
+
+impl Walk<'_> {
+    /// A content of a known length, tested whole for 12 and then whole for 6: its place.
+    fn content(&mut self, length: usize) -> Result<Span, Refusal> {
+        let (place, end) = (self.at, self.at + length);
+        hold(end <= LIMIT, 12)?;
+        hold(end <= self.packet.len(), 6)?;
+        self.at = end;
+        Ok(Span { place: place as u32, length: length as u32 })
+    }
+
+    fn octet(&mut self) -> Result<u8, Refusal> {
+        hold(self.at < LIMIT, 12)?;
+        let octet = *self.packet.get(self.at).ok_or(Refusal(6))?;
+        self.at += 1;
+        Ok(octet)
+    }
+
+    fn counter(&mut self) -> Result<u32, Refusal> {
+        let mut value = 0;
+        for _ in 0..4 {
+            value = value << 8 | u32::from(self.octet()?);
+        }
+        Ok(value)
+    }
+
+    fn varint(&mut self) -> Result<u32, Refusal> {
+        let first = self.octet()?;
+        let (mut value, mut ends) = varint_step(0, 0, first)?;
+        let mut k = 1;
+        while !ends {
+            (value, ends) = varint_step(value, k, self.octet()?)?;
+            k += 1;
+        }
+        Ok(value)
+    }
+
+    /// A length and that many octets.
+    fn text(&mut self) -> Result<Span, Refusal> {
+        let length = self.varint()?;
+        self.content(length as usize)
+    }
+
+    /// A count of parts, then each with its presence octet.
+    fn domain(&mut self, parts: &mut [Span; PARTS]) -> Result<u8, Refusal> {
+        let count = self.varint()?;
+        hold(count as usize <= PARTS, 13)?;
+        for part in &mut parts[..count as usize] {
+            hold(self.octet()? == 1, 11)?;
+            *part = self.text()?;
+        }
+        Ok(count as u8)
+    }
+}
+
+fn number16(octets: &[u8; 21], at: usize) -> u16 {
+    u16::from_be_bytes([octets[at], octets[at + 1]])
+}
+
+/// The primary header: 1 to 5.
+fn read_primary(packet: &[u8], r: &mut Reading) -> Result<(), Refusal> {
+    let primary: &[u8; PRIMARY] = packet.first_chunk().ok_or(Refusal(1))?;
+    let id = u16::from_be_bytes([primary[0], primary[1]]);
+    let sequence = u16::from_be_bytes([primary[2], primary[3]]);
+    let length = u16::from_be_bytes([primary[4], primary[5]]);
+    hold(id >> 13 == 0, 2)?;
+    hold(id & 0x0800 != 0, 3)?;
+    hold(id & 0x07ff != 2047, 4)?;
+    hold(packet.len() == usize::from(length) + 7, 5)?;
+    r.packet_type = (id >> 12 & 1) as u8;
+    r.apid = id & 0x07ff;
+    r.flags = (sequence >> 14) as u8;
+    r.seq = sequence & 0x3fff;
+    Ok(())
+}
+
+/// The fixed part of the secondary header. A value is judged as soon as its octet is there, so 7, 8 and 9 may come before 6.
+fn read_fixed(data: &[u8], r: &mut Reading) -> Result<(), Refusal> {
+    if let Some(first) = data.first() {
+        hold(first >> 5 == 0, 7)?;
+        hold(first & 0x1f <= 21, 8)?;
+    }
+    if let Some(ninth) = data.get(8) {
+        hold(ninth >> 3 & 3 != 3, 9)?;
+    }
+    let fixed: &[u8; 21] = data.first_chunk().ok_or(Refusal(6))?;
+    r.sdu = fixed[0] & 0x1f;
+    r.area = number16(fixed, 1);
+    r.service = number16(fixed, 3);
+    r.operation = number16(fixed, 5);
+    r.area_version = fixed[7];
+    let mixed = number16(fixed, 8);
+    r.error = (mixed >> 15) as u8;
+    r.qos = (mixed >> 13 & 3) as u8;
+    r.session = (mixed >> 11 & 3) as u8;
+    r.secondary_apid = mixed & 0x07ff;
+    r.qualifier = number16(fixed, 10);
+    let (_, rest) = fixed.split_at(12);
+    r.transaction = u64::from_be_bytes(*rest.first_chunk().expect("nine octets"));
+    r.presence = fixed[20];
+    Ok(())
+}
+
+/// What stands behind the fixed part, each field only if present.
+fn read_optional(t: usize, walk: &mut Walk, r: &mut Reading) -> Result<(), Refusal> {
+    if r.has(0) {
+        r.source = walk.octet()?;
+    }
+    if r.has(1) {
+        r.destination = walk.octet()?;
+    }
+    if r.flags != UNSEGMENTED {
+        r.counter = walk.counter()?;
+    }
+    if r.has(2) {
+        r.priority = walk.varint()?;
+    }
+    if r.has(3) {
+        r.timestamp = walk.content(t)?.place;
+    }
+    if r.has(4) {
+        r.zone = walk.text()?;
+    }
+    if r.has(5) {
+        r.session_name = walk.text()?;
+    }
+    if r.has(6) {
+        r.domain_count = walk.domain(&mut r.domain)?;
+    }
+    if r.has(7) {
+        r.authentication = walk.text()?;
+    }
+    Ok(())
+}
+
+/// Reads one packet under T: every value, place and length, or the refusal that comes first.
+pub fn read(t: u64, packet: &[u8]) -> Result<Reading, Refusal> {
+    let t = test_timestamp(t)?;
+    let mut r = Reading::default();
+    read_primary(packet, &mut r)?;
+    read_fixed(&packet[PRIMARY..], &mut r)?;
+    let mut walk = Walk { packet, at: PRIMARY + 21 };
+    read_optional(t, &mut walk, &mut r)?;
+    let counted = if r.flags == UNSEGMENTED { 0 } else { 4 };
+    hold(counted == 0 || walk.at < packet.len(), 14)?;
+    r.h = (walk.at - PRIMARY - counted) as u16;
+    r.body = Span { place: walk.at as u32, length: (packet.len() - walk.at) as u32 };
+    Ok(r)
+}

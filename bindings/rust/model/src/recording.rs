@@ -1,0 +1,167 @@
+//! The small program: the messages of a recording, with T 8 and 32 cells.
+//!
+//! The recording lies in memory, so a cell is a segment's place in it and nothing is copied until a message is complete. A message
+//! goes out as soon as it is complete, so the only one that can be complete is the one to which the last arrival belongs.
+
+use crate::read::read;
+use crate::segment::Segment;
+use crate::store::whole;
+use crate::{FIRST, LAST, UNSEGMENTED};
+
+const T: u64 = 8;
+const ROOMS: usize = 32;
+const PACKET_MARK: [u8; 2] = [0x4d, 0x50];
+const MESSAGE_MARK: [u8; 2] = [0x4d, 0x4d];
+/// The largest packet that is not passed over, and the largest that a cell holds.
+const MOST: usize = 32_768;
+const MOST_HELD: usize = 1022;
+
+/// The cells; the counters stand apart, to be looked through quickly.
+struct Rooms<'a> {
+    held: [Option<Segment<'a>>; ROOMS],
+    counters: [u32; ROOMS],
+}
+
+impl<'a> Rooms<'a> {
+    fn find(&self, like: &Segment, counter: u32) -> Option<usize> {
+        (0..ROOMS).find(|i| self.counters[*i] == counter && self.held[*i].is_some_and(|s| s.same_key(like)))
+    }
+
+    fn held(&self, room: usize) -> Segment<'a> {
+        self.held[room].expect("a room that was found")
+    }
+
+    /// Puts a new segment into the lowest free cell: whether the segment is held now, by this or from before.
+    fn arrive(&mut self, segment: Segment<'a>) -> bool {
+        if let Some(room) = self.find(&segment, segment.counter) {
+            return self.held(room).same_rest(&segment);
+        }
+        let Some(free) = self.held.iter().position(Option::is_none) else { return false };
+        self.held[free] = Some(segment);
+        self.counters[free] = segment.counter;
+        true
+    }
+
+    /// The neighbour of a segment, one counter up or down.
+    fn beside(&self, s: &Segment, up: bool) -> Option<usize> {
+        let counter = if up { s.counter.checked_add(1) } else { s.counter.checked_sub(1) };
+        counter.and_then(|counter| self.find(s, counter))
+    }
+
+    /// From a segment on, up to the last or down to the first of its run: its rooms, or nothing where one is missing.
+    fn side(&self, from: Segment<'a>, up: bool) -> Option<Vec<usize>> {
+        let (end, other) = if up { (LAST, FIRST) } else { (FIRST, LAST) };
+        let (mut rooms, mut s) = (Vec::new(), from);
+        while s.flags != end {
+            let room = self.beside(&s, up)?;
+            s = self.held(room);
+            if s.flags == other {
+                return None;
+            }
+            rooms.push(room);
+        }
+        Some(rooms)
+    }
+
+    /// The rooms of the complete message to which a held segment belongs.
+    fn message(&self, s: &Segment<'a>) -> Option<Vec<usize>> {
+        if s.flags != LAST {
+            self.beside(s, true)?;
+        }
+        if s.flags != FIRST {
+            self.beside(s, false)?;
+        }
+        let mut rooms = self.side(*s, false)?;
+        rooms.reverse();
+        rooms.push(self.find(s, s.counter)?);
+        rooms.extend(self.side(*s, true)?);
+        Some(rooms)
+    }
+
+    /// Writes a complete message and frees its rooms.
+    fn hand_out(&mut self, rooms: &[usize], out: &mut Vec<u8>) {
+        let first = self.held(rooms[0]);
+        let body: usize = rooms.iter().map(|room| self.held(*room).body().len()).sum();
+        let (before, behind) = first.header();
+        begin(2 + first.h() + body, out);
+        out.extend_from_slice(first.id());
+        out.extend_from_slice(before);
+        out.extend_from_slice(behind);
+        for room in rooms {
+            out.extend_from_slice(self.held(*room).body());
+            self.held[*room] = None;
+        }
+    }
+}
+
+/// The mark and the length of a message.
+fn begin(length: usize, out: &mut Vec<u8>) {
+    out.extend_from_slice(&MESSAGE_MARK);
+    out.extend_from_slice(&(length as u32).to_be_bytes());
+}
+
+/// The next packet of a recording and what stands behind it, while a whole mark and packet follow.
+fn next_packet(recording: &[u8]) -> Option<(&[u8], &[u8])> {
+    let behind = recording.strip_prefix(&PACKET_MARK)?;
+    let primary: &[u8; 6] = behind.first_chunk()?;
+    behind.split_at_checked(usize::from(u16::from_be_bytes([primary[4], primary[5]])) + 7)
+}
+
+/// All messages of a recording, each after its mark and its length.
+pub fn join_recording(recording: &[u8]) -> Vec<u8> {
+    let mut out = Vec::with_capacity(recording.len());
+    join_recording_into(recording, &mut out);
+    out
+}
+
+/// The same, behind what stands in the output already.
+pub fn join_recording_into(recording: &[u8], out: &mut Vec<u8>) {
+    let mut rooms = Rooms { held: [None; ROOMS], counters: [0; ROOMS] };
+    let mut rest = recording;
+    while let Some((packet, behind)) = next_packet(rest) {
+        rest = behind;
+        if packet.len() > MOST {
+            continue;
+        }
+        let Ok(reading) = read(T, packet) else { continue };
+        if reading.flags == UNSEGMENTED {
+            let (id, data) = whole(packet);
+            begin(id.len() + data.len(), out);
+            out.extend_from_slice(id);
+            out.extend_from_slice(data);
+        } else if packet.len() <= MOST_HELD {
+            let segment = Segment::new(packet, &reading);
+            if rooms.arrive(segment) {
+                if let Some(message) = rooms.message(&segment) {
+                    rooms.hand_out(&message, out);
+                }
+            }
+        }
+    }
+}
+
+/// Why a recording ends where it does.
+#[derive(Clone, Copy, Debug, PartialEq, Eq)]
+pub enum Stop {
+    /// No octet is left.
+    Ended,
+    /// What is left does not begin as a mark does.
+    Unmarked,
+    /// A mark and packet begin and are not whole.
+    Torn,
+}
+
+/// Where the last whole packet of a recording ends, and why no other follows.
+pub fn recording_end(recording: &[u8]) -> (usize, Stop) {
+    let mut rest = recording;
+    while let Some((_, behind)) = next_packet(rest) {
+        rest = behind;
+    }
+    let begins = rest.iter().zip(PACKET_MARK).all(|(octet, mark)| *octet == mark);
+    let stop = match rest {
+        [] => Stop::Ended,
+        _ if begins => Stop::Torn,
+        _ => Stop::Unmarked,
+    };
+    (recording.len() - rest.len(), stop)
+}

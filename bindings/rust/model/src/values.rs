@@ -1,0 +1,62 @@
+//! What is lent to the writing calls, and what all calls answer on a refusal.
+
+/// The number of a refusal, from document 01's table.
+#[derive(Clone, Copy, Debug, PartialEq, Eq)]
+pub struct Refusal(pub u8);
+
+/// A header's values to write or to cut. Numbers are wider than their fields, so that a value out of range can be given.
+#[derive(Clone, Copy, Debug, Default)]
+pub struct Values<'a> {
+    pub packet_type: u64,
+    pub apid: u64,
+    pub sdu: u64,
+    pub area: u64,
+    pub service: u64,
+    pub operation: u64,
+    pub area_version: u64,
+    pub error: u64,
+    pub qos: u64,
+    pub session: u64,
+    pub secondary_apid: u64,
+    pub qualifier: u64,
+    pub transaction: u64,
+    pub has_source: u64,
+    pub has_destination: u64,
+    pub has_priority: u64,
+    pub has_timestamp: u64,
+    pub has_zone: u64,
+    pub has_session_name: u64,
+    pub has_domain: u64,
+    pub has_authentication: u64,
+    pub source: u64,
+    pub destination: u64,
+    pub priority: u64,
+    pub timestamp: &'a [u8],
+    pub zone: &'a [u8],
+    pub session_name: &'a [u8],
+    pub domain: &'a [u8],
+    pub domain_lengths: &'a [u64],
+    pub authentication: &'a [u8],
+}
+
+/// A sender's two running numbers. The counter is `None` where none is left.
+#[derive(Clone, Copy, Debug, PartialEq, Eq)]
+pub struct Sender {
+    pub seq: u64,
+    pub counter: Option<u64>,
+}
+
+/// `Err` with this number unless the test holds.
+pub(crate) fn hold(test: bool, number: u8) -> Result<(), Refusal> {
+    if test {
+        Ok(())
+    } else {
+        Err(Refusal(number))
+    }
+}
+
+/// T is 1 to 16 octets, in every call that takes it.
+pub(crate) fn test_timestamp(t: u64) -> Result<usize, Refusal> {
+    hold((1..=16).contains(&t), 15)?;
+    Ok(t as usize)
+}

@@ -1,0 +1,165 @@
+//! What the calls answer.
+
+use crate::header::{Apid, SecondaryApid, SegmentCounter, Sender, SequenceCount};
+
+/// The number of a refusal, from document 01's table.
+#[derive(Clone, Copy, Debug, PartialEq, Eq)]
+pub struct Refusal(pub u64);
+
+impl std::fmt::Display for Refusal {
+    fn fmt(&self, f: &mut std::fmt::Formatter) -> std::fmt::Result {
+        write!(f, "refusal {}", self.0)
+    }
+}
+
+impl std::error::Error for Refusal {}
+
+/// An answer that may be a refusal.
+pub trait Answer: Sized {
+    fn refusal(&self) -> u64;
+
+    /// The answer where the call succeeded, else the refusal alone.
+    fn accepted(self) -> Result<Self, Refusal> {
+        match self.refusal() {
+            0 => Ok(self),
+            number => Err(Refusal(number)),
+        }
+    }
+}
+
+/// A place in a packet or a buffer, counted from its first octet, and a length.
+#[repr(C)]
+#[derive(Clone, Copy, Debug, Default, PartialEq, Eq)]
+pub struct Place {
+    pub place: u64,
+    pub length: u64,
+}
+
+/// All that a packet says. The value of an absent field is zero.
+#[repr(C)]
+#[derive(Clone, Copy, Debug, Default, PartialEq, Eq)]
+pub struct Reading {
+    pub refusal: u64,
+    pub packet_type: u64,
+    pub apid: Apid,
+    pub flags: u64,
+    pub seq: SequenceCount,
+    pub sdu: u64,
+    pub area: u64,
+    pub service: u64,
+    pub operation: u64,
+    pub area_version: u64,
+    pub error: u64,
+    pub qos: u64,
+    pub session: u64,
+    pub secondary_apid: SecondaryApid,
+    pub qualifier: u64,
+    pub transaction: u64,
+    pub has_source: u64,
+    pub has_destination: u64,
+    pub has_priority: u64,
+    pub has_timestamp: u64,
+    pub has_zone: u64,
+    pub has_session_name: u64,
+    pub has_domain: u64,
+    pub has_authentication: u64,
+    pub source: u64,
+    pub destination: u64,
+    pub counter: SegmentCounter,
+    pub priority: u64,
+    pub timestamp: Place,
+    pub zone: Place,
+    pub session_name: Place,
+    pub domain_count: u64,
+    pub domain: [Place; 16],
+    pub authentication: Place,
+    pub h: u64,
+    pub body: Place,
+}
+
+/// The octets that a written packet took.
+#[derive(Clone, Copy, Debug, Default, PartialEq, Eq)]
+pub struct Written {
+    pub refusal: u64,
+    pub length: u64,
+}
+
+/// How many packets a message takes, and the sender behind it; on a refusal the sender as it was given.
+#[derive(Clone, Copy, Debug, PartialEq, Eq)]
+pub struct Cut {
+    pub refusal: u64,
+    pub count: u64,
+    pub sender: Sender,
+}
+
+/// The octets that packet i of a message took, and the sender, who does not move.
+#[derive(Clone, Copy, Debug, PartialEq, Eq)]
+pub struct CutPacket {
+    pub refusal: u64,
+    pub length: u64,
+    pub sender: Sender,
+}
+
+/// What an arrival came to.
+#[derive(Clone, Copy, Debug, PartialEq, Eq)]
+pub enum Kind {
+    Whole,
+    Stored,
+    Held,
+}
+
+/// An arrival's answer; no kind on a refusal.
+#[derive(Clone, Copy, Debug, PartialEq, Eq)]
+pub struct Arrived {
+    pub refusal: u64,
+    pub kind: Option<Kind>,
+}
+
+/// A taking's answer.
+#[derive(Clone, Copy, Debug, Default, PartialEq, Eq)]
+pub struct Taken {
+    pub refusal: u64,
+    pub h: u64,
+    pub b: u64,
+    pub c: SegmentCounter,
+}
+
+/// Which buffer holds a body.
+#[derive(Clone, Copy, Debug, Default, PartialEq, Eq)]
+pub enum Which {
+    #[default]
+    Nothing,
+    Packet,
+    Joined,
+}
+
+/// A joining's answer: where the body stands, and for a joined one also taking's answer.
+#[derive(Clone, Copy, Debug, Default, PartialEq, Eq)]
+pub struct Joined {
+    pub refusal: u64,
+    pub which: Which,
+    pub place: u64,
+    pub length: u64,
+    pub h: u64,
+    pub b: u64,
+    pub c: SegmentCounter,
+}
+
+/// How many cells a store in order has.
+#[derive(Clone, Copy, Debug, Default, PartialEq, Eq)]
+pub struct Order {
+    pub refusal: u64,
+    pub cells: u64,
+}
+
+macro_rules! answers {
+    ($($name:ty),*) => {
+        $(impl Answer for $name {
+            fn refusal(&self) -> u64 {
+                self.refusal
+            }
+        })*
+    };
+}
+
+answers!(Reading, Written, Cut, CutPacket, Arrived, Taken, Joined, Order);

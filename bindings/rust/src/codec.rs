@@ -1,0 +1,91 @@
+//! Reading, writing and cutting.
+
+use crate::answers::{Cut, CutPacket, Reading, Written};
+use crate::header::{Header, Sender, SequenceCount};
+use crate::raw::{self, RawAfter, RawCut, RawNumber, RawSender};
+
+/// The sequence count behind another: 0 follows 16,383.
+pub fn next_sequence_count(seq: SequenceCount) -> SequenceCount {
+    let mut answer = RawNumber::default();
+    // SAFETY: the answer is ours alone.
+    unsafe { raw::orl_next_sequence_count(seq.0, &mut answer) };
+    SequenceCount(answer.number)
+}
+
+/// Reads one packet whose timestamp, if it has one, is of t octets.
+pub fn read(t: u64, packet: &[u8]) -> Reading {
+    let mut answer = Reading::default();
+    // SAFETY: a slice's pointer is valid for its length; the answer is ours alone.
+    unsafe { raw::orl_read(t, packet.as_ptr(), packet.len(), &mut answer) };
+    answer
+}
+
+/// Writes one packet over the front of `out`.
+#[rustfmt::skip]
+pub fn write(t: u64, header: &Header, flags: u64, seq: u64, counter: u64, body: &[u8], out: &mut [u8]) -> Written {
+    let mut answer = RawNumber::default();
+    let numbers = header.numbers();
+    // SAFETY: each slice's pointer is valid for its length; `out` is lent to us alone and so overlaps none of the others.
+    unsafe {
+        raw::orl_write(t, &numbers, header.timestamp.as_ptr(), header.timestamp.len(), header.zone.as_ptr(), header.zone.len(),
+            header.session_name.as_ptr(), header.session_name.len(), header.domain.as_ptr(), header.domain.len(),
+            header.domain_lengths.as_ptr(), header.domain_lengths.len(), header.authentication.as_ptr(),
+            header.authentication.len(), flags, seq, counter, body.as_ptr(), body.len(), out.as_mut_ptr(), out.len(),
+            &mut answer);
+    }
+    Written { refusal: answer.refusal, length: answer.number }
+}
+
+/// How many packets of at most p octets a message takes whose body has `body_length` octets, and the sender behind it.
+#[rustfmt::skip]
+pub fn cut_count(t: u64, p: u64, header: &Header, body_length: u64, sender: Sender) -> Cut {
+    let mut answer = RawCut::default();
+    let (numbers, given) = (header.numbers(), RawSender::from(sender));
+    // SAFETY: each slice's pointer is valid for its length; the answer is ours alone.
+    unsafe {
+        raw::orl_cut_count(t, p, &numbers, header.timestamp.as_ptr(), header.timestamp.len(), header.zone.as_ptr(),
+            header.zone.len(), header.session_name.as_ptr(), header.session_name.len(), header.domain.as_ptr(),
+            header.domain.len(), header.domain_lengths.as_ptr(), header.domain_lengths.len(), header.authentication.as_ptr(),
+            header.authentication.len(), body_length, &given, &mut answer);
+    }
+    Cut { refusal: answer.refusal, count: answer.number, sender: answer.sender.into() }
+}
+
+/// Writes packet number i of a message over the front of `out`, by the sender's numbers as they stand before the message.
+#[rustfmt::skip]
+pub fn cut_packet(t: u64, p: u64, header: &Header, body: &[u8], sender: Sender, i: u64, out: &mut [u8]) -> CutPacket {
+    let mut answer = RawCut::default();
+    let (numbers, given) = (header.numbers(), RawSender::from(sender));
+    // SAFETY: each slice's pointer is valid for its length; `out` is lent to us alone and so overlaps none of the others.
+    unsafe {
+        raw::orl_cut_packet(t, p, &numbers, header.timestamp.as_ptr(), header.timestamp.len(), header.zone.as_ptr(),
+            header.zone.len(), header.session_name.as_ptr(), header.session_name.len(), header.domain.as_ptr(),
+            header.domain.len(), header.domain_lengths.as_ptr(), header.domain_lengths.len(), header.authentication.as_ptr(),
+            header.authentication.len(), body.as_ptr(), body.len(), &given, i, out.as_mut_ptr(), out.len(), &mut answer);
+    }
+    CutPacket { refusal: answer.refusal, length: answer.number, sender: answer.sender.into() }
+}
+
+/// The answer of a call that moves a sender on.
+fn moved(answer: RawAfter) -> Result<Sender, crate::Refusal> {
+    match answer.refusal {
+        0 => Ok(answer.sender.into()),
+        number => Err(crate::Refusal(number)),
+    }
+}
+
+/// The sender after one unsegmented packet.
+pub fn after_packet(sender: Sender) -> Result<Sender, crate::Refusal> {
+    let mut answer = RawAfter::default();
+    // SAFETY: sender and answer are ours alone.
+    unsafe { raw::orl_after_packet(&RawSender::from(sender), &mut answer) };
+    moved(answer)
+}
+
+/// The sender after one segment.
+pub fn after_segment(sender: Sender) -> Result<Sender, crate::Refusal> {
+    let mut answer = RawAfter::default();
+    // SAFETY: sender and answer are ours alone.
+    unsafe { raw::orl_after_segment(&RawSender::from(sender), &mut answer) };
+    moved(answer)
+}

@@ -1,0 +1,122 @@
+//! What is lent to the writing calls: a header's values, and a sender's two running numbers.
+
+use crate::raw::{RawHeader, RawSender};
+
+/// An APID: of the packet, not of the sender or receiver behind it.
+#[repr(transparent)]
+#[derive(Clone, Copy, Debug, Default, PartialEq, Eq)]
+pub struct Apid(pub u64);
+
+/// The secondary APID of the secondary header.
+#[repr(transparent)]
+#[derive(Clone, Copy, Debug, Default, PartialEq, Eq)]
+pub struct SecondaryApid(pub u64);
+
+/// A packet's sequence count, which goes round.
+#[repr(transparent)]
+#[derive(Clone, Copy, Debug, Default, PartialEq, Eq)]
+pub struct SequenceCount(pub u64);
+
+/// A segment's counter, which does not.
+#[repr(transparent)]
+#[derive(Clone, Copy, Debug, Default, PartialEq, Eq)]
+pub struct SegmentCounter(pub u64);
+
+/// The counter of a sender's next segment.
+#[derive(Clone, Copy, Debug, PartialEq, Eq)]
+pub enum Next {
+    At(SegmentCounter),
+    NoneLeft,
+}
+
+/// A sender's two running numbers.
+#[derive(Clone, Copy, Debug, PartialEq, Eq)]
+pub struct Sender {
+    pub seq: SequenceCount,
+    pub counter: Next,
+}
+
+impl From<Sender> for RawSender {
+    fn from(sender: Sender) -> Self {
+        let seq = sender.seq.0;
+        match sender.counter {
+            Next::At(SegmentCounter(counter)) => RawSender { seq, has_counter: 1, counter },
+            Next::NoneLeft => RawSender { seq, has_counter: 0, counter: 0 },
+        }
+    }
+}
+
+impl From<RawSender> for Sender {
+    fn from(raw: RawSender) -> Self {
+        let counter = if raw.has_counter == 0 { Next::NoneLeft } else { Next::At(SegmentCounter(raw.counter)) };
+        Sender { seq: SequenceCount(raw.seq), counter }
+    }
+}
+
+/// A header's values to write or to cut. A `has_` of 0 says that the field is absent; its value must then be 0 or empty.
+#[derive(Clone, Copy, Debug, Default, PartialEq, Eq)]
+pub struct Header<'a> {
+    pub packet_type: u64,
+    pub apid: Apid,
+    pub sdu: u64,
+    pub area: u64,
+    pub service: u64,
+    pub operation: u64,
+    pub area_version: u64,
+    pub error: u64,
+    pub qos: u64,
+    pub session: u64,
+    pub secondary_apid: SecondaryApid,
+    pub qualifier: u64,
+    pub transaction: u64,
+    pub has_source: u64,
+    pub has_destination: u64,
+    pub has_priority: u64,
+    pub has_timestamp: u64,
+    pub has_zone: u64,
+    pub has_session_name: u64,
+    pub has_domain: u64,
+    pub has_authentication: u64,
+    pub source: u64,
+    pub destination: u64,
+    pub priority: u64,
+    pub timestamp: &'a [u8],
+    pub zone: &'a [u8],
+    pub session_name: &'a [u8],
+    /// The text of all parts, and the length of each.
+    pub domain: &'a [u8],
+    pub domain_lengths: &'a [u64],
+    pub authentication: &'a [u8],
+}
+
+impl Header<'_> {
+    /// The numbers, as C takes them.
+    pub(crate) fn numbers(&self) -> RawHeader {
+        RawHeader {
+            packet_type: self.packet_type,
+            apid: self.apid.0,
+            sdu: self.sdu,
+            area: self.area,
+            service: self.service,
+            operation: self.operation,
+            area_version: self.area_version,
+            error: self.error,
+            qos: self.qos,
+            session: self.session,
+            secondary_apid: self.secondary_apid.0,
+            qualifier: self.qualifier,
+            transaction: self.transaction,
+            has_source: self.has_source,
+            has_destination: self.has_destination,
+            has_priority: self.has_priority,
+            has_timestamp: self.has_timestamp,
+            has_zone: self.has_zone,
+            has_session_name: self.has_session_name,
+            has_domain: self.has_domain,
+            has_authentication: self.has_authentication,
+            source: self.source,
+            destination: self.destination,
+            priority: self.priority,
+        }
+    }
+}

@@ -1,0 +1,24 @@
+//! Orlyukan for Rust: reading, writing, cutting, storing and joining MAL messages in CCSDS Space Packets.
+//!
+//! The work is done by the proved library, whose promises stand beside its source. These wrappers see to what a caller of C must
+//! see to alone: pointers that are valid, lengths that are true, buffers that do not overlap. Each call answers a plain struct whose
+//! `refusal` is 0, or the number of document 01's table with every other field zero; [`Answer::accepted`] makes a `Result` of it.
+//!
+//! Numbers to write are as wide as the library takes them, so that a number too wide for its field is refused and never cut off.
+
+mod answers;
+mod codec;
+mod header;
+pub mod raw;
+mod recording;
+mod store;
+
+pub use answers::{Answer, Arrived, Cut, CutPacket, Joined, Kind, Order, Place, Reading, Refusal, Taken, Which, Written};
+pub use codec::{after_packet, after_segment, cut_count, cut_packet, next_sequence_count, read, write};
+pub use header::{Apid, Header, Next, SecondaryApid, SegmentCounter, Sender, SequenceCount};
+pub use recording::{join_recording, join_recording_into, Recording, Stop};
+pub use store::{arrive, in_order, join, take, view};
+
+/// The octets of a cell of the store, and the most cells it may have.
+pub const CELL: usize = 1024;
+pub const CELLS: usize = 4096;

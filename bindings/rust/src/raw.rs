@@ -1,0 +1,137 @@
+//! The calls of C as they stand in `include/orlyukan.h`. The wrappers beside this module are the ones to use.
+
+use crate::answers::{Place, Reading};
+
+/// A sender's running numbers: `has_counter` 1 and the next segment's counter, or 0 and 0 where none is left.
+#[repr(C)]
+#[derive(Clone, Copy, Debug, Default, PartialEq, Eq)]
+pub struct RawSender {
+    pub seq: u64,
+    pub has_counter: u64,
+    pub counter: u64,
+}
+
+/// The numbers of a header to write.
+#[repr(C)]
+#[derive(Clone, Copy, Debug, Default, PartialEq, Eq)]
+pub struct RawHeader {
+    pub packet_type: u64,
+    pub apid: u64,
+    pub sdu: u64,
+    pub area: u64,
+    pub service: u64,
+    pub operation: u64,
+    pub area_version: u64,
+    pub error: u64,
+    pub qos: u64,
+    pub session: u64,
+    pub secondary_apid: u64,
+    pub qualifier: u64,
+    pub transaction: u64,
+    pub has_source: u64,
+    pub has_destination: u64,
+    pub has_priority: u64,
+    pub has_timestamp: u64,
+    pub has_zone: u64,
+    pub has_session_name: u64,
+    pub has_domain: u64,
+    pub has_authentication: u64,
+    pub source: u64,
+    pub destination: u64,
+    pub priority: u64,
+}
+
+/// The answer of a call that tells one number beside the refusal.
+#[repr(C)]
+#[derive(Clone, Copy, Debug, Default, PartialEq, Eq)]
+pub struct RawNumber {
+    pub refusal: u64,
+    pub number: u64,
+}
+
+/// The answer of [`orl_after_packet`] and [`orl_after_segment`].
+#[repr(C)]
+#[derive(Clone, Copy, Debug, Default, PartialEq, Eq)]
+pub struct RawAfter {
+    pub refusal: u64,
+    pub sender: RawSender,
+}
+
+/// The answer of [`orl_cut_count`] and [`orl_cut_packet`]: a count, or a length.
+#[repr(C)]
+#[derive(Clone, Copy, Debug, Default, PartialEq, Eq)]
+pub struct RawCut {
+    pub refusal: u64,
+    pub number: u64,
+    pub sender: RawSender,
+}
+
+#[repr(C)]
+#[derive(Clone, Copy, Debug, Default, PartialEq, Eq)]
+pub struct RawTaken {
+    pub refusal: u64,
+    pub h: u64,
+    pub b: u64,
+    pub c: u64,
+}
+
+#[repr(C)]
+#[derive(Clone, Copy, Debug, Default, PartialEq, Eq)]
+pub struct RawJoined {
+    pub refusal: u64,
+    pub which: u64,
+    pub place: u64,
+    pub length: u64,
+    pub h: u64,
+    pub b: u64,
+    pub c: u64,
+}
+
+#[repr(C)]
+#[derive(Clone, Copy, Debug, Default, PartialEq, Eq)]
+pub struct RawView {
+    pub refusal: u64,
+    pub part: Place,
+}
+
+/// The answer of [`orl_join_recording`]: octets written, where in the recording it stopped, and why.
+#[repr(C)]
+#[derive(Clone, Copy, Debug, Default, PartialEq, Eq)]
+pub struct RawRecording {
+    pub refusal: u64,
+    pub written: u64,
+    pub place: u64,
+    pub stop: u64,
+}
+
+/// A lent slice, for the calls that take many.
+type P = *const u8;
+type M = *mut u8;
+
+#[rustfmt::skip]
+extern "C" {
+    pub fn orl_next_sequence_count(seq: u64, answer: *mut RawNumber);
+    pub fn orl_read(t: u64, packet: P, packet_length: usize, answer: *mut Reading);
+    pub fn orl_write(t: u64, header: *const RawHeader, timestamp: P, timestamp_length: usize, zone: P, zone_length: usize,
+        session_name: P, session_name_length: usize, domain: P, domain_length: usize, domain_lengths: *const u64,
+        domain_count: usize, authentication: P, authentication_length: usize, flags: u64, seq: u64, counter: u64, body: P,
+        body_length: usize, out: M, out_length: usize, answer: *mut RawNumber);
+    pub fn orl_after_packet(sender: *const RawSender, answer: *mut RawAfter);
+    pub fn orl_after_segment(sender: *const RawSender, answer: *mut RawAfter);
+    pub fn orl_cut_count(t: u64, p: u64, header: *const RawHeader, timestamp: P, timestamp_length: usize, zone: P,
+        zone_length: usize, session_name: P, session_name_length: usize, domain: P, domain_length: usize,
+        domain_lengths: *const u64, domain_count: usize, authentication: P, authentication_length: usize, body_length: u64,
+        sender: *const RawSender, answer: *mut RawCut);
+    pub fn orl_cut_packet(t: u64, p: u64, header: *const RawHeader, timestamp: P, timestamp_length: usize, zone: P,
+        zone_length: usize, session_name: P, session_name_length: usize, domain: P, domain_length: usize,
+        domain_lengths: *const u64, domain_count: usize, authentication: P, authentication_length: usize, body: P,
+        body_length: usize, sender: *const RawSender, i: u64, out: M, out_length: usize, answer: *mut RawCut);
+    pub fn orl_arrive(t: u64, store: M, store_length: usize, packet: P, packet_length: usize, answer: *mut RawNumber);
+    pub fn orl_take(t: u64, store: M, store_length: usize, out: M, out_length: usize, answer: *mut RawTaken);
+    pub fn orl_join(t: u64, store: M, store_length: usize, packet: P, packet_length: usize, out: M, out_length: usize,
+        answer: *mut RawJoined);
+    pub fn orl_view(packet: P, packet_length: usize, joined: P, joined_length: usize, which: u64, place: u64, length: u64,
+        answer: *mut RawView);
+    pub fn orl_in_order(t: u64, store: P, store_length: usize, answer: *mut RawNumber);
+    pub fn orl_join_recording(recording: P, recording_length: usize, out: M, out_length: usize, answer: *mut RawRecording);
+}

@@ -1,0 +1,70 @@
+-- The contracts of the store's half: two outcomes that one of them allows for the same arguments have the same numbers in the answer,
+-- and the same octets in every lent buffer.
+-- Assumes nothing.
+use mathlib.Core.Path.{_≡_, sym, _∙_}
+use contract.Lifetimes as L
+use denote.Ref.{now}
+use Rattle.capi.proofs.stored.orl_arrive.Reads as arrives
+use Rattle.capi.proofs.stored.orl_take.Reads as takes
+use Rattle.capi.proofs.stored.orl_join.Reads as joins
+use Rattle.capi.proofs.stored.orl_view.Reads as views
+use Rattle.capi.proofs.stored.orl_in_order.Reads as orders
+use Rattle.capi.proofs.stored.orl_join_recording.Reads as recordings
+
+-- ---- arrival
+
+pub arrive-same-answer :
+    (κs : L.Lfts 3) (a : _) (r q : _) (s t : _) → arrives.Post κs a r s → arrives.Post κs a q t → now (s .1 .1 .1 .0) ≡ now (t .1 .1 .1 .0)
+arrive-same-answer κs a r q s t k j = k .0 ∙ sym (j .0)
+
+pub arrive-same-store :
+    (κs : L.Lfts 3) (a : _) (r q : _) (s t : _) → arrives.Post κs a r s → arrives.Post κs a q t → now (s .1 .0) ≡ now (t .1 .0)
+arrive-same-store κs a r q s t k j = k .1 ∙ sym (j .1)
+
+-- ---- taking
+
+pub take-same-answer :
+    (κs : L.Lfts 3) (a : _) (r q : _) (s t : _) → takes.Post κs a r s → takes.Post κs a q t → now (s .1 .1 .1 .0) ≡ now (t .1 .1 .1 .0)
+take-same-answer κs a r q s t k j = k .0 ∙ sym (j .0)
+
+pub take-same-output :
+    (κs : L.Lfts 3) (a : _) (r q : _) (s t : _) → takes.Post κs a r s → takes.Post κs a q t → now (s .1 .1 .0) ≡ now (t .1 .1 .0)
+take-same-output κs a r q s t k j = k .1 .0 ∙ sym (j .1 .0)
+
+pub take-same-store :
+    (κs : L.Lfts 3) (a : _) (r q : _) (s t : _) → takes.Post κs a r s → takes.Post κs a q t → now (s .1 .0) ≡ now (t .1 .0)
+take-same-store κs a r q s t k j = k .1 .1 ∙ sym (j .1 .1)
+
+-- ---- joining
+
+pub join-same-answer :
+    (κs : L.Lfts 4) (a : _) (r q : _) (s t : _) → joins.Post κs a r s → joins.Post κs a q t → now (s .1 .1 .1 .1 .0) ≡ now (t .1 .1 .1 .1 .0)
+join-same-answer κs a r q s t k j = k .0 ∙ sym (j .0)
+
+pub join-same-store :
+    (κs : L.Lfts 4) (a : _) (r q : _) (s t : _) → joins.Post κs a r s → joins.Post κs a q t → now (s .1 .0) ≡ now (t .1 .0)
+join-same-store κs a r q s t k j = k .1 .0 ∙ sym (j .1 .0)
+
+pub join-same-output :
+    (κs : L.Lfts 4) (a : _) (r q : _) (s t : _) → joins.Post κs a r s → joins.Post κs a q t → now (s .1 .1 .1 .0) ≡ now (t .1 .1 .1 .0)
+join-same-output κs a r q s t k j = k .1 .1 ∙ sym (j .1 .1)
+
+-- ---- the view, and the order of a store
+
+pub view-same-answer :
+    (κs : L.Lfts 3) (a : _) (r q : _) (s t : _) → views.Post κs a r s → views.Post κs a q t → now (s .1 .1 .1 .1 .1 .0) ≡ now (t .1 .1 .1 .1 .1 .0)
+view-same-answer κs a r q s t k j = k ∙ sym j
+
+pub order-same-answer :
+    (κs : L.Lfts 2) (a : _) (r q : _) (s t : _) → orders.Post κs a r s → orders.Post κs a q t → now (s .1 .1 .0) ≡ now (t .1 .1 .0)
+order-same-answer κs a r q s t k j = k ∙ sym j
+
+-- ---- a whole recording
+
+pub recording-same-answer :
+    (κs : L.Lfts 3) (a : _) (r q : _) (s t : _) → recordings.Post κs a r s → recordings.Post κs a q t → now (s .1 .1 .0) ≡ now (t .1 .1 .0)
+recording-same-answer κs a r q s t k j = k .0 ∙ sym (j .0)
+
+pub recording-same-output :
+    (κs : L.Lfts 3) (a : _) (r q : _) (s t : _) → recordings.Post κs a r s → recordings.Post κs a q t → now (s .1 .0) ≡ now (t .1 .0)
+recording-same-output κs a r q s t k j = k .1 ∙ sym (j .1)

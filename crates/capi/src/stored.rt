@@ -1,0 +1,77 @@
+// The store's half: arrival, taking, joining, the view, the order of a store, and a whole recording.
+ghost use mathlib.Core.Path.{_≡_};
+ghost use lib.ListN.{length};
+ghost use Rattle.cells.specs.Order.{countIn};
+ghost use Rattle.store.specs.Arriving.{arrived, storeWith};
+ghost use Rattle.store.specs.Taking.{took, outWith, storeLess};
+ghost use Rattle.join.specs.Joining.{joining, storeJoined, outJoined};
+ghost use Rattle.recording.specs.Ending.{recordedOf, outRecorded};
+ghost use Rattle.flat_store.specs.Numbers.{settingsOf, arriveNumbers, takeNumbers, joinNumbers, orderNumbers, recordedNumbers};
+ghost use Rattle.flat_store.specs.Views.{viewNumbers};
+
+// A packet arrives.
+#[no_mangle]
+pub extern "C" fn orl_arrive(t: u64, store: &mut [u8], packet: &[u8], answer: &mut [u64; 2])
+    ensures { λ r. ⌜ now (answer .exit) ≡ arriveNumbers (arrived (settingsOf t) 1024 (now (store .entry)) (now (packet .entry))) ⌝ }
+    ensures { λ r. ⌜ now (store .exit) ≡ storeWith 1024 (now (store .entry)) (now (packet .entry)) (arrived (settingsOf t) 1024 (now (store .entry)) (now (packet .entry))) ⌝ }
+{
+    *answer = flat_store::arrive(t, store, packet);
+}
+
+// A message is taken out.
+#[no_mangle]
+pub extern "C" fn orl_take(t: u64, store: &mut [u8], out: &mut [u8], answer: &mut [u64; 4])
+    ensures { λ r. ⌜ now (answer .exit) ≡ takeNumbers (took (settingsOf t) 1024 (now (store .entry)) (length (now (out .entry)))) ⌝ }
+    ensures { λ r. ⌜ now (out .exit) ≡ outWith (now (out .entry)) (took (settingsOf t) 1024 (now (store .entry)) (length (now (out .entry)))) ⌝ }
+    ensures { λ r. ⌜ now (store .exit) ≡ storeLess (settingsOf t) 1024 (now (store .entry)) (countIn 1024 (now (store .entry))) (took (settingsOf t) 1024 (now (store .entry)) (length (now (out .entry)))) ⌝ }
+{
+    *answer = flat_store::take(t, store, out);
+}
+
+// A packet is joined.
+#[no_mangle]
+pub extern "C" fn orl_join(
+    t: u64,
+    store: &mut [u8],
+    packet: &[u8],
+    out: &mut [u8],
+    answer: &mut [u64; 7],
+)
+    ensures { λ r. ⌜ now (answer .exit) ≡ joinNumbers (joining (settingsOf t) 1024 (now (store .entry)) (now (packet .entry)) (length (now (out .entry)))) ⌝ }
+    ensures { λ r. ⌜ now (store .exit) ≡ storeJoined (settingsOf t) 1024 (now (store .entry)) (now (packet .entry)) (length (now (out .entry))) ⌝ }
+    ensures { λ r. ⌜ now (out .exit) ≡ outJoined (settingsOf t) 1024 (now (store .entry)) (now (packet .entry)) (now (out .entry)) ⌝ }
+{
+    *answer = flat_store::join(t, store, packet, out);
+}
+
+// The view of a body.
+#[no_mangle]
+pub extern "C" fn orl_view(
+    packet: &[u8],
+    joined: &[u8],
+    which: u64,
+    place: u64,
+    long: u64,
+    answer: &mut [u64; 3],
+)
+    ensures { λ r. ⌜ now (answer .exit) ≡ viewNumbers which (now (packet .entry)) (now (joined .entry)) place long ⌝ }
+{
+    *answer = flat_store::view(packet, joined, which, place, long);
+}
+
+// Whether a store is in order.
+#[no_mangle]
+pub extern "C" fn orl_in_order(t: u64, store: &[u8], answer: &mut [u64; 2])
+    ensures { λ r. ⌜ now (answer .exit) ≡ orderNumbers (settingsOf t) 1024 (now (store .entry)) ⌝ }
+{
+    *answer = flat_store::in_order(t, store);
+}
+
+// A whole recording is joined.
+#[no_mangle]
+pub extern "C" fn orl_join_recording(recording: &[u8], out: &mut [u8], answer: &mut [u64; 4])
+    ensures { λ r. ⌜ now (answer .exit) ≡ recordedNumbers (recordedOf (length (now (out .entry))) (now (recording .entry))) ⌝ }
+    ensures { λ r. ⌜ now (out .exit) ≡ outRecorded (now (out .entry)) (now (recording .entry)) ⌝ }
+{
+    *answer = flat_store::join_recording(recording, out);
+}

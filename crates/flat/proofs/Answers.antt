@@ -1,0 +1,63 @@
+-- The pieces of reading's answer, laid one behind the other, are its numbers from the first to the last.
+-- Assumes nothing.
+use Prim.Native.Nat.{ℕ, _+_}
+use mathlib.Core.Path.{_≡_, refl, ap, sym, _∙_}
+use mathlib.Core.List.{List, [], _∷_, _++_, append-assoc, append-nil}
+use native.Mathlib.Omega.{arith}
+use lib.ListN.{length, length-append, set, drop}
+use lib.Seq.{sets, sets-eq, drop-length}
+use Rattle.octets.proofs.Lists.{sets-append}
+use Rattle.fields.specs.declared.Place.{Place}
+use Rattle.packet.specs.declared.Header.{Header}
+use Rattle.packet.specs.declared.Texts.{Texts}
+use Rattle.flat.specs.Told.{primaryNumbers, nameNumbers, routingNumbers, presentNumbers, idsNumbers, placeNumbers, placesTo, textNumbers, readNumbers}
+use Rattle.flat.proofs.Placing.{places-length}
+
+-- a list laid over another of its length is what is left
+sets-all : (l x : List ℕ) → length x ≡ length l → sets l 0 x ≡ x
+sets-all l x e =
+    let k : 0 + length x ≡ length l = omega (arith, e) in
+    sets-eq x l 0 (omega (arith, e)) ∙ rw (k, drop-length l, append-nil x)
+
+module _ (t : Texts) (l m1 m2 m3 m4 m5 : List ℕ) where
+  pub texts-laid :
+      m1 ≡ sets l 28 (placeNumbers (t .timestamp)) → m2 ≡ sets m1 30 (placeNumbers (t .zone)) →
+      m3 ≡ sets m2 32 (placeNumbers (t .session)) → m4 ≡ sets (set m3 34 (t .count)) 35 (placesTo 16 (t .parts)) →
+      m5 ≡ sets m4 67 (placeNumbers (t .authentication)) → m5 ≡ sets l 28 (textNumbers t)
+  texts-laid e1 e2 e3 e4 e5 =
+      let x = placesTo 16 (t .parts) in
+      let y = placeNumbers (t .authentication) in
+      let k : sets m4 67 y ≡ sets m4 (35 + length x) y = rw (places-length 16 (t .parts)) in
+      e5 ∙ k ∙ rw (e4, e3, e2, e1) (sets-append _ 35 x y)
+
+-- the numbers before the texts
+abbrev front : Header → List ℕ
+front h =
+    (h .refusal .number ∷ [])
+    ++ (primaryNumbers (h .primary)
+    ++ (nameNumbers (h .fixed) ++ (routingNumbers (h .fixed) ++ (presentNumbers (h .has) ++ idsNumbers (h .ids)))))
+
+texts-length : (t : Texts) → length (textNumbers t) ≡ 41
+texts-length t =
+    let a = length-append (placesTo 16 (t .parts)) (placeNumbers (t .authentication)) in
+    let b = places-length 16 (t .parts) in
+    omega (arith, a, b)
+
+module _ (h : Header) (l m1 m2 m3 m4 m5 m6 m7 : List ℕ) where
+  pub header-laid :
+      length l ≡ 72 → m1 ≡ sets (set l 0 (h .refusal .number)) 1 (primaryNumbers (h .primary)) →
+      m2 ≡ sets m1 5 (nameNumbers (h .fixed)) → m3 ≡ sets m2 10 (routingNumbers (h .fixed)) →
+      m4 ≡ sets m3 16 (presentNumbers (h .has)) → m5 ≡ sets m4 24 (idsNumbers (h .ids)) →
+      m6 ≡ sets m5 28 (textNumbers (h .texts)) → m7 ≡ sets (set m6 69 (h .h)) 70 (placeNumbers (h .body)) → m7 ≡ readNumbers h
+  unfolding readNumbers
+  header-laid n e1 e2 e3 e4 e5 e6 e7 =
+      let x = front h in
+      let y = textNumbers (h .texts) in
+      let z = (h .h ∷ []) ++ placeNumbers (h .body) in
+      let a : m5 ≡ sets l 0 x = rw (e5, e4, e3, e2, e1) in
+      let b : m6 ≡ sets l 0 (x ++ y) = e6 ∙ ap (λ (m : List ℕ). sets m 28 y) a ∙ sets-append l 0 x y in
+      let k : length (x ++ y) ≡ 69 = length-append x y ∙ rw (texts-length (h .texts)) in
+      let j : 69 ≡ 0 + length (x ++ y) = omega (arith, k) in
+      let d : m7 ≡ sets (sets l 0 (x ++ y)) (0 + length (x ++ y)) z = e7 ∙ rw (b, sym j) in
+      let f : length ((x ++ y) ++ z) ≡ length l = length-append (x ++ y) z ∙ rw (k, n) in
+      d ∙ sets-append l 0 (x ++ y) z ∙ sets-all l ((x ++ y) ++ z) f ∙ append-assoc x y z

@@ -1,0 +1,4 @@
+pub mod Placing
+pub mod Answers
+pub mod Fitting
+pub mod Choosing

@@ -1,0 +1,65 @@
+-- `flat::header_numbers` meets its contract: its pieces fill the answer from the first number to the last.
+-- Assumes nothing.
+use Prim.Native.Nat.{ℕ}
+use borrow.Author.Needs.{needs}
+use lib.ListN.{replicate, length-replicate}
+use Rattle.flat.proofs.Answers.{header-laid}
+use Rattle.flat.proofs.header_numbers.Statement.{statement}
+use Rattle.flat.proofs.header_numbers.Tie as tie
+
+cast-answer : tie.Need-cast-answer
+cast-answer c = search needs
+
+array-write-answer : tie.Need-array-write-answer
+array-write-answer c = search needs
+
+put-primary-requires : tie.Need-put-primary-requires
+put-primary-requires c κs = search needs
+
+put-names-requires : tie.Need-put-names-requires
+put-names-requires c κs = search needs
+
+put-routing-requires : tie.Need-put-routing-requires
+put-routing-requires c κs = search needs
+
+put-present-requires : tie.Need-put-present-requires
+put-present-requires c κs = search needs
+
+put-ids-requires : tie.Need-put-ids-requires
+put-ids-requires c κs = search needs
+
+put-texts-requires : tie.Need-put-texts-requires
+put-texts-requires c κs = search needs
+
+array-write-answer-2 : tie.Need-array-write-answer-2
+array-write-answer-2 c = search needs
+
+put-place-requires : tie.Need-put-place-requires
+put-place-requires c κs = search needs
+
+returns : tie.Need-returns
+returns c =
+    header-laid (c .before .before .before .before .before .before .before .before .before .before .before .before .before .before .before .before .args .h) (replicate 72 0) _ _ _ _ _ _ _ (length-replicate {A = ℕ} 72 0)
+    (c .before .before .before .before .before .before .before .before .before .before .before .before .put-primary .ensures)
+    (c .before .before .before .before .before .before .before .before .before .before .put-names .ensures)
+    (c .before .before .before .before .before .before .before .before .put-routing .ensures)
+    (c .before .before .before .before .before .before .put-present .ensures)
+    (c .before .before .before .before .put-ids .ensures)
+    (c .before .before .put-texts .ensures)
+    (c .put-place .ensures)
+
+pub header-numbers-spec : {M : Type 1} → statement M
+header-numbers-spec =
+    tie.close
+    (tie.spec
+    cast-answer
+    array-write-answer
+    put-primary-requires
+    put-names-requires
+    put-routing-requires
+    put-present-requires
+    put-ids-requires
+    put-texts-requires
+    array-write-answer-2
+    put-place-requires
+    returns)

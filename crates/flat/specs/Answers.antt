@@ -1,0 +1,84 @@
+-- What each call over plain numbers answers, and what it writes. Where all numbers fit it is the call's own answer, as numbers. Where
+-- one does not, it is 22, or 15 where T or P is out of range, since 15 comes first; a sender's numbers stay as given, the output too.
+-- Assumes nothing: these are definitions.
+use Prim.Native.Nat.{ℕ}
+use mathlib.Core.Bool.{Bool, false}
+use mathlib.Core.List.{List, [], _∷_}
+use lib.Dec.{leb}
+use Rattle.octets.specs.Octets.{pick}
+use Rattle.walk.specs.declared.Settings.{Settings}
+use Rattle.walk.specs.declared.Refusal.{Refusal}
+use Rattle.walk.specs.Walk.{noRefusal, unless}
+use Rattle.packet.specs.Numbers.{nextSequenceCount}
+use Rattle.write.specs.Given.{Lent, most16}
+use Rattle.write.specs.Writing.{settingsTest, writeAnswer, writeOutput}
+use Rattle.cut.specs.declared.Sender.{Sender}
+use Rattle.cut.specs.Sending.{afterPacket, afterSegment}
+use Rattle.cut.specs.Cutting.{limitTest, countAnswer, packetAnswer, packetOutput}
+use Rattle.flat.specs.Given.{settingsOf, numberAt, headerFits, headerOf, packetFits, packetOf, senderFits, senderOf}
+use Rattle.flat.specs.Told.{writtenNumbers, senderNumbers, countedNumbers, cutNumbers}
+
+-- a number does not fit: 22, unless it is refused already
+abbrev pub tooWide : Refusal → ℕ
+tooWide r = unless false 22 r .number
+
+-- the refusal, and the next sequence count
+unfoldable pub nextNumbers : ℕ → List ℕ
+nextNumbers seq = pick (leb seq most16) (0 ∷ nextSequenceCount (record { 0 = seq }) .0 ∷ []) (22 ∷ 0 ∷ [])
+
+-- ---- writing one packet
+
+abbrev pub writeFits : List ℕ → ℕ → ℕ → ℕ → Bool
+writeFits h flags seq counter = pick (headerFits h) (packetFits flags seq counter) false
+
+abbrev pub writeRefused : Settings → List ℕ
+writeRefused s = tooWide (settingsTest s noRefusal) ∷ 0 ∷ []
+
+-- the refusal, and the octets written
+unfoldable pub writeNumbers : ℕ → List ℕ → Lent → ℕ → ℕ → ℕ → List ℕ → ℕ → List ℕ
+writeNumbers t h x flags seq counter body room =
+    pick (writeFits h flags seq counter)
+    (writtenNumbers (writeAnswer (settingsOf t) (headerOf h) (packetOf flags seq counter) x body room))
+    (writeRefused (settingsOf t))
+
+unfoldable pub writeOut : ℕ → List ℕ → Lent → ℕ → ℕ → ℕ → List ℕ → List ℕ → List ℕ
+writeOut t h x flags seq counter body out =
+    pick (writeFits h flags seq counter)
+    (writeOutput (settingsOf t) (headerOf h) (packetOf flags seq counter) x body out)
+    out
+
+-- ---- a sender's numbers
+
+-- a sender's numbers as they were given
+abbrev pub given : List ℕ → List ℕ
+given d = numberAt d 0 ∷ numberAt d 1 ∷ numberAt d 2 ∷ []
+
+-- the refusal, and the numbers after an unsegmented packet
+unfoldable pub afterPacketNumbers : List ℕ → List ℕ
+afterPacketNumbers d = pick (senderFits d) (0 ∷ senderNumbers (afterPacket (senderOf d))) (22 ∷ given d)
+
+-- and after a segment
+unfoldable pub afterSegmentNumbers : List ℕ → List ℕ
+afterSegmentNumbers d = pick (senderFits d) (0 ∷ senderNumbers (afterSegment (senderOf d))) (22 ∷ given d)
+
+-- ---- cutting
+
+abbrev pub cutFits : List ℕ → List ℕ → Bool
+cutFits h d = pick (headerFits h) (senderFits d) false
+
+abbrev pub cutRefused : ℕ → ℕ → List ℕ → List ℕ
+cutRefused t P d = tooWide (limitTest (settingsOf t) P noRefusal) ∷ 0 ∷ given d
+
+-- the refusal, the count of packets, and the sender's numbers moved on
+unfoldable pub countNumbers : ℕ → ℕ → List ℕ → Lent → ℕ → List ℕ → List ℕ
+countNumbers t P h x B d =
+    pick (cutFits h d) (countedNumbers (countAnswer (settingsOf t) P (headerOf h) x B (senderOf d))) (cutRefused t P d)
+
+-- the refusal, the octets of packet i, and the sender's numbers
+unfoldable pub packetNumbers : ℕ → ℕ → List ℕ → Lent → List ℕ → List ℕ → ℕ → ℕ → List ℕ
+packetNumbers t P h x body d i room =
+    pick (cutFits h d) (cutNumbers (packetAnswer (settingsOf t) P (headerOf h) x body (senderOf d) i room)) (cutRefused t P d)
+
+unfoldable pub packetOut : ℕ → ℕ → List ℕ → Lent → List ℕ → List ℕ → ℕ → List ℕ → List ℕ
+packetOut t P h x body d i out =
+    pick (cutFits h d) (packetOutput (settingsOf t) P (headerOf h) x body (senderOf d) i out) out

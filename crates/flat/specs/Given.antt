@@ -1,0 +1,106 @@
+-- The values that plain numbers stand for, and which numbers fit. A number above what its field's type holds does not fit, and is
+-- refused by 22 before anything is made narrower. T, P, i and a body's length are any numbers of 64 bits, and so is a text's length.
+-- Assumes nothing: these are definitions.
+use Prim.Native.Nat.{ℕ, zero, suc}
+use mathlib.Core.Bool.{Bool, true, false}
+use mathlib.Core.List.{List, [], _∷_}
+use lib.ListN.{getD}
+use lib.Dec.{leb, eqb}
+use Rattle.octets.specs.Octets.{pick}
+use Rattle.walk.specs.declared.Settings.{Settings}
+use Rattle.packet.specs.declared.Present.{Present}
+use Rattle.write.specs.declared.HeaderValues.{HeaderValues}
+use Rattle.write.specs.declared.PacketValues.{PacketValues}
+use Rattle.write.specs.Given.{most8, most16, most32}
+use Rattle.cut.specs.declared.Sender.{Sender}
+use Rattle.cut.specs.declared.Next.the-variants.{At, NoneLeft}
+
+abbrev pub settingsOf : ℕ → Settings
+settingsOf t = record { t = t }
+
+-- the number at a place
+abbrev pub numberAt : List ℕ → ℕ → ℕ
+numberAt l k = getD l k 0
+
+-- whether each of the first k numbers is at most the one at its place among the widths
+unfoldable pub fitsTo : ℕ → List ℕ → List ℕ → Bool
+fitsTo zero l ws = true
+fitsTo (suc k) l ws = pick (fitsTo k l ws) (leb (numberAt l k) (numberAt ws k)) false
+
+-- ---- a header to write: 24 numbers, in the order of the fields
+
+abbrev pub most64 : ℕ
+most64 = 18446744073709551615
+
+-- the largest number of each field's type: packet type, APID, SDU type, area, service, operation, area version, error, QoS level,
+-- session, secondary APID, qualifier, transaction id; eight presence flags; source id, destination id, priority
+abbrev pub headerWidths : List ℕ
+headerWidths =
+    most8 ∷ most16 ∷ most8 ∷ most32 ∷ most32 ∷ most32 ∷ most16 ∷ most8 ∷ most8 ∷ most8 ∷ most16 ∷ most32 ∷ most64
+    ∷ 1 ∷ 1 ∷ 1 ∷ 1 ∷ 1 ∷ 1 ∷ 1 ∷ 1
+    ∷ most16 ∷ most16 ∷ most64
+    ∷ []
+
+abbrev pub headerFits : List ℕ → Bool
+headerFits l = fitsTo 24 l headerWidths
+
+unfoldable pub presentOf : List ℕ → Present
+presentOf l =
+    record {
+      source = eqb (numberAt l 13) 1;
+      destination = eqb (numberAt l 14) 1;
+      priority = eqb (numberAt l 15) 1;
+      timestamp = eqb (numberAt l 16) 1;
+      zone = eqb (numberAt l 17) 1;
+      session = eqb (numberAt l 18) 1;
+      domain = eqb (numberAt l 19) 1;
+      authentication = eqb (numberAt l 20) 1;
+    }
+
+unfoldable pub headerOf : List ℕ → HeaderValues
+headerOf l =
+    record {
+      kind = numberAt l 0;
+      apid = record { 0 = numberAt l 1 };
+      sdu = numberAt l 2;
+      area = numberAt l 3;
+      service = numberAt l 4;
+      operation = numberAt l 5;
+      version = numberAt l 6;
+      error = numberAt l 7;
+      qos = numberAt l 8;
+      session = numberAt l 9;
+      second = record { 0 = numberAt l 10 };
+      qualifier = numberAt l 11;
+      transaction = numberAt l 12;
+      has = presentOf l;
+      source = numberAt l 21;
+      destination = numberAt l 22;
+      priority = numberAt l 23;
+    }
+
+-- ---- one packet's own numbers: sequence flags, sequence count, segment counter
+
+abbrev pub packetWidths : List ℕ
+packetWidths = most8 ∷ most16 ∷ most32 ∷ []
+
+abbrev pub packetFits : ℕ → ℕ → ℕ → Bool
+packetFits flags seq counter = fitsTo 3 (flags ∷ seq ∷ counter ∷ []) packetWidths
+
+abbrev pub packetOf : ℕ → ℕ → ℕ → PacketValues
+packetOf flags seq counter = record { flags = flags; count = record { 0 = seq }; counter = record { 0 = counter } }
+
+-- ---- a sender: sequence count, whether a counter is left (1) or none (0), and the counter, 0 where none is left
+
+abbrev pub senderWidths : List ℕ
+senderWidths = most16 ∷ 1 ∷ most32 ∷ []
+
+abbrev pub senderFits : List ℕ → Bool
+senderFits l = pick (fitsTo 3 l senderWidths) (pick (eqb (numberAt l 1) 1) true (eqb (numberAt l 2) 0)) false
+
+unfoldable pub senderOf : List ℕ → Sender
+senderOf l =
+    record {
+      count = record { 0 = numberAt l 0 };
+      next = pick (eqb (numberAt l 1) 1) (At (record { 0 = numberAt l 2 })) NoneLeft;
+    }

@@ -1,0 +1,190 @@
+// The store's calls over plain numbers: what `capi` hands to other languages.
+//
+// Every number is one of 64 bits, and none is made narrower before it is tested. An answer is an array of numbers, the refusal first;
+// where the call is refused the others are 0.
+ghost use mathlib.Core.Path.{_≡_};
+ghost use lib.ListN.{length};
+ghost use Rattle.cells.specs.Order.{countIn};
+ghost use Rattle.store.specs.Arriving.{arrived, storeWith};
+ghost use Rattle.store.specs.Taking.{took, outWith, storeLess};
+ghost use Rattle.store.specs.Told.{wordOf as kindOf, said as saidOf};
+ghost use Rattle.join.specs.Joining.{joining, storeJoined, outJoined};
+ghost use Rattle.join.specs.Told.{wordOf as bufferOf, said as saysOf};
+ghost use Rattle.recording.specs.Ending.{recordedOf, outRecorded};
+ghost use Rattle.flat_store.specs.Numbers.{settingsOf, wordNumber, saidNumbers, arriveNumbers, takenNumbers, takeNumbers, placeNumber, saysNumbers, joinNumbers, orderNumbers, whyNumber, recordedNumbers};
+ghost use Rattle.flat_store.specs.Views.{insideNumbers, viewNumbers};
+use join::Joined;
+use join::Which;
+use recording::Recorded;
+use recording::Why;
+use store::Arrival;
+use store::Kind;
+use store::Taken;
+use walk::Settings;
+
+fn kind_number(k: Kind) -> u64
+    ensures { λ r. ⌜ r ≡ wordNumber (kindOf k) ⌝ }
+{
+    match k {
+        Kind::Whole => 1,
+        Kind::Stored => 2,
+        Kind::Held => 3,
+    }
+}
+
+fn arrival_numbers(a: Arrival) -> [u64; 2]
+    ensures { λ r. ⌜ r ≡ saidNumbers (saidOf a) ⌝ }
+{
+    match a {
+        Arrival::Answer(k) => [0, kind_number(k)],
+        Arrival::Refused(r) => [r.number as u64, 0],
+    }
+}
+
+// A packet arrives: the refusal, and 1 whole, 2 stored or 3 held.
+pub fn arrive(t: u64, store: &mut [u8], packet: &[u8]) -> [u64; 2]
+    ensures { λ r. ⌜ r ≡ arriveNumbers (arrived (settingsOf t) 1024 (now (store .entry)) (now (packet .entry))) ⌝ }
+    ensures { λ r. ⌜ now (store .exit) ≡ storeWith 1024 (now (store .entry)) (now (packet .entry)) (arrived (settingsOf t) 1024 (now (store .entry)) (now (packet .entry))) ⌝ }
+{
+    let s = Settings { t: t as usize };
+    arrival_numbers(store::arrive(s, store, packet))
+}
+
+fn taken_numbers(t: Taken) -> [u64; 4]
+    ensures { λ r. ⌜ r ≡ takenNumbers t ⌝ }
+{
+    let refusal = t.refusal;
+    let counter = t.counter;
+    [
+        refusal.number as u64,
+        t.header as u64,
+        t.body as u64,
+        counter.0 as u64,
+    ]
+}
+
+// A message is taken out: the refusal, H, B and c.
+pub fn take(t: u64, store: &mut [u8], out: &mut [u8]) -> [u64; 4]
+    ensures { λ r. ⌜ r ≡ takeNumbers (took (settingsOf t) 1024 (now (store .entry)) (length (now (out .entry)))) ⌝ }
+    ensures { λ r. ⌜ now (out .exit) ≡ outWith (now (out .entry)) (took (settingsOf t) 1024 (now (store .entry)) (length (now (out .entry)))) ⌝ }
+    ensures { λ r. ⌜ now (store .exit) ≡ storeLess (settingsOf t) 1024 (now (store .entry)) (countIn 1024 (now (store .entry))) (took (settingsOf t) 1024 (now (store .entry)) (length (now (out .entry)))) ⌝ }
+{
+    let s = Settings { t: t as usize };
+    taken_numbers(store::take(s, store, out))
+}
+
+fn which_number(w: Which) -> u64
+    ensures { λ r. ⌜ r ≡ placeNumber (bufferOf w) ⌝ }
+{
+    match w {
+        Which::Nothing => 0,
+        Which::Packet => 1,
+        Which::Joined => 2,
+    }
+}
+
+fn joined_numbers(j: Joined) -> [u64; 7]
+    ensures { λ r. ⌜ r ≡ saysNumbers (saysOf j) ⌝ }
+{
+    let refusal = j.refusal;
+    let which = j.which;
+    let counter = j.counter;
+    [
+        refusal.number as u64,
+        which_number(which),
+        j.place as u64,
+        j.length as u64,
+        j.header as u64,
+        j.body as u64,
+        counter.0 as u64,
+    ]
+}
+
+// A packet is joined: the refusal, 0 no buffer, 1 the packet or 2 the output, the body's place and length there, H, B and c.
+pub fn join(t: u64, store: &mut [u8], packet: &[u8], out: &mut [u8]) -> [u64; 7]
+    ensures { λ r. ⌜ r ≡ joinNumbers (joining (settingsOf t) 1024 (now (store .entry)) (now (packet .entry)) (length (now (out .entry)))) ⌝ }
+    ensures { λ r. ⌜ now (store .exit) ≡ storeJoined (settingsOf t) 1024 (now (store .entry)) (now (packet .entry)) (length (now (out .entry))) ⌝ }
+    ensures { λ r. ⌜ now (out .exit) ≡ outJoined (settingsOf t) 1024 (now (store .entry)) (now (packet .entry)) (now (out .entry)) ⌝ }
+{
+    let s = Settings { t: t as usize };
+    joined_numbers(join::join(s, store, packet, out))
+}
+
+// The part at a place, where it lies inside a buffer of n octets.
+fn inside(n: usize, place: u64, long: u64) -> [u64; 3]
+    ensures { λ r. ⌜ r ≡ insideNumbers n place long ⌝ }
+{
+    let most = n as u64;
+    if most < place {
+        return [0, 0, 0];
+    }
+    if most - place < long {
+        return [0, 0, 0];
+    }
+    [0, place, long]
+}
+
+// The view of a body: the refusal, and the part's place and length in the buffer that is named: 0 none, 1 the packet, 2 the joined one.
+pub fn view(packet: &[u8], joined: &[u8], which: u64, place: u64, long: u64) -> [u64; 3]
+    ensures { λ r. ⌜ r ≡ viewNumbers which (now (packet .entry)) (now (joined .entry)) place long ⌝ }
+{
+    if which == 0 {
+        return inside(0, place, long);
+    }
+    if which == 1 {
+        return inside(packet.len(), place, long);
+    }
+    if which == 2 {
+        return inside(joined.len(), place, long);
+    }
+    [22, 0, 0]
+}
+
+// Whether a store is in order: 15, 16, or 0 and how many cells it has.
+pub fn in_order(t: u64, store: &[u8]) -> [u64; 2]
+    ensures { λ r. ⌜ r ≡ orderNumbers (settingsOf t) 1024 (now (store .entry)) ⌝ }
+{
+    let s = Settings { t: t as usize };
+    let w = walk::begin(s);
+    let refusal = w.refusal;
+    if refusal.number != 0 {
+        return [15, 0];
+    }
+    let n = cells::order(s, store);
+    if n == 0 {
+        return [16, 0];
+    }
+    [0, n as u64]
+}
+
+fn why_number(w: Why) -> u64
+    ensures { λ r. ⌜ r ≡ whyNumber w ⌝ }
+{
+    match w {
+        Why::Unsaid => 0,
+        Why::Ended => 1,
+        Why::Unmarked => 2,
+        Why::Torn => 3,
+    }
+}
+
+fn recorded_numbers(r: Recorded) -> [u64; 4]
+    ensures { λ x. ⌜ x ≡ recordedNumbers r ⌝ }
+{
+    let refusal = r.refusal;
+    let why = r.why;
+    [
+        refusal.number as u64,
+        r.written as u64,
+        r.place as u64,
+        why_number(why),
+    ]
+}
+
+// A whole recording is joined: the refusal, the octets written, and where and why it stopped: 1 ended, 2 no mark, 3 torn.
+pub fn join_recording(recording: &[u8], out: &mut [u8]) -> [u64; 4]
+    ensures { λ r. ⌜ r ≡ recordedNumbers (recordedOf (length (now (out .entry))) (now (recording .entry))) ⌝ }
+    ensures { λ r. ⌜ now (out .exit) ≡ outRecorded (now (out .entry)) (now (recording .entry)) ⌝ }
+{
+    recorded_numbers(recording::join_all(recording, out))
+}

@@ -1,0 +1,117 @@
+-- What a recording comes to is never longer than the recording: what was written, and what the store weighs, is at most what was used
+-- up.
+-- Assumes nothing.
+use Prim.Native.Nat.{ℕ, zero, suc, _+_, _≤_, _<_}
+use mathlib.Core.Path.{_≡_, refl, ap, sym, _∙_}
+use mathlib.Core.Logic.{_⊎_, inl, inr}
+use mathlib.Core.Bool.{Bool, true, false}
+use mathlib.Core.List.{List}
+use native.Mathlib.Omega.{arith}
+use lib.ListN.{length, take, drop, length-append, length-take, length-drop}
+use lib.Dec.{leb, eqb}
+use Rattle.octets.specs.Octets.{pick, Octets}
+use Rattle.octets.proofs.Has.{octets-drop, octets-part}
+use Rattle.walk.specs.declared.Settings.{Settings}
+use Rattle.cells.specs.Rows.{sizeIn}
+use Rattle.cells.specs.Order.{countIn}
+use Rattle.store.specs.Arriving.{Arrived, whole as wholly', stored, again, refused as refused', arrived, storeWith}
+use Rattle.store.specs.Taking.{Took, message as message', unable, writing, took, storeLess}
+use Rattle.join.specs.Joining.{tookAs, joinedBy, storeBy, joining, storeJoined}
+use Rattle.recording.specs.Recording.{Found, nothing, other, cut, whole, foundIn, longest, room, over, refused, kept, cameBy, cameOf, storeAfter, without, wrote, Stepped, stepBy, stepped, storeBehind, usedBy, writtenBy, recordedFrom, recorded, settings, cellSize, cellCount, emptyStore}
+use Rattle.recording.proofs.Frames.{framed-long}
+use Rattle.recording.proofs.Showing.{whole-tells}
+use Rattle.recording.proofs.Steps.{used-most}
+use Rattle.recording.proofs.Pieces.{one}
+use Rattle.recording.proofs.Weights.{weighs, weighs-none, arrival-weighs, taking-weighs}
+
+without-less : (p : List ℕ) → 6 ≤ length p → 6 + length (without p) ≤ 2 + length p
+without-less p h = omega (arith, length-append (take 2 p) (drop 6 p), length-take 2 p, length-drop 6 p)
+
+module _ (s : Settings) (Z : ℕ) where
+  -- ---- a taking
+
+  took-by :
+      (p x : List ℕ) (long : ℕ) (t : Took) → took s Z x long ≡ t → length (wrote p (cameBy (tookAs t))) + weighs s Z (storeLess s Z x (countIn Z x) t) ≤ weighs s Z x
+  unfolding storeLess
+  took-by p x long (message' r) e = let a = taking-weighs s Z x long r e in omega (arith, framed-long (writing r))
+  took-by p x long (unable k) e = go (eqb k 20)
+    where
+      go : (b : Bool) → length (wrote p (pick b kept (refused k))) + weighs s Z x ≤ weighs s Z x
+      go true = omega arith
+      go false = omega arith
+
+  -- ---- a packet
+
+  module _ (st p : List ℕ) (six : 6 ≤ length p) (o : Octets p) where
+    joined-by :
+        (b : Arrived) → arrived s Z st p ≡ b →
+        length (wrote p (cameBy (joinedBy s Z st p room b))) + weighs s Z (storeBy s Z st p room b) ≤ weighs s Z st + (2 + length p)
+    unfolding storeWith
+    joined-by wholly' e = omega (arith, framed-long (without p), without-less p six)
+    joined-by (stored i) e =
+        let x = storeWith Z st p (stored i) in
+        let a = took-by p x room (took s Z x room) refl in
+        let b = arrival-weighs s Z st p i o e in
+        omega arith
+    joined-by again e = let a = took-by p st room (took s Z st room) refl in omega arith
+    joined-by (refused' k) e = go (eqb k 20)
+      where
+        go : (b : Bool) → length (wrote p (pick b kept (refused k))) + weighs s Z st ≤ weighs s Z st + (2 + length p)
+        go true = omega arith
+        go false = omega arith
+
+    came-weighs : length (wrote p (cameOf s Z st p)) + weighs s Z (storeAfter s Z st p) ≤ weighs s Z st + (2 + length p)
+    unfolding cameOf storeAfter joining storeJoined
+    came-weighs = go (leb (length p) longest)
+      where
+        go :
+            (b : Bool) →
+            length (wrote p (pick b (cameBy (joinedBy s Z st p room (arrived s Z st p))) over)) + weighs s Z (pick b (storeBy s Z st p room (arrived s Z st p)) st)
+            ≤ weighs s Z st + (2 + length p)
+        go true = joined-by (arrived s Z st p) refl
+        go false = omega arith
+
+  -- ---- a step
+
+  module _ (st x : List ℕ) (o : Octets x) where
+    step-by :
+        (f : Found) → foundIn x ≡ f →
+        length (writtenBy (stepBy s Z st true f)) + weighs s Z (storeBehind s Z st (stepBy s Z st true f)) ≤ weighs s Z st + usedBy (stepBy s Z st true f)
+    step-by nothing e = omega arith
+    step-by other e = omega arith
+    step-by cut e = omega arith
+    step-by (whole p) e =
+        let a = whole-tells x p e in
+        let l : length p ≡ sizeIn 0 x = ap length (a .1 .1) ∙ long (a .1 .0) in
+        let q : Octets p = rw (a .1 .1) (octets-part x 2 (sizeIn 0 x) o) in
+        came-weighs st p (omega arith) q
+      where
+        long : 2 + sizeIn 0 x ≤ length x → length (take (sizeIn 0 x) (drop 2 x)) ≡ sizeIn 0 x
+        long h = omega (arith, length-take (sizeIn 0 x) (drop 2 x), length-drop 2 x)
+
+    step-weighs :
+        length (writtenBy (stepped s Z st x true)) + weighs s Z (storeBehind s Z st (stepped s Z st x true)) ≤ weighs s Z st + usedBy (stepped s Z st x true)
+    unfolding stepped
+    step-weighs = step-by (foundIn x) refl
+
+  -- ---- all steps
+
+  pub recorded-from : (f : ℕ) (st x : List ℕ) → Octets x → length (recordedFrom s Z f st x) ≤ weighs s Z st + length x
+  unfolding recordedFrom
+  recorded-from zero st x o = omega arith
+  recorded-from (suc f) st x o =
+      let d = stepped s Z st x true in
+      let y = storeBehind s Z st d in
+      let z = drop (usedBy d) x in
+      let a = recorded-from f y z (octets-drop (usedBy d) x o) in
+      let b = step-weighs st x o in
+      let u = used-most s Z st x true in
+      omega (arith, length-append (writtenBy d) (recordedFrom s Z f y z), length-drop (usedBy d) x)
+
+-- the law: what a recording comes to is never longer than it
+pub recorded-most : (x : List ℕ) → Octets x → length (recorded x) ≤ length x
+unfolding recorded
+recorded-most x o =
+    let a = recorded-from settings cellSize (length x) emptyStore x o in
+    let b = weighs-none settings cellSize cellCount (omega arith) in
+    omega arith

@@ -1,0 +1,19 @@
+-- `tally::held` meets its contract: what is judged of a row tells it.
+-- Assumes nothing.
+use borrow.Author.Needs.{needs}
+use denote.Ref.{now}
+use lib.ListN.{length}
+use Rattle.cells.specs.Rows.{cellOf}
+use Rattle.cells.specs.Inner.{bodyIn}
+use Rattle.tally.proofs.Judging.{held-told}
+use Rattle.tally.proofs.held.Statement.{statement}
+use Rattle.tally.proofs.held.Tie as tie
+
+judge-requires : tie.Need-judge-requires
+judge-requires c κs = search needs
+
+returns : tie.Need-returns
+returns c = held-told (bodyIn (c .before .before .before .before .args .s) (length (now (c .before .before .before .before .args .zero))) (now (c .before .before .before .before .args .row))) (cellOf (c .before .before .before .before .args .s) (length (now (c .before .before .before .before .args .zero))) (now (c .before .before .before .before .args .row))) (c .before .judge .ensures)
+
+pub held-spec : {M : Type 1} → statement M
+held-spec = tie.close (tie.spec judge-requires returns)

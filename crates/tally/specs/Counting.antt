@@ -1,0 +1,53 @@
+-- What is left in a store: its held cells, and the keys among them.
+-- Document 01, "The store": "A held cell is the mark, one segmented packet of at most 1,022 octets as it arrived, and zeros." and
+-- "A key is the packet type, the APID and all octets of the secondary header except the counter."
+-- Assumes nothing: these are definitions.
+use Prim.Native.Nat.{ℕ, zero, suc, _+_}
+use mathlib.Core.List.{List}
+use mathlib.Core.Bool.{Bool, true, false, not}
+use lib.ListN.{length}
+use Rattle.octets.specs.Octets.{pick, alike}
+use Rattle.walk.specs.declared.Settings.{Settings}
+use Rattle.cells.specs.Rows.{Cell, free, held, broken}
+use Rattle.cells.specs.Order.{lengthFits, countIn, cellAt, allTo}
+use Rattle.tally.specs.declared.Tallied.{Tallied}
+
+-- of how many of the first n numbers a test holds
+unfoldable pub countTo : (ℕ → Bool) → ℕ → ℕ
+countTo f zero = 0
+countTo f (suc n) = countTo f n + pick (f n) 1 0
+
+abbrev pub isHeld : Cell → Bool
+isHeld free = false
+isHeld (held t) = true
+isHeld broken = false
+
+-- the cell holds a segment of this key
+abbrev pub keyed : List ℕ → Cell → Bool
+keyed k free = false
+keyed k (held t) = alike k (t .key)
+keyed k broken = false
+
+-- none of the first n cells does
+unfoldable pub newKeyTo : Settings → ℕ → List ℕ → ℕ → List ℕ → Bool
+newKeyTo s Z st n k = allTo (λ j. not (keyed k (cellAt s Z st j))) n
+
+-- the cell is held, and no cell below i has its key
+abbrev pub newKeyIn : Settings → ℕ → List ℕ → ℕ → Cell → Bool
+newKeyIn s Z st i free = false
+newKeyIn s Z st i (held t) = newKeyTo s Z st i (t .key)
+newKeyIn s Z st i broken = false
+
+-- the held cells among the first n, and their different keys: of each key the lowest cell counts
+unfoldable pub segmentsIn : Settings → ℕ → List ℕ → ℕ → ℕ
+segmentsIn s Z st n = countTo (λ i. isHeld (cellAt s Z st i)) n
+
+unfoldable pub keysIn : Settings → ℕ → List ℕ → ℕ → ℕ
+keysIn s Z st n = countTo (λ i. newKeyIn s Z st i (cellAt s Z st i)) n
+
+-- the cells of a store: none where its length does not fit
+abbrev pub cellsIn : ℕ → List ℕ → ℕ
+cellsIn Z st = pick (lengthFits Z (length st)) (countIn Z st) 0
+
+abbrev pub leftIn : Settings → ℕ → List ℕ → Tallied
+leftIn s Z st = record { segments = segmentsIn s Z st (cellsIn Z st); keys = keysIn s Z st (cellsIn Z st) }

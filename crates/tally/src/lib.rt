@@ -1,0 +1,141 @@
+// What is left in a store: how many segments it holds, and how many different keys these have.
+//
+// All segments of a message have one key, so there are at least as many messages as keys; two messages of one key count once. A cell
+// that is neither free nor held counts for nothing, and a store whose length does not fit has no cells. Each held cell is looked for
+// among those below it, so the time grows with the square of the cells: this is for a store of a few dozen, looked at once.
+ghost use mathlib.Core.Path.{_≡_};
+ghost use mathlib.Core.Bool.{not};
+ghost use Prim.Native.Nat.{_+_, _*_, _≤_, _<_};
+ghost use lib.ListN.{length};
+ghost use Rattle.octets.specs.Octets.{pick};
+ghost use Rattle.packet.specs.Reading.{readPacket};
+ghost use Rattle.packet.specs.Key.{keyOf};
+ghost use Rattle.cells.specs.Segments.{both};
+ghost use Rattle.cells.specs.Rows.{zeroRow, cellOf};
+ghost use Rattle.cells.specs.Order.{cellAt, lengthFits, cellsMost};
+ghost use Rattle.cells.specs.Inner.{Asked};
+ghost use Rattle.tally.specs.Counting.{isHeld, keyed as keyedAs, newKeyTo, newKeyIn, segmentsIn, keysIn, leftIn};
+use walk::Settings;
+
+// The segments held, and the different keys among them.
+pub struct Tallied {
+    pub segments: usize,
+    pub keys: usize,
+}
+
+// One more where a test holds.
+fn more(n: usize, one: bool) -> usize
+    requires { ⌜ n < cellsMost ⌝ }
+    ensures { λ r. ⌜ r ≡ n + pick one 1 0 ⌝ }
+{
+    if one {
+        return n + 1;
+    }
+    n
+}
+
+// The first test holds, and the second does not.
+fn without(a: bool, b: bool) -> bool
+    ensures { λ r. ⌜ r ≡ both a (not b) ⌝ }
+{
+    if a {
+        return !b;
+    }
+    false
+}
+
+// Whether a row is that of a held cell.
+fn held(s: Settings, row: &[u8], zero: &[u8]) -> bool
+    requires { ⌜ now zero ≡ zeroRow (length (now zero)) ⌝ }
+    ensures { λ r. ⌜ r ≡ isHeld (cellOf s (length (now (zero .entry))) (now (row .entry))) ⌝ }
+{
+    let t = cells::judge(s, row, zero);
+    t.kind == 1
+}
+
+// Whether a row holds a segment with the key of q, whose body begins at stop.
+fn keyed(s: Settings, row: &[u8], zero: &[u8], q: &[u8], stop: usize) -> bool
+    requires { ⌜ now zero ≡ zeroRow (length (now zero)) ⌝ }
+    requires { ⌜ Asked s (now q) stop ⌝ }
+    ensures { λ r. ⌜ r ≡ keyedAs (keyOf (now (q .entry)) (readPacket s (now (q .entry)))) (cellOf s (length (now (zero .entry))) (now (row .entry))) ⌝ }
+{
+    let t = cells::judge(s, row, zero);
+    if t.kind != 1 {
+        return false;
+    }
+    cells::same_key(q, stop, cells::packet_in(row), t.at)
+}
+
+// Whether none of the first n cells holds a segment with the key of q.
+fn new_key(s: Settings, store: &[u8], n: usize, zero: &[u8], q: &[u8], stop: usize) -> bool
+    requires { ⌜ now zero ≡ zeroRow (length (now zero)) ⌝ }
+    requires { ⌜ Asked s (now q) stop ⌝ }
+    ensures { λ r. ⌜ r ≡ newKeyTo s (length (now (zero .entry))) (now (store .entry)) n (keyOf (now (q .entry)) (readPacket s (now (q .entry)))) ⌝ }
+{
+    let z = zero.len();
+    let mut is_new = true;
+    let mut j: usize = 0;
+    while j < n {
+        is_new = without(is_new, keyed(s, cells::row(store, z, j), zero, q, stop));
+        j += 1;
+    }
+    is_new
+}
+
+// Whether cell i is held, and no cell below it has its key.
+fn first(s: Settings, store: &[u8], i: usize, zero: &[u8]) -> bool
+    requires { ⌜ now zero ≡ zeroRow (length (now zero)) ⌝ }
+    ensures { λ r. ⌜ r ≡ newKeyIn s (length (now (zero .entry))) (now (store .entry)) i (cellAt s (length (now (zero .entry))) (now (store .entry)) i) ⌝ }
+{
+    let r = cells::row(store, zero.len(), i);
+    let t = cells::judge(s, r, zero);
+    if t.kind != 1 {
+        return false;
+    }
+    new_key(s, store, i, zero, cells::packet_in(r), t.at)
+}
+
+// How many of the first n cells are held.
+fn segments(s: Settings, store: &[u8], n: usize, zero: &[u8]) -> usize
+    requires { ⌜ now zero ≡ zeroRow (length (now zero)) ⌝ }
+    requires { ⌜ n ≤ cellsMost ⌝ }
+    ensures { λ r. ⌜ r ≡ segmentsIn s (length (now (zero .entry))) (now (store .entry)) n ⌝ }
+{
+    let z = zero.len();
+    let mut count: usize = 0;
+    let mut i: usize = 0;
+    while i < n {
+        count = more(count, held(s, cells::row(store, z, i), zero));
+        i += 1;
+    }
+    count
+}
+
+// How many different keys the first n cells have.
+fn keys(s: Settings, store: &[u8], n: usize, zero: &[u8]) -> usize
+    requires { ⌜ now zero ≡ zeroRow (length (now zero)) ⌝ }
+    requires { ⌜ n ≤ cellsMost ⌝ }
+    ensures { λ r. ⌜ r ≡ keysIn s (length (now (zero .entry))) (now (store .entry)) n ⌝ }
+{
+    let mut count: usize = 0;
+    let mut i: usize = 0;
+    while i < n {
+        count = more(count, first(s, store, i, zero));
+        i += 1;
+    }
+    count
+}
+
+// The segments left in a store, and their keys.
+pub fn left(s: Settings, store: &[u8]) -> Tallied
+    ensures { λ r. ⌜ r ≡ leftIn s 1024 (now (store .entry)) ⌝ }
+{
+    let zero = [0u8; 1024];
+    let n = cells::count(store.len(), zero.len());
+    let all = segments(s, store, n, &zero);
+    let different = keys(s, store, n, &zero);
+    Tallied {
+        segments: all,
+        keys: different,
+    }
+}

@@ -1,0 +1,246 @@
+/*
+ * A target for a coverage-guided fuzzer over the calls for C. The first octet of an input chooses what is done with the rest. Every
+ * buffer is just as long as it is said to be, so that the address sanitizer sees any octet outside. Beside that the answers are held
+ * to what document 01 ties together: a packet that reads writes back to the octet, a message that is cut comes out of the store as it
+ * went in, a refusal changes nothing, and a recording gives the messages that joining gives one packet at a time.
+ */
+#include <stdio.h>
+#include <stdlib.h>
+#include <string.h>
+
+#include "../include/orlyukan.h"
+
+#define CELL 1024
+#define MOST 65542
+
+static void hold(int test, const char *what) {
+    if (!test) {
+        fprintf(stderr, "does not hold: %s\n", what);
+        abort();
+    }
+}
+
+/* what is left of an input */
+struct rest {
+    const uint8_t *at;
+    size_t left;
+};
+
+static uint64_t number(struct rest *in, size_t octets) {
+    uint64_t n = 0;
+    for (; octets > 0 && in->left > 0; octets--, in->at++, in->left--) n = n << 8 | *in->at;
+    return n;
+}
+
+/* a copy of the next octets, or of as many as there are, in memory of just their length */
+static uint8_t *octets(struct rest *in, size_t *length) {
+    if (*length > in->left) *length = in->left;
+    uint8_t *copy = malloc(*length ? *length : 1);
+    memcpy(copy, in->at, *length);
+    in->at += *length;
+    in->left -= *length;
+    return copy;
+}
+
+static uint8_t *like(const uint8_t *from, size_t length) {
+    uint8_t *copy = malloc(length ? length : 1);
+    memcpy(copy, from, length);
+    return copy;
+}
+
+static int all_zero(const void *answer, size_t size) {
+    const uint64_t *n = answer;
+    for (size_t i = 1; i < size / 8; i++)
+        if (n[i] != 0) return 0;
+    return 1;
+}
+
+/* a header with the texts that it needs */
+struct message {
+    struct orl_header header;
+    const uint8_t *text[5]; /* timestamp, zone, session name, domain, authentication id */
+    size_t length[5];
+    uint64_t parts[32];
+    size_t part_count;
+};
+
+#define TEXTS(m)                                                                                                              \
+    (m)->text[0], (m)->length[0], (m)->text[1], (m)->length[1], (m)->text[2], (m)->length[2], (m)->text[3], (m)->length[3],  \
+        (m)->parts, (m)->part_count, (m)->text[4], (m)->length[4]
+
+/* the values of a packet that was read, to be written again; its domain's text is gathered into the room given */
+static void message_of(const uint8_t *packet, const struct orl_read_answer *r, uint8_t *room, struct message *m) {
+    memcpy(&m->header, &r->packet_type, 2 * 8);
+    memcpy(&m->header.sdu, &r->sdu, 21 * 8);
+    m->header.priority = r->priority;
+    const struct orl_place place[5] = {r->timestamp, r->zone, r->session_name, {0, 0}, r->authentication};
+    for (int i = 0; i < 5; i++) {
+        m->text[i] = packet + place[i].place;
+        m->length[i] = place[i].length;
+    }
+    m->text[3] = room;
+    m->part_count = r->domain_count;
+    for (size_t i = 0; i < r->domain_count; i++) {
+        memcpy(room + m->length[3], packet + r->domain[i].place, r->domain[i].length);
+        m->length[3] += r->domain[i].length;
+        m->parts[i] = r->domain[i].length;
+    }
+}
+
+static void reading(struct rest in) {
+    uint64_t t = number(&in, 1);
+    size_t length = in.left;
+    uint8_t *packet = octets(&in, &length);
+    struct orl_read_answer r;
+    memset(&r, 0xaa, sizeof r);
+    orl_read(t, packet, length, &r);
+    hold(r.refusal <= 15, "reading gives 1 to 15");
+    if (r.refusal != 0) {
+        hold(all_zero(&r, sizeof r), "a refused reading tells zeros");
+    } else {
+        struct message m = {0};
+        uint8_t room[256], *out = malloc(length);
+        struct orl_write_answer w;
+        hold(r.body.place + r.body.length == length, "the body ends the packet");
+        message_of(packet, &r, room, &m);
+        orl_write(t, &m.header, TEXTS(&m), r.flags, r.seq, r.counter, packet + r.body.place, r.body.length, out, length, &w);
+        hold(w.refusal == 0 && w.length == length && memcmp(out, packet, length) == 0, "what reads writes back");
+        free(out);
+    }
+    free(packet);
+}
+
+/* numbers mostly of their width, now and then of any */
+static void any_message(struct rest *in, struct message *m, uint8_t *held[5]) {
+    static const uint8_t width[24] = {1, 2, 1, 2, 2, 2, 1, 1, 1, 1, 2, 2, 8, 0, 0, 0, 0, 0, 0, 0, 0, 1, 1, 4};
+    uint64_t *n = &m->header.packet_type, present = number(in, 1), wide = number(in, 1);
+    for (int i = 0; i < 24; i++) n[i] = number(in, width[i]);
+    for (int i = 0; i < 8; i++) n[13 + i] = present >> (7 - i) & 1;
+    n[0] &= 1, n[1] &= 2047, n[7] &= 1, n[8] &= 3, n[10] &= 2047;
+    for (int i = 0; i < 3; i++) n[21 + i] *= n[13 + i];
+    if (wide > 230) n[wide % 24] = number(in, 8);
+    for (int i = 0; i < 5; i++) {
+        m->length[i] = n[16 + i] ? number(in, 1) : 0;
+        held[i] = octets(in, &m->length[i]);
+        m->text[i] = held[i];
+    }
+    if (n[19] == 1) {
+        m->part_count = number(in, 1) % 20;
+        size_t left = m->length[3];
+        for (size_t i = 0; i < m->part_count; i++) {
+            m->parts[i] = i + 1 == m->part_count ? left : number(in, 1) % (left + 1);
+            left -= m->parts[i];
+        }
+    }
+}
+
+/* cuts a message, puts its packets into a store, and takes it out again */
+static void cutting(struct rest in) {
+    struct message m = {0};
+    uint8_t *held[5];
+    uint64_t t = number(&in, 1), p = number(&in, 2);
+    struct orl_sender sender = {number(&in, 2), number(&in, 1) & 1, 0};
+    if (sender.has_counter) sender.counter = number(&in, 4);
+    any_message(&in, &m, held);
+    m.length[0] = m.header.has_timestamp == 1 && m.length[0] > t ? t : m.length[0];
+    size_t length = in.left;
+    uint8_t *body = octets(&in, &length);
+    struct orl_cut_count_answer c;
+    orl_cut_count(t, p, &m.header, TEXTS(&m), length, &sender, &c);
+    hold(c.refusal == 0 || (c.count == 0 && memcmp(&c.sender, &sender, sizeof sender) == 0), "a refused count");
+    uint8_t *store = calloc(64, CELL), *out = malloc(MOST), *joined = malloc(64 * CELL);
+    for (uint64_t i = 0; i < c.count && i < 64; i++) {
+        struct orl_cut_packet_answer w;
+        struct orl_arrive_answer a;
+        orl_cut_packet(t, p, &m.header, TEXTS(&m), body, length, &sender, i, out, MOST, &w);
+        hold(w.refusal == 0 && w.length <= p, "each packet of a count is written");
+        orl_arrive(t, store, 64 * CELL, out, w.length, &a);
+        hold(a.refusal == 17 || (a.refusal == 0 && a.kind == (c.count == 1 ? ORL_WHOLE : ORL_STORED)), "each packet arrives");
+        if (a.refusal == 17) c.count = 0;
+    }
+    if (c.count > 1 && c.count <= 64) {
+        struct orl_take_answer k;
+        orl_take(t, store, 64 * CELL, joined, 64 * CELL, &k);
+        hold(k.refusal == 0 && k.B == length && k.c == sender.counter, "a message that was cut is complete");
+        hold(memcmp(joined + 2 + k.H, body, length) == 0, "it comes out as it went in");
+        hold(store[0] == 0 && memcmp(store, store + 1, 64 * CELL - 1) == 0, "its cells are free again");
+    }
+    for (int i = 0; i < 5; i++) free(held[i]);
+    free(body), free(store), free(out), free(joined);
+}
+
+/* a store of any octets, mostly of cells with a mark and zeros at their end; a packet that arrives, and a taking */
+static void storing(struct rest in, int joins) {
+    uint64_t t = number(&in, 1);
+    size_t cells = number(&in, 1) % 6, size = cells * CELL;
+    uint8_t *store = calloc(cells ? cells : 1, CELL);
+    for (size_t i = 0; i < cells; i++) {
+        size_t length = number(&in, 2) % 1100;
+        uint8_t *held = octets(&in, &length);
+        if (length > 0) memcpy(store + i * CELL, "MS", 2);
+        memcpy(store + i * CELL + 2, held, length > CELL - 2 ? CELL - 2 : length);
+        free(held);
+    }
+    size_t room = number(&in, 2), length = in.left;
+    uint8_t *packet = octets(&in, &length), *out = calloc(room ? room : 1, 1);
+    uint8_t *before = like(store, size), *out_before = like(out, room);
+    struct orl_in_order_answer order;
+    orl_in_order(t, store, size, &order);
+    if (joins) {
+        struct orl_join_answer j;
+        orl_join(t, store, size, packet, length, out, room, &j);
+        hold(j.refusal == 0 || memcmp(out, out_before, room) == 0, "a refused joining leaves the output");
+        hold(j.refusal == 0 || j.refusal >= 20 || memcmp(store, before, size) == 0, "a refused arrival leaves the store");
+        hold(order.refusal == 0 || j.refusal == order.refusal, "15 and 16 come first");
+    } else {
+        struct orl_arrive_answer a;
+        struct orl_take_answer k;
+        orl_arrive(t, store, size, packet, length, &a);
+        hold(a.kind == ORL_STORED || memcmp(store, before, size) == 0, "only a stored segment changes the store");
+        hold(order.refusal == 0 || a.refusal == order.refusal, "15 and 16 come first");
+        orl_take(t, store, size, out, room, &k);
+        hold(k.refusal == 0 || memcmp(out, out_before, room) == 0, "a refused taking leaves the output");
+    }
+    uint64_t refusal = order.refusal;
+    orl_in_order(t, store, size, &order);
+    hold(order.refusal == refusal, "a store in order stays so");
+    free(store), free(packet), free(out), free(before), free(out_before);
+}
+
+/* a recording, by one call and one packet at a time */
+static void recording(struct rest in) {
+    size_t length = in.left, at = 0, written = 0;
+    uint8_t *octet = octets(&in, &length), *out = malloc(length + 1), *store = calloc(32, CELL), *joined = malloc(MOST);
+    struct orl_join_recording_answer a;
+    orl_join_recording(octet, length, out, length, &a);
+    hold(a.refusal == 0 && a.written <= length && a.place <= length, "a recording is not refused");
+    while (length - at >= 8 && memcmp(octet + at, "MP", 2) == 0) {
+        size_t size = (octet[at + 6] << 8 | octet[at + 7]) + 7;
+        struct orl_join_answer j = {0};
+        if (size > length - at - 2) break;
+        if (size <= 32768) orl_join(8, store, 32 * CELL, octet + at + 2, size, joined, MOST, &j);
+        if (size <= 32768 && j.refusal == 0) {
+            size_t makes = j.which == ORL_PACKET ? size - 4 : 2 + j.H + j.B;
+            if (j.which == ORL_PACKET) memcpy(joined, octet + at + 2, 2), memcpy(joined + 2, octet + at + 8, size - 6);
+            uint8_t front[6] = {0x4d, 0x4d, makes >> 24, makes >> 16, makes >> 8, makes};
+            hold(written + 6 + makes <= a.written, "no message is left out");
+            hold(memcmp(out + written, front, 6) == 0 && memcmp(out + written + 6, joined, makes) == 0, "each message is the same");
+            written += 6 + makes;
+        }
+        at += 2 + size;
+    }
+    hold(written == a.written && at == a.place, "nothing else is written, and it stops at the same place");
+    free(octet), free(out), free(store), free(joined);
+}
+
+int LLVMFuzzerTestOneInput(const uint8_t *data, size_t size) {
+    struct rest in = {data, size};
+    switch (number(&in, 1) % 5) {
+    case 0: reading(in); break;
+    case 1: cutting(in); break;
+    case 2: storing(in, 0); break;
+    case 3: storing(in, 1); break;
+    default: recording(in); break;
+    }
+    return 0;
+}

@@ -1,0 +1,355 @@
+/*
+ * Orlyukan for C and C++: reading, writing, cutting, storing and joining MAL messages in CCSDS Space Packets.
+ *
+ * Link with libcapi.a, which `rt staticlib capi` writes for Linux on x86-64. The library keeps nothing between calls, allocates
+ * nothing, reads and writes only the memory that it is lent, and always comes back.
+ *
+ * How every call is made
+ *
+ * - Every number is a uint64_t. A slice is a pointer and a length: octets, or for the lengths of domain parts uint64_t.
+ * - The answer is the last parameter, a struct of uint64_t fields that the call fills whole. Its first field is the refusal: 0
+ *   where the call did what was asked, else a number of the list below. On a refusal all other fields are 0, but for a sender's
+ *   numbers, which are told back as they were given, and no octet that was lent has changed. (orl_join says when it is
+ *   otherwise.)
+ * - On success only the octets that the call names have changed; the rest of a buffer is as it was.
+ * - t is T, the octets of a timestamp that both sides agreed on, 1 to 16. Any other value is refused by 15.
+ * - A number too wide for its field is refused by 22 and never made narrower. Where T or P is out of range too, it is 15.
+ *
+ * What the caller alone must keep
+ *
+ * - Every pointer is valid for its length, or for its struct, throughout the call, and is not NULL. Where the length is 0
+ *   nothing is read or written through it, and it may point to anything, but not be NULL: "" or the address of any object will
+ *   do.
+ * - Memory that a call may write (store, out, answer) overlaps no other memory lent to the same call. Memory that is only read
+ *   may.
+ * - While a call runs, no other thread writes what was lent to it, and none reads what it may write: one thread at a time for a
+ *   store. Calls on separate memory may run at the same time.
+ * - There is stack enough: measured were 124 kilobytes for orl_join_recording, 30 for the calls on a store, 10 for the others.
+ *
+ * Refusals
+ *
+ *    1  the packet has fewer octets than a primary header
+ *    2  packet version other than 0
+ *    3  no secondary header
+ *    4  the idle APID, 2047
+ *    5  the slice is longer or shorter than the packet's length field says
+ *    6  the packet ends inside its secondary header
+ *    7  binding version other than 0
+ *    8  an SDU type above 21
+ *    9  session 3
+ *   10  a Varint that is not written in the shortest way, or has more than 32 bits
+ *   11  a domain part whose presence octet is not 1
+ *   12  a secondary header of more than 256 octets, the counter included
+ *   13  a domain of more than 16 parts
+ *   14  a segment without a body
+ *   15  T outside 1 to 16, or P outside 27 to 65,542
+ *   16  the store is not in order
+ *   17  a segment of more than 1,022 octets does not go into a cell
+ *   18  another segment with this key and counter is held, and it differs
+ *   19  every cell is held
+ *   20  no message is complete
+ *   21  the output has too few octets
+ *   22  a value to write that its field cannot have: too wide or out of range, the idle APID, given for a field that is absent, a
+ *       timestamp that is not of T octets, a text above 65,535 octets, lengths of domain parts that do not add up to the domain
+ *   23  orl_write: a packet above 65,542 octets; orl_cut_count and orl_cut_packet: a body above 1,048,576
+ *   24  cutting is needed, and with this P a packet has no room for one octet of body
+ *   25  the segment counters that are left do not suffice
+ *   26  there is no packet with this number
+ *
+ * Where several apply, the answer is the one that comes first: reading 15, 1 to 5, then as the header is read from left to
+ * right, 14; writing 15, 22, 13, 23, 12, 14, 21; cutting 15, 22, 13, 23, 12, 24, 25, 26, 21; arrival 15, 16, those of reading,
+ * 17, 18, 19; taking 15, 16, 20, 21.
+ */
+#ifndef ORLYUKAN_H
+#define ORLYUKAN_H
+
+#include <stddef.h>
+#include <stdint.h>
+
+#ifdef __cplusplus
+extern "C" {
+#endif
+
+/* ---- numbers that several calls share ---- */
+
+/* Where a content stands: its place, counted from the first octet of the packet, and its length. Both are 0 where it is absent. */
+struct orl_place {
+    uint64_t place;
+    uint64_t length;
+};
+
+/*
+ * A sender's running numbers: the sequence count of the next packet, and the counter of the next segment. has_counter is 1
+ * where one is left; where none is, has_counter and counter are 0. A seq above 65,535, a has_counter above 1, a counter above
+ * 4,294,967,295, or a counter other than 0 beside has_counter 0 is refused by 22; cutting refuses a seq above 16,383 likewise.
+ */
+struct orl_sender {
+    uint64_t seq;
+    uint64_t has_counter;
+    uint64_t counter;
+};
+
+/*
+ * A header to write: all values but the texts. A presence flag is 1 where its field is there, else 0; the value of an absent
+ * field is 0 and its text is empty.
+ */
+struct orl_header {
+    uint64_t packet_type;    /* 0 or 1 */
+    uint64_t apid;           /* 0 to 2046 */
+    uint64_t sdu;            /* SDU type, 0 to 21 */
+    uint64_t area;           /* 16 bits */
+    uint64_t service;        /* 16 bits */
+    uint64_t operation;      /* 16 bits */
+    uint64_t area_version;   /* 8 bits */
+    uint64_t error;          /* 0 or 1 */
+    uint64_t qos;            /* QoS level, 0 to 3 */
+    uint64_t session;        /* 0 to 2 */
+    uint64_t secondary_apid; /* 0 to 2047 */
+    uint64_t qualifier;      /* of the secondary APID, 16 bits */
+    uint64_t transaction;    /* transaction id, 64 bits */
+    uint64_t has_source;
+    uint64_t has_destination;
+    uint64_t has_priority;
+    uint64_t has_timestamp;
+    uint64_t has_zone;
+    uint64_t has_session_name;
+    uint64_t has_domain;
+    uint64_t has_authentication;
+    uint64_t source;      /* source id, 8 bits */
+    uint64_t destination; /* destination id, 8 bits */
+    uint64_t priority;    /* 32 bits */
+};
+
+/*
+ * The texts of a header, in every call that takes one: a timestamp of T octets; network zone, session name and authentication
+ * id of at most 65,535 octets each; and the domain as one text, all its parts one behind the other, beside domain_count lengths
+ * of at most sixteen parts, which add up to domain_length. An absent domain has no length.
+ */
+
+/* ---- the sequence count ---- */
+
+struct orl_next_sequence_count_answer {
+    uint64_t refusal;
+    uint64_t seq;
+};
+
+/* The sequence count behind seq: 0 comes after 16,383, and after any number from there up to 65,535. A larger one is 22. */
+void orl_next_sequence_count(uint64_t seq, struct orl_next_sequence_count_answer *answer);
+
+/* ---- reading ---- */
+
+/*
+ * What stands in a packet. Places count from the packet's first octet; the first domain_count of the sixteen places are those
+ * of the domain's parts, in their order. H is the length of the secondary header without its segment counter.
+ */
+struct orl_read_answer {
+    uint64_t refusal;
+    uint64_t packet_type;
+    uint64_t apid;
+    uint64_t flags; /* sequence flags: 1 first, 0 continuation, 2 last, 3 unsegmented */
+    uint64_t seq;   /* sequence count */
+    uint64_t sdu;
+    uint64_t area;
+    uint64_t service;
+    uint64_t operation;
+    uint64_t area_version;
+    uint64_t error;
+    uint64_t qos;
+    uint64_t session;
+    uint64_t secondary_apid;
+    uint64_t qualifier;
+    uint64_t transaction;
+    uint64_t has_source;
+    uint64_t has_destination;
+    uint64_t has_priority;
+    uint64_t has_timestamp;
+    uint64_t has_zone;
+    uint64_t has_session_name;
+    uint64_t has_domain;
+    uint64_t has_authentication;
+    uint64_t source;
+    uint64_t destination;
+    uint64_t counter; /* segment counter, 0 where flags is 3 */
+    uint64_t priority;
+    struct orl_place timestamp;
+    struct orl_place zone;
+    struct orl_place session_name;
+    uint64_t domain_count;
+    struct orl_place domain[16];
+    struct orl_place authentication;
+    uint64_t H;
+    struct orl_place body; /* of length 0 at the packet's end where it is empty */
+};
+
+/* Reads one whole packet. */
+void orl_read(uint64_t t, const uint8_t *packet, size_t packet_length, struct orl_read_answer *answer);
+
+/* ---- writing ---- */
+
+struct orl_write_answer {
+    uint64_t refusal;
+    uint64_t length; /* octets written, from the first of out on */
+};
+
+/*
+ * Writes one packet with the header, its texts, its own sequence flags (0 to 3), sequence count (0 to 16,383) and segment
+ * counter (0 where flags is 3), and the body.
+ */
+void orl_write(uint64_t t, const struct orl_header *header, const uint8_t *timestamp, size_t timestamp_length, const uint8_t *zone,
+               size_t zone_length, const uint8_t *session_name, size_t session_name_length, const uint8_t *domain,
+               size_t domain_length, const uint64_t *domain_lengths, size_t domain_count, const uint8_t *authentication,
+               size_t authentication_length, uint64_t flags, uint64_t seq, uint64_t counter, const uint8_t *body,
+               size_t body_length, uint8_t *out, size_t out_length, struct orl_write_answer *answer);
+
+/* ---- a sender's numbers, and cutting ---- */
+
+struct orl_after_answer {
+    uint64_t refusal;
+    struct orl_sender sender;
+};
+
+/* A sender after one unsegmented packet: its sequence count moves on, its counter stays. */
+void orl_after_packet(const struct orl_sender *sender, struct orl_after_answer *answer);
+
+/* A sender after one segment: both move on. None is left once 4,294,967,295 has been used, and it stays so. */
+void orl_after_segment(const struct orl_sender *sender, struct orl_after_answer *answer);
+
+struct orl_cut_count_answer {
+    uint64_t refusal;
+    uint64_t count;           /* how many packets */
+    struct orl_sender sender; /* as it is behind the message; on a refusal as it was given */
+};
+
+/*
+ * How many packets of at most p octets (27 to 65,542) a message with this header and a body of body_length octets is cut into:
+ * one where it fits, else as few segments as can be. Only the body's length is asked for.
+ */
+void orl_cut_count(uint64_t t, uint64_t p, const struct orl_header *header, const uint8_t *timestamp, size_t timestamp_length,
+                   const uint8_t *zone, size_t zone_length, const uint8_t *session_name, size_t session_name_length,
+                   const uint8_t *domain, size_t domain_length, const uint64_t *domain_lengths, size_t domain_count,
+                   const uint8_t *authentication, size_t authentication_length, uint64_t body_length,
+                   const struct orl_sender *sender, struct orl_cut_count_answer *answer);
+
+struct orl_cut_packet_answer {
+    uint64_t refusal;
+    uint64_t length;          /* octets written, from the first of out on */
+    struct orl_sender sender; /* as it was given */
+};
+
+/*
+ * Writes packet number i of that message, counted from 0. sender is the sender as it stood before the message, for every i, and
+ * does not move.
+ */
+void orl_cut_packet(uint64_t t, uint64_t p, const struct orl_header *header, const uint8_t *timestamp, size_t timestamp_length,
+                    const uint8_t *zone, size_t zone_length, const uint8_t *session_name, size_t session_name_length,
+                    const uint8_t *domain, size_t domain_length, const uint64_t *domain_lengths, size_t domain_count,
+                    const uint8_t *authentication, size_t authentication_length, const uint8_t *body, size_t body_length,
+                    const struct orl_sender *sender, uint64_t i, uint8_t *out, size_t out_length,
+                    struct orl_cut_packet_answer *answer);
+
+/* ---- the store ---- */
+
+/*
+ * A store is memory of the caller's: 1 to 4,096 cells of 1,024 octets. All zeros is an empty one. Its contents belong to the
+ * calls below; the caller keeps them between calls and may save and restore them. Each call tests first that the store is in
+ * order.
+ */
+
+/* What an arrival comes to. */
+#define ORL_WHOLE 1  /* an unsegmented packet: the store is not touched */
+#define ORL_STORED 2 /* a new segment, now in the lowest free cell */
+#define ORL_HELD 3   /* a segment that is held already: the store is not touched */
+
+struct orl_arrive_answer {
+    uint64_t refusal;
+    uint64_t kind; /* one of the three above */
+};
+
+/* A packet arrives at the store. */
+void orl_arrive(uint64_t t, uint8_t *store, size_t store_length, const uint8_t *packet, size_t packet_length,
+                struct orl_arrive_answer *answer);
+
+struct orl_take_answer {
+    uint64_t refusal;
+    uint64_t H; /* octets of the secondary header without its counter */
+    uint64_t B; /* octets of the body */
+    uint64_t c; /* the first segment's counter */
+};
+
+/*
+ * Takes out of the store the complete message whose first segment lies in the lowest cell. Into out go the first two octets of
+ * its packets, the H octets of the header, and the B octets of the body; its cells become free.
+ */
+void orl_take(uint64_t t, uint8_t *store, size_t store_length, uint8_t *out, size_t out_length, struct orl_take_answer *answer);
+
+/* Which buffer holds a body. */
+#define ORL_NOTHING 0
+#define ORL_PACKET 1 /* the packet as it arrived */
+#define ORL_JOINED 2 /* the output */
+
+struct orl_join_answer {
+    uint64_t refusal;
+    uint64_t which;
+    uint64_t place;
+    uint64_t length;
+    uint64_t H; /* this and the next two as taking tells them; 0 for a packet that came whole */
+    uint64_t B;
+    uint64_t c;
+};
+
+/*
+ * A packet arrives, and where it did not come whole, a message is taken out. Where arrival refuses, nothing has changed. Where
+ * taking refuses (20 or 21), the segment that arrived stays in the store. For a packet that came whole, out is not touched and
+ * may be empty.
+ */
+void orl_join(uint64_t t, uint8_t *store, size_t store_length, const uint8_t *packet, size_t packet_length, uint8_t *out,
+              size_t out_length, struct orl_join_answer *answer);
+
+struct orl_view_answer {
+    uint64_t refusal;
+    uint64_t place;
+    uint64_t length;
+};
+
+/*
+ * The part of the named buffer at a place: the place and the length as they were given where the part lies inside the buffer,
+ * else 0 and 0, for an empty part. A which above 2 is refused by 22. Nothing is read but the two lengths.
+ */
+void orl_view(const uint8_t *packet, size_t packet_length, const uint8_t *joined, size_t joined_length, uint64_t which,
+              uint64_t place, uint64_t length, struct orl_view_answer *answer);
+
+struct orl_in_order_answer {
+    uint64_t refusal; /* 15 or 16 */
+    uint64_t cells;
+};
+
+/* Whether a store is in order, and how many cells it has. */
+void orl_in_order(uint64_t t, const uint8_t *store, size_t store_length, struct orl_in_order_answer *answer);
+
+/* ---- a whole recording ---- */
+
+/* Why the joining of a recording stopped. */
+#define ORL_ENDED 1    /* the recording ends behind a packet */
+#define ORL_UNMARKED 2 /* other octets than the mark 4D 50 follow */
+#define ORL_TORN 3     /* the mark, or a packet behind it, is not whole */
+
+struct orl_join_recording_answer {
+    uint64_t refusal; /* 21 where out is shorter than the recording, which is always enough */
+    uint64_t written; /* octets written, from the first of out on */
+    uint64_t place;   /* the place in the recording where it stopped */
+    uint64_t stop;    /* one of the three above */
+};
+
+/*
+ * Joins a recording that is in hand whole, with T 8 and a store of 32 cells of its own: packets, each behind the mark 4D 50.
+ * For each message out gets 4D 4D, a length of four octets, and what taking writes, and for a packet that came whole likewise.
+ * Refused packets and those above 32,768 octets are passed over.
+ */
+void orl_join_recording(const uint8_t *recording, size_t recording_length, uint8_t *out, size_t out_length,
+                        struct orl_join_recording_answer *answer);
+
+#ifdef __cplusplus
+}
+#endif
+
+#endif

@@ -1,0 +1,230 @@
+#!/usr/bin/env python3
+"""recordings.py [VECTORS_DIR]: runs the program itself over many recordings, and compares what it writes and says with the model.
+
+First the cases of VECTORS_DIR/program.jsonl, each a whole recording and what it must give (VECTORS_DIR is ../shared/vectors beside this
+repository unless it is named; where there is none, they are left out). Then MUTATED recordings made from the samples by a fixed seed:
+octets changed, parts cut out, repeated, moved and put into another sample, packets resized and given other transaction ids. The
+program must end by itself, in time, write what tests/model.py writes, and count what it counts. The program must have been built
+(`./orlyukan join` or `rt check join_recording`).
+"""
+
+import json
+import multiprocessing
+import os
+import pathlib
+import random
+import shutil
+import subprocess
+import sys
+import tempfile
+
+sys.dont_write_bytecode = True
+import cases
+import model
+
+ROOT = pathlib.Path(__file__).resolve().parent.parent
+PROGRAM = ROOT / "target" / "bin" / "join_recording"
+MUTATED = 10000
+SEED = 524
+SECONDS = 20
+AT_ONCE = 50
+MOST_SHOWN = 5
+
+
+def words():
+    """The words that run the program: on another processor than x86-64 under the Rattle kit's emulator."""
+    machine = os.uname().machine
+    if machine == "x86_64":
+        return [PROGRAM]
+    kit = os.environ.get("RATTLE_HOME") or pathlib.Path(shutil.which("rt")).resolve().parent.parent
+    tools = pathlib.Path(kit) / "on" / machine / "toolchain"
+    return [tools / "bin" / "qemu-x86_64", tools / "lib" / "ld-linux-x86-64.so.2", "--library-path", tools / "lib", PROGRAM]
+
+
+def summary(joining):
+    """What the program must say of a recording, refusal lines by their beginning alone."""
+    refused = sum(joining.refused.values())
+    lines = [f"packets seen: {joining.seen}", f"whole: {joining.whole}", f"joined: {joining.joined}", f"stored or held: {joining.kept}"]
+    lines += [f"passed over as too long: {joining.passed}", f"segments left in the store: {joining.segments}"]
+    lines += [f"different keys among them: {joining.keys}", f"octets written: {len(joining.output)}", f"refused: {refused}"]
+    lines += [f"  refused {number}: {joining.refused[number]}" for number in sorted(joining.refused)]
+    return lines + [f"stopped at octet {joining.place}: {joining.stop}"]
+
+
+def shortened(line):
+    """A line of the summary; of a refusal's the words are left out."""
+    if not line.startswith("  refused "):
+        return line
+    number, _, rest = line.partition(", ")
+    return f"{number}: {rest.rpartition(': ')[2]}"
+
+
+def fault(stream):
+    """What is wrong with the program's run over a recording; nothing where all is right."""
+    try:
+        ran = subprocess.run(words(), input=stream, capture_output=True, timeout=SECONDS, check=False)
+    except subprocess.TimeoutExpired:
+        return f"it did not end within {SECONDS} s"
+    if ran.returncode != 0:
+        return f"it ended with status {ran.returncode}"
+    joining = model.Joining(stream)
+    if ran.stdout != joining.output:
+        return "it wrote something else than the model"
+    said = [shortened(line) for line in ran.stderr.decode("ascii").splitlines()]
+    if said != summary(joining):
+        return f"it said {said} where the model says {summary(joining)}"
+    return None
+
+
+# Recordings.
+
+
+def vectors(folder):
+    """The whole recordings of the cases, each held to the output that its case gives."""
+    with open(folder / "program.jsonl", encoding="ascii") as file:
+        for text in file:
+            row = json.loads(text)
+            stream, out = cases.octets(row["stream"]), cases.octets(row["expect"]["out"])
+            if model.Joining(stream).output != out:
+                sys.exit("recordings.py: tests/model.py disagrees with a case of program.jsonl")
+            yield stream
+
+
+def changed(pick, stream, samples):
+    """Some octets changed."""
+    made = bytearray(stream)
+    for _ in range(pick.choice((1, 1, 2, 8, 64))):
+        made[pick.randrange(len(made))] = pick.choice((0, 0x4D, 0x50, 0xFF, pick.randrange(256)))
+    return bytes(made)
+
+
+def header_changed(pick, stream, samples):
+    """An octet of a header changed: soon behind a mark."""
+    marks = [at for at in range(len(stream) - 1) if stream[at : at + 2] == b"MP"]
+    if not marks:
+        return stream
+    at = pick.choice(marks) + 2 + pick.randrange(40)
+    return stream[:at] + bytes([pick.randrange(256)]) + stream[at + 1 :]
+
+
+def cut(pick, stream, samples):
+    """The end cut off."""
+    return stream[: pick.randrange(len(stream) + 1)]
+
+
+def without(pick, stream, samples):
+    """A part taken out."""
+    at = pick.randrange(len(stream))
+    return stream[:at] + stream[at + pick.randrange(1, 1200) :]
+
+
+def repeated(pick, stream, samples):
+    """A part twice."""
+    at = pick.randrange(len(stream))
+    end = at + pick.randrange(1, 2400)
+    return stream[:end] + stream[at:end] + stream[end:]
+
+
+def pieces(stream):
+    """The marks and packets of a recording."""
+    at = 0
+    while at + 8 <= len(stream):
+        end = at + 2 + int.from_bytes(stream[at + 6 : at + 8], "big") + 7
+        yield stream[at:end]
+        at = end
+
+
+def packets(samples):
+    """The marks and packets of all samples."""
+    return [piece for sample in samples for piece in pieces(sample)]
+
+
+def shuffled(pick, stream, samples):
+    """The packets of all samples in some order, some of them left out and some repeated."""
+    return b"".join(pick.choices(packets(samples), k=pick.randrange(1, 60)))
+
+
+def renumbered(pick, stream, samples):
+    """Many packets, each with one of a few transaction ids, so that cells run out."""
+    few = pick.randrange(2, 40)
+    made = [piece[:27] + bytes([pick.randrange(few)]) + piece[28:] for piece in pick.choices(packets(samples), k=pick.randrange(40, 200))]
+    return b"".join(made)
+
+
+def resized(piece, long):
+    """A mark and a packet cut or lengthened to some octets, with a length field that fits."""
+    return piece[:6] + (long - 9).to_bytes(2, "big") + piece[8:long].ljust(long - 8, b"\0")
+
+
+def inserted(pick, stream, samples):
+    """A packet before the others: of another length, with an empty body, around the longest that is joined, or an idle one."""
+    piece = pick.choice(packets(samples))
+    made = pick.choice(
+        (
+            resized(piece, pick.randrange(9, 1100)),
+            resized(piece, pick.choice((28, 29, 32, 33, 34))),
+            resized(piece, 2 + 32768 + pick.randrange(-2, 3)),
+            piece[:2] + b"\x1f\xff" + piece[4:],
+        )
+    )
+    return made + stream
+
+
+def spliced(pick, stream, samples):
+    """A part of another sample put in."""
+    other = pick.choice(samples)
+    at, place = pick.randrange(len(other)), pick.randrange(len(stream))
+    return stream[:place] + other[at : at + pick.randrange(1, 3000)] + stream[place:]
+
+
+KINDS = (changed, header_changed, header_changed, cut, without, repeated, shuffled, renumbered, inserted, inserted, spliced)
+
+
+def mutated(samples):
+    """Recordings made from the samples, each by one to three changes."""
+    pick = random.Random(SEED)
+    for _ in range(MUTATED):
+        stream = pick.choice(samples)
+        for _ in range(pick.choice((1, 1, 2, 3))):
+            stream = pick.choice(KINDS)(pick, stream, samples) or stream
+        yield stream
+
+
+def tried(stream):
+    """A recording, and what is wrong with it."""
+    found = fault(stream)
+    return (stream if found else b""), found
+
+
+def run(name, streams):
+    """Runs the program over recordings. How many were at fault."""
+    count, faults = 0, 0
+    with multiprocessing.Pool() as pool:
+        for stream, found in pool.imap(tried, streams, AT_ONCE):
+            count += 1
+            if found:
+                faults += 1
+                if faults <= MOST_SHOWN:
+                    with tempfile.NamedTemporaryFile(prefix="orlyukan.", suffix=".rec", delete=False) as kept:
+                        kept.write(stream)
+                    print(f"{name} {count}, kept in {kept.name}: {found}")
+    print(f"{name}: {count} run, {faults} at fault")
+    return faults
+
+
+def main(arguments):
+    if len(arguments) > 1:
+        sys.exit(__doc__)
+    if not os.access(PROGRAM, os.X_OK):
+        sys.exit(f"recordings.py: there is no program {PROGRAM}")
+    folder = pathlib.Path(arguments[0]) if arguments else ROOT.parent / "shared" / "vectors"
+    faults = 0
+    if arguments or folder.is_dir():
+        faults += run("cases of the program", list(vectors(folder)))
+    samples = [(ROOT / "samples" / f"{name}.rec").read_bytes() for name in ("clean", "mixed", "torn")]
+    faults += run("mutated recordings", mutated(samples))
+    sys.exit(1 if faults else 0)
+
+
+if __name__ == "__main__":
+    main(sys.argv[1:])
