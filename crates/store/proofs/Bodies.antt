@@ -145,6 +145,9 @@ module _ {s : Settings} {Z : ℕ} {st : List ℕ} {n : ℕ} {k js : List ℕ} {p
   pub copying-ended : left ≤ 0 → ⊥
   copying-ended h = follow-none s Z st n k left c (w .rest) h (w .ahead)
 
+  pub copying-inside : 0 < left → {j : ℕ} → j ≡ foundIn s Z st n k c → j < n
+  copying-inside h ej = next-inside s Z st n k left c (w .rest) h (w .ahead) ej
+
   module _ (h : 0 < left) {j : ℕ} {r : List ℕ} {t : Piece} (ej : j ≡ foundIn s Z st n k c) (er : r ≡ rowAt Z st j) (et : t ≡ pieceOf (readPacket s (packetIn 0 r))) where
     abbrev x : List ℕ
     x = part (packetIn 0 r) (t .at) (t .length)

@@ -5,6 +5,7 @@ pub mod Opening
 pub mod Following
 pub mod Counting
 pub mod Ends
+pub mod Pieces
 pub mod Running
 pub mod Picks
 pub mod Clearing

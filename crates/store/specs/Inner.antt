@@ -1,10 +1,11 @@
 -- What the code hands about: a segment by its values, and a segment in its cell.
 -- Assumes nothing: these are definitions.
-use Prim.Native.Nat.{ℕ}
+use Prim.Native.Nat.{ℕ, _/_}
 use mathlib.Core.Bool.{Bool, true, false}
+use lib.ListN.{length}
 use lib.Dec.{eqb}
 use mathlib.Core.List.{List}
-use Rattle.octets.specs.Octets.{pick, part}
+use Rattle.octets.specs.Octets.{pick, octetAt, part}
 use Rattle.walk.specs.declared.Settings.{Settings}
 use Rattle.walk.specs.Walk.{begun, refusal}
 use Rattle.packet.specs.declared.Header.{Header}
@@ -24,6 +25,11 @@ segWith s p flags at long c =
 -- what is kept of a reading
 unfoldable pub pieceOf : Header → Piece
 pieceOf h = record { flags = h .primary .flags; at = h .body .at; length = h .body .length }
+
+-- the same by the octets of a row, told where its packet's body begins
+unfoldable pub pieceIn : List ℕ → ℕ → Piece
+pieceIn r stop =
+    record { flags = octetAt r 4 / 64; at = stop; length = length (part (packetIn 0 r) stop (length (packetIn 0 r))) }
 
 -- the segment in a row that holds one
 abbrev pub segIn : Settings → ℕ → List ℕ → Seg

@@ -21,7 +21,7 @@ ghost use Rattle.store.specs.Messages.{cellsOf, runIn, picked, top};
 ghost use Rattle.store.specs.Arriving.{refused as refusedBy, placed, segmentArrived, arrivedIn, arrived, storeWith};
 ghost use Rattle.store.specs.Taking.{unable, tookIn, took, outWith, clearedTo, storeLess};
 ghost use Rattle.store.specs.Told.{arrivalOf, takenOf};
-ghost use Rattle.store.specs.Inner.{segWith, segIn, pieceOf, openedOf};
+ghost use Rattle.store.specs.Inner.{segWith, segIn, pieceOf, pieceIn, openedOf};
 ghost use Rattle.store.specs.Follow.{segAt, follow as followed, placesFrom, bodiesAt, total, answer, opensAt, endsAt, pickedOf, copiedOf, Ready, Opens};
 use packet::SegmentCounter;
 use walk::Refusal;
@@ -259,6 +259,20 @@ fn not_taken(k: u8) -> Taken
     }
 }
 
+// The segment in a cell that was found by the key of another, told where the other's body begins: so does this one's, and the header is
+// not read again.
+fn piece_with(row: &[u8], stop: usize) -> Piece
+    ensures { λ r. ⌜ r ≡ pieceIn (now (row .entry)) stop ⌝ }
+{
+    let p = cells::packet_in(row);
+    let body = cells::span(p, stop, p.len());
+    Piece {
+        flags: flags_in(row),
+        at: stop,
+        length: body.len(),
+    }
+}
+
 // The segments with the key of q from a counter on, up to a last: one more than the octets of their bodies and b, or 0 where the
 // run is not complete.
 fn follow(
@@ -289,7 +303,7 @@ fn follow(
         if n <= j {
             return 0;
         }
-        let t = piece_in(s, cells::row(store, z, j));
+        let t = piece_with(cells::row(store, z, j), stop);
         sum += t.length;
         if t.flags == 1 {
             return 0;
@@ -441,7 +455,7 @@ fn copy_rest(
     while 0 < left {
         let j = cells::find_by(s, store, n, zero, q, stop, c, chained, heads, links);
         let r = cells::row(store, z, j);
-        let t = piece_in(s, r);
+        let t = piece_with(r, stop);
         at = put_body(out, at, r, t);
         if t.flags == 2 {
             return c + 1;

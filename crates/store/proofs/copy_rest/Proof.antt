@@ -6,7 +6,8 @@ use native.Mathlib.Omega.{arith}
 use Rattle.packet.specs.Key.{keyOf}
 use Rattle.packet.specs.Reading.{readPacket}
 use Rattle.store.specs.Follow.{placesFrom}
-use Rattle.store.proofs.Bodies.{Copying, copying-first, copying-ended, copying-room, copying-long, copying-last, copying-turn}
+use Rattle.store.proofs.Pieces.{piece-found}
+use Rattle.store.proofs.Bodies.{Copying, copying-inside, copying-first, copying-ended, copying-room, copying-long, copying-last, copying-turn}
 use borrow.Author.Needs.{needs}
 use Rattle.store.proofs.copy_rest.Statement.{statement}
 use Rattle.store.proofs.copy_rest.Tie as tie
@@ -26,20 +27,20 @@ find-by-requires c κs = (c .before .before .before .before .before .before .pre
 row-requires : tie.Need-row-requires Inv-loop μ-loop
 row-requires c κs = search needs
 
-piece-in-requires : tie.Need-piece-in-requires Inv-loop μ-loop
-piece-in-requires c κs = search needs
+piece-with-requires : tie.Need-piece-with-requires Inv-loop μ-loop
+piece-with-requires c κs = search needs
 
 put-body-requires : tie.Need-put-body-requires Inv-loop μ-loop
-put-body-requires c κs = copying-room (c .before .before .before .before .before .loop .inv) (c .before .before .before .before .loop-test .taken) (c .before .before .before .find-by .ensures) (c .before .before .row .ensures) (c .before .piece-in .ensures)
+put-body-requires c κs = copying-room (c .before .before .before .before .before .loop .inv) (c .before .before .before .before .loop-test .taken) (c .before .before .before .find-by .ensures) (c .before .before .row .ensures) (piece-found (c .before .before .before .before .before .before .before .before .before .before .args .s) (length (now (c .before .before .before .before .before .before .before .before .before .before .args .zero))) (now (c .before .before .before .before .before .before .before .before .before .before .args .store)) (now (c .before .before .before .before .before .before .before .before .before .before .args .q)) (c .before .before .before .before .before .before .before .before .before .before .args .n) (c .before .before .before .before .before .before .before .before .before .before .args .stop) (c .before .before .before .before .before .loop .c) (c .before .before .before .before .before .before .before .before .before .before .pre .1 .1 .0) (λ i. c .before .before .before .before .before .before .before .before .before .shared-slice-known .given i .fits) (c .before .before .before .find-by .ensures) (copying-inside (c .before .before .before .before .before .loop .inv) (c .before .before .before .before .loop-test .taken) (c .before .before .before .find-by .ensures)) (c .before .before .row .ensures) (c .before .piece-with .ensures))
 
 add-result : tie.Need-add-result Inv-loop μ-loop
 add-result c = omega (arith, c .before .before .before .before .before .before .before .before .before .before .loop .inv .count)
 
 same-length : tie.Need-same-length Inv-loop μ-loop
-same-length c = copying-long (c .before .before .before .before .before .before .before .before .before .before .loop .inv) (c .before .before .before .before .before .before .before .before .before .loop-test .taken) (c .before .before .before .before .before .before .before .before .find-by .ensures) (c .before .before .before .before .before .before .before .row .ensures) (c .before .before .before .before .before .before .piece-in .ensures) (c .before .before .before .before .put-body .ensures .0) (c .before .before .before .before .put-body .ensures .1)
+same-length c = copying-long (c .before .before .before .before .before .before .before .before .before .before .loop .inv) (c .before .before .before .before .before .before .before .before .before .loop-test .taken) (c .before .before .before .before .before .before .before .before .find-by .ensures) (c .before .before .before .before .before .before .before .row .ensures) (piece-found (c .before .before .before .before .before .before .before .before .before .before .before .before .before .before .before .args .s) (length (now (c .before .before .before .before .before .before .before .before .before .before .before .before .before .before .before .args .zero))) (now (c .before .before .before .before .before .before .before .before .before .before .before .before .before .before .before .args .store)) (now (c .before .before .before .before .before .before .before .before .before .before .before .before .before .before .before .args .q)) (c .before .before .before .before .before .before .before .before .before .before .before .before .before .before .before .args .n) (c .before .before .before .before .before .before .before .before .before .before .before .before .before .before .before .args .stop) (c .before .before .before .before .before .before .before .before .before .before .loop .c) (c .before .before .before .before .before .before .before .before .before .before .before .before .before .before .before .pre .1 .1 .0) (λ i. c .before .before .before .before .before .before .before .before .before .before .before .before .before .before .shared-slice-known .given i .fits) (c .before .before .before .before .before .before .before .before .find-by .ensures) (copying-inside (c .before .before .before .before .before .before .before .before .before .before .loop .inv) (c .before .before .before .before .before .before .before .before .before .loop-test .taken) (c .before .before .before .before .before .before .before .before .find-by .ensures)) (c .before .before .before .before .before .before .before .row .ensures) (c .before .before .before .before .before .before .piece-with .ensures)) (c .before .before .before .before .put-body .ensures .0) (c .before .before .before .before .put-body .ensures .1)
 
 returns : tie.Need-returns Inv-loop μ-loop
-returns c = copying-last (c .before .before .before .before .before .before .before .before .before .before .loop .inv) (c .before .before .before .before .before .before .before .before .before .loop-test .taken) (c .before .before .before .before .before .before .before .before .find-by .ensures) (c .before .before .before .before .before .before .before .row .ensures) (c .before .before .before .before .before .before .piece-in .ensures) (c .before .before .before .before .put-body .ensures .0) (c .before .before .before .before .put-body .ensures .1) (c .if1 .taken)
+returns c = copying-last (c .before .before .before .before .before .before .before .before .before .before .loop .inv) (c .before .before .before .before .before .before .before .before .before .loop-test .taken) (c .before .before .before .before .before .before .before .before .find-by .ensures) (c .before .before .before .before .before .before .before .row .ensures) (piece-found (c .before .before .before .before .before .before .before .before .before .before .before .before .before .before .before .args .s) (length (now (c .before .before .before .before .before .before .before .before .before .before .before .before .before .before .before .args .zero))) (now (c .before .before .before .before .before .before .before .before .before .before .before .before .before .before .before .args .store)) (now (c .before .before .before .before .before .before .before .before .before .before .before .before .before .before .before .args .q)) (c .before .before .before .before .before .before .before .before .before .before .before .before .before .before .before .args .n) (c .before .before .before .before .before .before .before .before .before .before .before .before .before .before .before .args .stop) (c .before .before .before .before .before .before .before .before .before .before .loop .c) (c .before .before .before .before .before .before .before .before .before .before .before .before .before .before .before .pre .1 .1 .0) (λ i. c .before .before .before .before .before .before .before .before .before .before .before .before .before .before .shared-slice-known .given i .fits) (c .before .before .before .before .before .before .before .before .find-by .ensures) (copying-inside (c .before .before .before .before .before .before .before .before .before .before .loop .inv) (c .before .before .before .before .before .before .before .before .before .loop-test .taken) (c .before .before .before .before .before .before .before .before .find-by .ensures)) (c .before .before .before .before .before .before .before .row .ensures) (c .before .before .before .before .before .before .piece-with .ensures)) (c .before .before .before .before .put-body .ensures .0) (c .before .before .before .before .put-body .ensures .1) (c .if1 .taken)
 
 add-c : tie.Need-add-c Inv-loop μ-loop
 add-c c = omega (arith, c .before .before .before .before .before .before .before .before .before .before .loop .inv .count)
@@ -51,7 +52,7 @@ loop-less : tie.Need-loop-less Inv-loop μ-loop
 loop-less c = omega (arith, c .before .before .before .before .before .before .before .before .before .loop-test .taken)
 
 loop-again : tie.Need-loop-again Inv-loop μ-loop
-loop-again c = copying-turn (c .before .before .before .before .before .before .before .before .before .before .loop .inv) (c .before .before .before .before .before .before .before .before .before .loop-test .taken) (c .before .before .before .before .before .before .before .before .find-by .ensures) (c .before .before .before .before .before .before .before .row .ensures) (c .before .before .before .before .before .before .piece-in .ensures) (c .before .before .before .before .put-body .ensures .0) (c .before .before .before .before .put-body .ensures .1) (c .if1 .left)
+loop-again c = copying-turn (c .before .before .before .before .before .before .before .before .before .before .loop .inv) (c .before .before .before .before .before .before .before .before .before .loop-test .taken) (c .before .before .before .before .before .before .before .before .find-by .ensures) (c .before .before .before .before .before .before .before .row .ensures) (piece-found (c .before .before .before .before .before .before .before .before .before .before .before .before .before .before .before .args .s) (length (now (c .before .before .before .before .before .before .before .before .before .before .before .before .before .before .before .args .zero))) (now (c .before .before .before .before .before .before .before .before .before .before .before .before .before .before .before .args .store)) (now (c .before .before .before .before .before .before .before .before .before .before .before .before .before .before .before .args .q)) (c .before .before .before .before .before .before .before .before .before .before .before .before .before .before .before .args .n) (c .before .before .before .before .before .before .before .before .before .before .before .before .before .before .before .args .stop) (c .before .before .before .before .before .before .before .before .before .before .loop .c) (c .before .before .before .before .before .before .before .before .before .before .before .before .before .before .before .pre .1 .1 .0) (λ i. c .before .before .before .before .before .before .before .before .before .before .before .before .before .before .shared-slice-known .given i .fits) (c .before .before .before .before .before .before .before .before .find-by .ensures) (copying-inside (c .before .before .before .before .before .before .before .before .before .before .loop .inv) (c .before .before .before .before .before .before .before .before .before .loop-test .taken) (c .before .before .before .before .before .before .before .before .find-by .ensures)) (c .before .before .before .before .before .before .before .row .ensures) (c .before .before .before .before .before .before .piece-with .ensures)) (c .before .before .before .before .put-body .ensures .0) (c .before .before .before .before .put-body .ensures .1) (c .if1 .left)
 
 same-length-2 : tie.Need-same-length-2 Inv-loop μ-loop
 same-length-2 c = c .before .loop .inv .long
@@ -60,4 +61,4 @@ returns-2 : tie.Need-returns-2 Inv-loop μ-loop
 returns-2 c = absurd (copying-ended (c .before .loop .inv) (c .loop-test .left))
 
 pub copy-rest-spec : {M : Type 1} → statement M
-copy-rest-spec = tie.close (tie.spec Inv-loop μ-loop loop-holds find-by-requires row-requires piece-in-requires put-body-requires add-result same-length returns add-c sub-left loop-less loop-again same-length-2 returns-2)
+copy-rest-spec = tie.close (tie.spec Inv-loop μ-loop loop-holds find-by-requires row-requires piece-with-requires put-body-requires add-result same-length returns add-c sub-left loop-less loop-again same-length-2 returns-2)
