@@ -18,7 +18,7 @@
 //
 // Module input reads standard input, case a case of it; print writes lines; lists has numbers and strings by their place. The
 // calls have a module each. A call takes what it needs of the numbers, the strings and the two buffers, and puts its answers into
-// a list, so that a new one is a line of a `run_` function here and a function beside the others.
+// a list, so that a new one is a line of `run_packet` or `run_store` and a function beside the others.
 mod case;
 mod cuts;
 mod headers;
@@ -95,28 +95,8 @@ fn least(a: usize, b: usize) -> usize
     b
 }
 
-// Runs the call with this tag, of those that write no output but a Varint's. The number of its answers, 0 where there is no such call.
-fn run_numbers(
-    tag: u8,
-    numbers: &[u64],
-    first: &[u8],
-    out: &mut [u8],
-    answer: &mut [u64],
-) -> usize {
-    if tag == VARINT_READ {
-        return varints::read(numbers, first, answer);
-    }
-    if tag == VARINT_WRITE {
-        return varints::write(numbers, out, answer);
-    }
-    if tag == READ {
-        return reads::read(numbers, first, answer);
-    }
-    0
-}
-
-// The same of those that write and cut.
-fn run_packets(
+// Runs the call with this tag, of those that know no store. The number of its answers, 0 where there is no such call.
+fn run_packet(
     tag: u8,
     numbers: &[u64],
     strings: &[u8],
@@ -124,24 +104,38 @@ fn run_packets(
     out: &mut [u8],
     answer: &mut [u64],
 ) -> usize {
+    if tag == VARINT_READ {
+        return varints::read(numbers, lists::part(strings, ends, 0), answer);
+    }
+    if tag == VARINT_WRITE {
+        return varints::write(numbers, out, answer);
+    }
+    if tag == READ {
+        return reads::read(numbers, lists::part(strings, ends, 0), answer);
+    }
     if tag == WRITE {
         return writes::write(numbers, strings, ends, out, answer);
     }
     if tag == COUNT {
         return cuts::count(numbers, strings, ends, answer);
     }
-    cuts::packet(numbers, strings, ends, out, answer)
+    if tag == PACKET {
+        return cuts::packet(numbers, strings, ends, out, answer);
+    }
+    0
 }
 
-// The same of those at a store alone.
+// The same of those that store and join.
 fn run_store(
     tag: u8,
     numbers: &[u64],
-    first: &[u8],
+    strings: &[u8],
+    ends: &[u64],
     store: &mut [u8],
     out: &mut [u8],
     answer: &mut [u64],
 ) -> usize {
+    let first = lists::part(strings, ends, 0);
     if tag == IN_ORDER {
         return stores::order(numbers, store, answer);
     }
@@ -151,56 +145,16 @@ fn run_store(
     if tag == TAKE {
         return stores::take(numbers, store, out, answer);
     }
-    joins::join(numbers, store, first, out, answer)
-}
-
-// The same of the others.
-fn run_view(
-    tag: u8,
-    numbers: &[u64],
-    first: &[u8],
-    second: &[u8],
-    out: &mut [u8],
-    answer: &mut [u64],
-) -> usize {
+    if tag == JOIN {
+        return joins::join(numbers, store, first, out, answer);
+    }
     if tag == VIEW {
-        return joins::view(numbers, first, second, out, answer);
+        return joins::view(numbers, first, lists::part(strings, ends, 1), out, answer);
     }
     if tag == RECORDING {
         return recordings::join(first, out, answer);
     }
     0
-}
-
-// Runs a call that knows no store.
-fn run_codec(
-    tag: u8,
-    numbers: &[u64],
-    strings: &[u8],
-    ends: &[u64],
-    out: &mut [u8],
-    answer: &mut [u64],
-) -> usize {
-    if tag < WRITE {
-        return run_numbers(tag, numbers, lists::part(strings, ends, 0), out, answer);
-    }
-    run_packets(tag, numbers, strings, ends, out, answer)
-}
-
-// Runs a call that stores, joins or shows.
-fn run_joins(
-    tag: u8,
-    numbers: &[u64],
-    first: &[u8],
-    second: &[u8],
-    store: &mut [u8],
-    out: &mut [u8],
-    answer: &mut [u64],
-) -> usize {
-    if tag < VIEW {
-        return run_store(tag, numbers, first, store, out, answer);
-    }
-    run_view(tag, numbers, first, second, out, answer)
 }
 
 // Runs the call with this tag.
@@ -214,11 +168,9 @@ fn run(
     answer: &mut [u64],
 ) -> usize {
     if tag < IN_ORDER {
-        return run_codec(tag, numbers, strings, ends, out, answer);
+        return run_packet(tag, numbers, strings, ends, out, answer);
     }
-    let first = lists::part(strings, ends, 0);
-    let second = lists::part(strings, ends, 1);
-    run_joins(tag, numbers, first, second, store, out, answer)
+    run_store(tag, numbers, strings, ends, store, out, answer)
 }
 
 // A line: the answers, then the lent buffers that the case has.
