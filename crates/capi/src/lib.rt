@@ -9,7 +9,7 @@ ghost use mathlib.Core.Path.{_≡_};
 ghost use lib.ListN.{length};
 ghost use Rattle.packet.specs.Reading.{readPacket};
 ghost use Rattle.write.specs.Given.{lent};
-ghost use Rattle.flat.specs.Given.{settingsOf};
+ghost use Rattle.walk.specs.Walk.{settingsOf};
 ghost use Rattle.flat.specs.Told.{readNumbers};
 ghost use Rattle.flat.specs.Answers.{nextNumbers, writeNumbers, writeOut, afterPacketNumbers, afterSegmentNumbers, countNumbers, packetNumbers, packetOut};
 

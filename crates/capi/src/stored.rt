@@ -6,7 +6,8 @@ ghost use Rattle.store.specs.Arriving.{arrived, storeWith};
 ghost use Rattle.store.specs.Taking.{took, outWith, storeLess};
 ghost use Rattle.join.specs.Joining.{joining, storeJoined, outJoined};
 ghost use Rattle.recording.specs.Ending.{recordedOf, outRecorded};
-ghost use Rattle.flat_store.specs.Numbers.{settingsOf, arriveNumbers, takeNumbers, joinNumbers, orderNumbers, recordedNumbers};
+ghost use Rattle.walk.specs.Walk.{settingsOf};
+ghost use Rattle.flat_store.specs.Numbers.{arriveNumbers, takeNumbers, joinNumbers, orderNumbers, recordedNumbers};
 ghost use Rattle.flat_store.specs.Views.{viewNumbers};
 
 // A packet arrives.

@@ -7,7 +7,7 @@
 // numbers as they stood before the message, and moves neither. A refusal leaves the sender and the output as they were. The tests
 // on a header, its size and its octets are those of crate `write`.
 ghost use mathlib.Core.Path.{_≡_};
-ghost use Prim.Native.Nat.{suc, _+_, _-_, _≤_};
+ghost use Prim.Native.Nat.{suc, _+_, _≤_};
 ghost use Rattle.packet.specs.Numbers.{countMost};
 ghost use lib.ListN.{length};
 ghost use lib.Dec.{leb, eqb};
@@ -155,21 +155,11 @@ fn test_message(
     write::test_parts(lengths.len(), c)
 }
 
-// What is left of a number, 0 where it is the smaller one.
-fn less(a: usize, b: usize) -> usize
-    ensures { λ r. ⌜ r ≡ a - b ⌝ }
-{
-    if b <= a {
-        return a - b;
-    }
-    0
-}
-
 // C.
 fn chunk_of(p: usize, h: usize) -> usize
     ensures { λ r. ⌜ r ≡ chunkOf p h ⌝ }
 {
-    less(less(p, h), 10)
+    octets::less(octets::less(p, h), 10)
 }
 
 // B / C rounded up, 0 where C is.
@@ -200,17 +190,11 @@ fn counters_fit(next: Next, n: usize) -> bool
 {
     match next {
         Next::At(c) => {
-            let left = 4294967296 - wide(c.0);
+            let left = 4294967296 - write::wide32(c.0);
             n as u64 <= left
         }
         Next::NoneLeft => false,
     }
-}
-
-fn wide(x: u32) -> u64
-    ensures { λ r. ⌜ r ≡ x ⌝ }
-{
-    x as u64
 }
 
 // Held by one packet, or else by a test.
@@ -262,7 +246,7 @@ fn counter_after(next: Next, n: usize) -> Next
     match next {
         Next::At(c) => {
             let x = c.0;
-            let left = wide(COUNTER_MOST - x);
+            let left = write::wide32(COUNTER_MOST - x);
             if n as u64 <= left {
                 return Next::At(SegmentCounter(x + n as u32));
             }
@@ -287,7 +271,7 @@ fn counter_at(single: bool, next: Next, i: usize) -> SegmentCounter
     match next {
         Next::At(c) => {
             let x = c.0;
-            let left = wide(COUNTER_MOST - x);
+            let left = write::wide32(COUNTER_MOST - x);
             if single {
                 return SegmentCounter(0);
             }

@@ -13,7 +13,8 @@ use Rattle.walk.specs.declared.Settings.{Settings}
 use Rattle.walk.specs.Walk.{begun, check, octets, unless}
 use Rattle.fields.specs.Form.{joined, split}
 use Rattle.packet.specs.Format.{presence, identification, fixedOctets, frontOctets, counterOctets, backOctets, headerOctets, secondaryOctets, dataOctets, octetsOf}
-use Rattle.packet.specs.Reading.{primaryTests, primaryOf, afterSdu, afterArea, afterService, afterOperation, afterVersion, afterSession, afterSecondary, afterQualifier, afterTransaction, afterPresence, fixedOf, flagsOf, presentOf, idsOf, textsOf, bodyTest, wideField, acceptedHeader, readPacket}
+use Rattle.packet.specs.FixedPart.{afterSdu, afterArea, afterService, afterOperation, afterVersion, afterSession, afterSecondary, afterQualifier, afterTransaction, afterPresence, fixedOf, flagsOf, presentOf, wideField}
+use Rattle.packet.specs.Reading.{primaryTests, primaryOf, idsOf, textsOf, bodyTest, acceptedHeader, readPacket}
 use Rattle.write.specs.Given.{headOf, sum, nameChecks, routingChecks, idChecks, textChecks, headerChecks, unlessAll}
 use Rattle.write.specs.Writing.{settingsTest, partsTest}
 use Rattle.two_way.proofs.Figures.{header as values, texts}

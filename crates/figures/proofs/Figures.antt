@@ -11,7 +11,8 @@ use Rattle.walk.specs.Walk.{begun, check, octets, unless, number, numberStep}
 use Rattle.fields.specs.Form.{split}
 use Rattle.packet.specs.Numbers.{nextCount}
 use Rattle.packet.specs.Format.{presence, identification, fixedOctets, frontOctets, counterOctets, backOctets, headerOctets, secondaryOctets, dataOctets, octetsOf}
-use Rattle.packet.specs.Reading.{primaryTests, primaryOf, octetField, wideField, sduField, afterSdu, afterArea, afterService, afterOperation, afterVersion, afterSession, afterSecondary, afterQualifier, afterTransaction, afterPresence, fixedOf, flagsOf, presentOf, idsOf, textsOf, bodyTest, refusedHeader, acceptedHeader, readPacket}
+use Rattle.packet.specs.FixedPart.{octetField, wideField, sduField, afterSdu, afterArea, afterService, afterOperation, afterVersion, afterSession, afterSecondary, afterQualifier, afterTransaction, afterPresence, fixedOf, flagsOf, presentOf}
+use Rattle.packet.specs.Reading.{primaryTests, primaryOf, idsOf, textsOf, bodyTest, refusedHeader, acceptedHeader, readPacket}
 use Rattle.write.specs.Given.{headOf, packetOf, sum, nameChecks, routingChecks, idChecks, textChecks, headerChecks, packetChecks, unlessAll}
 use Rattle.write.specs.Writing.{settingsTest, partsTest, sizeTests, valueRefusal, writeRefusal, writeOutput}
 use Rattle.cut.specs.Sending.{countersFit, counterAt, countAt}

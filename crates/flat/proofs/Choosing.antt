@@ -15,7 +15,8 @@ use Rattle.cut.specs.declared.Sender.{Sender}
 use Rattle.cut.specs.declared.Counted.{Counted}
 use Rattle.cut.specs.declared.Cut.{Cut}
 use Rattle.cut.specs.Cutting.{countAnswer, packetAnswer, packetOutput}
-use Rattle.flat.specs.Given.{settingsOf, headerFits, headerOf, packetFits, packetOf, senderFits, senderOf}
+use Rattle.walk.specs.Walk.{settingsOf}
+use Rattle.flat.specs.Given.{headerFits, headerOf, packetFits, packetOf, senderFits, senderOf}
 use Rattle.flat.specs.Told.{writtenNumbers, countedNumbers, cutNumbers}
 use Rattle.flat.specs.Answers.{writeFits, writeRefused, writeNumbers, writeOut, cutFits, cutRefused, countNumbers, packetNumbers, packetOut}
 use Rattle.flat.proofs.Fitting.{both-held}

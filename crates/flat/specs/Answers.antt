@@ -8,14 +8,14 @@ use lib.Dec.{leb}
 use Rattle.octets.specs.Octets.{pick}
 use Rattle.walk.specs.declared.Settings.{Settings}
 use Rattle.walk.specs.declared.Refusal.{Refusal}
-use Rattle.walk.specs.Walk.{noRefusal, unless}
+use Rattle.walk.specs.Walk.{settingsOf, noRefusal, unless}
 use Rattle.packet.specs.Numbers.{nextSequenceCount}
 use Rattle.write.specs.Given.{Lent, most16}
 use Rattle.write.specs.Writing.{settingsTest, writeAnswer, writeOutput}
 use Rattle.cut.specs.declared.Sender.{Sender}
 use Rattle.cut.specs.Sending.{afterPacket, afterSegment}
 use Rattle.cut.specs.Cutting.{limitTest, countAnswer, packetAnswer, packetOutput}
-use Rattle.flat.specs.Given.{settingsOf, numberAt, headerFits, headerOf, packetFits, packetOf, senderFits, senderOf}
+use Rattle.flat.specs.Given.{numberAt, headerFits, headerOf, packetFits, packetOf, senderFits, senderOf}
 use Rattle.flat.specs.Told.{writtenNumbers, senderNumbers, countedNumbers, cutNumbers}
 
 -- a number does not fit: 22, unless it is refused already

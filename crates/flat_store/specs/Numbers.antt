@@ -19,10 +19,6 @@ use Rattle.recording.specs.declared.Why.{Why}
 use Rattle.recording.specs.declared.Why.the-variants.{Unsaid, Ended, Unmarked, Torn}
 use Rattle.recording.specs.declared.Recorded.{Recorded}
 
--- T is any number of 64 bits; whether it is in range is tested on the number as it is given
-abbrev pub settingsOf : ℕ → Settings
-settingsOf t = record { t = t }
-
 -- ---- arrival
 
 -- document 01's "whole", "stored" and "held"

@@ -12,7 +12,8 @@ use Rattle.walk.specs.Walk.{begun, check, octets}
 use Rattle.fields.specs.Fields.{nowhere, place}
 use Rattle.packet.specs.declared.Header.{Header}
 use Rattle.packet.specs.Format.{Values, presence, identification, fixedOctets, frontOctets, counterOctets, backOctets, secondaryOctets, dataOctets, octetsOf}
-use Rattle.packet.specs.Reading.{primaryTests, primaryOf, afterSdu, afterArea, afterService, afterOperation, afterVersion, afterSession, afterSecondary, afterQualifier, afterTransaction, afterPresence, fixedOf, flagsOf, presentOf, idsOf, textsOf, bodyTest, acceptedHeader, readPacket}
+use Rattle.packet.specs.FixedPart.{afterSdu, afterArea, afterService, afterOperation, afterVersion, afterSession, afterSecondary, afterQualifier, afterTransaction, afterPresence, fixedOf, flagsOf, presentOf}
+use Rattle.packet.specs.Reading.{primaryTests, primaryOf, idsOf, textsOf, bodyTest, acceptedHeader, readPacket}
 use Rattle.format.specs.Told.{headOf, valuesOf}
 
 abbrev pub settings : Settings

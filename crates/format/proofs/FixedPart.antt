@@ -9,7 +9,7 @@ use lib.Dec.{ltb}
 use borrow.Author.Tests.{ltb-true, lt-ltb}
 use Rattle.octets.specs.Octets.{wide}
 use Rattle.packet.specs.declared.Present.{Present}
-use Rattle.packet.specs.Reading.{flagsOf}
+use Rattle.packet.specs.FixedPart.{flagsOf}
 use Rattle.format.proofs.Field.{Field, seq}
 use Rattle.format.proofs.Combine.{tested, via, formed}
 use Rattle.format.proofs.Numbers.{wideF, octetF}

@@ -9,7 +9,7 @@ use lib.Dec.{eqb}
 use borrow.Author.Tests.{eqb-true, eqb-false}
 use Rattle.packet.specs.declared.Present.{Present}
 use Rattle.packet.specs.Format.{bit}
-use Rattle.packet.specs.Reading.{flagsOf}
+use Rattle.packet.specs.FixedPart.{flagsOf}
 
 abbrev pub flagOctet : Present → ℕ
 flagOctet h =

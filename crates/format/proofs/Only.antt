@@ -13,7 +13,8 @@ use Rattle.octets.proofs.Numbers.{number-top}
 use Rattle.walk.specs.declared.Settings.{Settings}
 use Rattle.walk.specs.Walk.{Reading, goes, going, headerEnd}
 use Rattle.packet.specs.Format.{Values, segment, secondaryOctets, dataOctets, octetsOf, InRange}
-use Rattle.packet.specs.Reading.{segmented, primaryOf, afterSdu, afterArea, afterService, afterOperation, afterVersion, afterSession, afterSecondary, afterQualifier, afterTransaction, afterPresence, fixedOf, presentOf, idsOf, textsOf, startAt, textsAt, ended, acceptedHeader}
+use Rattle.packet.specs.FixedPart.{afterSdu, afterArea, afterService, afterOperation, afterVersion, afterSession, afterSecondary, afterQualifier, afterTransaction, afterPresence, fixedOf, presentOf}
+use Rattle.packet.specs.Reading.{segmented, primaryOf, idsOf, textsOf, startAt, textsAt, ended, acceptedHeader}
 use Rattle.format.specs.Told.{headOf, valuesOf}
 use Rattle.format.proofs.Field.{Sound, Took, took-at}
 use Rattle.format.proofs.Secondary.{secondaryF}

@@ -13,7 +13,8 @@ use Rattle.walk.specs.Walk.{Reading, going}
 use Rattle.fields.specs.declared.Place.{Place}
 use Rattle.fields.specs.Fields.{nowhere, opt, noParts, domain, partsMost}
 use Rattle.packet.specs.declared.Header.{Header}
-use Rattle.packet.specs.Reading.{segmented, afterSdu, afterArea, afterService, afterOperation, afterVersion, afterSession, afterSecondary, afterQualifier, afterTransaction, afterPresence, fixedOf, presentOf, idsOf, textsOf, startAt, hasAt, textsAt, acceptedHeader}
+use Rattle.packet.specs.FixedPart.{afterSdu, afterArea, afterService, afterOperation, afterVersion, afterSession, afterSecondary, afterQualifier, afterTransaction, afterPresence, fixedOf, presentOf}
+use Rattle.packet.specs.Reading.{segmented, idsOf, textsOf, startAt, hasAt, textsAt, acceptedHeader}
 use Rattle.format.specs.Told.{spot, spotsOf, InOrder}
 use Rattle.format.specs.Accepted.{Inside, optionalPlace, fixedSize}
 use Rattle.format.proofs.Field.{Sound, took-at, took-sound, order-lower}

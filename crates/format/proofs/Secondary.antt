@@ -11,7 +11,7 @@ use Rattle.walk.specs.Walk.{Reading, Step, number}
 use Rattle.fields.specs.declared.Place.{Place}
 use Rattle.fields.specs.Fields.{nowhere, opt, block, blob, text, domain, noParts}
 use Rattle.packet.specs.declared.Present.{Present}
-use Rattle.packet.specs.Reading.{octetField, wideField}
+use Rattle.packet.specs.FixedPart.{octetField, wideField}
 use Rattle.format.specs.Told.{content}
 use Rattle.format.proofs.Field.{Field, then, seq, maybe, told}
 use Rattle.format.proofs.Numbers.{wideF, octetF, blockF, numberF}

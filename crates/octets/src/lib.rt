@@ -4,7 +4,7 @@
 // list l with x laid over it from `at` on, as far as l goes. Who writes tests the room first; here nothing can go wrong.
 // Loops over octets carry a flag and do not leave early, so that they are compiled to compare many octets at a time.
 ghost use mathlib.Core.Path.{_≡_};
-ghost use Prim.Native.Nat.{_+_, _*_, _≤_, min};
+ghost use Prim.Native.Nat.{_+_, _-_, _*_, _≤_, min};
 ghost use lib.ListN.{set};
 ghost use lib.Seq.{sets};
 ghost use Rattle.octets.specs.Octets.{pick, octetAt, number as numberOf, wide, alike, blank, roomOf};
@@ -218,6 +218,16 @@ pub fn lay_number(out: &mut [u8], at: usize, n: usize, v: u64) -> usize
         put_number(out, at, n, v);
     }
     end
+}
+
+// What is left of a number, 0 where it is the smaller one.
+pub fn less(a: usize, b: usize) -> usize
+    ensures { λ r. ⌜ r ≡ a - b ⌝ }
+{
+    if b <= a {
+        return a - b;
+    }
+    0
 }
 
 // The place n octets on, or the end where it comes first; no place before the first.

@@ -20,7 +20,8 @@ use Rattle.packet.specs.declared.IdsStep.{IdsStep}
 use Rattle.packet.specs.declared.Texts.{Texts}
 use Rattle.packet.specs.declared.TextsStep.{TextsStep}
 use Rattle.packet.specs.declared.Header.{Header}
-use Rattle.packet.specs.Reading.{primaryTests, primaryOf, fixedOf, fixedEnd, presentOf, idsOf, textsOf, bodyTest, startAt, hasAt, idsAt, textsAt, ended, counterSize, refusedHeader, acceptedHeader, readPacket}
+use Rattle.packet.specs.FixedPart.{fixedOf, fixedEnd, presentOf}
+use Rattle.packet.specs.Reading.{primaryTests, primaryOf, idsOf, textsOf, bodyTest, startAt, hasAt, idsAt, textsAt, ended, counterSize, refusedHeader, acceptedHeader, readPacket}
 use Rattle.packet.specs.Inner.{fixedStep, asIds, asTexts}
 
 abbrev ofIds : IdsStep → Step Ids

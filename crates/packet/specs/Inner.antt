@@ -15,7 +15,7 @@ use Rattle.packet.specs.declared.Ids.{Ids}
 use Rattle.packet.specs.declared.IdsStep.{IdsStep}
 use Rattle.packet.specs.declared.Texts.{Texts}
 use Rattle.packet.specs.declared.TextsStep.{TextsStep}
-use Rattle.packet.specs.Reading.{afterSdu, afterArea, afterService, afterOperation, afterVersion, afterSession, afterSecondary, afterQualifier, fixedEnd, fixedOf, presentOf}
+use Rattle.packet.specs.FixedPart.{afterSdu, afterArea, afterService, afterOperation, afterVersion, afterSession, afterSecondary, afterQualifier, fixedEnd, fixedOf, presentOf}
 
 -- the first half of the fixed part
 unfoldable pub namesOf : List ℕ → Reading → Names

@@ -1,5 +1,6 @@
 pub mod Numbers
 pub mod Format
+pub mod FixedPart
 pub mod Reading
 pub mod Key
 pub mod Inner

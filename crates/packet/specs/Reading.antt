@@ -18,6 +18,7 @@ use Rattle.packet.specs.declared.Present.{Present}
 use Rattle.packet.specs.declared.Ids.{Ids}
 use Rattle.packet.specs.declared.Texts.{Texts}
 use Rattle.packet.specs.declared.Header.{Header}
+use Rattle.packet.specs.FixedPart.{octetField, wideField, fixedEnd, fixedOf, presentOf}
 
 -- ---- the primary header, at its own places
 
@@ -40,95 +41,6 @@ primaryOf p =
 -- the sequence flags aren't 11
 abbrev pub segmented : List ℕ → Bool
 segmented p = not (eqb (octetAt p 2 / 64) 3)
-
--- ---- the fixed part, each field at the reading's place
-
--- an octet, and a number of n octets
-unfoldable pub octetField : List ℕ → Reading → Step ℕ
-octetField p w = record { walk = octets p 1 w; value = octetAt p (w .at) }
-
-unfoldable pub wideField : ℕ → List ℕ → Reading → Step ℕ
-wideField n p w = record { walk = octets p n w; value = number n p (w .at) }
-
--- binding version and SDU type, an octet: 7, then 8
-unfoldable pub afterSdu : List ℕ → Reading → Reading
-afterSdu p w = check (ltb (octetAt p (w .at) % 32) 22) 8 (check (ltb (octetAt p (w .at)) 32) 7 (octets p 1 w))
-
-unfoldable pub sduField : List ℕ → Reading → Step ℕ
-sduField p w = record { walk = afterSdu p w; value = octetAt p (w .at) % 32 }
-
-unfoldable pub afterArea : List ℕ → Reading → Reading
-afterArea p w = octets p 2 (afterSdu p w)
-
-unfoldable pub afterService : List ℕ → Reading → Reading
-afterService p w = octets p 2 (afterArea p w)
-
-unfoldable pub afterOperation : List ℕ → Reading → Reading
-afterOperation p w = octets p 2 (afterService p w)
-
-unfoldable pub afterVersion : List ℕ → Reading → Reading
-afterVersion p w = octets p 1 (afterOperation p w)
-
--- from here: error, QoS level, session and the high bits of the secondary APID, an octet: 9
-unfoldable pub afterSession : List ℕ → Reading → Reading
-afterSession p w = check (ltb (octetAt p (w .at) / 8 % 4) 3) 9 (octets p 1 w)
-
--- its low bits
-unfoldable pub afterSecondary : List ℕ → Reading → Reading
-afterSecondary p w = octets p 1 (afterSession p w)
-
-unfoldable pub afterQualifier : List ℕ → Reading → Reading
-afterQualifier p w = octets p 2 (afterSecondary p w)
-
--- from here: transaction id and presence flags
-unfoldable pub afterTransaction : List ℕ → Reading → Reading
-afterTransaction p w = octets p 8 w
-
-unfoldable pub afterPresence : List ℕ → Reading → Reading
-afterPresence p w = octets p 1 (afterTransaction p w)
-
--- the readings behind the area version, the qualifier, and the whole fixed part
-abbrev pub namesEnd : List ℕ → Reading → Reading
-namesEnd p w = afterVersion p w
-
-abbrev pub routingEnd : List ℕ → Reading → Reading
-routingEnd p w = afterQualifier p (namesEnd p w)
-
-abbrev pub fixedEnd : List ℕ → Reading → Reading
-fixedEnd p w = afterPresence p (routingEnd p w)
-
-unfoldable pub fixedOf : List ℕ → Reading → Fixed
-fixedOf p w =
-    record {
-      sdu = octetAt p (w .at) % 32;
-      area = number 2 p (afterSdu p w .at);
-      service = number 2 p (afterArea p w .at);
-      operation = number 2 p (afterService p w .at);
-      version = octetAt p (afterOperation p w .at);
-      error = octetAt p (namesEnd p w .at) / 128;
-      qos = octetAt p (namesEnd p w .at) / 32 % 4;
-      session = octetAt p (namesEnd p w .at) / 8 % 4;
-      apid = record { 0 = octetAt p (namesEnd p w .at) % 8 * 256 + octetAt p (afterSession p (namesEnd p w) .at) };
-      qualifier = number 2 p (afterSecondary p (namesEnd p w) .at);
-      transaction = number 8 p (routingEnd p w .at);
-    }
-
--- eight presence flags from the high bit down
-unfoldable pub flagsOf : ℕ → Present
-flagsOf f =
-    record {
-      source = eqb (f / 128 % 2) 1;
-      destination = eqb (f / 64 % 2) 1;
-      priority = eqb (f / 32 % 2) 1;
-      timestamp = eqb (f / 16 % 2) 1;
-      zone = eqb (f / 8 % 2) 1;
-      session = eqb (f / 4 % 2) 1;
-      domain = eqb (f / 2 % 2) 1;
-      authentication = eqb (f % 2) 1;
-    }
-
-unfoldable pub presentOf : List ℕ → Reading → Present
-presentOf p w = flagsOf (octetAt p (afterTransaction p (routingEnd p w) .at))
 
 -- ---- the optional fields
 
@@ -188,36 +100,42 @@ abbrev pub ended : Settings → List ℕ → Reading
 ended s p = bodyTest p (textsAt s p .walk)
 
 -- what a refusal answers: its number, every other answer zero
+abbrev pub noFixed : Fixed
+noFixed =
+    record {
+      sdu = 0;
+      area = 0;
+      service = 0;
+      operation = 0;
+      version = 0;
+      error = 0;
+      qos = 0;
+      session = 0;
+      apid = record { 0 = 0 };
+      qualifier = 0;
+      transaction = 0;
+    }
+
+abbrev pub noFlags : Present
+noFlags =
+    record {
+      source = false;
+      destination = false;
+      priority = false;
+      timestamp = false;
+      zone = false;
+      session = false;
+      domain = false;
+      authentication = false;
+    }
+
 unfoldable pub refusedHeader : Refusal → Header
 refusedHeader r =
     record {
       refusal = r;
       primary = record { kind = 0; apid = record { 0 = 0 }; flags = 0; count = record { 0 = 0 } };
-      fixed =
-          record {
-            sdu = 0;
-            area = 0;
-            service = 0;
-            operation = 0;
-            version = 0;
-            error = 0;
-            qos = 0;
-            session = 0;
-            apid = record { 0 = 0 };
-            qualifier = 0;
-            transaction = 0;
-          };
-      has =
-          record {
-            source = false;
-            destination = false;
-            priority = false;
-            timestamp = false;
-            zone = false;
-            session = false;
-            domain = false;
-            authentication = false;
-          };
+      fixed = noFixed;
+      has = noFlags;
       ids = record { source = 0; destination = 0; counter = record { 0 = 0 }; priority = 0 };
       texts =
           record {

@@ -15,13 +15,13 @@
 // `read` takes any settings and any slice. It answers every value and where every content stands, or one refusal and zeros.
 // Every field of the secondary header is one step of a walk, at the walk's own place (crate `walk`).
 ghost use mathlib.Core.Path.{_≡_};
-ghost use Prim.Native.Nat.{_-_};
 ghost use lib.ListN.{length};
 ghost use Rattle.octets.specs.Octets.{Octets};
 ghost use Rattle.walk.specs.Inner.{asWalk, ofWalk};
 ghost use Rattle.fields.specs.Fields.{opt};
 ghost use Rattle.packet.specs.Numbers.{nextSequenceCount};
-ghost use Rattle.packet.specs.Reading.{primaryTests, primaryOf, flagsOf, octetField, wideField, sduField, idsOf, textsOf, bodyTest, segmented as segmentedOf, counterSize, refusedHeader, readPacket};
+ghost use Rattle.packet.specs.FixedPart.{flagsOf, octetField, wideField, sduField};
+ghost use Rattle.packet.specs.Reading.{primaryTests, primaryOf, idsOf, textsOf, bodyTest, segmented as segmentedOf, counterSize, refusedHeader, noFixed, readPacket};
 ghost use Rattle.packet.specs.Inner.{namesOf, routingOf, fixedStep, asOctet, asWord, asCounter, asIds, asTexts};
 use fields::Place;
 use walk::Refusal;
@@ -419,22 +419,12 @@ fn body_walk(p: &[u8], w: Walk) -> Walk
     w
 }
 
-// What a refusal answers: its number, and zeros.
-fn refused_header(refusal: Refusal) -> Header
-    ensures { λ r. ⌜ r ≡ refusedHeader refusal ⌝ }
+// The fixed part of a refusal.
+fn no_fixed() -> Fixed
+    ensures { λ r. ⌜ r ≡ noFixed ⌝ }
 {
-    let none = Place { at: 0, length: 0 };
-    let apid = Apid(0);
-    let count = SequenceCount(0);
-    let second = SecondaryApid(0);
-    let counter = SegmentCounter(0);
-    let primary = Primary {
-        kind: 0,
-        apid: apid,
-        flags: 0,
-        count: count,
-    };
-    let fixed = Fixed {
+    let apid = SecondaryApid(0);
+    Fixed {
         sdu: 0,
         area: 0,
         service: 0,
@@ -443,19 +433,25 @@ fn refused_header(refusal: Refusal) -> Header
         error: 0,
         qos: 0,
         session: 0,
-        apid: second,
+        apid: apid,
         qualifier: 0,
         transaction: 0,
-    };
-    let has = Present {
-        source: false,
-        destination: false,
-        priority: false,
-        timestamp: false,
-        zone: false,
-        session: false,
-        domain: false,
-        authentication: false,
+    }
+}
+
+// What a refusal answers: its number, and zeros.
+fn refused_header(refusal: Refusal) -> Header
+    ensures { λ r. ⌜ r ≡ refusedHeader refusal ⌝ }
+{
+    let none = Place { at: 0, length: 0 };
+    let apid = Apid(0);
+    let count = SequenceCount(0);
+    let counter = SegmentCounter(0);
+    let primary = Primary {
+        kind: 0,
+        apid: apid,
+        flags: 0,
+        count: count,
     };
     let ids = Ids {
         source: 0,
@@ -463,35 +459,24 @@ fn refused_header(refusal: Refusal) -> Header
         counter: counter,
         priority: 0,
     };
-    let parts = [none; 16];
     let texts = Texts {
         timestamp: none,
         zone: none,
         session: none,
         count: 0,
-        parts: parts,
+        parts: [none; 16],
         authentication: none,
     };
     Header {
         refusal: refusal,
         primary: primary,
-        fixed: fixed,
-        has: has,
+        fixed: no_fixed(),
+        has: flags_of(0),
         ids: ids,
         texts: texts,
         h: 0,
         body: none,
     }
-}
-
-// What is left of a number, 0 where it is the smaller one.
-fn less(a: usize, b: usize) -> usize
-    ensures { λ r. ⌜ r ≡ a - b ⌝ }
-{
-    if b <= a {
-        return a - b;
-    }
-    0
 }
 
 // The octets of a segment counter in the header.
@@ -527,10 +512,10 @@ pub fn read(s: Settings, p: &[u8]) -> Header
     let fixed = f.fixed;
     let ids = i.ids;
     let texts = t.texts;
-    let h = less(less(end, 6), counter_size(p));
+    let h = octets::less(octets::less(end, 6), counter_size(p));
     let body = Place {
         at: end,
-        length: less(p.len(), end),
+        length: octets::less(p.len(), end),
     };
     Header {
         refusal: refusal,

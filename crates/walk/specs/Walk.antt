@@ -12,6 +12,10 @@ use Rattle.varint.specs.Varint.{Got, value, ends, bad, readAt}
 use Rattle.walk.specs.declared.Settings.{Settings}
 use Rattle.walk.specs.declared.Refusal.{Refusal}
 
+-- the settings for any number given as T; whether it is in range is tested on the number as it is given
+abbrev pub settingsOf : ℕ → Settings
+settingsOf t = record { t = t }
+
 -- the next place, or the refusal
 pub record Reading : Type 0 where
   pub at : ℕ

@@ -89,7 +89,7 @@ fn wide16(x: u16) -> u64
     x as u64
 }
 
-fn wide32(x: u32) -> u64
+pub fn wide32(x: u32) -> u64
     ensures { λ r. ⌜ r ≡ x ⌝ }
 {
     x as u64

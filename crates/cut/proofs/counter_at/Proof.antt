@@ -9,10 +9,10 @@ use Rattle.cut.proofs.counter_at.Tie as tie
 enum-known-next : tie.Need-enum-known-next
 enum-known-next c = search needs
 
-sub-wide : tie.Need-sub-wide
+sub-wide : tie.Need-sub-wide32
 sub-wide c = search needs
 
-wide-requires : tie.Need-wide-requires
+wide-requires : tie.Need-wide32-requires
 wide-requires c κs = search needs
 
 returns : tie.Need-returns
@@ -25,13 +25,13 @@ add-t12 : tie.Need-add-t12
 add-t12 c = search needs
 
 returns-2 : tie.Need-returns-2
-returns-2 c = counter-fits (c .before .before .before .before .next .given .1) _ _ (c .before .if1 .left) (omega (arith, c .before .before .wide .ensures))
+returns-2 c = counter-fits (c .before .before .before .before .next .given .1) _ _ (c .before .if1 .left) (omega (arith, c .before .before .wide32 .ensures))
 
 enum-told : tie.Need-enum-told
 enum-told c = search needs
 
 returns-3 : tie.Need-returns-3
-returns-3 c = counter-over (c .before .before .before .before .next .given .1) _ _ (c .before .if1 .left) (omega (arith, c .before .before .wide .ensures))
+returns-3 c = counter-over (c .before .before .before .before .next .given .1) _ _ (c .before .if1 .left) (omega (arith, c .before .before .wide32 .ensures))
 
 returns-4 : tie.Need-returns-4
 returns-4 c = counter-none (c .enum-told .given .1) _ _

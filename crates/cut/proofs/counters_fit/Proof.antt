@@ -10,7 +10,7 @@ use Rattle.cut.specs.Sending.{countersFit}
 enum-known-next : tie.Need-enum-known-next
 enum-known-next c = search needs
 
-wide-requires : tie.Need-wide-requires
+wide-requires : tie.Need-wide32-requires
 wide-requires c κs = search needs
 
 sub-left : tie.Need-sub-left
@@ -20,7 +20,7 @@ enum-told : tie.Need-enum-told
 enum-told c = search needs
 
 returns : tie.Need-returns
-returns c = fit-at (c .before .before .next .given .1) _ _ (c .wide .ensures) (omega arith)
+returns c = fit-at (c .before .before .next .given .1) _ _ (c .wide32 .ensures) (omega arith)
 
 returns-2 : tie.Need-returns-2
 unfolding countersFit

@@ -6,7 +6,8 @@ use Rattle.store.specs.declared.Arrival.{Arrival}
 use Rattle.store.specs.Arriving.{arrived}
 use Rattle.store.specs.Told.{Said, said}
 use Rattle.store.proofs.Saying.{said-is}
-use Rattle.flat_store.specs.Numbers.{settingsOf, saidNumbers}
+use Rattle.walk.specs.Walk.{settingsOf}
+use Rattle.flat_store.specs.Numbers.{saidNumbers}
 use borrow.Author.Needs.{needs}
 use Rattle.flat_store.proofs.arrive.Statement.{statement}
 use Rattle.flat_store.proofs.arrive.Tie as tie

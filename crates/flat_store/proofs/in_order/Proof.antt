@@ -3,7 +3,7 @@
 use denote.Ref.{now}
 use mathlib.Core.Path.{ap, sym, _∙_}
 use Rattle.walk.specs.declared.Walk.{Walk}
-use Rattle.flat_store.specs.Numbers.{settingsOf}
+use Rattle.walk.specs.Walk.{settingsOf}
 use Rattle.flat_store.proofs.Telling.{order-15, order-16, order-some}
 use borrow.Author.Needs.{needs}
 use Rattle.flat_store.proofs.in_order.Statement.{statement}

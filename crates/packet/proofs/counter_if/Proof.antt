@@ -3,7 +3,7 @@
 use borrow.Author.Needs.{needs}
 use Rattle.packet.proofs.counter_if.Statement.{statement}
 use Rattle.packet.proofs.counter_if.Tie as tie
-use Rattle.packet.specs.Reading.{wideField}
+use Rattle.packet.specs.FixedPart.{wideField}
 
 octets-requires : tie.Need-octets-requires
 octets-requires c κs = search needs

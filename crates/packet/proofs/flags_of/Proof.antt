@@ -3,7 +3,7 @@
 use mathlib.Core.Path.{refl}
 use Rattle.packet.proofs.flags_of.Statement.{statement}
 use Rattle.packet.proofs.flags_of.Tie as tie
-use Rattle.packet.specs.Reading.{flagsOf}
+use Rattle.packet.specs.FixedPart.{flagsOf}
 
 returns : tie.Need-returns
 unfolding flagsOf

@@ -3,7 +3,7 @@
 use borrow.Author.Needs.{needs}
 use Rattle.packet.proofs.octet_if.Statement.{statement}
 use Rattle.packet.proofs.octet_if.Tie as tie
-use Rattle.packet.specs.Reading.{octetField}
+use Rattle.packet.specs.FixedPart.{octetField}
 
 read-octet-requires : tie.Need-read-octet-requires
 read-octet-requires c κs = search needs

@@ -4,7 +4,7 @@ use borrow.Author.Needs.{needs}
 use Rattle.packet.proofs.read_fixed.Statement.{statement}
 use Rattle.packet.proofs.read_fixed.Tie as tie
 use Rattle.packet.specs.Inner.{fixedStep, namesOf, routingOf}
-use Rattle.packet.specs.Reading.{fixedOf, presentOf, afterPresence, afterTransaction}
+use Rattle.packet.specs.FixedPart.{fixedOf, presentOf, afterPresence, afterTransaction}
 
 read-names-requires : tie.Need-read-names-requires
 read-names-requires c κs = search needs

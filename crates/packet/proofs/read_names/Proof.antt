@@ -5,7 +5,7 @@ use mathlib.Core.Path.{ap, sym}
 use Rattle.packet.proofs.read_names.Statement.{statement}
 use Rattle.packet.proofs.read_names.Tie as tie
 use Rattle.packet.specs.Inner.{namesOf}
-use Rattle.packet.specs.Reading.{sduField, octetField, wideField, afterVersion, afterOperation, afterService, afterArea}
+use Rattle.packet.specs.FixedPart.{sduField, octetField, wideField, afterVersion, afterOperation, afterService, afterArea}
 use Rattle.packet.specs.declared.Octet.{Octet}
 use Rattle.packet.specs.declared.Word.{Word}
 use Rattle.walk.specs.Inner.{ofWalk}

@@ -3,7 +3,7 @@
 use borrow.Author.Needs.{needs}
 use Rattle.packet.proofs.read_octet.Statement.{statement}
 use Rattle.packet.proofs.read_octet.Tie as tie
-use Rattle.packet.specs.Reading.{octetField}
+use Rattle.packet.specs.FixedPart.{octetField}
 
 cast-octet : tie.Need-cast-octet
 cast-octet c = search needs

@@ -5,7 +5,7 @@ use mathlib.Core.Path.{ap, sym}
 use Rattle.packet.proofs.read_routing.Statement.{statement}
 use Rattle.packet.proofs.read_routing.Tie as tie
 use Rattle.packet.specs.Inner.{routingOf}
-use Rattle.packet.specs.Reading.{octetField, wideField, afterQualifier, afterSecondary, afterSession}
+use Rattle.packet.specs.FixedPart.{octetField, wideField, afterQualifier, afterSecondary, afterSession}
 use Rattle.packet.specs.declared.Octet.{Octet}
 use Rattle.packet.specs.declared.Word.{Word}
 use Rattle.walk.specs.Inner.{ofWalk}

@@ -4,7 +4,7 @@ use borrow.Author.Needs.{needs}
 use mathlib.Core.Path.{ap, sym}
 use Rattle.packet.proofs.read_sdu.Statement.{statement}
 use Rattle.packet.proofs.read_sdu.Tie as tie
-use Rattle.packet.specs.Reading.{sduField, afterSdu, octetField}
+use Rattle.packet.specs.FixedPart.{sduField, afterSdu, octetField}
 use Rattle.packet.specs.declared.Octet.{Octet}
 use Rattle.walk.specs.Inner.{ofWalk}
 

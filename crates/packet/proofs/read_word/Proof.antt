@@ -3,7 +3,7 @@
 use borrow.Author.Needs.{needs}
 use Rattle.packet.proofs.read_word.Statement.{statement}
 use Rattle.packet.proofs.read_word.Tie as tie
-use Rattle.packet.specs.Reading.{wideField}
+use Rattle.packet.specs.FixedPart.{wideField}
 
 cast-be16 : tie.Need-cast-be16
 cast-be16 c = search needs

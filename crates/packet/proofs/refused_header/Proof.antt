@@ -1,13 +1,20 @@
--- `packet::refused_header` meets its contract: all else is zero.
+-- `packet::refused_header` meets its contract: all else is zero, and no flag is set.
 -- Assumes nothing.
-use mathlib.Core.Path.{refl}
+use borrow.Author.Needs.{needs}
 use Rattle.packet.proofs.refused_header.Statement.{statement}
 use Rattle.packet.proofs.refused_header.Tie as tie
+use Rattle.packet.specs.FixedPart.{flagsOf}
 use Rattle.packet.specs.Reading.{refusedHeader}
 
+no-fixed-requires : tie.Need-no-fixed-requires
+no-fixed-requires c κs = search needs
+
+flags-of-requires : tie.Need-flags-of-requires
+flags-of-requires c κs = search needs
+
 returns : tie.Need-returns
-unfolding refusedHeader
-returns c = refl
+unfolding refusedHeader flagsOf
+returns c = simp (c .before .no-fixed .ensures, c .flags-of .ensures)
 
 pub refused-header-spec : {M : Type 1} → statement M
-refused-header-spec = tie.close (tie.spec returns)
+refused-header-spec = tie.close (tie.spec no-fixed-requires flags-of-requires returns)
