@@ -78,11 +78,7 @@ module _ (s : Settings) (Z : ℕ) (st table : List ℕ) where
       go : (i ≡ n) ⊎ (i ≢ n) → (i < n → getD (bodiesTo s Z st n table) i 0 ≡ bodyAt s Z st i) → getD (set (bodiesTo s Z st n table) n (bodyAt s Z st n)) i 0 ≡ bodyAt s Z st i
       go (inl e) w =
           rw e (getD-set-same (bodiesTo s Z st n table) n (bodyAt s Z st n) 0 (omega (arith, table-long n)))
-      go (inr d) w = getD-set-other (bodiesTo s Z st n table) n i (bodyAt s Z st n) 0 d ∙ w (below (same-or i n))
-        where
-          below : (i ≡ n) ⊎ (i ≢ n) → i < n
-          below (inl e) = absurd (d e)
-          below (inr f) = omega (arith, f)
+      go (inr d) w = getD-set-other (bodiesTo s Z st n table) n i (bodyAt s Z st n) 0 d ∙ w (omega (arith, d))
 
 -- the table that was lent empty
 pub bodies-left :

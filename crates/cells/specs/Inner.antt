@@ -1,4 +1,4 @@
--- The code's tests on a row, told by its octets.
+-- The code's tests on a row, told by its octets; and its table of where the bodies begin.
 -- Assumes nothing: these are definitions.
 use Prim.Native.Nat.{ℕ, zero, suc, _+_, _-_, _/_, _%_, _<_}
 use mathlib.Core.Path.{_≡_}
