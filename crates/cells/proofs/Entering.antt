@@ -1,158 +1,122 @@
--- A cell beside those below it, from what is judged of its row and the search for its key and counter.
+-- A cell beside those below it, from where the body of its segment begins and the search for its key and counter.
 -- Assumes nothing.
-use Prim.Native.Nat.{ℕ, _+_, _*_, _≤_, _<_}
+use Prim.Native.Nat.{ℕ, _+_, _<_}
 use mathlib.Core.Path.{_≡_, refl, ap, ap₂, sym, _∙_}
-use mathlib.Core.Logic.{⊎-elim}
+use mathlib.Core.Logic.{_⊎_, ⊎-elim}
 use mathlib.Core.Bool.{Bool, true, false}
 use mathlib.Core.List.{List}
 use native.Mathlib.Omega.{arith}
 use lib.ListN.{getD, set}
 use lib.Dec.{eqb}
 use borrow.Author.Tests.{eqb-true, eqb-false}
-use Rattle.octets.specs.Octets.{Octets, number, alike}
+use Rattle.octets.specs.Octets.{Octets, number}
 use Rattle.octets.proofs.Has.{octets-part}
-use Rattle.octets.proofs.Lists.{bool, pick-false}
+use Rattle.octets.proofs.Lists.{bool}
 use Rattle.walk.specs.declared.Settings.{Settings}
 use Rattle.packet.specs.Reading.{readPacket}
 use Rattle.packet.specs.Key.{keyOf}
 use Rattle.cells.specs.declared.Judged.{Judged}
 use Rattle.cells.specs.Segments.{segOf, both}
-use Rattle.cells.specs.Rows.{Cell, free, held, broken, rowAt, zeroRow, packetIn, cellOf}
-use Rattle.cells.specs.Order.{cellsMost, isSound, carriesIn, cellAt, newTo, newAt, foundIn}
-use Rattle.cells.specs.Inner.{bodyIn, judgedOf, Asked}
+use Rattle.cells.specs.Rows.{Cell, free, held, broken, rowAt, packetIn, cellOf}
+use Rattle.cells.specs.Order.{cellsMost, carriesIn, cellAt, newTo, newAt, foundIn}
+use Rattle.cells.specs.Inner.{counterIn, bodyIn, judgedOf, bodyAt, Asked}
 use Rattle.cells.specs.Chains.{chainsAll, bucketOf, keyIn, bucketIn, bucketAt, Chained}
-use Rattle.cells.proofs.Carries.{free-cell, Holding, holding}
+use Rattle.cells.proofs.Carries.{Holding, kinds, held-counter}
 use Rattle.cells.proofs.Mixing.{key-asked}
 use Rattle.cells.proofs.Lowest.{none-new, some-known}
 use Rattle.cells.proofs.Chaining.{chained-skip, chained-push}
-
-pub false-never : {X : Type 0} → false ≡ true → X
-false-never e = let z : _≡_ {A = ℕ} 0 1 = cc in absurd (omega arith)
+use Rattle.cells.proofs.Bodies.{row-plain, body-held, body-some, body-zero}
 
 both-yes : (a : Bool) → both a true ≡ a
 both-yes true = refl
 both-yes false = refl
 
--- ---- a cell by its number
+-- a segment that is held, as one that is looked for
+asked-held :
+    (s : Settings) (Z : ℕ) (r : List ℕ) → Octets r → Holding s Z r → {q : List ℕ} {stop : ℕ} → q ≡ packetIn Z r →
+    stop ≡ readPacket s (packetIn Z r) .body .at → Asked s q stop
+asked-held s Z r o h eq es =
+    record {
+      octets = rw eq (octets-part r 2 (number 2 r 6 + 7) o);
+      accepted = rw eq (h .accepted);
+      segment = rw eq (h .segment);
+      body = es ∙ ap (λ (x : List ℕ). readPacket s x .body .at) (sym eq);
+    }
 
-abbrev kind : Judged → ℕ
-kind t = t .kind
+-- ---- a row that is judged held
 
-is-broken : (at : ℕ) (d : Cell) {t : Judged} → t ≡ judgedOf at d → t .kind ≡ 2 → d ≡ broken
-is-broken at free e h = let z : _≡_ {A = ℕ} 0 2 = sym (ap kind e) ∙ h in absurd (omega arith)
-is-broken at (held u) e h = let z : _≡_ {A = ℕ} 1 2 = sym (ap kind e) ∙ h in absurd (omega arith)
-is-broken at broken e h = refl
+module _ (s : Settings) (st : List ℕ) (Z i : ℕ) {r : List ℕ} (er : r ≡ rowAt Z st i) {t : Judged} (et : t ≡ judgedOf (bodyIn s Z r) (cellOf s Z r))
+    (o : Octets st) (sound : t .kind ≡ 2 → ⊥) (some : t .kind ≡ 0 → ⊥) where
+  told : {d : Cell} → cellOf s Z r ≡ d → t ≡ judgedOf (bodyIn s Z r) d
+  told e = et ∙ ap (judgedOf (bodyIn s Z r)) e
 
-is-free : (at : ℕ) (d : Cell) {t : Judged} → t ≡ judgedOf at d → t .kind ≡ 0 → d ≡ free
-is-free at free e h = refl
-is-free at (held u) e h = let z : _≡_ {A = ℕ} 1 0 = sym (ap kind e) ∙ h in absurd (omega arith)
-is-free at broken e h = let z : _≡_ {A = ℕ} 2 0 = sym (ap kind e) ∙ h in absurd (omega arith)
+  abbrev kind : Judged → ℕ
+  kind x = x .kind
 
-is-sound : (at : ℕ) (d : Cell) {t : Judged} → t ≡ judgedOf at d → (t .kind ≡ 2 → ⊥) → isSound d ≡ true
-is-sound at free e h = refl
-is-sound at (held u) e h = refl
-is-sound at broken e h = absurd (h (ap kind e))
+  there : Holding s Z r
+  there = ⊎-elim (λ h. h) (λ w. absurd (⊎-elim (λ e. some (ap kind (told e))) (λ e. sound (ap kind (told e))) w)) (kinds s Z r)
 
-module _ (s : Settings) (st : List ℕ) (Z i : ℕ) {r : List ℕ} (er : r ≡ rowAt Z st i) {t : Judged} (et : t ≡ judgedOf (bodyIn s Z r) (cellOf s Z r)) where
-  cell-is : cellAt s Z st i ≡ cellOf s Z r
-  cell-is = ap (cellOf s Z) (sym er)
+  pub asked : {q : List ℕ} → q ≡ packetIn Z r → Asked s q (t .at)
+  asked eq = asked-held s Z r (rw er (row-plain s Z st i o)) there eq (ap (λ (x : Judged). x .at) (told (there .cell)))
 
-  module _ {d : Cell} (is : cellAt s Z st i ≡ d) where
-    sound-by : {x : Bool} (a : Bool) → isSound d ≡ x → both a x ≡ both a (isSound (cellAt s Z st i))
-    sound-by a e = ap (both a) (sym (ap isSound is ∙ e))
+-- ---- a cell, told where the body of its segment begins
 
-    new-by : {x : Bool} (a : Bool) → newAt s Z st i d ≡ x → both a x ≡ both a (newAt s Z st i (cellAt s Z st i))
-    new-by a e = ap (both a) (sym (ap (newAt s Z st i) is ∙ e))
+module _ (s : Settings) (st : List ℕ) (Z i : ℕ) (o : Octets st) {stop : ℕ} (es : stop ≡ bodyAt s Z st i) where
+  module _ (z : stop ≡ 0) where
+    none : (cellAt s Z st i ≡ free) ⊎ (cellAt s Z st i ≡ broken)
+    none = body-zero s Z st i o (sym es ∙ z)
+
+    none-true : newAt s Z st i (cellAt s Z st i) ≡ true
+    unfolding newAt
+    none-true = ⊎-elim (λ e. ap (newAt s Z st i) e) (λ e. ap (newAt s Z st i) e) none
+
+    pub none-apart : (a : Bool) → a ≡ both a (newAt s Z st i (cellAt s Z st i))
+    none-apart a = sym (both-yes a) ∙ ap (both a) (sym none-true)
 
     -- it is on no chain
-    off : {H L : List ℕ} → bucketIn d ≡ chainsAll → Chained (bucketAt s Z st) H L i → i < cellsMost → Chained (bucketAt s Z st) H L (i + 1)
+    pub none-off : {H L : List ℕ} → Chained (bucketAt s Z st) H L i → i < cellsMost → Chained (bucketAt s Z st) H L (i + 1)
     unfolding bucketAt
-    off e c l = let w = ap bucketIn is ∙ e in chained-skip c l (omega arith)
+    none-off c l = let w : bucketAt s Z st i ≡ chainsAll = ⊎-elim (λ e. ap bucketIn e) (λ e. ap bucketIn e) none in chained-skip c l (omega arith)
 
-  module _ (h : t .kind ≡ 2) where
-    bad : cellAt s Z st i ≡ broken
-    bad = cell-is ∙ is-broken (bodyIn s Z r) (cellOf s Z r) et h
-
-    pub broken-sound : (a : Bool) → false ≡ both a (isSound (cellAt s Z st i))
-    broken-sound a = sym (pick-false a) ∙ sound-by bad a refl
-
-    pub broken-new : (a : Bool) → a ≡ both a (newAt s Z st i (cellAt s Z st i))
-    unfolding newAt
-    broken-new a = sym (both-yes a) ∙ new-by bad a refl
-
-    pub broken-off : {H L : List ℕ} → Chained (bucketAt s Z st) H L i → i < cellsMost → Chained (bucketAt s Z st) H L (i + 1)
-    broken-off c l = off bad refl c l
-
-  module _ (h : t .kind ≡ 0) where
-    nothing : cellAt s Z st i ≡ free
-    nothing = cell-is ∙ is-free (bodyIn s Z r) (cellOf s Z r) et h
-
-    pub free-sound : (a : Bool) → a ≡ both a (isSound (cellAt s Z st i))
-    free-sound a = sym (both-yes a) ∙ sound-by nothing a refl
-
-    pub free-new : (a : Bool) → a ≡ both a (newAt s Z st i (cellAt s Z st i))
-    unfolding newAt
-    free-new a = sym (both-yes a) ∙ new-by nothing a refl
-
-    pub free-off : {H L : List ℕ} → Chained (bucketAt s Z st) H L i → i < cellsMost → Chained (bucketAt s Z st) H L (i + 1)
-    free-off c l = off nothing refl c l
-
-  module _ (o : Octets st) (sound : t .kind ≡ 2 → ⊥) (some : t .kind ≡ 0 → ⊥) where
+  module _ (some : stop ≡ 0 → ⊥) {r q : List ℕ} (er : r ≡ rowAt Z st i) (eq : q ≡ packetIn Z r) {c : ℕ} (ec : c ≡ counterIn q) where
     abbrev p : List ℕ
-    p = packetIn Z r
+    p = packetIn Z (rowAt Z st i)
 
-    not-free : alike r (zeroRow Z) ≡ false
-    not-free = ⊎-elim (λ e. absurd (some (ap kind et ∙ ap (λ (d : Cell). judgedOf (bodyIn s Z r) d .kind) (free-cell s Z r e)))) (λ e. e) (bool (alike r (zeroRow Z)))
+    held-there : Holding s Z (rowAt Z st i)
+    held-there = body-some s Z st i (λ e. some (es ∙ e))
 
-    there : Holding s Z r
-    there = holding s Z r (is-sound (bodyIn s Z r) (cellOf s Z r) et sound) not-free
+    packet-is : q ≡ p
+    packet-is = eq ∙ ap (packetIn Z) er
 
-    judged : t ≡ judgedOf (bodyIn s Z r) (held (segOf p (readPacket s p)))
-    judged = et ∙ ap (judgedOf (bodyIn s Z r)) (there .cell)
+    pub asked-at : Asked s q stop
+    asked-at = asked-held s Z (rowAt Z st i) (row-plain s Z st i o) held-there packet-is (es ∙ body-held s Z st i held-there)
 
-    counter-is : t .counter ≡ readPacket s p .ids .counter .0
-    unfolding segOf
-    counter-is = ap (λ (x : Judged). x .counter) judged
+    key-is : keyOf q (readPacket s q) ≡ keyOf p (readPacket s p)
+    key-is = ap (λ (x : List ℕ). keyOf x (readPacket s x)) packet-is
 
-    pub held-sound : (a : Bool) → a ≡ both a (isSound (cellAt s Z st i))
-    held-sound a = sym (both-yes a) ∙ sound-by (cell-is ∙ there .cell) a refl
+    counter-is : c ≡ readPacket s p .ids .counter .0
+    counter-is = ec ∙ ap counterIn packet-is ∙ held-counter s Z (rowAt Z st i) (row-plain s Z st i o) held-there
 
-    module _ {q : List ℕ} (eq : q ≡ p) where
-      pub asked : Asked s q (t .at)
-      asked =
-          record {
-            octets = rw eq (octets-part r 2 (number 2 r 6 + 7) (rw er (octets-part st (i * Z) Z o)));
-            accepted = rw eq (there .accepted);
-            segment = rw eq (there .segment);
-            body = ap (λ (x : Judged). x .at) judged ∙ ap (λ (x : List ℕ). readPacket s x .body .at) (sym eq);
-          }
+    pub some-apart : (a : Bool) {n : Bool} → n ≡ both a (newTo s Z st i (keyOf q (readPacket s q)) c) → n ≡ both a (newAt s Z st i (cellAt s Z st i))
+    unfolding newAt segOf
+    some-apart a e =
+        e
+        ∙ ap (both a)
+        (ap₂ (λ (x : List ℕ) (n : ℕ). newTo s Z st i x n) key-is counter-is ∙ sym (ap (newAt s Z st i) (held-there .cell)))
 
-      abbrev k : List ℕ
-      k = keyOf q (readPacket s q)
+    -- its chain is the one that was walked
+    chain-is : bucketOf (keyIn q stop) c ≡ bucketAt s Z st i
+    unfolding bucketAt segOf
+    chain-is =
+        ap₂ (λ (x : List ℕ) (n : ℕ). bucketOf x n) (key-asked s q stop asked-at ∙ key-is) counter-is
+        ∙ sym (ap bucketIn (held-there .cell))
 
-      key-is : k ≡ keyOf p (readPacket s p)
-      key-is = ap (λ (x : List ℕ). keyOf x (readPacket s x)) eq
-
-      pub held-new : (a : Bool) {n : Bool} → n ≡ both a (newTo s Z st i k (t .counter)) → n ≡ both a (newAt s Z st i (cellAt s Z st i))
-      unfolding newAt segOf
-      held-new a e =
-          e
-          ∙ ap (both a) (ap₂ (λ (x : List ℕ) (n : ℕ). newTo s Z st i x n) key-is counter-is)
-          ∙ new-by (cell-is ∙ there .cell) a refl
-
-      -- its chain is the one that was walked
-      chain-is : bucketOf (keyIn q (t .at)) (t .counter) ≡ bucketAt s Z st i
-      unfolding bucketAt segOf
-      chain-is =
-          ap₂ (λ (x : List ℕ) (n : ℕ). bucketOf x n) (key-asked s q (t .at) asked ∙ key-is) counter-is
-          ∙ sym (ap bucketIn (cell-is ∙ there .cell))
-
-      pub entered :
-          {b : ℕ} {H L H′ L′ : List ℕ} → Chained (bucketAt s Z st) H L i → i < cellsMost → b ≡ bucketOf (keyIn q (t .at)) (t .counter) → b < chainsAll →
-          H′ ≡ set H b (i + 1) → L′ ≡ set L i (getD H b 0) → Chained (bucketAt s Z st) H′ L′ (i + 1)
-      entered {b} c l eb lb eh el =
-          let e : b ≡ bucketAt s Z st i = eb ∙ chain-is in
-          rw (eh, el, e) (chained-push c l (rw e at lb))
+    pub some-on :
+        {b : ℕ} {H L H′ L′ : List ℕ} → Chained (bucketAt s Z st) H L i → i < cellsMost → b ≡ bucketOf (keyIn q stop) c → b < chainsAll →
+        H′ ≡ set H b (i + 1) → L′ ≡ set L i (getD H b 0) → Chained (bucketAt s Z st) H′ L′ (i + 1)
+    some-on {b} d l eb lb eh el =
+        let e : b ≡ bucketAt s Z st i = eb ∙ chain-is in
+        rw (eh, el, e) (chained-push d l (rw e at lb))
 
 -- ---- the search for a key and counter below a cell
 

@@ -10,6 +10,8 @@ pub mod Lowest
 pub mod Chaining
 pub mod Walking
 pub mod Finding
+pub mod Bodies
+pub mod Soundness
 pub mod Entering
 pub mod Ordering
 pub mod Ordered

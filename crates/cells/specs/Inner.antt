@@ -1,17 +1,18 @@
--- The code's tests on a row, told by its octets.
+-- The code's tests on a row, told by its octets; and its table of where the bodies begin.
 -- Assumes nothing: these are definitions.
-use Prim.Native.Nat.{ℕ, _+_, _-_, _/_, _%_}
+use Prim.Native.Nat.{ℕ, zero, suc, _+_, _-_, _/_, _%_, _<_}
 use mathlib.Core.Path.{_≡_}
 use mathlib.Core.List.{List}
 use mathlib.Core.Bool.{Bool, true, false}
-use lib.ListN.{length, drop}
+use lib.ListN.{length, getD, drop, set}
 use lib.Dec.{leb, ltb, eqb}
 use Rattle.octets.specs.Octets.{Octets, octetAt, part, number, alike}
 use Rattle.walk.specs.declared.Settings.{Settings}
 use Rattle.packet.specs.Reading.{readPacket, segmented}
 use Rattle.cells.specs.Segments.{both}
 use Rattle.cells.specs.declared.Judged.{Judged}
-use Rattle.cells.specs.Rows.{Cell, free, held, broken, packetIn}
+use Rattle.cells.specs.Rows.{Cell, free, held, broken, rowAt, packetIn}
+use Rattle.cells.specs.Order.{cellAt}
 
 -- a row begins with the mark, and from n on is as the zero cell
 unfoldable pub heldRowTest : List ℕ → ℕ → List ℕ → Bool
@@ -55,3 +56,16 @@ pub record Asked (s : Settings) (q : List ℕ) (stop : ℕ) : Type 0 where
   pub accepted : readPacket s q .refusal .number ≡ 0
   pub segment : segmented q ≡ true
   pub body : stop ≡ readPacket s q .body .at
+
+-- where the body of the segment in cell i begins; 0 where the cell holds none
+unfoldable pub bodyAt : Settings → ℕ → List ℕ → ℕ → ℕ
+bodyAt s Z st i = judgedOf (bodyIn s Z (rowAt Z st i)) (cellAt s Z st i) .at
+
+-- those of the first n cells put into a table, each at its cell's number
+unfoldable pub bodiesTo : Settings → ℕ → List ℕ → ℕ → List ℕ → List ℕ
+bodiesTo s Z st zero table = table
+bodiesTo s Z st (suc n) table = set (bodiesTo s Z st n table) n (bodyAt s Z st n)
+
+-- a table tells them of the first n cells
+abbrev pub Bodies : Settings → ℕ → List ℕ → List ℕ → ℕ → Type 0
+Bodies s Z st table n = (i : ℕ) → i < n → getD table i 0 ≡ bodyAt s Z st i

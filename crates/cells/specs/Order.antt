@@ -70,10 +70,6 @@ distinct s Z st n = allTo (λ i. newAt s Z st i (cellAt s Z st i)) n
 unfoldable pub sound : Settings → ℕ → List ℕ → ℕ → Bool
 sound s Z st n = allTo (λ i. isSound (cellAt s Z st i)) n
 
--- cell i beside those below it: it is sound, and its key and counter are new
-unfoldable pub enters : Settings → ℕ → List ℕ → ℕ → Bool
-enters s Z st i = both (isSound (cellAt s Z st i)) (newAt s Z st i (cellAt s Z st i))
-
 unfoldable pub inOrder : Settings → ℕ → List ℕ → Bool
 inOrder s Z st = both (lengthFits Z (length st)) (both (sound s Z st (countIn Z st)) (distinct s Z st (countIn Z st)))
 

@@ -16,11 +16,11 @@ ghost use Rattle.octets.specs.Octets.{pick, part, number, alike};
 ghost use lib.Dec.{eqb};
 ghost use Rattle.cells.specs.Segments.{both};
 ghost use Rattle.cells.specs.Rows.{rowAt, zeroRow, cellOf};
-ghost use Rattle.cells.specs.Inner.{heldRowTest, judgedOf, bodyIn, placeIn, counterIn, spansAlike, withinIn, Asked};
+ghost use Rattle.cells.specs.Inner.{heldRowTest, judgedOf, bodyIn, placeIn, counterIn, spansAlike, withinIn, Asked, bodyAt, bodiesTo, Bodies};
 ghost use mathlib.Core.Bool.{true};
 ghost use Rattle.packet.specs.Reading.{readPacket};
 ghost use Rattle.packet.specs.Key.{keyOf};
-ghost use Rattle.cells.specs.Order.{cellsMost, lowest, lengthFits, sound, isSound, cellAt, carriesIn, newTo, newAt, distinct, inOrder, countIn, foundIn};
+ghost use Rattle.cells.specs.Order.{cellsMost, lowest, lengthFits, sound, cellAt, carriesIn, newTo, newAt, distinct, inOrder, countIn, foundIn};
 ghost use Rattle.cells.specs.Chains.{mixIn, mixed, chainIn, bucketOf, keyIn, chainsAll, bucketAt, Chained};
 use walk::Settings;
 
@@ -447,12 +447,6 @@ fn push(i: usize, b: usize, heads: &mut [u16; CHAINS], links: &mut [u16; CELLS_M
     heads[b] = (i + 1) as u16;
 }
 
-// Whether cells are all free or held, and whether no two of them have equal key and counter.
-pub struct Orderly {
-    pub sound: bool,
-    pub distinct: bool,
-}
-
 // Whether no cell below i has the key and counter of the one that is looked for, where those below are apart so far.
 fn is_new(
     s: Settings,
@@ -479,49 +473,95 @@ fn is_new(
     false
 }
 
-// Cell i beside those below it: whether they all are free or held, and apart. A held one goes onto its chain; a broken one is on none.
-// Once two are not apart no search is made any more.
+// Whether the first n cells are all free or held, by one reading of each. The table then tells where the body of each segment begins, so
+// that its key is found again without a reading.
+pub fn sound_by(
+    s: Settings,
+    store: &[u8],
+    n: usize,
+    zero: &[u8],
+    bodies: &mut [u16; CELLS_MOST],
+) -> bool
+    requires { ⌜ now zero ≡ zeroRow (length (now zero)) ⌝ }
+    requires { ⌜ n ≤ cellsMost ⌝ }
+    ensures { λ r. ⌜ r ≡ sound s (length (now (zero .entry))) (now (store .entry)) n ⌝ }
+    ensures { λ r. ⌜ now (bodies .exit) ≡ bodiesTo s (length (now (zero .entry))) (now (store .entry)) n (now (bodies .entry)) ⌝ }
+{
+    let mut all = true;
+    let mut i: usize = 0;
+    while i < n {
+        let t = judge(s, row(store, zero.len(), i), zero);
+        bodies[i] = t.at as u16;
+        all = and(all, t.kind != 2);
+        i += 1;
+    }
+    all
+}
+
+// Cell i beside those below it, told where the body of its segment begins: whether they are apart. A held one goes onto its chain; one
+// that is free or broken is on none. Once two are not apart no search is made any more.
 fn enter(
     s: Settings,
     store: &[u8],
     i: usize,
     zero: &[u8],
-    o: Orderly,
+    stop: usize,
+    apart: bool,
     heads: &mut [u16; CHAINS],
     links: &mut [u16; CELLS_MOST],
-) -> Orderly
+) -> bool
     requires { ⌜ now zero ≡ zeroRow (length (now zero)) ⌝ }
     requires { ⌜ i < cellsMost ⌝ }
+    requires { ⌜ stop ≡ bodyAt s (length (now zero)) (now store) i ⌝ }
     requires { ⌜ Chained (bucketAt s (length (now zero)) (now store)) (now heads) (now links) i ⌝ }
-    ensures { λ r. ⌜ r .sound ≡ both (o .sound) (isSound (cellAt s (length (now (zero .entry))) (now (store .entry)) i)) ⌝ }
-    ensures { λ r. ⌜ r .distinct ≡ both (o .distinct) (newAt s (length (now (zero .entry))) (now (store .entry)) i (cellAt s (length (now (zero .entry))) (now (store .entry)) i)) ⌝ }
+    ensures { λ r. ⌜ r ≡ both apart (newAt s (length (now (zero .entry))) (now (store .entry)) i (cellAt s (length (now (zero .entry))) (now (store .entry)) i)) ⌝ }
     ensures { λ r. ⌜ Chained (bucketAt s (length (now (zero .entry))) (now (store .entry))) (now (heads .exit)) (now (links .exit)) (i + 1) ⌝ }
 {
-    let r = row(store, zero.len(), i);
-    let t = judge(s, r, zero);
-    if t.kind == 2 {
-        return Orderly {
-            sound: false,
-            distinct: o.distinct,
-        };
+    if stop == 0 {
+        return apart;
     }
-    if t.kind == 0 {
-        return o;
-    }
-    let q = packet_in(r);
-    let stop = t.at;
-    let c = t.counter as u64;
+    let q = packet_in(row(store, zero.len(), i));
+    let c = counter_in(q) as u64;
     let b = bucket(q, stop, c);
-    let new = is_new(s, store, i, zero, q, stop, c, b, o.distinct, heads, links);
+    let new = is_new(s, store, i, zero, q, stop, c, b, apart, heads, links);
     push(i, b, heads, links);
-    Orderly {
-        sound: o.sound,
-        distinct: new,
-    }
+    new
 }
 
-// Whether the first n cells are all free or held; and whether no two of them have equal key and counter. One pass, for any octets; the
-// held ones stand on their chains behind it.
+// Whether no two of the first n cells have equal key and counter, for any octets, told where the body of each segment begins. Each held
+// one goes onto its chain and is compared whole with those there.
+pub fn distinct_by(
+    s: Settings,
+    store: &[u8],
+    n: usize,
+    zero: &[u8],
+    bodies: &[u16; CELLS_MOST],
+    heads: &mut [u16; CHAINS],
+    links: &mut [u16; CELLS_MOST],
+) -> bool
+    requires { ⌜ now zero ≡ zeroRow (length (now zero)) ⌝ }
+    requires { ⌜ n ≤ cellsMost ⌝ }
+    requires { ⌜ Bodies s (length (now zero)) (now store) (now bodies) n ⌝ }
+    requires { ⌜ Chained (bucketAt s (length (now zero)) (now store)) (now heads) (now links) 0 ⌝ }
+    ensures { λ r. ⌜ r ≡ distinct s (length (now (zero .entry))) (now (store .entry)) n ⌝ }
+    ensures { λ r. ⌜ Chained (bucketAt s (length (now (zero .entry))) (now (store .entry))) (now (heads .exit)) (now (links .exit)) n ⌝ }
+{
+    let mut apart = true;
+    let mut i: usize = 0;
+    while i < n {
+        apart = enter(s, store, i, zero, bodies[i] as usize, apart, heads, links);
+        i += 1;
+    }
+    apart
+}
+
+// Whether cells are all free or held, and whether no two of them have equal key and counter.
+pub struct Orderly {
+    pub sound: bool,
+    pub distinct: bool,
+}
+
+// The two tests one after the other, by one table of where the bodies begin.
 pub fn order_by(
     s: Settings,
     store: &[u8],
@@ -537,16 +577,13 @@ pub fn order_by(
     ensures { λ r. ⌜ r .distinct ≡ distinct s (length (now (zero .entry))) (now (store .entry)) n ⌝ }
     ensures { λ r. ⌜ Chained (bucketAt s (length (now (zero .entry))) (now (store .entry))) (now (heads .exit)) (now (links .exit)) n ⌝ }
 {
-    let mut o = Orderly {
-        sound: true,
-        distinct: true,
-    };
-    let mut i: usize = 0;
-    while i < n {
-        o = enter(s, store, i, zero, o, heads, links);
-        i += 1;
+    let mut bodies = [0u16; CELLS_MOST];
+    let sound = sound_by(s, store, n, zero, &mut bodies);
+    let distinct = distinct_by(s, store, n, zero, &bodies, heads, links);
+    Orderly {
+        sound: sound,
+        distinct: distinct,
     }
-    o
 }
 
 // How many cells a store in order has, which then stand on their chains; 0 where it is not in order.
