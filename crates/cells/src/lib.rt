@@ -8,7 +8,7 @@
 // Chains lead through the held cells, so that a key and a counter are found without a look at every cell: a number mixed from both
 // chooses the chain, `heads` has the highest cell of each chain and `links` the next lower one of each cell; 0 is none, and cell i is i + 1.
 ghost use mathlib.Core.Path.{_≡_};
-ghost use Prim.Native.Nat.{_+_, _-_, _*_, _/_, _%_, _≤_, _<_};
+ghost use Prim.Native.Nat.{_+_, _*_, _/_, _%_, _≤_, _<_};
 ghost use lib.ListN.{length, getD, drop, set};
 ghost use lib.Seq.{sets};
 ghost use mathlib.Core.List.{_∷_};
@@ -86,20 +86,10 @@ pub fn same_key(p: &[u8], end: usize, q: &[u8], stop: usize) -> bool
     let ids = octets::same(span(p, 0, 2), span(q, 0, 2));
     let fore = octets::same(span(p, 6, c - 6), span(q, 6, d - 6));
     let aft = octets::same(
-        span(p, c + 4, less(end, c + 4)),
-        span(q, d + 4, less(stop, d + 4)),
+        span(p, c + 4, octets::less(end, c + 4)),
+        span(q, d + 4, octets::less(stop, d + 4)),
     );
     and(long, and(ids, and(fore, aft)))
-}
-
-// What is left of a number, 0 where it is the smaller one.
-fn less(a: usize, b: usize) -> usize
-    ensures { λ r. ⌜ r ≡ a - b ⌝ }
-{
-    if b <= a {
-        return a - b;
-    }
-    0
 }
 
 // Both tests hold.
@@ -249,7 +239,7 @@ fn is_key(k: &[u8], p: &[u8], end: usize) -> bool
     let c = counter_place(p);
     let ids = span(p, 0, 2);
     let fore = span(p, 6, c - 6);
-    let aft = span(p, c + 4, less(end, c + 4));
+    let aft = span(p, c + 4, octets::less(end, c + 4));
     let first = octets::same(span(k, 0, ids.len()), ids);
     let second = octets::same(span(k, ids.len(), fore.len()), fore);
     let third = octets::same(tail(k, ids.len() + fore.len()), aft);
@@ -375,7 +365,7 @@ pub fn bucket(q: &[u8], stop: usize, c: u64) -> usize
     let d = counter_place(q);
     let ids = mix(MIX_START, span(q, 0, 2));
     let fore = mix(ids, span(q, 6, d - 6));
-    let aft = mix(fore, span(q, d + 4, less(stop, d + 4)));
+    let aft = mix(fore, span(q, d + 4, octets::less(stop, d + 4)));
     chain(aft, c)
 }
 
