@@ -20,6 +20,7 @@ ghost use Rattle.cells.specs.Chains.{Chained, bucketAt};
 ghost use Rattle.store.specs.Messages.{cellsOf, runIn, picked, top};
 ghost use Rattle.store.specs.Arriving.{refused as refusedBy, placed, segmentArrived, arrivedIn, arrived, storeWith};
 ghost use Rattle.store.specs.Taking.{unable, tookIn, took, outWith, clearedTo, storeLess};
+ghost use Rattle.store.specs.Beside.{arrivedBeside, tookBeside};
 ghost use Rattle.store.specs.Told.{arrivalOf, takenOf};
 ghost use Rattle.store.specs.Inner.{segWith, segIn, pieceOf, pieceIn, openedOf};
 ghost use Rattle.store.specs.Follow.{segAt, follow as followed, placesFrom, bodiesAt, total, answer, opensAt, endsAt, pickedOf, copiedOf, Ready, Opens};
@@ -199,8 +200,8 @@ fn store_segment(
     refused(18)
 }
 
-// A packet at the first n cells of any octets.
-pub fn arrive_in(s: Settings, store: &mut [u8], n: usize, zero: &[u8], p: &[u8]) -> Arrival
+// A packet at the first n cells of any octets, beside a zero cell.
+pub fn arrive_on(s: Settings, store: &mut [u8], n: usize, zero: &[u8], p: &[u8]) -> Arrival
     requires { ⌜ now zero ≡ zeroRow (length (now zero)) ⌝ }
     ensures { λ r. ⌜ r ≡ arrivalOf (arrivedIn s (length (now (zero .entry))) (now (store .entry)) n (now (p .entry))) ⌝ }
     ensures { λ r. ⌜ now (store .exit) ≡ storeWith (length (now (zero .entry))) (now (store .entry)) (now (p .entry)) (arrivedIn s (length (now (zero .entry))) (now (store .entry)) n (now (p .entry))) ⌝ }
@@ -231,6 +232,17 @@ pub fn arrive_in(s: Settings, store: &mut [u8], n: usize, zero: &[u8], p: &[u8])
         body.length,
         counter.0,
     )
+}
+
+// The same beside any octets: where they are not all zeros, no store is in order beside them.
+pub fn arrive_in(s: Settings, store: &mut [u8], n: usize, zero: &[u8], p: &[u8]) -> Arrival
+    ensures { λ r. ⌜ r ≡ arrivalOf (arrivedBeside s (now (zero .entry)) (now (store .entry)) n (now (p .entry))) ⌝ }
+    ensures { λ r. ⌜ now (store .exit) ≡ storeWith (length (now (zero .entry))) (now (store .entry)) (now (p .entry)) (arrivedBeside s (now (zero .entry)) (now (store .entry)) n (now (p .entry))) ⌝ }
+{
+    if !octets::zeros(zero) {
+        return refused(16);
+    }
+    arrive_on(s, store, n, zero, p)
 }
 
 // A packet arrives.
@@ -622,7 +634,7 @@ fn take_plain(s: Settings, store: &mut [u8], n: usize, zero: &[u8], out: &mut [u
 }
 
 // The same: without a last segment nothing is searched.
-pub fn take_in(s: Settings, store: &mut [u8], n: usize, zero: &[u8], out: &mut [u8]) -> Taken
+pub fn take_on(s: Settings, store: &mut [u8], n: usize, zero: &[u8], out: &mut [u8]) -> Taken
     requires { ⌜ now zero ≡ zeroRow (length (now zero)) ⌝ }
     ensures { λ r. ⌜ r ≡ takenOf (tookIn s (length (now (zero .entry))) (now (store .entry)) n (length (now (out .entry)))) ⌝ }
     ensures { λ r. ⌜ now (out .exit) ≡ outWith (now (out .entry)) (tookIn s (length (now (zero .entry))) (now (store .entry)) n (length (now (out .entry)))) ⌝ }
@@ -632,6 +644,18 @@ pub fn take_in(s: Settings, store: &mut [u8], n: usize, zero: &[u8], out: &mut [
         return not_taken(20);
     }
     take_plain(s, store, n, zero, out)
+}
+
+// The same beside any octets: where they are not all zeros, no store is in order beside them.
+pub fn take_in(s: Settings, store: &mut [u8], n: usize, zero: &[u8], out: &mut [u8]) -> Taken
+    ensures { λ r. ⌜ r ≡ takenOf (tookBeside s (now (zero .entry)) (now (store .entry)) n (length (now (out .entry)))) ⌝ }
+    ensures { λ r. ⌜ now (out .exit) ≡ outWith (now (out .entry)) (tookBeside s (now (zero .entry)) (now (store .entry)) n (length (now (out .entry)))) ⌝ }
+    ensures { λ r. ⌜ now (store .exit) ≡ storeLess s (length (now (zero .entry))) (now (store .entry)) n (tookBeside s (now (zero .entry)) (now (store .entry)) n (length (now (out .entry)))) ⌝ }
+{
+    if !octets::zeros(zero) {
+        return not_taken(16);
+    }
+    take_on(s, store, n, zero, out)
 }
 
 // The complete message whose first lies in the lowest cell is taken out.
