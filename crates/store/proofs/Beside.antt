@@ -5,7 +5,7 @@ use mathlib.Core.Path.{_≡_, ap, ap₂, sym, _∙_, refl}
 use mathlib.Core.Bool.{Bool, true, false, not}
 use mathlib.Core.List.{List, [], _∷_}
 use native.Mathlib.Omega.{arith}
-use lib.ListN.{length, replicate}
+use lib.ListN.{length}
 use lib.Dec.{eqb}
 use borrow.Author.Tests.{eqb-true}
 use Rattle.octets.specs.Octets.{pick, blank}
@@ -51,17 +51,17 @@ other-told z {b} e h = sym e ∙ not-true b h
 
 -- ---- beside a zero cell
 
-module _ (s : Settings) (z st : List ℕ) (n : ℕ) (e : z ≡ zeroRow (length z)) where
-  pub blank-is : blank z ≡ true
-  blank-is = ap blank e ∙ blank-zeros (length z)
+pub blank-is : (z : List ℕ) → z ≡ zeroRow (length z) → blank z ≡ true
+blank-is z e = ap blank e ∙ blank-zeros (length z)
 
+module _ (s : Settings) (z st : List ℕ) (n : ℕ) (e : z ≡ zeroRow (length z)) where
   pub arrived-beside : (p : List ℕ) → arrivedBeside s z st n p ≡ arrivedIn s (length z) st n p
   unfolding arrivedBeside
-  arrived-beside p = rw blank-is refl
+  arrived-beside p = rw (blank-is z e) refl
 
   pub took-beside : (long : ℕ) → tookBeside s z st n long ≡ tookIn s (length z) st n long
   unfolding tookBeside
-  took-beside long = rw blank-is refl
+  took-beside long = rw (blank-is z e) refl
 
 -- ---- the answers and what is lent, told apart by the test
 
@@ -71,7 +71,9 @@ module _ (s : Settings) (z st : List ℕ) (n : ℕ) {b : Bool} (e : b ≡ blank 
     abbrev pub Arrives : Arrived → Arrival → List ℕ → Type 0
     Arrives a r x = (r ≡ arrivalOf a) × (x ≡ storeWith (length z) st p a)
 
-    pub arrives-on : {r : Arrival} {x : List ℕ} → not b ≡ false → Arrives (arrivedIn s (length z) st n p) r x → Arrives (arrivedBeside s z st n p) r x
+    pub arrives-on :
+        {r : Arrival} {x : List ℕ} → not b ≡ false → Arrives (arrivedIn s (length z) st n p) r x →
+        Arrives (arrivedBeside s z st n p) r x
     arrives-on h w =
         let d = sym (arrived-beside s z st n (zero-told z e h) p) in
         (w .0 ∙ ap arrivalOf d, w .1 ∙ ap (storeWith (length z) st p) d)

@@ -14,7 +14,7 @@ ghost use Rattle.packet.specs.Reading.{readPacket};
 ghost use Rattle.packet.specs.Key.{keyOf};
 ghost use Rattle.cells.specs.Segments.{sameRest};
 ghost use Rattle.cells.specs.Rows.{rowAt, zeroRow, packetIn, held};
-ghost use Rattle.cells.specs.Order.{lowest, cellAt, countIn};
+ghost use Rattle.cells.specs.Order.{cellsMost, lowest, cellAt, countIn};
 ghost use Rattle.cells.specs.Inner.{withinIn, Asked};
 ghost use Rattle.cells.specs.Chains.{Chained, bucketAt};
 ghost use Rattle.store.specs.Messages.{cellsOf, runIn, picked, top};
@@ -31,10 +31,8 @@ use walk::Settings;
 // The octets of a cell.
 pub const CELL: usize = 1024;
 
-// The tables of the chains that searches of a taking go by.
-const CHAINS: usize = 4096;
-
-const CELLS_MOST: usize = 4096;
+// The most cells that a taking searches without chains: so few are searched faster than chains are made.
+const SEARCH_MOST: usize = 64;
 
 // What an arrival that is not refused is answered.
 pub enum Kind {
@@ -82,18 +80,10 @@ pub struct Opened {
     pub cells: usize,
 }
 
-// T and the order of the store are checked; the chains of its cells are made on the way.
-fn check_by(
-    s: Settings,
-    store: &[u8],
-    zero: &[u8],
-    heads: &mut [u16; CHAINS],
-    links: &mut [u16; CELLS_MOST],
-) -> Opened
+// T and the order of the store are checked.
+pub fn check(s: Settings, store: &[u8], zero: &[u8]) -> Opened
     requires { ⌜ now zero ≡ zeroRow (length (now zero)) ⌝ }
-    requires { ⌜ Chained (bucketAt s (length (now zero)) (now store)) (now heads) (now links) 0 ⌝ }
     ensures { λ r. ⌜ r ≡ openedOf s (length (now (zero .entry))) (now (store .entry)) ⌝ }
-    ensures { λ r. ⌜ (r .refusal .number ≡ 0 → Chained (bucketAt s (length (now (zero .entry))) (now (store .entry))) (now (heads .exit)) (now (links .exit)) (r .cells)) ⌝ }
 {
     let w = walk::begin(s);
     let refusal = w.refusal;
@@ -103,7 +93,7 @@ fn check_by(
             cells: 0,
         };
     }
-    let n = cells::in_order_by(s, store, zero, heads, links);
+    let n = cells::in_order(s, store, zero);
     if n == 0 {
         return Opened {
             refusal: Refusal { number: 16 },
@@ -114,16 +104,6 @@ fn check_by(
         refusal: refusal,
         cells: n,
     }
-}
-
-// T and the order of the store are checked.
-pub fn check(s: Settings, store: &[u8], zero: &[u8]) -> Opened
-    requires { ⌜ now zero ≡ zeroRow (length (now zero)) ⌝ }
-    ensures { λ r. ⌜ r ≡ openedOf s (length (now (zero .entry))) (now (store .entry)) ⌝ }
-{
-    let mut heads = [0u16; CHAINS];
-    let mut links = [0u16; CELLS_MOST];
-    check_by(s, store, zero, &mut heads, &mut links)
 }
 
 // The one place where an arrival is refused.
@@ -297,8 +277,8 @@ fn follow(
     from: u64,
     b: usize,
     chained: bool,
-    heads: &[u16; CHAINS],
-    links: &[u16; CELLS_MOST],
+    heads: &[u16; cells::CHAINS],
+    links: &[u16; cells::CELLS_MOST],
 ) -> usize
     requires { ⌜ (chained ≡ true → Chained (bucketAt s (length (now zero)) (now store)) (now heads) (now links) n) ⌝ }
     requires { ⌜ now zero ≡ zeroRow (length (now zero)) ⌝ }
@@ -358,8 +338,8 @@ fn run_at(
     zero: &[u8],
     i: usize,
     chained: bool,
-    heads: &[u16; CHAINS],
-    links: &[u16; CELLS_MOST],
+    heads: &[u16; cells::CHAINS],
+    links: &[u16; cells::CELLS_MOST],
 ) -> usize
     requires { ⌜ (chained ≡ true → Chained (bucketAt s (length (now zero)) (now store)) (now heads) (now links) n) ⌝ }
     requires { ⌜ now zero ≡ zeroRow (length (now zero)) ⌝ }
@@ -396,8 +376,8 @@ fn pick_message(
     n: usize,
     zero: &[u8],
     chained: bool,
-    heads: &[u16; CHAINS],
-    links: &[u16; CELLS_MOST],
+    heads: &[u16; cells::CHAINS],
+    links: &[u16; cells::CELLS_MOST],
 ) -> Picked
     requires { ⌜ (chained ≡ true → Chained (bucketAt s (length (now zero)) (now store)) (now heads) (now links) n) ⌝ }
     requires { ⌜ now zero ≡ zeroRow (length (now zero)) ⌝ }
@@ -449,8 +429,8 @@ fn copy_rest(
     out: &mut [u8],
     place: usize,
     chained: bool,
-    heads: &[u16; CHAINS],
-    links: &[u16; CELLS_MOST],
+    heads: &[u16; cells::CHAINS],
+    links: &[u16; cells::CELLS_MOST],
 ) -> u64
     requires { ⌜ (chained ≡ true → Chained (bucketAt s (length (now zero)) (now store)) (now heads) (now links) n) ⌝ }
     requires { ⌜ now zero ≡ zeroRow (length (now zero)) ⌝ }
@@ -487,8 +467,8 @@ fn copy_message(
     i: usize,
     out: &mut [u8],
     chained: bool,
-    heads: &[u16; CHAINS],
-    links: &[u16; CELLS_MOST],
+    heads: &[u16; cells::CHAINS],
+    links: &[u16; cells::CELLS_MOST],
 ) -> Copied
     requires { ⌜ (chained ≡ true → Chained (bucketAt s (length (now zero)) (now store)) (now heads) (now links) n) ⌝ }
     requires { ⌜ now zero ≡ zeroRow (length (now zero)) ⌝ }
@@ -560,8 +540,8 @@ fn draw(
     b: usize,
     out: &mut [u8],
     chained: bool,
-    heads: &[u16; CHAINS],
-    links: &[u16; CELLS_MOST],
+    heads: &[u16; cells::CHAINS],
+    links: &[u16; cells::CELLS_MOST],
 ) -> Taken
     requires { ⌜ (chained ≡ true → Chained (bucketAt s (length (now zero)) (now store)) (now heads) (now links) n) ⌝ }
     requires { ⌜ now zero ≡ zeroRow (length (now zero)) ⌝ }
@@ -592,8 +572,8 @@ fn take_by(
     zero: &[u8],
     out: &mut [u8],
     chained: bool,
-    heads: &[u16; CHAINS],
-    links: &[u16; CELLS_MOST],
+    heads: &[u16; cells::CHAINS],
+    links: &[u16; cells::CELLS_MOST],
 ) -> Taken
     requires { ⌜ (chained ≡ true → Chained (bucketAt s (length (now zero)) (now store)) (now heads) (now links) n) ⌝ }
     requires { ⌜ now zero ≡ zeroRow (length (now zero)) ⌝ }
@@ -628,12 +608,26 @@ fn take_plain(s: Settings, store: &mut [u8], n: usize, zero: &[u8], out: &mut [u
     ensures { λ r. ⌜ now (out .exit) ≡ outWith (now (out .entry)) (tookIn s (length (now (zero .entry))) (now (store .entry)) n (length (now (out .entry)))) ⌝ }
     ensures { λ r. ⌜ now (store .exit) ≡ storeLess s (length (now (zero .entry))) (now (store .entry)) n (tookIn s (length (now (zero .entry))) (now (store .entry)) n (length (now (out .entry)))) ⌝ }
 {
-    let heads = [0u16; CHAINS];
-    let links = [0u16; CELLS_MOST];
+    let heads = [0u16; cells::CHAINS];
+    let links = [0u16; cells::CELLS_MOST];
     take_by(s, store, n, zero, out, false, &heads, &links)
 }
 
-// The same: without a last segment nothing is searched.
+// The same by chains, which are made first.
+fn take_chained(s: Settings, store: &mut [u8], n: usize, zero: &[u8], out: &mut [u8]) -> Taken
+    requires { ⌜ now zero ≡ zeroRow (length (now zero)) ⌝ }
+    requires { ⌜ n ≤ cellsMost ⌝ }
+    ensures { λ r. ⌜ r ≡ takenOf (tookIn s (length (now (zero .entry))) (now (store .entry)) n (length (now (out .entry)))) ⌝ }
+    ensures { λ r. ⌜ now (out .exit) ≡ outWith (now (out .entry)) (tookIn s (length (now (zero .entry))) (now (store .entry)) n (length (now (out .entry)))) ⌝ }
+    ensures { λ r. ⌜ now (store .exit) ≡ storeLess s (length (now (zero .entry))) (now (store .entry)) n (tookIn s (length (now (zero .entry))) (now (store .entry)) n (length (now (out .entry)))) ⌝ }
+{
+    let mut heads = [0u16; cells::CHAINS];
+    let mut links = [0u16; cells::CELLS_MOST];
+    cells::order_by(s, store, n, zero, &mut heads, &mut links);
+    take_by(s, store, n, zero, out, true, &heads, &links)
+}
+
+// The same: without a last segment nothing is searched, and chains are made where they save more than they cost.
 pub fn take_on(s: Settings, store: &mut [u8], n: usize, zero: &[u8], out: &mut [u8]) -> Taken
     requires { ⌜ now zero ≡ zeroRow (length (now zero)) ⌝ }
     ensures { λ r. ⌜ r ≡ takenOf (tookIn s (length (now (zero .entry))) (now (store .entry)) n (length (now (out .entry)))) ⌝ }
@@ -643,7 +637,13 @@ pub fn take_on(s: Settings, store: &mut [u8], n: usize, zero: &[u8], out: &mut [
     if n <= lowest_last(store, n, zero.len()) {
         return not_taken(20);
     }
-    take_plain(s, store, n, zero, out)
+    if n <= SEARCH_MOST {
+        return take_plain(s, store, n, zero, out);
+    }
+    if cells::CELLS_MOST < n {
+        return take_plain(s, store, n, zero, out);
+    }
+    take_chained(s, store, n, zero, out)
 }
 
 // The same beside any octets: where they are not all zeros, no store is in order beside them.
@@ -665,12 +665,10 @@ pub fn take(s: Settings, store: &mut [u8], out: &mut [u8]) -> Taken
     ensures { λ r. ⌜ now (store .exit) ≡ storeLess s 1024 (now (store .entry)) (countIn 1024 (now (store .entry))) (took s 1024 (now (store .entry)) (length (now (out .entry)))) ⌝ }
 {
     let zero = [0u8; CELL];
-    let mut heads = [0u16; CHAINS];
-    let mut links = [0u16; CELLS_MOST];
-    let o = check_by(s, store, &zero, &mut heads, &mut links);
+    let o = check(s, store, &zero);
     let refusal = o.refusal;
     if refusal.number != 0 {
         return not_taken(refusal.number);
     }
-    take_by(s, store, o.cells, &zero, out, true, &heads, &links)
+    take_in(s, store, o.cells, &zero, out)
 }

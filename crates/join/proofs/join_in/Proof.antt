@@ -1,62 +1,48 @@
--- `join::join_in` meets its contract: the arrival, and then what it asks for.
--- Assumes nothing.
-use native.Mathlib.Omega.{arith}
-use mathlib.Core.Path.{refl}
-use denote.Ref.{now}
-use lib.ListN.{length}
-use Rattle.join.proofs.Coming.{place-fits}
-use Rattle.join.proofs.Joins.{not-whole, join-refused, join-whole, join-taking}
 use borrow.Author.Needs.{needs}
 use Rattle.join.proofs.join_in.Statement.{statement}
 use Rattle.join.proofs.join_in.Tie as tie
+use Rattle.join.proofs.join_in.Reads as reads
+use Rattle.join.proofs.join_in.Lts as lts
+use Rattle.join.proofs.join_on.Reads as join-on-reads
+use Rattle.join.proofs.refused.Reads as refused-reads
+use Rattle.octets.proofs.zeros.Reads as zeros-reads
 
-arrive-in-requires : tie.Need-arrive-in-requires
-arrive-in-requires c κs = c .before .before .before .before .before .pre
+-- src/lib.rt:176:9
+zeros-requires : tie.Need-zeros-requires
+zeros-requires c κs = search needs
 
-enum-known-got : tie.Need-enum-known-got
-enum-known-got c = search needs
-
-enum-told : tie.Need-enum-told
-enum-told c = search needs
-
-refusal-of-requires : tie.Need-refusal-of-requires
-refusal-of-requires c κs = search needs
-
+-- src/lib.rt:177:9
 refused-requires : tie.Need-refused-requires
 refused-requires c κs = search needs
 
+-- src/lib.rt:177:9
+returns : tie.Need-returns
+returns c = ?
+
+-- src/lib.rt:179:5
+join-on-requires : tie.Need-join-on-requires
+join-on-requires c κs = ?
+
+-- src/lib.rt:164:1
 same-length : tie.Need-same-length
 same-length c = search needs
 
-returns : tie.Need-returns
-returns c = join-refused (c .before .before .before .before .before .before .before .before .before .before .before .before .args .s) (length (now (c .before .before .before .before .before .before .before .before .before .before .before .before .args .zero))) (now (c .before .before .before .before .before .before .before .before .before .before .before .before .args .store)) (now (c .before .before .before .before .before .before .before .before .before .before .before .before .args .p)) (now (c .before .before .before .before .before .before .before .before .before .before .before .before .args .out)) (c .before .before .before .before .before .before .before .before .before .before .before .before .args .n) (c .before .before .before .before .before .before .arrive-in .ensures .0) (c .before .before .before .before .before .before .arrive-in .ensures .1) (c .before .before .enum-told .given .1) (c .before .refusal-of .ensures) (c .refused .ensures)
-
-enum-told-2 : tie.Need-enum-told-2
-enum-told-2 c = search needs
-
-in-packet-requires : tie.Need-in-packet-requires
-in-packet-requires c κs = search needs
-
+-- src/lib.rt:164:1
 same-length-2 : tie.Need-same-length-2
 same-length-2 c = search needs
 
+-- src/lib.rt:164:1
 returns-2 : tie.Need-returns-2
-returns-2 c = join-whole (c .before .before .before .before .before .before .before .before .before .before .before .before .before .before .args .s) (length (now (c .before .before .before .before .before .before .before .before .before .before .before .before .before .before .args .zero))) (now (c .before .before .before .before .before .before .before .before .before .before .before .before .before .before .args .store)) (now (c .before .before .before .before .before .before .before .before .before .before .before .before .before .before .args .p)) (now (c .before .before .before .before .before .before .before .before .before .before .before .before .before .before .args .out)) (c .before .before .before .before .before .before .before .before .before .before .before .before .before .before .args .n) (c .before .before .before .before .before .before .before .before .arrive-in .ensures .0) (c .before .before .before .before .before .before .before .before .arrive-in .ensures .1) (λ i. c .before .before .before .before .before .before .before .before .before .before .before .shared-slice-known2 .given i .fits) (c .before .before .before .before .got .given .1) (c .before .enum-told2 .given .1) (c .in-packet .ensures)
-
-take-in-requires : tie.Need-take-in-requires
-take-in-requires c κs = c .before .before .before .before .before .before .before .before .before .before .before .before .before .before .pre
-
-in-output-requires : tie.Need-in-output-requires
-in-output-requires c κs = place-fits _ _ _ _ _ (c .before .before .before .before .take-in .ensures .0) (omega (arith, c .before .before .before .before .before .before .before .before .before .before .before .before .before .before .before .before .before .before .before .good .1 .1 .1 .1 .1 .0))
-
-same-length-3 : tie.Need-same-length-3
-same-length-3 c = search needs
-
-same-length-4 : tie.Need-same-length-4
-same-length-4 c = search needs
-
-returns-3 : tie.Need-returns-3
-returns-3 c = join-taking (c .before .before .before .before .before .before .before .before .before .before .before .before .before .before .before .before .before .before .before .before .args .s) (length (now (c .before .before .before .before .before .before .before .before .before .before .before .before .before .before .before .before .before .before .before .before .args .zero))) (now (c .before .before .before .before .before .before .before .before .before .before .before .before .before .before .before .before .before .before .before .before .args .store)) (now (c .before .before .before .before .before .before .before .before .before .before .before .before .before .before .before .before .before .before .before .before .args .p)) (now (c .before .before .before .before .before .before .before .before .before .before .before .before .before .before .before .before .before .before .before .before .args .out)) (c .before .before .before .before .before .before .before .before .before .before .before .before .before .before .before .before .before .before .before .before .args .n) (c .before .before .before .before .before .before .before .before .before .before .before .before .before .before .arrive-in .ensures .0) (c .before .before .before .before .before .before .before .before .before .before .before .before .before .before .arrive-in .ensures .1) (c .before .before .before .before .before .before .before .before .before .before .got .given .1) (not-whole _ (c .before .before .before .before .before .before .before .before .match2 .keys2)) (record { taken = _; told = c .before .before .before .before .before .take-in .ensures .0; answer = c .in-output .ensures; store = c .before .before .before .before .before .take-in .ensures .1 .1; output = c .before .before .before .before .before .take-in .ensures .1 .0 })
+returns-2 c = ?
 
 pub join-in-spec : {M : Type 1} → statement M
-join-in-spec = tie.close (tie.spec arrive-in-requires enum-known-got enum-told refusal-of-requires refused-requires same-length returns enum-told-2 in-packet-requires same-length-2 returns-2 take-in-requires in-output-requires same-length-3 same-length-4 returns-3)
+join-in-spec =
+    tie.close
+    (tie.spec
+    zeros-requires
+    refused-requires
+    returns
+    join-on-requires
+    same-length
+    same-length-2
+    returns-2)
