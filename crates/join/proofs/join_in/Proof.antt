@@ -1,48 +1,32 @@
+-- `join::join_in` meets its contract: the zero cell is tested, and then the joining itself.
+-- Assumes nothing.
+use denote.Ref.{now}
+use Rattle.store.proofs.Beside.{zero-told}
+use Rattle.join.proofs.Beside.{joins-on, joins-other}
 use borrow.Author.Needs.{needs}
 use Rattle.join.proofs.join_in.Statement.{statement}
 use Rattle.join.proofs.join_in.Tie as tie
-use Rattle.join.proofs.join_in.Reads as reads
-use Rattle.join.proofs.join_in.Lts as lts
-use Rattle.join.proofs.join_on.Reads as join-on-reads
-use Rattle.join.proofs.refused.Reads as refused-reads
-use Rattle.octets.proofs.zeros.Reads as zeros-reads
 
--- src/lib.rt:176:9
 zeros-requires : tie.Need-zeros-requires
 zeros-requires c κs = search needs
 
--- src/lib.rt:177:9
 refused-requires : tie.Need-refused-requires
 refused-requires c κs = search needs
 
--- src/lib.rt:177:9
 returns : tie.Need-returns
-returns c = ?
+returns c = joins-other (c .before .before .before .before .before .before .before .args .s) (now (c .before .before .before .before .before .before .before .args .zero)) (now (c .before .before .before .before .before .before .before .args .store)) (now (c .before .before .before .before .before .before .before .args .p)) (now (c .before .before .before .before .before .before .before .args .out)) (c .before .before .before .before .before .before .before .args .n) (c .before .before .zeros .ensures) (c .before .if1 .taken) (c .refused .ensures)
 
--- src/lib.rt:179:5
 join-on-requires : tie.Need-join-on-requires
-join-on-requires c κs = ?
+join-on-requires c κs = zero-told (now (c .before .before .before .before .before .before .before .before .args .zero)) (c .before .before .before .zeros .ensures) (c .before .before .if1 .left)
 
--- src/lib.rt:164:1
 same-length : tie.Need-same-length
 same-length c = search needs
 
--- src/lib.rt:164:1
 same-length-2 : tie.Need-same-length-2
 same-length-2 c = search needs
 
--- src/lib.rt:164:1
 returns-2 : tie.Need-returns-2
-returns-2 c = ?
+returns-2 c = joins-on (c .before .before .before .before .before .before .before .before .before .before .before .before .before .args .s) (now (c .before .before .before .before .before .before .before .before .before .before .before .before .before .args .zero)) (now (c .before .before .before .before .before .before .before .before .before .before .before .before .before .args .store)) (now (c .before .before .before .before .before .before .before .before .before .before .before .before .before .args .p)) (now (c .before .before .before .before .before .before .before .before .before .before .before .before .before .args .out)) (c .before .before .before .before .before .before .before .before .before .before .before .before .before .args .n) (c .before .before .before .before .before .before .before .before .zeros .ensures) (c .before .before .before .before .before .before .before .if1 .left) (c .before .before .before .before .join-on .ensures)
 
 pub join-in-spec : {M : Type 1} → statement M
-join-in-spec =
-    tie.close
-    (tie.spec
-    zeros-requires
-    refused-requires
-    returns
-    join-on-requires
-    same-length
-    same-length-2
-    returns-2)
+join-in-spec = tie.close (tie.spec zeros-requires refused-requires returns join-on-requires same-length same-length-2 returns-2)
