@@ -23,7 +23,7 @@ ghost use Rattle.store.specs.Taking.{unable, tookIn, took, outWith, clea
 ghost use Rattle.store.specs.Beside.{arrivedBeside, tookBeside};
 ghost use Rattle.store.specs.Told.{arrivalOf, takenOf};
 ghost use Rattle.store.specs.Inner.{segWith, segIn, pieceOf, pieceIn, openedOf};
-ghost use Rattle.store.specs.Follow.{segAt, follow as followed, placesFrom, bodiesAt, total, answer, opensAt, endsAt, pickedOf, copiedOf, Ready, Opens};
+ghost use Rattle.store.specs.Follow.{segAt, follow as followed, placesFrom, bodiesAt, total, answer, opensAt, endsAt, pickedOf, copiedOf, Lent, Ready, Opens};
 use packet::SegmentCounter;
 use walk::Refusal;
 use walk::Settings;
@@ -280,10 +280,8 @@ fn follow(
     heads: &[u16; cells::CHAINS],
     links: &[u16; cells::CELLS_MOST],
 ) -> usize
-    requires { ⌜ (chained ≡ true → Chained (bucketAt s (length (now zero)) (now store)) (now heads) (now links) n) ⌝ }
-    requires { ⌜ now zero ≡ zeroRow (length (now zero)) ⌝ }
-    requires { ⌜ Asked s (now q) stop ⌝ }
-    requires { ⌜ (from ≤ 4294967296) × (b ≤ 65542) ⌝ }
+    requires { ⌜ Lent s (now zero) (now store) n chained (now heads) (now links) ⌝ }
+    requires { ⌜ Asked s (now q) stop × ((from ≤ 4294967296) × (b ≤ 65542)) ⌝ }
     ensures { λ r. ⌜ r ≡ total s (length (now (zero .entry))) (now (store .entry)) b (followed s (length (now (zero .entry))) (now (store .entry)) n (keyOf (now (q .entry)) (readPacket s (now (q .entry)))) 4294967295 from) ⌝ }
 {
     let z = zero.len();
@@ -341,8 +339,7 @@ fn run_at(
     heads: &[u16; cells::CHAINS],
     links: &[u16; cells::CELLS_MOST],
 ) -> usize
-    requires { ⌜ (chained ≡ true → Chained (bucketAt s (length (now zero)) (now store)) (now heads) (now links) n) ⌝ }
-    requires { ⌜ now zero ≡ zeroRow (length (now zero)) ⌝ }
+    requires { ⌜ Lent s (now zero) (now store) n chained (now heads) (now links) ⌝ }
     ensures { λ r. ⌜ r ≡ answer (runIn suc top (cellsOf s (length (now (zero .entry))) (now (store .entry)) n) (cellAt s (length (now (zero .entry))) (now (store .entry)) i)) ⌝ }
 {
     let r = cells::row(store, zero.len(), i);
@@ -379,8 +376,7 @@ fn pick_message(
     heads: &[u16; cells::CHAINS],
     links: &[u16; cells::CELLS_MOST],
 ) -> Picked
-    requires { ⌜ (chained ≡ true → Chained (bucketAt s (length (now zero)) (now store)) (now heads) (now links) n) ⌝ }
-    requires { ⌜ now zero ≡ zeroRow (length (now zero)) ⌝ }
+    requires { ⌜ Lent s (now zero) (now store) n chained (now heads) (now links) ⌝ }
     ensures { λ r. ⌜ r ≡ pickedOf s (length (now (zero .entry))) (now (store .entry)) n ⌝ }
 {
     let mut i: usize = 0;
@@ -432,8 +428,7 @@ fn copy_rest(
     heads: &[u16; cells::CHAINS],
     links: &[u16; cells::CELLS_MOST],
 ) -> u64
-    requires { ⌜ (chained ≡ true → Chained (bucketAt s (length (now zero)) (now store)) (now heads) (now links) n) ⌝ }
-    requires { ⌜ now zero ≡ zeroRow (length (now zero)) ⌝ }
+    requires { ⌜ Lent s (now zero) (now store) n chained (now heads) (now links) ⌝ }
     requires { ⌜ Asked s (now q) stop ⌝ }
     requires { ⌜ start ≤ 4294967296 ⌝ }
     requires { ⌜ Ready s (length (now zero)) (now store) n (keyOf (now q) (readPacket s (now q))) start place (now out) ⌝ }
@@ -470,8 +465,7 @@ fn copy_message(
     heads: &[u16; cells::CHAINS],
     links: &[u16; cells::CELLS_MOST],
 ) -> Copied
-    requires { ⌜ (chained ≡ true → Chained (bucketAt s (length (now zero)) (now store)) (now heads) (now links) n) ⌝ }
-    requires { ⌜ now zero ≡ zeroRow (length (now zero)) ⌝ }
+    requires { ⌜ Lent s (now zero) (now store) n chained (now heads) (now links) ⌝ }
     requires { ⌜ cellAt s (length (now zero)) (now store) i ≡ held (segAt s (length (now zero)) (now store) i) ⌝ }
     requires { ⌜ Opens s (length (now zero)) (now store) n i (now out) ⌝ }
     ensures { λ r. ⌜ r ≡ copiedOf (segAt s (length (now (zero .entry))) (now (store .entry)) i) (length (placesFrom s (length (now (zero .entry))) (now (store .entry)) n (segAt s (length (now (zero .entry))) (now (store .entry)) i .key) (suc (segAt s (length (now (zero .entry))) (now (store .entry)) i .counter)))) ⌝ }
@@ -543,8 +537,7 @@ fn draw(
     heads: &[u16; cells::CHAINS],
     links: &[u16; cells::CELLS_MOST],
 ) -> Taken
-    requires { ⌜ (chained ≡ true → Chained (bucketAt s (length (now zero)) (now store)) (now heads) (now links) n) ⌝ }
-    requires { ⌜ now zero ≡ zeroRow (length (now zero)) ⌝ }
+    requires { ⌜ Lent s (now zero) (now store) n chained (now heads) (now links) ⌝ }
     requires { ⌜ i ≡ lowest (opensAt s (length (now zero)) (now store) n) n 0 ⌝ }
     requires { ⌜ (i < n) × (suc b ≡ answer (picked suc top (cellsOf s (length (now zero)) (now store) n))) ⌝ }
     requires { ⌜ length (segAt s (length (now zero)) (now store) i .key) + b ≤ length (now out) ⌝ }
@@ -575,8 +568,7 @@ fn take_by(
     heads: &[u16; cells::CHAINS],
     links: &[u16; cells::CELLS_MOST],
 ) -> Taken
-    requires { ⌜ (chained ≡ true → Chained (bucketAt s (length (now zero)) (now store)) (now heads) (now links) n) ⌝ }
-    requires { ⌜ now zero ≡ zeroRow (length (now zero)) ⌝ }
+    requires { ⌜ Lent s (now zero) (now store) n chained (now heads) (now links) ⌝ }
     ensures { λ r. ⌜ r ≡ takenOf (tookIn s (length (now (zero .entry))) (now (store .entry)) n (length (now (out .entry)))) ⌝ }
     ensures { λ r. ⌜ now (out .exit) ≡ outWith (now (out .entry)) (tookIn s (length (now (zero .entry))) (now (store .entry)) n (length (now (out .entry)))) ⌝ }
     ensures { λ r. ⌜ now (store .exit) ≡ storeLess s (length (now (zero .entry))) (now (store .entry)) n (tookIn s (length (now (zero .entry))) (now (store .entry)) n (length (now (out .entry)))) ⌝ }
