@@ -4,7 +4,6 @@
 // store's order before anything else, and then calls an inner function that takes any octets. Whoever keeps a store in order calls
 // those, and saves the check.
 ghost use mathlib.Core.Path.{_≡_};
-ghost use mathlib.Core.Bool.{true};
 ghost use mathlib.Core.List.{_∷_, _++_};
 ghost use Prim.Native.Nat.{suc, _+_, _*_, _/_, _≤_, _<_};
 ghost use lib.ListN.{length};
@@ -16,7 +15,6 @@ ghost use Rattle.cells.specs.Segments.{sameRest};
 ghost use Rattle.cells.specs.Rows.{rowAt, zeroRow, packetIn, held};
 ghost use Rattle.cells.specs.Order.{cellsMost, lowest, cellAt, countIn};
 ghost use Rattle.cells.specs.Inner.{withinIn, Asked};
-ghost use Rattle.cells.specs.Chains.{Chained, bucketAt};
 ghost use Rattle.store.specs.Messages.{cellsOf, runIn, picked, top};
 ghost use Rattle.store.specs.Arriving.{refused as refusedBy, placed, segmentArrived, arrivedIn, arrived, storeWith};
 ghost use Rattle.store.specs.Taking.{unable, tookIn, took, outWith, clearedTo, storeLess};
@@ -476,24 +474,13 @@ fn copy_message(
     let h = packet::read(s, q);
     let ids = h.ids;
     let counter = ids.counter;
-    let stop = h.body;
+    let body = h.body;
+    let end = body.at;
     let t = piece_in(s, r);
-    let key = put_key(s, out, q, stop.at);
+    let key = put_key(s, out, q, end);
     let at = put_body(out, key, r, t);
-    let until = copy_rest(
-        s,
-        store,
-        n,
-        zero,
-        q,
-        stop.at,
-        counter.0 as u64 + 1,
-        out,
-        at,
-        chained,
-        heads,
-        links,
-    );
+    let c = counter.0 as u64 + 1;
+    let until = copy_rest(s, store, n, zero, q, end, c, out, at, chained, heads, links);
     Copied {
         header: h.h,
         counter: counter,
