@@ -2,3 +2,4 @@ pub mod Viewing
 pub mod Joining
 pub mod Told
 pub mod Inner
+pub mod Beside

@@ -17,5 +17,6 @@ pub mod Drawing
 pub mod Among
 pub mod Drawn
 pub mod Takings
+pub mod Beside
 pub mod Calls
 pub mod Saying

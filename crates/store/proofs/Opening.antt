@@ -1,25 +1,22 @@
 -- Settings and order are checked first: 15, then 16; and what a store in order has.
 -- Assumes nothing.
-use Prim.Native.Nat.{ℕ, zero, suc, _+_, _*_, _/_, _%_, _≤_, _<_}
-use mathlib.Core.Path.{_≡_, refl, ap, ap₂, sym, _∙_, subst}
+use Prim.Native.Nat.{ℕ, _%_, _≤_}
+use mathlib.Core.Path.{_≡_, refl, ap, ap₂, sym, _∙_}
 use mathlib.Core.Logic.{⊎-elim}
 use mathlib.Core.Bool.{Bool, true, false}
 use mathlib.Core.List.{List}
 use native.Mathlib.Omega.{arith}
-use native.Mathlib.Nat.{div-mul-le-self}
 use lib.ListN.{length}
 use lib.Dec.{leb, eqb}
-use borrow.Author.Tests.{leb-true, eqb-true, eq-eqb, ne-eqb, le-leb, lt-leb}
+use borrow.Author.Tests.{leb-true, eq-eqb, ne-eqb}
 use Rattle.octets.specs.Octets.{pick}
-use Rattle.octets.proofs.Lists.{bool, below-or}
+use Rattle.octets.proofs.Lists.{bool}
 use Rattle.walk.specs.declared.Settings.{Settings}
-use Rattle.walk.specs.declared.Refusal.{Refusal}
 use Rattle.walk.specs.declared.Walk.{Walk}
 use Rattle.walk.specs.Walk.{begun, check, goes, refusal, timestampLeast, timestampMost}
 use Rattle.walk.specs.Inner.{asWalk}
 use Rattle.cells.specs.Segments.{both}
 use Rattle.cells.specs.Order.{cellsMost, lengthFits, countIn, sound as allSound, distinct, inOrder}
-use Rattle.cells.specs.Chains.{Chained, bucketAt}
 use Rattle.cells.proofs.Held.{both-true}
 use Rattle.store.specs.declared.Opened.{Opened}
 use Rattle.store.specs.Arriving.{Arrived, refused, arrivedIn, arrived}
@@ -42,9 +39,6 @@ module _ (s : Settings) (Z : ℕ) (st : List ℕ) where
       let d = both-true (leb 1 (countIn Z st)) (leb (countIn Z st) cellsMost) (b .1) in
       let c = both-true (allSound s Z st (countIn Z st)) (distinct s Z st (countIn Z st)) (a .1) in
       record { least = leb-true 1 (countIn Z st) (d .0); most = leb-true (countIn Z st) cellsMost (d .1); sound = c .0; apart = c .1 }
-
-  pub cells-inside : countIn Z st * Z ≤ length st
-  cells-inside = div-mul-le-self (length st) Z
 
   -- ---- what is tested first
 
@@ -170,9 +164,3 @@ module _ (s : Settings) (Z : ℕ) (st : List ℕ) where
       pub opened-cells : o .cells ≡ countIn Z st
       unfolding openedOf
       opened-cells = ap (λ (x : Opened). x .cells) eo ∙ ap (λ (b : Bool). pick b (countIn Z st) 0) (eq-eqb (gate s Z st) 0 opened-gate)
-
-      pub opened-inside : o .cells * Z ≤ length st
-      opened-inside = rw opened-cells (cells-inside s Z st)
-
-      pub opened-sound : allSound s Z st (o .cells) ≡ true
-      opened-sound = ap (allSound s Z st) opened-cells ∙ order-has s Z st (opened-order opened-gate) .sound

@@ -10,8 +10,9 @@ use lib.Dec.{ltb, eqb}
 use Rattle.octets.specs.Octets.{pick, octetAt}
 use Rattle.walk.specs.declared.Settings.{Settings}
 use Rattle.cells.specs.Segments.{Seg}
-use Rattle.cells.specs.Rows.{Cell, rowAt}
+use Rattle.cells.specs.Rows.{Cell, rowAt, zeroRow}
 use Rattle.cells.specs.Order.{cellAt, foundIn, lowest}
+use Rattle.cells.specs.Chains.{Chained, bucketAt}
 use Rattle.store.specs.declared.Picked.{Picked}
 use Rattle.store.specs.declared.Copied.{Copied}
 use Rattle.store.specs.Messages.{Role, first, middle, last, roleOf, Run, bodyOf, cellsOf, runIn, picked, top}
@@ -82,6 +83,11 @@ pickedOf s Z st n =
 unfoldable pub copiedOf : Seg → ℕ → Copied
 copiedOf t m =
     record { header = length (t .key) - 2; counter = record { 0 = t .counter }; until = suc (t .counter) + m }
+
+-- what a search is lent: tables that chain the first n cells where it goes by chains, and a zero cell
+abbrev pub Lent : Settings → List ℕ → List ℕ → ℕ → Bool → List ℕ → List ℕ → Type 0
+Lent s z st n chained heads links =
+    (chained ≡ true → Chained (bucketAt s (length z) st) heads links n) × (z ≡ zeroRow (length z))
 
 -- a run is complete, and there is room for its bodies from a place on
 pub record Ready (s : Settings) (Z : ℕ) (st : List ℕ) (n : ℕ) (k : List ℕ) (c place : ℕ) (out : List ℕ) : Type 0 where

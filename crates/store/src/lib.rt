@@ -4,7 +4,6 @@
 // store's order before anything else, and then calls an inner function that takes any octets. Whoever keeps a store in order calls
 // those, and saves the check.
 ghost use mathlib.Core.Path.{_≡_};
-ghost use mathlib.Core.Bool.{true};
 ghost use mathlib.Core.List.{_∷_, _++_};
 ghost use Prim.Native.Nat.{suc, _+_, _*_, _/_, _≤_, _<_};
 ghost use lib.ListN.{length};
@@ -14,15 +13,15 @@ ghost use Rattle.packet.specs.Reading.{readPacket};
 ghost use Rattle.packet.specs.Key.{keyOf};
 ghost use Rattle.cells.specs.Segments.{sameRest};
 ghost use Rattle.cells.specs.Rows.{rowAt, zeroRow, packetIn, held};
-ghost use Rattle.cells.specs.Order.{lowest, cellAt, countIn};
+ghost use Rattle.cells.specs.Order.{cellsMost, lowest, cellAt, countIn};
 ghost use Rattle.cells.specs.Inner.{withinIn, Asked};
-ghost use Rattle.cells.specs.Chains.{Chained, bucketAt};
 ghost use Rattle.store.specs.Messages.{cellsOf, runIn, picked, top};
 ghost use Rattle.store.specs.Arriving.{refused as refusedBy, placed, segmentArrived, arrivedIn, arrived, storeWith};
 ghost use Rattle.store.specs.Taking.{unable, tookIn, took, outWith, clearedTo, storeLess};
+ghost use Rattle.store.specs.Beside.{arrivedBeside, tookBeside};
 ghost use Rattle.store.specs.Told.{arrivalOf, takenOf};
 ghost use Rattle.store.specs.Inner.{segWith, segIn, pieceOf, pieceIn, openedOf};
-ghost use Rattle.store.specs.Follow.{segAt, follow as followed, placesFrom, bodiesAt, total, answer, opensAt, endsAt, pickedOf, copiedOf, Ready, Opens};
+ghost use Rattle.store.specs.Follow.{segAt, follow as followed, placesFrom, bodiesAt, total, answer, opensAt, endsAt, pickedOf, copiedOf, Lent, Ready, Opens};
 use packet::SegmentCounter;
 use walk::Refusal;
 use walk::Settings;
@@ -30,10 +29,8 @@ use walk::Settings;
 // The octets of a cell.
 pub const CELL: usize = 1024;
 
-// The tables of the chains that searches of a taking go by.
-const CHAINS: usize = 4096;
-
-const CELLS_MOST: usize = 4096;
+// The most cells that a taking searches without chains: so few are searched faster than chains are made.
+const SEARCH_MOST: usize = 64;
 
 // What an arrival that is not refused is answered.
 pub enum Kind {
@@ -81,18 +78,10 @@ pub struct Opened {
     pub cells: usize,
 }
 
-// T and the order of the store are checked; the chains of its cells are made on the way.
-fn check_by(
-    s: Settings,
-    store: &[u8],
-    zero: &[u8],
-    heads: &mut [u16; CHAINS],
-    links: &mut [u16; CELLS_MOST],
-) -> Opened
+// T and the order of the store are checked.
+pub fn check(s: Settings, store: &[u8], zero: &[u8]) -> Opened
     requires { ⌜ now zero ≡ zeroRow (length (now zero)) ⌝ }
-    requires { ⌜ Chained (bucketAt s (length (now zero)) (now store)) (now heads) (now links) 0 ⌝ }
     ensures { λ r. ⌜ r ≡ openedOf s (length (now (zero .entry))) (now (store .entry)) ⌝ }
-    ensures { λ r. ⌜ (r .refusal .number ≡ 0 → Chained (bucketAt s (length (now (zero .entry))) (now (store .entry))) (now (heads .exit)) (now (links .exit)) (r .cells)) ⌝ }
 {
     let w = walk::begin(s);
     let refusal = w.refusal;
@@ -102,7 +91,7 @@ fn check_by(
             cells: 0,
         };
     }
-    let n = cells::in_order_by(s, store, zero, heads, links);
+    let n = cells::in_order(s, store, zero);
     if n == 0 {
         return Opened {
             refusal: Refusal { number: 16 },
@@ -113,16 +102,6 @@ fn check_by(
         refusal: refusal,
         cells: n,
     }
-}
-
-// T and the order of the store are checked.
-pub fn check(s: Settings, store: &[u8], zero: &[u8]) -> Opened
-    requires { ⌜ now zero ≡ zeroRow (length (now zero)) ⌝ }
-    ensures { λ r. ⌜ r ≡ openedOf s (length (now (zero .entry))) (now (store .entry)) ⌝ }
-{
-    let mut heads = [0u16; CHAINS];
-    let mut links = [0u16; CELLS_MOST];
-    check_by(s, store, zero, &mut heads, &mut links)
 }
 
 // The one place where an arrival is refused.
@@ -199,8 +178,8 @@ fn store_segment(
     refused(18)
 }
 
-// A packet at the first n cells of any octets.
-pub fn arrive_in(s: Settings, store: &mut [u8], n: usize, zero: &[u8], p: &[u8]) -> Arrival
+// A packet at the first n cells of any octets, beside a zero cell.
+pub fn arrive_on(s: Settings, store: &mut [u8], n: usize, zero: &[u8], p: &[u8]) -> Arrival
     requires { ⌜ now zero ≡ zeroRow (length (now zero)) ⌝ }
     ensures { λ r. ⌜ r ≡ arrivalOf (arrivedIn s (length (now (zero .entry))) (now (store .entry)) n (now (p .entry))) ⌝ }
     ensures { λ r. ⌜ now (store .exit) ≡ storeWith (length (now (zero .entry))) (now (store .entry)) (now (p .entry)) (arrivedIn s (length (now (zero .entry))) (now (store .entry)) n (now (p .entry))) ⌝ }
@@ -231,6 +210,17 @@ pub fn arrive_in(s: Settings, store: &mut [u8], n: usize, zero: &[u8], p: &[u8])
         body.length,
         counter.0,
     )
+}
+
+// The same beside any octets: where they are not all zeros, no store is in order beside them.
+pub fn arrive_in(s: Settings, store: &mut [u8], n: usize, zero: &[u8], p: &[u8]) -> Arrival
+    ensures { λ r. ⌜ r ≡ arrivalOf (arrivedBeside s (now (zero .entry)) (now (store .entry)) n (now (p .entry))) ⌝ }
+    ensures { λ r. ⌜ now (store .exit) ≡ storeWith (length (now (zero .entry))) (now (store .entry)) (now (p .entry)) (arrivedBeside s (now (zero .entry)) (now (store .entry)) n (now (p .entry))) ⌝ }
+{
+    if !octets::zeros(zero) {
+        return refused(16);
+    }
+    arrive_on(s, store, n, zero, p)
 }
 
 // A packet arrives.
@@ -285,13 +275,11 @@ fn follow(
     from: u64,
     b: usize,
     chained: bool,
-    heads: &[u16; CHAINS],
-    links: &[u16; CELLS_MOST],
+    heads: &[u16; cells::CHAINS],
+    links: &[u16; cells::CELLS_MOST],
 ) -> usize
-    requires { ⌜ (chained ≡ true → Chained (bucketAt s (length (now zero)) (now store)) (now heads) (now links) n) ⌝ }
-    requires { ⌜ now zero ≡ zeroRow (length (now zero)) ⌝ }
-    requires { ⌜ Asked s (now q) stop ⌝ }
-    requires { ⌜ (from ≤ 4294967296) × (b ≤ 65542) ⌝ }
+    requires { ⌜ Lent s (now zero) (now store) n chained (now heads) (now links) ⌝ }
+    requires { ⌜ Asked s (now q) stop × ((from ≤ 4294967296) × (b ≤ 65542)) ⌝ }
     ensures { λ r. ⌜ r ≡ total s (length (now (zero .entry))) (now (store .entry)) b (followed s (length (now (zero .entry))) (now (store .entry)) n (keyOf (now (q .entry)) (readPacket s (now (q .entry)))) 4294967295 from) ⌝ }
 {
     let z = zero.len();
@@ -346,11 +334,10 @@ fn run_at(
     zero: &[u8],
     i: usize,
     chained: bool,
-    heads: &[u16; CHAINS],
-    links: &[u16; CELLS_MOST],
+    heads: &[u16; cells::CHAINS],
+    links: &[u16; cells::CELLS_MOST],
 ) -> usize
-    requires { ⌜ (chained ≡ true → Chained (bucketAt s (length (now zero)) (now store)) (now heads) (now links) n) ⌝ }
-    requires { ⌜ now zero ≡ zeroRow (length (now zero)) ⌝ }
+    requires { ⌜ Lent s (now zero) (now store) n chained (now heads) (now links) ⌝ }
     ensures { λ r. ⌜ r ≡ answer (runIn suc top (cellsOf s (length (now (zero .entry))) (now (store .entry)) n) (cellAt s (length (now (zero .entry))) (now (store .entry)) i)) ⌝ }
 {
     let r = cells::row(store, zero.len(), i);
@@ -384,11 +371,10 @@ fn pick_message(
     n: usize,
     zero: &[u8],
     chained: bool,
-    heads: &[u16; CHAINS],
-    links: &[u16; CELLS_MOST],
+    heads: &[u16; cells::CHAINS],
+    links: &[u16; cells::CELLS_MOST],
 ) -> Picked
-    requires { ⌜ (chained ≡ true → Chained (bucketAt s (length (now zero)) (now store)) (now heads) (now links) n) ⌝ }
-    requires { ⌜ now zero ≡ zeroRow (length (now zero)) ⌝ }
+    requires { ⌜ Lent s (now zero) (now store) n chained (now heads) (now links) ⌝ }
     ensures { λ r. ⌜ r ≡ pickedOf s (length (now (zero .entry))) (now (store .entry)) n ⌝ }
 {
     let mut i: usize = 0;
@@ -437,11 +423,10 @@ fn copy_rest(
     out: &mut [u8],
     place: usize,
     chained: bool,
-    heads: &[u16; CHAINS],
-    links: &[u16; CELLS_MOST],
+    heads: &[u16; cells::CHAINS],
+    links: &[u16; cells::CELLS_MOST],
 ) -> u64
-    requires { ⌜ (chained ≡ true → Chained (bucketAt s (length (now zero)) (now store)) (now heads) (now links) n) ⌝ }
-    requires { ⌜ now zero ≡ zeroRow (length (now zero)) ⌝ }
+    requires { ⌜ Lent s (now zero) (now store) n chained (now heads) (now links) ⌝ }
     requires { ⌜ Asked s (now q) stop ⌝ }
     requires { ⌜ start ≤ 4294967296 ⌝ }
     requires { ⌜ Ready s (length (now zero)) (now store) n (keyOf (now q) (readPacket s (now q))) start place (now out) ⌝ }
@@ -475,11 +460,10 @@ fn copy_message(
     i: usize,
     out: &mut [u8],
     chained: bool,
-    heads: &[u16; CHAINS],
-    links: &[u16; CELLS_MOST],
+    heads: &[u16; cells::CHAINS],
+    links: &[u16; cells::CELLS_MOST],
 ) -> Copied
-    requires { ⌜ (chained ≡ true → Chained (bucketAt s (length (now zero)) (now store)) (now heads) (now links) n) ⌝ }
-    requires { ⌜ now zero ≡ zeroRow (length (now zero)) ⌝ }
+    requires { ⌜ Lent s (now zero) (now store) n chained (now heads) (now links) ⌝ }
     requires { ⌜ cellAt s (length (now zero)) (now store) i ≡ held (segAt s (length (now zero)) (now store) i) ⌝ }
     requires { ⌜ Opens s (length (now zero)) (now store) n i (now out) ⌝ }
     ensures { λ r. ⌜ r ≡ copiedOf (segAt s (length (now (zero .entry))) (now (store .entry)) i) (length (placesFrom s (length (now (zero .entry))) (now (store .entry)) n (segAt s (length (now (zero .entry))) (now (store .entry)) i .key) (suc (segAt s (length (now (zero .entry))) (now (store .entry)) i .counter)))) ⌝ }
@@ -490,24 +474,13 @@ fn copy_message(
     let h = packet::read(s, q);
     let ids = h.ids;
     let counter = ids.counter;
-    let stop = h.body;
+    let body = h.body;
+    let end = body.at;
     let t = piece_in(s, r);
-    let key = put_key(s, out, q, stop.at);
+    let key = put_key(s, out, q, end);
     let at = put_body(out, key, r, t);
-    let until = copy_rest(
-        s,
-        store,
-        n,
-        zero,
-        q,
-        stop.at,
-        counter.0 as u64 + 1,
-        out,
-        at,
-        chained,
-        heads,
-        links,
-    );
+    let c = counter.0 as u64 + 1;
+    let until = copy_rest(s, store, n, zero, q, end, c, out, at, chained, heads, links);
     Copied {
         header: h.h,
         counter: counter,
@@ -548,11 +521,10 @@ fn draw(
     b: usize,
     out: &mut [u8],
     chained: bool,
-    heads: &[u16; CHAINS],
-    links: &[u16; CELLS_MOST],
+    heads: &[u16; cells::CHAINS],
+    links: &[u16; cells::CELLS_MOST],
 ) -> Taken
-    requires { ⌜ (chained ≡ true → Chained (bucketAt s (length (now zero)) (now store)) (now heads) (now links) n) ⌝ }
-    requires { ⌜ now zero ≡ zeroRow (length (now zero)) ⌝ }
+    requires { ⌜ Lent s (now zero) (now store) n chained (now heads) (now links) ⌝ }
     requires { ⌜ i ≡ lowest (opensAt s (length (now zero)) (now store) n) n 0 ⌝ }
     requires { ⌜ (i < n) × (suc b ≡ answer (picked suc top (cellsOf s (length (now zero)) (now store) n))) ⌝ }
     requires { ⌜ length (segAt s (length (now zero)) (now store) i .key) + b ≤ length (now out) ⌝ }
@@ -580,11 +552,10 @@ fn take_by(
     zero: &[u8],
     out: &mut [u8],
     chained: bool,
-    heads: &[u16; CHAINS],
-    links: &[u16; CELLS_MOST],
+    heads: &[u16; cells::CHAINS],
+    links: &[u16; cells::CELLS_MOST],
 ) -> Taken
-    requires { ⌜ (chained ≡ true → Chained (bucketAt s (length (now zero)) (now store)) (now heads) (now links) n) ⌝ }
-    requires { ⌜ now zero ≡ zeroRow (length (now zero)) ⌝ }
+    requires { ⌜ Lent s (now zero) (now store) n chained (now heads) (now links) ⌝ }
     ensures { λ r. ⌜ r ≡ takenOf (tookIn s (length (now (zero .entry))) (now (store .entry)) n (length (now (out .entry)))) ⌝ }
     ensures { λ r. ⌜ now (out .exit) ≡ outWith (now (out .entry)) (tookIn s (length (now (zero .entry))) (now (store .entry)) n (length (now (out .entry)))) ⌝ }
     ensures { λ r. ⌜ now (store .exit) ≡ storeLess s (length (now (zero .entry))) (now (store .entry)) n (tookIn s (length (now (zero .entry))) (now (store .entry)) n (length (now (out .entry)))) ⌝ }
@@ -616,13 +587,27 @@ fn take_plain(s: Settings, store: &mut [u8], n: usize, zero: &[u8], out: &mut [u
     ensures { λ r. ⌜ now (out .exit) ≡ outWith (now (out .entry)) (tookIn s (length (now (zero .entry))) (now (store .entry)) n (length (now (out .entry)))) ⌝ }
     ensures { λ r. ⌜ now (store .exit) ≡ storeLess s (length (now (zero .entry))) (now (store .entry)) n (tookIn s (length (now (zero .entry))) (now (store .entry)) n (length (now (out .entry)))) ⌝ }
 {
-    let heads = [0u16; CHAINS];
-    let links = [0u16; CELLS_MOST];
+    let heads = [0u16; cells::CHAINS];
+    let links = [0u16; cells::CELLS_MOST];
     take_by(s, store, n, zero, out, false, &heads, &links)
 }
 
-// The same: without a last segment nothing is searched.
-pub fn take_in(s: Settings, store: &mut [u8], n: usize, zero: &[u8], out: &mut [u8]) -> Taken
+// The same by chains, which are made first.
+fn take_chained(s: Settings, store: &mut [u8], n: usize, zero: &[u8], out: &mut [u8]) -> Taken
+    requires { ⌜ now zero ≡ zeroRow (length (now zero)) ⌝ }
+    requires { ⌜ n ≤ cellsMost ⌝ }
+    ensures { λ r. ⌜ r ≡ takenOf (tookIn s (length (now (zero .entry))) (now (store .entry)) n (length (now (out .entry)))) ⌝ }
+    ensures { λ r. ⌜ now (out .exit) ≡ outWith (now (out .entry)) (tookIn s (length (now (zero .entry))) (now (store .entry)) n (length (now (out .entry)))) ⌝ }
+    ensures { λ r. ⌜ now (store .exit) ≡ storeLess s (length (now (zero .entry))) (now (store .entry)) n (tookIn s (length (now (zero .entry))) (now (store .entry)) n (length (now (out .entry)))) ⌝ }
+{
+    let mut heads = [0u16; cells::CHAINS];
+    let mut links = [0u16; cells::CELLS_MOST];
+    cells::order_by(s, store, n, zero, &mut heads, &mut links);
+    take_by(s, store, n, zero, out, true, &heads, &links)
+}
+
+// The same: without a last segment nothing is searched, and chains are made where they save more than they cost.
+pub fn take_on(s: Settings, store: &mut [u8], n: usize, zero: &[u8], out: &mut [u8]) -> Taken
     requires { ⌜ now zero ≡ zeroRow (length (now zero)) ⌝ }
     ensures { λ r. ⌜ r ≡ takenOf (tookIn s (length (now (zero .entry))) (now (store .entry)) n (length (now (out .entry)))) ⌝ }
     ensures { λ r. ⌜ now (out .exit) ≡ outWith (now (out .entry)) (tookIn s (length (now (zero .entry))) (now (store .entry)) n (length (now (out .entry)))) ⌝ }
@@ -631,7 +616,25 @@ pub fn take_in(s: Settings, store: &mut [u8], n: usize, zero: &[u8], out: &mut [
     if n <= lowest_last(store, n, zero.len()) {
         return not_taken(20);
     }
-    take_plain(s, store, n, zero, out)
+    if n <= SEARCH_MOST {
+        return take_plain(s, store, n, zero, out);
+    }
+    if cells::CELLS_MOST < n {
+        return take_plain(s, store, n, zero, out);
+    }
+    take_chained(s, store, n, zero, out)
+}
+
+// The same beside any octets: where they are not all zeros, no store is in order beside them.
+pub fn take_in(s: Settings, store: &mut [u8], n: usize, zero: &[u8], out: &mut [u8]) -> Taken
+    ensures { λ r. ⌜ r ≡ takenOf (tookBeside s (now (zero .entry)) (now (store .entry)) n (length (now (out .entry)))) ⌝ }
+    ensures { λ r. ⌜ now (out .exit) ≡ outWith (now (out .entry)) (tookBeside s (now (zero .entry)) (now (store .entry)) n (length (now (out .entry)))) ⌝ }
+    ensures { λ r. ⌜ now (store .exit) ≡ storeLess s (length (now (zero .entry))) (now (store .entry)) n (tookBeside s (now (zero .entry)) (now (store .entry)) n (length (now (out .entry)))) ⌝ }
+{
+    if !octets::zeros(zero) {
+        return not_taken(16);
+    }
+    take_on(s, store, n, zero, out)
 }
 
 // The complete message whose first lies in the lowest cell is taken out.
@@ -641,12 +644,10 @@ pub fn take(s: Settings, store: &mut [u8], out: &mut [u8]) -> Taken
     ensures { λ r. ⌜ now (store .exit) ≡ storeLess s 1024 (now (store .entry)) (countIn 1024 (now (store .entry))) (took s 1024 (now (store .entry)) (length (now (out .entry)))) ⌝ }
 {
     let zero = [0u8; CELL];
-    let mut heads = [0u16; CHAINS];
-    let mut links = [0u16; CELLS_MOST];
-    let o = check_by(s, store, &zero, &mut heads, &mut links);
+    let o = check(s, store, &zero);
     let refusal = o.refusal;
     if refusal.number != 0 {
         return not_taken(refusal.number);
     }
-    take_by(s, store, o.cells, &zero, out, true, &heads, &links)
+    take_in(s, store, o.cells, &zero, out)
 }

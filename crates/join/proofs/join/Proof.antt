@@ -4,6 +4,7 @@ use mathlib.Core.Path.{_∙_, refl}
 use denote.Ref.{now}
 use Rattle.store.proofs.Opening.{opened-number, opened-gate, opened-cells}
 use Rattle.join.proofs.Joins.{join-shut}
+use Rattle.join.proofs.Beside.{joins-within}
 use Rattle.join.proofs.Inner.{joins-open}
 use borrow.Author.Needs.{needs}
 use Rattle.join.proofs.join.Statement.{statement}
@@ -28,7 +29,7 @@ slice-aggregate-join-in : tie.Need-slice-aggregate-join-in
 slice-aggregate-join-in c = search needs
 
 join-in-requires : tie.Need-join-in-requires
-join-in-requires c κs = refl
+join-in-requires c κs = search needs
 
 same-length-2 : tie.Need-same-length-2
 same-length-2 c = search needs
@@ -37,7 +38,7 @@ same-length-3 : tie.Need-same-length-3
 same-length-3 c = search needs
 
 returns-2 : tie.Need-returns-2
-returns-2 c = joins-open (c .before .before .before .before .before .before .before .before .before .before .before .before .before .before .before .before .before .args .s) 1024 (now (c .before .before .before .before .before .before .before .before .before .before .before .before .before .before .before .before .before .args .store)) (now (c .before .before .before .before .before .before .before .before .before .before .before .before .before .before .before .before .before .args .p)) (opened-gate (c .before .before .before .before .before .before .before .before .before .before .before .before .before .before .before .before .before .args .s) 1024 (now (c .before .before .before .before .before .before .before .before .before .before .before .before .before .before .before .before .before .args .store)) (c .before .before .before .before .before .before .before .before .before .before .before .check .ensures) (c .before .before .before .before .before .before .before .before .if1 .left)) (opened-cells (c .before .before .before .before .before .before .before .before .before .before .before .before .before .before .before .before .before .args .s) 1024 (now (c .before .before .before .before .before .before .before .before .before .before .before .before .before .before .before .before .before .args .store)) (c .before .before .before .before .before .before .before .before .before .before .before .check .ensures) (c .before .before .before .before .before .before .before .before .if1 .left)) (now (c .before .before .before .before .before .before .before .before .before .before .before .before .before .before .before .before .before .args .out)) (c .before .before .before .before .join-in .ensures)
+returns-2 c = joins-open (c .before .before .before .before .before .before .before .before .before .before .before .before .before .before .before .before .before .args .s) 1024 (now (c .before .before .before .before .before .before .before .before .before .before .before .before .before .before .before .before .before .args .store)) (now (c .before .before .before .before .before .before .before .before .before .before .before .before .before .before .before .before .before .args .p)) (opened-gate (c .before .before .before .before .before .before .before .before .before .before .before .before .before .before .before .before .before .args .s) 1024 (now (c .before .before .before .before .before .before .before .before .before .before .before .before .before .before .before .before .before .args .store)) (c .before .before .before .before .before .before .before .before .before .before .before .check .ensures) (c .before .before .before .before .before .before .before .before .if1 .left)) (opened-cells (c .before .before .before .before .before .before .before .before .before .before .before .before .before .before .before .before .before .args .s) 1024 (now (c .before .before .before .before .before .before .before .before .before .before .before .before .before .before .before .before .before .args .store)) (c .before .before .before .before .before .before .before .before .before .before .before .check .ensures) (c .before .before .before .before .before .before .before .before .if1 .left)) (now (c .before .before .before .before .before .before .before .before .before .before .before .before .before .before .before .before .before .args .out)) (joins-within (c .before .before .before .before .before .before .before .before .before .before .before .before .before .before .before .before .before .args .s) _ (now (c .before .before .before .before .before .before .before .before .before .before .before .before .before .before .before .before .before .args .store)) (now (c .before .before .before .before .before .before .before .before .before .before .before .before .before .before .before .before .before .args .p)) (now (c .before .before .before .before .before .before .before .before .before .before .before .before .before .before .before .before .before .args .out)) _ refl (c .before .before .before .before .join-in .ensures))
 
 pub join-spec : {M : Type 1} → statement M
 join-spec = tie.close (tie.spec slice-aggregate-check check-requires refused-requires same-length returns slice-aggregate-join-in join-in-requires same-length-2 same-length-3 returns-2)

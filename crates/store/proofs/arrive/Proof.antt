@@ -4,6 +4,7 @@ use mathlib.Core.Path.{ap, sym, _∙_, refl}
 use denote.Ref.{now}
 use Rattle.store.specs.Told.{arrivalOf}
 use Rattle.store.specs.Arriving.{refused, storeWith, arrivedIn}
+use Rattle.store.proofs.Beside.{arrived-beside}
 use Rattle.store.proofs.Opening.{arrived-open, arrived-shut, opened-number, opened-gate, opened-cells}
 use borrow.Author.Needs.{needs}
 use Rattle.store.proofs.arrive.Statement.{statement}
@@ -26,13 +27,13 @@ slice-aggregate-arrive-in : tie.Need-slice-aggregate-arrive-in
 slice-aggregate-arrive-in c = search needs
 
 arrive-in-requires : tie.Need-arrive-in-requires
-arrive-in-requires c κs = refl
+arrive-in-requires c κs = search needs
 
 same-length-2 : tie.Need-same-length-2
 same-length-2 c = search needs
 
 returns-2 : tie.Need-returns-2
-returns-2 c = let e = ap (λ n. arrivedIn (c .before .before .before .before .before .before .before .before .before .before .before .before .before .args .s) 1024 (now (c .before .before .before .before .before .before .before .before .before .before .before .before .before .args .store)) n (now (c .before .before .before .before .before .before .before .before .before .before .before .before .before .args .p))) (opened-cells (c .before .before .before .before .before .before .before .before .before .before .before .before .before .args .s) 1024 (now (c .before .before .before .before .before .before .before .before .before .before .before .before .before .args .store)) (c .before .before .before .before .before .before .before .before .check .ensures) (c .before .before .before .before .before .if1 .left)) ∙ arrived-open (c .before .before .before .before .before .before .before .before .before .before .before .before .before .args .s) 1024 (now (c .before .before .before .before .before .before .before .before .before .before .before .before .before .args .store)) (now (c .before .before .before .before .before .before .before .before .before .before .before .before .before .args .p)) (opened-gate (c .before .before .before .before .before .before .before .before .before .before .before .before .before .args .s) 1024 (now (c .before .before .before .before .before .before .before .before .before .before .before .before .before .args .store)) (c .before .before .before .before .before .before .before .before .check .ensures) (c .before .before .before .before .before .if1 .left)) in (c .before .before .arrive-in .ensures .0 ∙ ap arrivalOf e, c .before .before .arrive-in .ensures .1 ∙ ap (storeWith 1024 (now (c .before .before .before .before .before .before .before .before .before .before .before .before .before .args .store)) (now (c .before .before .before .before .before .before .before .before .before .before .before .before .before .args .p))) e)
+returns-2 c = let e = arrived-beside (c .before .before .before .before .before .before .before .before .before .before .before .before .before .args .s) _ (now (c .before .before .before .before .before .before .before .before .before .before .before .before .before .args .store)) _ refl (now (c .before .before .before .before .before .before .before .before .before .before .before .before .before .args .p)) ∙ ap (λ n. arrivedIn (c .before .before .before .before .before .before .before .before .before .before .before .before .before .args .s) 1024 (now (c .before .before .before .before .before .before .before .before .before .before .before .before .before .args .store)) n (now (c .before .before .before .before .before .before .before .before .before .before .before .before .before .args .p))) (opened-cells (c .before .before .before .before .before .before .before .before .before .before .before .before .before .args .s) 1024 (now (c .before .before .before .before .before .before .before .before .before .before .before .before .before .args .store)) (c .before .before .before .before .before .before .before .before .check .ensures) (c .before .before .before .before .before .if1 .left)) ∙ arrived-open (c .before .before .before .before .before .before .before .before .before .before .before .before .before .args .s) 1024 (now (c .before .before .before .before .before .before .before .before .before .before .before .before .before .args .store)) (now (c .before .before .before .before .before .before .before .before .before .before .before .before .before .args .p)) (opened-gate (c .before .before .before .before .before .before .before .before .before .before .before .before .before .args .s) 1024 (now (c .before .before .before .before .before .before .before .before .before .before .before .before .before .args .store)) (c .before .before .before .before .before .before .before .before .check .ensures) (c .before .before .before .before .before .if1 .left)) in (c .before .before .arrive-in .ensures .0 ∙ ap arrivalOf e, c .before .before .arrive-in .ensures .1 ∙ ap (storeWith 1024 (now (c .before .before .before .before .before .before .before .before .before .before .before .before .before .args .store)) (now (c .before .before .before .before .before .before .before .before .before .before .before .before .before .args .p))) e)
 
 pub arrive-spec : {M : Type 1} → statement M
 arrive-spec = tie.close (tie.spec slice-aggregate-check check-requires same-length returns slice-aggregate-arrive-in arrive-in-requires same-length-2 returns-2)

@@ -1,23 +1,22 @@
 -- `store::take` meets its contract: settings and order, and then the taking itself.
 -- Assumes nothing.
-use Prim.Native.Nat.{ℕ}
 use mathlib.Core.Path.{ap, ap₂, sym, _∙_, refl}
 use denote.Ref.{now}
-use lib.ListN.{length, length-replicate}
+use lib.ListN.{length}
 use Rattle.cells.specs.Order.{countIn}
-use Rattle.cells.proofs.Chaining.{chained-none}
 use Rattle.store.specs.Told.{takenOf}
 use Rattle.store.specs.Taking.{unable, outWith, storeLess, tookIn}
+use Rattle.store.proofs.Beside.{took-beside}
 use Rattle.store.proofs.Opening.{took-open, took-shut, opened-number, opened-gate, opened-cells}
 use borrow.Author.Needs.{needs}
 use Rattle.store.proofs.take.Statement.{statement}
 use Rattle.store.proofs.take.Tie as tie
 
-slice-aggregate-check-by : tie.Need-slice-aggregate-check-by
-slice-aggregate-check-by c = search needs
+slice-aggregate-check : tie.Need-slice-aggregate-check
+slice-aggregate-check c = search needs
 
-check-by-requires : tie.Need-check-by-requires
-check-by-requires c κs = (refl, chained-none _ _ (length-replicate {A = ℕ} 4096 0))
+check-requires : tie.Need-check-requires
+check-requires c κs = refl
 
 not-taken-requires : tie.Need-not-taken-requires
 not-taken-requires c κs = search needs
@@ -27,13 +26,13 @@ same-length c = search needs
 
 returns : tie.Need-returns
 unfolding outWith storeLess
-returns c = let n = opened-number (c .before .before .before .before .before .before .before .before .before .before .before .args .s) 1024 (now (c .before .before .before .before .before .before .before .before .before .before .before .args .store)) (c .before .before .before .before .check-by .ensures .0) in let e = took-shut (c .before .before .before .before .before .before .before .before .before .before .before .args .s) 1024 (now (c .before .before .before .before .before .before .before .before .before .before .before .args .store)) (length (now (c .before .before .before .before .before .before .before .before .before .before .before .args .out))) (λ g. c .before .if1 .taken (n ∙ g)) in (c .not-taken .ensures ∙ ap (λ k. takenOf (unable k)) n ∙ ap takenOf (sym e), (ap (outWith (now (c .before .before .before .before .before .before .before .before .before .before .before .args .out))) (sym e), ap (storeLess (c .before .before .before .before .before .before .before .before .before .before .before .args .s) 1024 (now (c .before .before .before .before .before .before .before .before .before .before .before .args .store)) (countIn 1024 (now (c .before .before .before .before .before .before .before .before .before .before .before .args .store)))) (sym e)))
+returns c = let n = opened-number (c .before .before .before .before .before .before .before .before .before .args .s) 1024 (now (c .before .before .before .before .before .before .before .before .before .args .store)) (c .before .before .before .before .check .ensures) in let e = took-shut (c .before .before .before .before .before .before .before .before .before .args .s) 1024 (now (c .before .before .before .before .before .before .before .before .before .args .store)) (length (now (c .before .before .before .before .before .before .before .before .before .args .out))) (λ g. c .before .if1 .taken (n ∙ g)) in (c .not-taken .ensures ∙ ap (λ k. takenOf (unable k)) n ∙ ap takenOf (sym e), (ap (outWith (now (c .before .before .before .before .before .before .before .before .before .args .out))) (sym e), ap (storeLess (c .before .before .before .before .before .before .before .before .before .args .s) 1024 (now (c .before .before .before .before .before .before .before .before .before .args .store)) (countIn 1024 (now (c .before .before .before .before .before .before .before .before .before .args .store)))) (sym e)))
 
-slice-aggregate-take-by : tie.Need-slice-aggregate-take-by
-slice-aggregate-take-by c = search needs
+slice-aggregate-take-in : tie.Need-slice-aggregate-take-in
+slice-aggregate-take-in c = search needs
 
-take-by-requires : tie.Need-take-by-requires
-take-by-requires c κs = ((λ e. c .before .before .before .before .before .before .before .before .check-by .ensures .1 (c .before .before .before .before .before .if1 .left)), refl)
+take-in-requires : tie.Need-take-in-requires
+take-in-requires c κs = search needs
 
 same-length-2 : tie.Need-same-length-2
 same-length-2 c = search needs
@@ -42,7 +41,7 @@ same-length-3 : tie.Need-same-length-3
 same-length-3 c = search needs
 
 returns-2 : tie.Need-returns-2
-returns-2 c = let n = opened-cells (c .before .before .before .before .before .before .before .before .before .before .before .before .before .before .before .before .before .before .before .before .args .s) 1024 (now (c .before .before .before .before .before .before .before .before .before .before .before .before .before .before .before .before .before .before .before .before .args .store)) (c .before .before .before .before .before .before .before .before .before .before .before .before .before .check-by .ensures .0) (c .before .before .before .before .before .before .before .before .before .before .if1 .left) in let e = ap (λ k. tookIn (c .before .before .before .before .before .before .before .before .before .before .before .before .before .before .before .before .before .before .before .before .args .s) 1024 (now (c .before .before .before .before .before .before .before .before .before .before .before .before .before .before .before .before .before .before .before .before .args .store)) k (length (now (c .before .before .before .before .before .before .before .before .before .before .before .before .before .before .before .before .before .before .before .before .args .out)))) n ∙ took-open (c .before .before .before .before .before .before .before .before .before .before .before .before .before .before .before .before .before .before .before .before .args .s) 1024 (now (c .before .before .before .before .before .before .before .before .before .before .before .before .before .before .before .before .before .before .before .before .args .store)) (length (now (c .before .before .before .before .before .before .before .before .before .before .before .before .before .before .before .before .before .before .before .before .args .out))) (opened-gate (c .before .before .before .before .before .before .before .before .before .before .before .before .before .before .before .before .before .before .before .before .args .s) 1024 (now (c .before .before .before .before .before .before .before .before .before .before .before .before .before .before .before .before .before .before .before .before .args .store)) (c .before .before .before .before .before .before .before .before .before .before .before .before .before .check-by .ensures .0) (c .before .before .before .before .before .before .before .before .before .before .if1 .left)) in (c .before .before .before .before .take-by .ensures .0 ∙ ap takenOf e, (c .before .before .before .before .take-by .ensures .1 .0 ∙ ap (outWith (now (c .before .before .before .before .before .before .before .before .before .before .before .before .before .before .before .before .before .before .before .before .args .out))) e, c .before .before .before .before .take-by .ensures .1 .1 ∙ ap₂ (λ k t. storeLess (c .before .before .before .before .before .before .before .before .before .before .before .before .before .before .before .before .before .before .before .before .args .s) 1024 (now (c .before .before .before .before .before .before .before .before .before .before .before .before .before .before .before .before .before .before .before .before .args .store)) k t) n e))
+returns-2 c = let n = opened-cells (c .before .before .before .before .before .before .before .before .before .before .before .before .before .before .before .before .args .s) 1024 (now (c .before .before .before .before .before .before .before .before .before .before .before .before .before .before .before .before .args .store)) (c .before .before .before .before .before .before .before .before .before .before .before .check .ensures) (c .before .before .before .before .before .before .before .before .if1 .left) in let e = took-beside (c .before .before .before .before .before .before .before .before .before .before .before .before .before .before .before .before .args .s) _ (now (c .before .before .before .before .before .before .before .before .before .before .before .before .before .before .before .before .args .store)) _ refl (length (now (c .before .before .before .before .before .before .before .before .before .before .before .before .before .before .before .before .args .out))) ∙ ap (λ k. tookIn (c .before .before .before .before .before .before .before .before .before .before .before .before .before .before .before .before .args .s) 1024 (now (c .before .before .before .before .before .before .before .before .before .before .before .before .before .before .before .before .args .store)) k (length (now (c .before .before .before .before .before .before .before .before .before .before .before .before .before .before .before .before .args .out)))) n ∙ took-open (c .before .before .before .before .before .before .before .before .before .before .before .before .before .before .before .before .args .s) 1024 (now (c .before .before .before .before .before .before .before .before .before .before .before .before .before .before .before .before .args .store)) (length (now (c .before .before .before .before .before .before .before .before .before .before .before .before .before .before .before .before .args .out))) (opened-gate (c .before .before .before .before .before .before .before .before .before .before .before .before .before .before .before .before .args .s) 1024 (now (c .before .before .before .before .before .before .before .before .before .before .before .before .before .before .before .before .args .store)) (c .before .before .before .before .before .before .before .before .before .before .before .check .ensures) (c .before .before .before .before .before .before .before .before .if1 .left)) in (c .before .before .before .before .take-in .ensures .0 ∙ ap takenOf e, (c .before .before .before .before .take-in .ensures .1 .0 ∙ ap (outWith (now (c .before .before .before .before .before .before .before .before .before .before .before .before .before .before .before .before .args .out))) e, c .before .before .before .before .take-in .ensures .1 .1 ∙ ap₂ (λ k t. storeLess (c .before .before .before .before .before .before .before .before .before .before .before .before .before .before .before .before .args .s) 1024 (now (c .before .before .before .before .before .before .before .before .before .before .before .before .before .before .before .before .args .store)) k t) n e))
 
 pub take-spec : {M : Type 1} → statement M
-take-spec = tie.close (tie.spec slice-aggregate-check-by check-by-requires not-taken-requires same-length returns slice-aggregate-take-by take-by-requires same-length-2 same-length-3 returns-2)
+take-spec = tie.close (tie.spec slice-aggregate-check check-requires not-taken-requires same-length returns slice-aggregate-take-in take-in-requires same-length-2 same-length-3 returns-2)

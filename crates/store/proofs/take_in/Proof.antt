@@ -1,39 +1,31 @@
--- `store::take_in` meets its contract: without a last segment no message is complete.
+-- `store::take_in` meets its contract: the zero cell is tested, and then the taking itself.
 -- Assumes nothing.
-use mathlib.Core.Path.{ap, sym, _∙_}
 use denote.Ref.{now}
-use lib.ListN.{length}
-use Rattle.store.specs.Told.{takenOf}
-use Rattle.store.specs.Taking.{outWith, storeLess}
-use Rattle.store.proofs.Takings.{took-nothing}
+use Rattle.store.proofs.Beside.{zero-told, takes-on, takes-other}
 use borrow.Author.Needs.{needs}
 use Rattle.store.proofs.take_in.Statement.{statement}
 use Rattle.store.proofs.take_in.Tie as tie
 
-lowest-last-requires : tie.Need-lowest-last-requires
-lowest-last-requires c κs = search needs
+zeros-requires : tie.Need-zeros-requires
+zeros-requires c κs = search needs
 
 not-taken-requires : tie.Need-not-taken-requires
 not-taken-requires c κs = search needs
 
+returns : tie.Need-returns
+returns c = takes-other (c .before .before .before .before .before .before .args .s) (now (c .before .before .before .before .before .before .args .zero)) (now (c .before .before .before .before .before .before .args .store)) (c .before .before .before .before .before .before .args .n) (c .before .before .zeros .ensures) (now (c .before .before .before .before .before .before .args .out)) (c .before .if1 .taken) (c .not-taken .ensures)
+
+take-on-requires : tie.Need-take-on-requires
+take-on-requires c κs = zero-told (now (c .before .before .before .before .before .before .before .args .zero)) (c .before .before .before .zeros .ensures) (c .before .before .if1 .left)
+
 same-length : tie.Need-same-length
 same-length c = search needs
-
-returns : tie.Need-returns
-unfolding outWith storeLess
-returns c = let e = took-nothing (c .before .before .before .before .before .before .before .args .s) (length (now (c .before .before .before .before .before .before .before .args .zero))) (now (c .before .before .before .before .before .before .before .args .store)) (c .before .before .before .before .before .before .before .args .n) (length (now (c .before .before .before .before .before .before .before .args .out))) (c .before .before .lowest-last .ensures) (c .before .if1 .taken) in (c .not-taken .ensures ∙ ap takenOf (sym e), (ap (outWith (now (c .before .before .before .before .before .before .before .args .out))) (sym e), ap (storeLess (c .before .before .before .before .before .before .before .args .s) (length (now (c .before .before .before .before .before .before .before .args .zero))) (now (c .before .before .before .before .before .before .before .args .store)) (c .before .before .before .before .before .before .before .args .n)) (sym e)))
-
-take-plain-requires : tie.Need-take-plain-requires
-take-plain-requires c κs = c .before .before .before .before .before .before .before .before .pre
 
 same-length-2 : tie.Need-same-length-2
 same-length-2 c = search needs
 
-same-length-3 : tie.Need-same-length-3
-same-length-3 c = search needs
-
 returns-2 : tie.Need-returns-2
-returns-2 c = search needs
+returns-2 c = takes-on (c .before .before .before .before .before .before .before .before .before .before .before .before .args .s) (now (c .before .before .before .before .before .before .before .before .before .before .before .before .args .zero)) (now (c .before .before .before .before .before .before .before .before .before .before .before .before .args .store)) (c .before .before .before .before .before .before .before .before .before .before .before .before .args .n) (c .before .before .before .before .before .before .before .before .zeros .ensures) (now (c .before .before .before .before .before .before .before .before .before .before .before .before .args .out)) (c .before .before .before .before .before .before .before .if1 .left) (c .before .before .before .before .take-on .ensures)
 
 pub take-in-spec : {M : Type 1} → statement M
-take-in-spec = tie.close (tie.spec lowest-last-requires not-taken-requires same-length returns take-plain-requires same-length-2 same-length-3 returns-2)
+take-in-spec = tie.close (tie.spec zeros-requires not-taken-requires returns take-on-requires same-length same-length-2 returns-2)
