@@ -1,10 +1,11 @@
--- What the code hands about: what a joining wrote, and a step that may want more octets.
+-- What the code hands about: what a joining wrote, a step over a packet, and one that may want more octets.
 -- Assumes nothing: these are definitions.
-use Prim.Native.Nat.{ℕ}
+use Prim.Native.Nat.{ℕ, _+_}
 use mathlib.Core.Bool.{Bool}
 use mathlib.Core.List.{List, []}
 use lib.Dec.{eqb}
 use Rattle.octets.specs.Octets.{pick}
+use Rattle.walk.specs.declared.Refusal.{Refusal}
 use Rattle.store.specs.Taking.{writing}
 use Rattle.store.specs.Told.{refusalOf}
 use Rattle.join.specs.Joining.{Joining, inPacket, inOutput, unjoined}
@@ -24,6 +25,10 @@ unfoldable pub leftAs : ℕ → ℕ → Done
 leftAs k n =
     pick (eqb k 20) (record { what = Kept; refusal = refusalOf 0; used = n; written = 0 })
     (record { what = Refused; refusal = refusalOf k; used = n; written = 0 })
+
+-- a step that writes a message of n octets behind its mark and length
+abbrev pub framedAs : What → Refusal → ℕ → ℕ → Done
+framedAs w r used n = record { what = w; refusal = r; used = used; written = 6 + n }
 
 -- where the recording ends the stop is final
 unfoldable pub stopAs : Bool → What → Done

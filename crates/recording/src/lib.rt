@@ -11,7 +11,7 @@ ghost use mathlib.Core.Path.{_≡_};
 ghost use mathlib.Core.Bool.{true};
 ghost use mathlib.Core.List.{_∷_};
 ghost use Prim.Native.Nat.{_+_, _-_, _≤_};
-ghost use lib.ListN.{length, drop};
+ghost use lib.ListN.{length};
 ghost use lib.Seq.{sets};
 ghost use Rattle.octets.specs.Octets.{part, wide};
 ghost use Rattle.cells.specs.Rows.{zeroRow};
@@ -19,10 +19,10 @@ ghost use Rattle.cells.specs.Order.{countIn};
 ghost use Rattle.store.specs.Inner.{gate};
 ghost use Rattle.join.specs.Joining.{joining, storeJoined};
 ghost use Rattle.join.specs.Told.{joinedOf};
-ghost use Rattle.recording.specs.Recording.{foundIn, begins, room, longest, cameOf, cameBy, storeAfter, without, wrote, stepped, storeBehind, writtenBy, recorded, settings, cellSize, cellCount, emptyStore};
+ghost use Rattle.recording.specs.Recording.{foundIn, begins, room, longest, cameOf, cameBy, storeAfter, without, wrote, stepped, storeBehind, writtenBy, recorded, cellSize, emptyStore};
 ghost use Rattle.recording.specs.Told.{standsOf, still as stillAs, doneCame, doneOf};
-ghost use Rattle.recording.specs.Inner.{takenIn, leftAs, stopAs};
-ghost use Rattle.recording.specs.Ending.{reach, whyAt, whyOf, recordedOf, outRecorded};
+ghost use Rattle.recording.specs.Inner.{takenIn, leftAs, framedAs, stopAs};
+ghost use Rattle.recording.specs.Ending.{reach, whyAt, recordedOf, outRecorded};
 use join::Joined;
 use join::Which;
 use walk::Refusal;
@@ -172,6 +172,21 @@ fn put_frame(out: &mut [u8], n: usize)
     octets::put_number(out, 2, 4, n as u64);
 }
 
+// The mark and the length before a message of n octets, and what is told of the step that writes it.
+fn framed(out: &mut [u8], what: What, refusal: Refusal, used: usize, n: usize) -> Done
+    requires { ⌜ n ≤ room ⌝ }
+    ensures { λ r. ⌜ r ≡ framedAs what refusal used n ⌝ }
+    ensures { λ r. ⌜ now (out .exit) ≡ sets (now (out .entry)) 0 (0x4d ∷ 0x4d ∷ wide 4 n) ⌝ }
+{
+    put_frame(out, n);
+    Done {
+        what: what,
+        refusal: refusal,
+        used: used,
+        written: FRAME + n,
+    }
+}
+
 // A whole packet without its octets 2 to 5, behind the room for mark and length. How many octets that are.
 fn put_whole(p: &[u8], out: &mut [u8]) -> usize
     requires { ⌜ 6 + length (now p) ≤ length (now out) ⌝ }
@@ -233,24 +248,9 @@ fn join_packet(
         Which::Nothing => left(refusal, used),
         Which::Packet => {
             let long = put_whole(p, out);
-            put_frame(out, long);
-            Done {
-                what: What::Whole,
-                refusal: refusal,
-                used: used,
-                written: FRAME + long,
-            }
+            framed(out, What::Whole, refusal, used, long)
         }
-        Which::Joined => {
-            let long = place + length;
-            put_frame(out, long);
-            Done {
-                what: What::Joined,
-                refusal: refusal,
-                used: used,
-                written: FRAME + long,
-            }
-        }
+        Which::Joined => framed(out, What::Joined, refusal, used, place + length),
     }
 }
 

@@ -1,7 +1,7 @@
 -- `recording::join_packet` meets its contract: by the buffer that joining names.
 -- Assumes nothing.
 use denote.Ref.{now}
-use mathlib.Core.Path.{refl}
+use mathlib.Core.Path.{_∙_, refl}
 use native.Mathlib.Omega.{arith}
 use lib.ListN.{length}
 use Rattle.join.specs.Joining.{joining}
@@ -30,23 +30,17 @@ enum-told-2 c = search needs
 put-whole-requires : tie.Need-put-whole-requires
 put-whole-requires c κs = search needs
 
-put-frame-requires : tie.Need-put-frame-requires
-put-frame-requires c κs = search needs
-
-add-t27 : tie.Need-add-t27
-add-t27 c = omega (arith, c .before .before .before .before .before .before .put-whole .ensures .0, without-long (now (c .before .before .before .before .before .before .before .before .before .before .before .before .before .before .before .before .before .before .before .before .before .before .args .p)), c .before .before .before .before .before .before .before .before .before .before .before .before .before .before .before .before .before .before .before .before .before .before .pre .1 .1 .1 .1)
+framed-requires : tie.Need-framed-requires
+framed-requires c κs = omega (arith, c .before .before .before .put-whole .ensures .0, without-long (now (c .before .before .before .before .before .before .before .before .before .before .before .before .before .before .before .before .before .before .before .args .p)), c .before .before .before .before .before .before .before .before .before .before .before .before .before .before .before .before .before .before .before .pre .1 .1 .1 .1)
 
 enum-told-3 : tie.Need-enum-told-3
 enum-told-3 c = search needs
 
-add-long : tie.Need-add-long
-add-long c = omega (arith, message-most (c .before .before .before .before .before .before .before .before .before .before .before .before .before .before .args .s) (length (now (c .before .before .before .before .before .before .before .before .before .before .before .before .before .before .args .zero))) (now (c .before .before .before .before .before .before .before .before .before .before .before .before .before .before .args .store)) (now (c .before .before .before .before .before .before .before .before .before .before .before .before .before .before .args .p)) (c .before .before .before .before .before .before .before .join-behind .ensures .0) (c .enum-told3 .given .1))
+add-framed : tie.Need-add-framed
+add-framed c = omega (arith, message-most (c .before .before .before .before .before .before .before .before .before .before .before .before .before .before .before .args .s) (length (now (c .before .before .before .before .before .before .before .before .before .before .before .before .before .before .before .args .zero))) (now (c .before .before .before .before .before .before .before .before .before .before .before .before .before .before .before .args .store)) (now (c .before .before .before .before .before .before .before .before .before .before .before .before .before .before .before .args .p)) (c .before .before .before .before .before .before .before .before .join-behind .ensures .0) (c .before .enum-told3 .given .1))
 
-put-frame-requires-2 : tie.Need-put-frame-requires-2
-put-frame-requires-2 c κs = search needs
-
-add-t32 : tie.Need-add-t32
-add-t32 c = omega (arith, message-most (c .before .before .before .before .before .before .before .before .before .before .before .before .before .before .before .before .before .before .args .s) (length (now (c .before .before .before .before .before .before .before .before .before .before .before .before .before .before .before .before .before .before .args .zero))) (now (c .before .before .before .before .before .before .before .before .before .before .before .before .before .before .before .before .before .before .args .store)) (now (c .before .before .before .before .before .before .before .before .before .before .before .before .before .before .before .before .before .before .args .p)) (c .before .before .before .before .before .before .before .before .before .before .before .join-behind .ensures .0) (c .before .before .before .before .enum-told3 .given .1))
+framed-requires-2 : tie.Need-framed-requires-2
+framed-requires-2 c κs = message-most (c .before .before .before .before .before .before .before .before .before .before .before .before .before .before .before .args .s) (length (now (c .before .before .before .before .before .before .before .before .before .before .before .before .before .before .before .args .zero))) (now (c .before .before .before .before .before .before .before .before .before .before .before .before .before .before .before .args .store)) (now (c .before .before .before .before .before .before .before .before .before .before .before .before .before .before .before .args .p)) (c .before .before .before .before .before .before .before .before .join-behind .ensures .0) (c .before .enum-told3 .given .1)
 
 same-length : tie.Need-same-length
 same-length c = search needs
@@ -64,7 +58,7 @@ same-length-4 : tie.Need-same-length-4
 same-length-4 c = search needs
 
 returns-2 : tie.Need-returns-2
-returns-2 c = let k = joins-whole (now (c .before .before .before .before .before .before .before .before .before .before .before .before .before .before .before .before .before .before .before .before .before .before .args .p)) (now (c .before .before .before .before .before .before .before .before .before .before .before .before .before .before .before .before .before .before .before .before .before .before .args .out)) (joining (c .before .before .before .before .before .before .before .before .before .before .before .before .before .before .before .before .before .before .before .before .before .before .args .s) (length (now (c .before .before .before .before .before .before .before .before .before .before .before .before .before .before .before .before .before .before .before .before .before .before .args .zero))) (now (c .before .before .before .before .before .before .before .before .before .before .before .before .before .before .before .before .before .before .before .before .before .before .args .store)) (now (c .before .before .before .before .before .before .before .before .before .before .before .before .before .before .before .before .before .before .before .before .before .before .args .p)) room) (c .before .before .before .before .before .before .before .before .before .before .before .before .before .before .before .join-behind .ensures .0) (c .before .before .before .before .before .before .before .before .before .before .before .before .before .before .before .join-behind .ensures .1 .1) (c .before .before .before .before .before .before .before .before .enum-told2 .given .1) (c .before .before .before .before .before .before .put-whole .ensures .0) (c .before .before .before .before .before .before .put-whole .ensures .1) (c .before .before .put-frame .ensures) in (k .0, (c .before .before .before .before .before .before .before .before .before .before .before .before .before .before .before .join-behind .ensures .1 .0, k .1))
+returns-2 c = let k = joins-whole (now (c .before .before .before .before .before .before .before .before .before .before .before .before .before .before .before .before .before .before .before .before .before .before .args .p)) (now (c .before .before .before .before .before .before .before .before .before .before .before .before .before .before .before .before .before .before .before .before .before .before .args .out)) (joining (c .before .before .before .before .before .before .before .before .before .before .before .before .before .before .before .before .before .before .before .before .before .before .args .s) (length (now (c .before .before .before .before .before .before .before .before .before .before .before .before .before .before .before .before .before .before .before .before .before .before .args .zero))) (now (c .before .before .before .before .before .before .before .before .before .before .before .before .before .before .before .before .before .before .before .before .before .before .args .store)) (now (c .before .before .before .before .before .before .before .before .before .before .before .before .before .before .before .before .before .before .before .before .before .before .args .p)) room) (c .before .before .before .before .before .before .before .before .before .before .before .before .before .before .before .join-behind .ensures .0) (c .before .before .before .before .before .before .before .before .before .before .before .before .before .before .before .join-behind .ensures .1 .1) (c .before .before .before .before .before .before .before .before .enum-told2 .given .1) (c .before .before .before .before .before .before .put-whole .ensures .0) (c .before .before .before .before .before .before .put-whole .ensures .1) (c .before .before .framed .ensures .1) in (c .before .before .framed .ensures .0 ∙ k .0, (c .before .before .before .before .before .before .before .before .before .before .before .before .before .before .before .join-behind .ensures .1 .0, k .1))
 
 same-length-5 : tie.Need-same-length-5
 same-length-5 c = search needs
@@ -73,8 +67,7 @@ same-length-6 : tie.Need-same-length-6
 same-length-6 c = search needs
 
 returns-3 : tie.Need-returns-3
-returns-3 c = let k = joins-message (c .before .before .before .before .before .before .before .before .before .before .before .before .before .before .before .before .before .before .args .s) (length (now (c .before .before .before .before .before .before .before .before .before .before .before .before .before .before .before .before .before .before .args .zero))) (now (c .before .before .before .before .before .before .before .before .before .before .before .before .before .before .before .before .before .before .args .store)) (now (c .before .before .before .before .before .before .before .before .before .before .before .before .before .before .before .before .before .before .args .p)) (now (c .before .before .before .before .before .before .before .before .before .before .before .before .before .before .before .before .before .before .args .out)) (c .before .before .before .before .before .before .before .before .before .before .before .join-behind .ensures .0) (c .before .before .before .before .before .before .before .before .before .before .before .join-behind .ensures .1 .1) (c .before .before .before .before .enum-told3 .given .1) refl (c .before .before .put-frame2 .ensures) in (k .0, (c .before .before .before .before .before .before .before .before .before .before .before .join-behind .ensures .1 .0, k .1))
+returns-3 c = let k = joins-message (c .before .before .before .before .before .before .before .before .before .before .before .before .before .before .before .before .before .before .args .s) (length (now (c .before .before .before .before .before .before .before .before .before .before .before .before .before .before .before .before .before .before .args .zero))) (now (c .before .before .before .before .before .before .before .before .before .before .before .before .before .before .before .before .before .before .args .store)) (now (c .before .before .before .before .before .before .before .before .before .before .before .before .before .before .before .before .before .before .args .p)) (now (c .before .before .before .before .before .before .before .before .before .before .before .before .before .before .before .before .before .before .args .out)) (c .before .before .before .before .before .before .before .before .before .before .before .join-behind .ensures .0) (c .before .before .before .before .before .before .before .before .before .before .before .join-behind .ensures .1 .1) (c .before .before .before .before .enum-told3 .given .1) refl (c .before .before .framed2 .ensures .1) in (c .before .before .framed2 .ensures .0 ∙ k .0, (c .before .before .before .before .before .before .before .before .before .before .before .join-behind .ensures .1 .0, k .1))
 
 pub join-packet-spec : {M : Type 1} → statement M
-join-packet-spec =
-    tie.close (tie.spec add-used join-behind-requires enum-told left-requires enum-told-2 put-whole-requires put-frame-requires add-t27 enum-told-3 add-long put-frame-requires-2 add-t32 same-length same-length-2 returns same-length-3 same-length-4 returns-2 same-length-5 same-length-6 returns-3)
+join-packet-spec = tie.close (tie.spec add-used join-behind-requires enum-told left-requires enum-told-2 put-whole-requires framed-requires enum-told-3 add-framed framed-requires-2 same-length same-length-2 returns same-length-3 same-length-4 returns-2 same-length-5 same-length-6 returns-3)
