@@ -21,9 +21,7 @@ sys.dont_write_bytecode = True
 import model
 
 CRATE = pathlib.Path(__file__).resolve().parent.parent / "crates" / "vectors"
-READABLE, STORE, OUTPUT = 0, 1, 2
-RUN = 16
-MOST_IN_PIECE = 65535
+MOST_IN_PAIR = 255
 FIGURE_14 = bytes.fromhex("18 05 C0 00 00 14 00 00 01 00 02 00 03 01 20 06 00 07 00 00 00 00 00 00 00 09 00")
 
 
@@ -39,20 +37,10 @@ def octets(text):
     return bytes(made)
 
 
-def pieces(s):
-    """The octets cut into runs of RUN or more equal ones, and what stands between: (is it a run, its octets)."""
-    between = bytearray()
-    for _, group in itertools.groupby(s):
-        equal = bytes(group)
-        if len(equal) < RUN:
-            between += equal
-            continue
-        if between:
-            yield False, bytes(between)
-            between = bytearray()
-        yield True, equal
-    if between:
-        yield False, bytes(between)
+def runs(s):
+    """The octets as runs: an octet and how often it stands there."""
+    for octet, group in itertools.groupby(s):
+        yield octet, len(list(group))
 
 
 # What the program reads.
@@ -62,35 +50,44 @@ def big(value, width):
     return value.to_bytes(width, "big")
 
 
-def string(kind, s):
-    """A string of a case: its kind, its length and its pieces."""
-    made = bytearray([kind]) + big(len(s), 4)
-    for is_run, octets_of in pieces(s):
-        for at in range(0, len(octets_of), MOST_IN_PIECE):
-            part = octets_of[at : at + MOST_IN_PIECE]
-            made += big(len(part), 2) + (bytes([1, part[0]]) if is_run else bytes([0]) + part)
+def joined(parts):
+    """Parts one after another, behind a table of where each begins and the last ends."""
+    places = itertools.accumulate(map(len, parts), initial=4 * (len(parts) + 1))
+    return b"".join(big(place, 4) for place in places) + b"".join(parts)
+
+
+def packed(s):
+    """The octets as pairs: how often, and which octet."""
+    made = bytearray()
+    for octet, times in runs(s):
+        made += bytes([MOST_IN_PAIR, octet]) * (times // MOST_IN_PAIR)
+        if times % MOST_IN_PAIR:
+            made += bytes([times % MOST_IN_PAIR, octet])
     return bytes(made)
 
 
-def case(tag, numbers, strings):
-    """A whole case."""
-    made = bytes([tag]) + big(len(numbers), 2) + b"".join(big(n, 8) for n in numbers)
-    return made + bytes([len(strings)]) + b"".join(string(kind, s) for kind, s in strings)
+def numbered(numbers):
+    """Numbers of 8 octets."""
+    return b"".join(big(n, 8) for n in numbers)
+
+
+def case(numbers, parts, store, out):
+    """A whole case, behind its length."""
+    made = joined([packed(joined([numbered(numbers), *parts])), packed(store), packed(out)])
+    return big(len(made), 4) + made
 
 
 # What the program prints.
 
 
 def shown(s):
-    """The octets of a lent buffer as the program prints them."""
-    if not s:
-        return "-"
-    return ",".join(f"{p[0]:02x}*{len(p)}" if is_run else p.hex() for is_run, p in pieces(s))
+    """Octets as the program prints them."""
+    return "".join(f"{octet:02x}" if times == 1 else f"{octet:02x}*{times}," for octet, times in runs(s))
 
 
-def line(numbers, *buffers):
-    """A line: the answer's numbers, then the lent buffers."""
-    return " ".join([*map(str, numbers), *map(shown, buffers)]) + "\n"
+def line(numbers, store=b"", out=b"", seen=""):
+    """A line: the answer's numbers, what a view shows, then the lent buffers."""
+    return "".join(f"{n} " for n in numbers) + seen + shown(store) + "|" + shown(out) + "\n"
 
 
 # The calls: how the inputs of a case are given to the program, and which line it must print.
@@ -107,9 +104,11 @@ READ_NUMBERS = (
 ).split()
 
 
-def read_line(a):
-    """The line of an answer of reading."""
-    numbers = [a[name] for name in READ_NUMBERS] + part(a["zone"]) + part(a["session_name"]) + [a["domain_count"]]
+def read_line(row):
+    """The line of an answer of reading; a timestamp is T octets long."""
+    a = answer(row)
+    numbers = [a[name] for name in READ_NUMBERS] + [row["T"] if a["has_timestamp"] else 0]
+    numbers += part(a["zone"]) + part(a["session_name"]) + [a["domain_count"]]
     for p in a["domain"]:
         numbers += part(p)
     return line(numbers + part(a["authentication"]) + [a["H"]] + part(a["body"]))
@@ -124,23 +123,16 @@ TEXTS = "timestamp zone session_name domain authentication".split()
 
 
 def header(row):
-    """The numbers of a header to write; the domain's lengths stand elsewhere, behind all other numbers."""
-    return [row["header"][name] for name in HEADER_NUMBERS]
-
-
-def lengths(row):
-    return row["header"]["domain_lengths"]
-
-
-def texts(row):
-    """The texts of a header to write."""
-    return [(READABLE, octets(row["header"][name])) for name in TEXTS]
+    """The parts of a header to write: its numbers, then its texts, the domain's lengths behind the domain."""
+    given = row["header"]
+    texts = [octets(given[name]) for name in TEXTS]
+    return [numbered(given[name] for name in HEADER_NUMBERS), *texts[:4], numbered(given["domain_lengths"]), *texts[4:]]
 
 
 def sender(numbers):
-    """A sender's numbers: sequence count, counter, and whether one is left."""
+    """A sender's numbers: sequence count, whether a counter is left, and the counter."""
     counter = numbers["counter"]
-    return [numbers["seq"], 0, 0] if counter is None else [numbers["seq"], counter, 1]
+    return [numbers["seq"], 0, 0] if counter is None else [numbers["seq"], 1, counter]
 
 
 def answer(row):
@@ -159,15 +151,10 @@ def join_line(row):
     return line(numbers, octets(row["expect"]["store"]), octets(row["expect"]["out"]))
 
 
-def view_out(row):
-    """The output of a view: as long as the longer one of its buffers."""
-    return bytes([0xA5]) * max(len(octets(row["packet"])), len(octets(row["joined"])))
-
-
 def view_line(row):
-    """The line of a view: the part's length, and the part laid over the front of the output."""
-    seen = octets(answer(row)["part"])
-    return line([len(seen)], seen + view_out(row)[len(seen) :])
+    """The line of a view: the part's length, and the part itself."""
+    part_seen = octets(answer(row)["part"])
+    return line([len(part_seen)], seen=shown(part_seen) + " ")
 
 
 STOPS = ["", "ended", "unmarked", "torn"]
@@ -195,96 +182,118 @@ def recording_line(row):
     """The line of a recording: the refusal, the octets written, where and why it stopped; all of the output."""
     out, refusal = recording_out(row), answer(row)["refusal"]
     if refusal:
-        return line([refusal, 0, 0, 0], out)
+        return line([refusal, 0, 0, 0], out=out)
     written = octets(row["expect"]["out"])
     place, why = stop(octets(row["stream"]))
-    return line([0, len(written), place, STOPS.index(why)], written + out[len(written) :])
+    return line([0, len(written), place, STOPS.index(why)], out=written + out[len(written) :])
+
+
+def nothing(row):
+    return b""
+
+
+def given_store(row):
+    return octets(row["store"])
+
+
+def given_out(row):
+    return octets(row["out"])
 
 
 class Call:
-    """A call: its tag, the numbers and the strings of a case, and the line that it must print."""
+    """A call: its tag, the numbers and the parts of a case, the line that it must print, and the buffers that it is lent."""
 
-    def __init__(self, tag, numbers, strings, expected):
-        self.tag, self.numbers, self.strings, self.expected = tag, numbers, strings, expected
+    def __init__(self, tag, numbers, parts, expected, store=nothing, out=nothing):
+        self.tag, self.numbers, self.parts, self.expected, self.store, self.out = tag, numbers, parts, expected, store, out
 
     def encoded(self, row):
-        return case(self.tag, self.numbers(row), self.strings(row))
+        return case([self.tag, *self.numbers(row)], self.parts(row), self.store(row), self.out(row))
 
 
 CALLS = {
     "varint_read": Call(
         1,
         lambda row: [row["at"]],
-        lambda row: [(READABLE, octets(row["octets"]))],
+        lambda row: [octets(row["octets"])],
         lambda row: line([answer(row)["refusal"], answer(row)["value"], answer(row)["next"]]),
     ),
     "varint_write": Call(
         2,
         lambda row: [row["value"]],
-        lambda row: [(OUTPUT, octets(row["out"]))],
-        lambda row: line([answer(row)["refusal"], answer(row)["length"]], octets(row["expect"]["out"])),
+        lambda row: [],
+        lambda row: line([answer(row)["refusal"], answer(row)["length"]], out=octets(row["expect"]["out"])),
+        out=given_out,
     ),
     "read": Call(
         3,
         lambda row: [row["T"]],
-        lambda row: [(READABLE, octets(row["packet"]))],
-        lambda row: read_line(answer(row)),
+        lambda row: [octets(row["packet"])],
+        read_line,
     ),
     "write": Call(
         4,
-        lambda row: [row["T"]] + header(row) + [row["flags"], row["seq"], row["counter"]] + lengths(row),
-        lambda row: texts(row) + [(READABLE, octets(row["body"])), (OUTPUT, octets(row["out"]))],
-        lambda row: line([answer(row)["refusal"], answer(row)["length"]], octets(row["expect"]["out"])),
+        lambda row: [row["T"], row["flags"], row["seq"], row["counter"]],
+        lambda row: header(row) + [octets(row["body"])],
+        lambda row: line([answer(row)["refusal"], answer(row)["length"]], out=octets(row["expect"]["out"])),
+        out=given_out,
     ),
     "in_order": Call(
         7,
         lambda row: [row["T"]],
-        lambda row: [(STORE, octets(row["store"]))],
-        lambda row: line([answer(row)["refusal"], 0 if answer(row)["refusal"] else len(octets(row["store"])) // 1024], octets(row["store"])),
+        lambda row: [],
+        lambda row: line([answer(row)["refusal"], 0 if answer(row)["refusal"] else len(given_store(row)) // 1024], given_store(row)),
+        store=given_store,
     ),
     "arrive": Call(
         8,
         lambda row: [row["T"]],
-        lambda row: [(READABLE, octets(row["packet"])), (STORE, octets(row["store"]))],
+        lambda row: [octets(row["packet"])],
         lambda row: line([answer(row)["refusal"], KINDS.index(answer(row)["kind"])], octets(row["expect"]["store"])),
+        store=given_store,
     ),
     "take": Call(
         9,
         lambda row: [row["T"]],
-        lambda row: [(STORE, octets(row["store"])), (OUTPUT, octets(row["out"]))],
+        lambda row: [],
         lambda row: line([answer(row)[name] for name in TAKEN], octets(row["expect"]["store"]), octets(row["expect"]["out"])),
+        store=given_store,
+        out=given_out,
     ),
     "join": Call(
         10,
         lambda row: [row["T"]],
-        lambda row: [(READABLE, octets(row["packet"])), (STORE, octets(row["store"])), (OUTPUT, octets(row["out"]))],
+        lambda row: [octets(row["packet"])],
         join_line,
+        store=given_store,
+        out=given_out,
     ),
     "view": Call(
         11,
         lambda row: [WHICH.index(row["which"]), row["place"], row["length"]],
-        lambda row: [(READABLE, octets(row["packet"])), (READABLE, octets(row["joined"])), (OUTPUT, view_out(row))],
+        lambda row: [octets(row["packet"]), octets(row["joined"])],
         view_line,
     ),
     "program": Call(
         12,
         lambda row: [],
-        lambda row: [(READABLE, octets(row["stream"])), (OUTPUT, recording_out(row))],
+        lambda row: [octets(row["stream"])],
         recording_line,
+        out=recording_out,
     ),
     "count": Call(
         5,
-        lambda row: [row["T"], row["P"]] + header(row) + [row["body_length"]] + sender(row["sender"]) + lengths(row),
-        texts,
+        lambda row: [row["T"], row["P"], *sender(row["sender"]), row["body_length"]],
+        header,
         lambda row: line([answer(row)["refusal"], answer(row)["count"]] + sender(answer(row)["sender"])),
     ),
     "packet": Call(
         6,
-        lambda row: [row["T"], row["P"]] + header(row) + sender(row["sender"]) + [row["i"]] + lengths(row),
-        lambda row: texts(row) + [(READABLE, octets(row["body"])), (OUTPUT, octets(row["out"]))],
+        lambda row: [row["T"], row["P"], *sender(row["sender"]), row["i"]],
+        lambda row: header(row) + [octets(row["body"])],
         lambda row: line(
-            [answer(row)["refusal"], answer(row)["length"]] + sender(answer(row)["sender"]), octets(row["expect"]["out"])
+            [answer(row)["refusal"], answer(row)["length"]] + sender(answer(row)["sender"]), out=octets(row["expect"]["out"])
         ),
+        out=given_out,
     ),
 }
 

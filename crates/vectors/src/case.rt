@@ -1,189 +1,106 @@
-// One case of the input: its numbers, its strings and the lengths of its two buffers.
-use crate::input;
-use crate::input::Input;
-use crate::lists;
+// A case: its octets out of standard input, and what stands in them. Every call takes any octets and any place.
+ghost use Prim.Native.Nat.{_≤_};
+ghost use lib.ListN.{length};
 
-const READABLE: u8 = 0;
+// How many numbers a case has at most, and a header.
+pub const NUMBERS: usize = 8;
 
-const STORE: u8 = 1;
+pub const HEADER: usize = 24;
 
-const OUTPUT: u8 = 2;
-
-// A buffer that the call is lent: whether the case has it, and how long it is.
-pub struct Lent {
-    pub is_there: bool,
-    pub length: usize,
-}
-
-// A case: its call, how many numbers and ends of readable strings it has, the last of these, and the two lent buffers.
-// The first end is 0, where the first string begins. At the input's end there is no case.
-pub struct Case {
-    pub input: Input,
-    pub is_end: bool,
-    pub tag: u8,
-    pub numbers: usize,
-    pub ends: usize,
-    pub end: usize,
-    pub store: Lent,
-    pub out: Lent,
-}
-
-// A case before its strings are read.
-fn bare(input: Input, tag: u8, numbers: usize) -> Case {
-    Case {
-        input: input,
-        is_end: false,
-        tag: tag,
-        numbers: numbers,
-        ends: 1,
-        end: 0,
-        store: Lent {
-            is_there: false,
-            length: 0,
-        },
-        out: Lent {
-            is_there: false,
-            length: 0,
-        },
+// The octets of the next case to the front of a buffer. Whether there is one: not at the input's end, nor where it is too long.
+pub fn next(buf: &mut [u8]) -> bool {
+    let mut long = [0u8; 4];
+    io::read_full(0, &mut long);
+    let n = octets::be32(&long, 0) as usize;
+    if buf.len() < n {
+        return false;
     }
+    io::read_full(0, &mut buf[0..n]);
+    0 < n
 }
 
-// No case: the input ended before one.
-fn no_case(input: Input) -> Case {
-    let mut c = bare(input, 0, 0);
-    c.is_end = true;
-    c
-}
-
-// So many numbers to the front of a list.
-fn numbers(buf: &mut [u8], input: Input, list: &mut [u64], n: usize) -> Input {
-    let mut w = input;
-    let mut i: usize = 0;
-    while i < n {
-        let g = input::number(buf, w, 8);
-        lists::set(list, i, g.value);
-        w = g.input;
-        i += 1;
+// Part k of the octets, none where there is no such part.
+pub fn part(s: &[u8], k: u8) -> &[u8] {
+    let at = 4 * (k as usize);
+    let from = octets::be32(s, at) as usize;
+    let to = octets::be32(s, at + 4) as usize;
+    if from <= to {
+        if to <= s.len() {
+            return &s[from..to];
+        }
     }
-    w
+    &s[0..0]
 }
 
-// The numbers of a case with this tag: how many, then each.
-fn listed(buf: &mut [u8], input: Input, list: &mut [u64], tag: u8) -> Case {
-    let count = input::number(buf, input, 2);
-    let n = count.value as usize;
-    let w = count.input;
-    if list.len() < n {
-        return bare(input::spoilt(w), tag, 0);
-    }
-    bare(numbers(buf, w, list, n), tag, n)
-}
-
-// The tag and the numbers. A tag that is missing is the end of the input, anything else that is missing is malformed.
-fn head(buf: &mut [u8], input: Input, list: &mut [u64]) -> Case {
-    let tag = input::octet(buf, input);
-    let w = tag.input;
-    if w.bad {
-        return no_case(w);
-    }
-    listed(buf, w, list, tag.value)
-}
-
-// A case that is malformed.
-fn spoilt(case: Case) -> Case {
-    let mut c = case;
-    let w = input::spoilt(c.input);
-    c.input = w;
-    c
-}
-
-// A string to be read, behind those before it.
-fn readable_string(buf: &mut [u8], strings: &mut [u8], ends: &mut [u64], case: Case) -> Case {
-    let mut c = case;
-    let k = c.ends;
-    if ends.len() <= k {
-        return spoilt(c);
-    }
-    let p = input::string(buf, c.input, strings, c.end);
-    lists::set(ends, k, p.at as u64);
-    let w = p.input;
-    c.input = w;
-    c.ends = k + 1;
-    c.end = p.at;
-    c
-}
-
-// The store.
-fn store_string(buf: &mut [u8], to: &mut [u8], case: Case) -> Case {
-    let mut c = case;
-    let p = input::string(buf, c.input, to, 0);
-    let w = p.input;
-    let lent = Lent {
-        is_there: true,
-        length: p.at,
-    };
-    c.input = w;
-    c.store = lent;
-    c
-}
-
-// The output.
-fn out_string(buf: &mut [u8], to: &mut [u8], case: Case) -> Case {
-    let mut c = case;
-    let p = input::string(buf, c.input, to, 0);
-    let w = p.input;
-    let lent = Lent {
-        is_there: true,
-        length: p.at,
-    };
-    c.input = w;
-    c.out = lent;
-    c
-}
-
-// The next string, of any kind.
-fn string(
-    buf: &mut [u8],
-    strings: &mut [u8],
-    ends: &mut [u64],
-    store: &mut [u8],
-    out: &mut [u8],
-    case: Case,
-) -> Case {
-    let mut c = case;
-    let kind = input::octet(buf, c.input);
-    let w = kind.input;
-    c.input = w;
-    if kind.value == READABLE {
-        return readable_string(buf, strings, ends, c);
-    }
-    if kind.value == STORE {
-        return store_string(buf, store, c);
-    }
-    if kind.value == OUTPUT {
-        return out_string(buf, out, c);
-    }
-    spoilt(c)
-}
-
-// A whole case: its numbers, its readable strings with their ends, the store and the output to the front of a buffer each.
-pub fn read(
-    buf: &mut [u8],
-    input: Input,
-    list: &mut [u64],
-    strings: &mut [u8],
-    ends: &mut [u64],
-    store: &mut [u8],
-    out: &mut [u8],
-) -> Case {
-    let mut c = head(buf, input, list);
-    let count = input::octet(buf, c.input);
-    let w = count.input;
-    c.input = w;
-    let mut left = count.value;
-    while 0 < left {
-        c = string(buf, strings, ends, store, out, c);
+// An octet n times from a place on, as far as there is room, and the place behind.
+fn repeated(to: &mut [u8], at: usize, n: u8, x: u8) -> usize
+    requires { ⌜ at ≤ length (now to) ⌝ }
+    ensures { λ r. ⌜ r ≤ length (now (to .entry)) ⌝ }
+{
+    let mut end = at;
+    let mut left = n;
+    while end < to.len() && 0 < left {
+        to[end] = x;
+        end += 1;
         left -= 1;
     }
-    c
+    end
+}
+
+// The octets that pairs stand for, to the front of a buffer, and how many there are.
+fn paired(pairs: &[u8], to: &mut [u8]) -> usize
+    ensures { λ r. ⌜ r ≤ length (now (to .entry)) ⌝ }
+{
+    let mut end: usize = 0;
+    let mut i: usize = 0;
+    while i < pairs.len() / 2 {
+        end = repeated(to, end, pairs[2 * i], pairs[2 * i + 1]);
+        i += 1;
+    }
+    end
+}
+
+// The same of part k.
+pub fn unpacked(s: &[u8], k: u8, to: &mut [u8]) -> usize
+    ensures { λ r. ⌜ r ≤ length (now (to .entry)) ⌝ }
+{
+    paired(part(s, k), to)
+}
+
+// The numbers that octets stand for, to the front of a list, and how many there are.
+fn listed(from: &[u8], to: &mut [u64]) -> usize
+    ensures { λ r. ⌜ r ≤ length (now (to .entry)) ⌝ }
+{
+    let mut i: usize = 0;
+    while i < to.len() && i < from.len() / 8 {
+        to[i] = octets::be64(from, 8 * i);
+        i += 1;
+    }
+    i
+}
+
+// The same of part k.
+pub fn list(s: &[u8], k: u8, to: &mut [u64]) -> usize
+    ensures { λ r. ⌜ r ≤ length (now (to .entry)) ⌝ }
+{
+    listed(part(s, k), to)
+}
+
+// The numbers of a case, 0 behind the last.
+pub fn numbers(s: &[u8]) -> [u64; NUMBERS] {
+    let mut n = [0u64; NUMBERS];
+    list(s, 0, &mut n);
+    n
+}
+
+// The numbers of its header.
+pub fn header(s: &[u8]) -> [u64; HEADER] {
+    let mut n = [0u64; HEADER];
+    list(s, 1, &mut n);
+    n
+}
+
+// Number k.
+pub fn number(s: &[u8], k: u8) -> u64 {
+    octets::be64(part(s, 0), 8 * (k as usize))
 }

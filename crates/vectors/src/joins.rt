@@ -1,19 +1,14 @@
-// Joining, and the view of a body.
-//
-// Number 0 of a joining is T, and its string 0 the packet. A view has the buffer's number, the place and the length as its numbers,
-// and the packet and the joined buffer as its strings; its part is laid over the front of the output, which is as long as the
-// longer one of them. The buffer as a number: 0 nothing, 1 packet, 2 joined.
-use crate::lists;
-use join::Joined;
+// Joining, and the view of a body. The buffer as a number: 0 nothing, 1 packet, 2 joined.
+use crate::case;
+use crate::print;
 use join::Which;
-use walk::Settings;
 
-fn which_number(w: Which) -> u64 {
-    match w {
-        Which::Nothing => 0,
-        Which::Packet => 1,
-        Which::Joined => 2,
-    }
+const BLANK: u8 = 32;
+
+// Number 1 is T, part 1 the packet. Answers: the refusal, the buffer, place and length, H, the octets of the body, the first's counter.
+pub fn join(c: &[u8], store: &mut [u8], out: &mut [u8]) {
+    let answer = flat_store::join(case::number(c, 1), store, case::part(c, 1), out);
+    print::numbers(&answer);
 }
 
 fn which_of(n: u64) -> Which {
@@ -24,48 +19,14 @@ fn which_of(n: u64) -> Which {
     }
 }
 
-// Seven answers.
-fn tell(got: Joined, answer: &mut [u64]) -> usize {
-    let refusal = got.refusal;
-    let which = got.which;
-    let counter = got.counter;
-    lists::set(answer, 0, refusal.number as u64);
-    lists::set(answer, 1, which_number(which));
-    lists::set(answer, 2, got.place as u64);
-    lists::set(answer, 3, got.length as u64);
-    lists::set(answer, 4, got.header as u64);
-    lists::set(answer, 5, got.body as u64);
-    lists::set(answer, 6, counter.0 as u64);
-    7
+// The part of packet or joined that the numbers name: the buffer, place and length.
+fn viewed<'a>(n: [u64; 8], packet: &'a [u8], joined: &'a [u8]) -> &'a [u8] {
+    join::view(packet, joined, which_of(n[1]), n[2] as usize, n[3] as usize)
 }
 
-// Answers: the refusal, the buffer, place and length, H, the octets of the body, the first's counter.
-pub fn join(
-    numbers: &[u64],
-    store: &mut [u8],
-    packet: &[u8],
-    out: &mut [u8],
-    answer: &mut [u64],
-) -> usize {
-    let s = Settings {
-        t: lists::at(numbers, 0) as usize,
-    };
-    tell(join::join(s, store, packet, out), answer)
-}
-
-// Answers: the length of the part.
-pub fn view<'a>(
-    numbers: &[u64],
-    packet: &'a [u8],
-    joined: &'a [u8],
-    out: &mut [u8],
-    answer: &mut [u64],
-) -> usize {
-    let which = which_of(lists::at(numbers, 0));
-    let place = lists::at(numbers, 1) as usize;
-    let long = lists::at(numbers, 2) as usize;
-    let part = join::view(packet, joined, which, place, long);
-    octets::copy(out, 0, part);
-    lists::set(answer, 0, part.len() as u64);
-    1
+// Parts 1 and 2 are the packet and the joined buffer. Answers: the length of the part that is seen, and its octets.
+pub fn view(c: &[u8]) {
+    let part = viewed(case::numbers(c), case::part(c, 1), case::part(c, 2));
+    print::numbers(&[part.len() as u64]);
+    print::buffer(part, BLANK);
 }

@@ -1,329 +1,178 @@
-// Runs cases from standard input: of each case the call that it names, on its numbers and strings, and prints the whole answer.
-// What is printed is compared with what the cases expect. Proved here: the program is safe and ends, whatever it is given.
+// Runs cases from standard input: of each case the call that it names, on what it is given and the buffers that it is lent, and
+// prints the whole answer. What is printed is compared with what the cases expect. Proved here: the program is safe and ends,
+// whatever it reads.
 //
-// A case, all numbers most significant octet first:
+// A case is its length, 4 octets, and three parts: what is given, the store and the output, each packed into pairs, how often and
+// which octet. What is given has parts again: its numbers, 8 octets each and the call's the first, then what its call says. Parts
+// stand one after another, behind a table, 4 octets each, of where every one begins and the last ends. All numbers have their most
+// significant octet first.
 //
-//   tag      1 octet, the call
-//   numbers  2 octets, how many; 8 octets each
-//   strings  1 octet, how many; each: kind, 1 octet; length, 4 octets; pieces, until so many octets are made
-//   piece    count, 2 octets, not 0; 1 octet: 0 and that many octets, or 1 and the octet that is repeated so often
+// Each case prints a line: the numbers of its answer in decimal, each with a blank behind it; the store, a bar and the output, as
+// they are after the call. Octets are in hex, two or more equal ones as `xx*n,`. Where there is no such call the line has no
+// numbers. The run ends with the input, and at a case that is too long for the buffer here.
 //
-// Kind 0 is a string to be read. Kind 1 is the store and kind 2 the output, the buffers that a call is lent; a second one takes
-// the place of the first.
-//
-// Each case prints a line: the numbers of its answer in decimal, then the store and the output as they are after the call, where
-// the case has them, all with a blank between. Octets are in hex, 16 or more equal ones as `xx*n`, with commas between these and
-// the rest; a buffer of no octets is `-`. Input that is no case, or too long for the buffers here, prints `malformed` and ends
-// the run.
-//
-// Module input reads standard input, case a case of it; print writes lines; lists has numbers and strings by their place. The
-// calls have a module each. A call takes what it needs of the numbers, the strings and the two buffers, and puts its answers into
-// a list, so that a new one is a line of `run_packet` or `run_store` and a function beside the others.
+// Module case reads a case, print writes; the others have the calls, most of them by way of `flat` and `flat_store`, whose answers
+// are lists of numbers. A new call is a line of a function here and a function beside the others.
 mod case;
-mod cuts;
-mod headers;
-mod input;
 mod joins;
-mod lists;
+mod packets;
 mod print;
-mod reads;
 mod recordings;
 mod stores;
 mod varints;
-mod writes;
-
-use case::Case;
-use input::Input;
-ghost use Prim.Native.Nat.{_≤_};
 
 // The calls.
-const VARINT_READ: u8 = 1;
+const VARINT_READ: u64 = 1;
 
-const VARINT_WRITE: u8 = 2;
+const VARINT_WRITE: u64 = 2;
 
-const READ: u8 = 3;
+const READ: u64 = 3;
 
-const WRITE: u8 = 4;
+const WRITE: u64 = 4;
 
-const COUNT: u8 = 5;
+const COUNT: u64 = 5;
 
-const PACKET: u8 = 6;
+const PACKET: u64 = 6;
 
-const IN_ORDER: u8 = 7;
+const IN_ORDER: u64 = 7;
 
-const ARRIVE: u8 = 8;
+const ARRIVE: u64 = 8;
 
-const TAKE: u8 = 9;
+const TAKE: u64 = 9;
 
-const JOIN: u8 = 10;
+const JOIN: u64 = 10;
 
-const VIEW: u8 = 11;
+const VIEW: u64 = 11;
 
-const RECORDING: u8 = 12;
+const RECORDING: u64 = 12;
 
-// The sizes of the buffers: input and text are emptied as the run goes, the others hold one case.
-const INPUT: usize = 65536;
+// How many parts a domain has at most.
+const LENGTHS: usize = 384;
 
-const TEXT: usize = 65536;
+// The sizes of the buffers, each for one case.
+const PACKED: usize = 65536;
 
-const NUMBERS: usize = 384;
-
-const ENDS: usize = 33;
-
-const ANSWERS: usize = 128;
-
-const READ_ONLY: usize = 2097152;
+const GIVEN: usize = 2097152;
 
 const STORE: usize = 4300800;
 
 const OUTPUT: usize = 262144;
 
-// Between two cases: what is left of the input, how much of the text buffer is used, and whether to go on.
-struct State {
-    input: Input,
-    used: usize,
-    go: bool,
-}
+const BAR: u8 = 124;
 
-// The lesser number.
-fn least(a: usize, b: usize) -> usize
-    ensures { λ r. ⌜ r ≤ b ⌝ }
-{
-    if a < b {
-        return a;
-    }
-    b
-}
+const NEWLINE: u8 = 10;
 
-// Runs the call with this tag, of those that know no store. The number of its answers, 0 where there is no such call.
-fn run_packet(
-    tag: u8,
-    numbers: &[u64],
-    strings: &[u8],
-    ends: &[u64],
-    out: &mut [u8],
-    answer: &mut [u64],
-) -> usize {
+// The calls that only read.
+fn run_reads(tag: u64, c: &[u8]) {
     if tag == VARINT_READ {
-        return varints::read(numbers, lists::part(strings, ends, 0), answer);
-    }
-    if tag == VARINT_WRITE {
-        return varints::write(numbers, out, answer);
+        varints::read(c);
     }
     if tag == READ {
-        return reads::read(numbers, lists::part(strings, ends, 0), answer);
-    }
-    if tag == WRITE {
-        return writes::write(numbers, strings, ends, out, answer);
-    }
-    if tag == COUNT {
-        return cuts::count(numbers, strings, ends, answer);
-    }
-    if tag == PACKET {
-        return cuts::packet(numbers, strings, ends, out, answer);
-    }
-    0
-}
-
-// The same of those that store and join.
-fn run_store(
-    tag: u8,
-    numbers: &[u64],
-    strings: &[u8],
-    ends: &[u64],
-    store: &mut [u8],
-    out: &mut [u8],
-    answer: &mut [u64],
-) -> usize {
-    let first = lists::part(strings, ends, 0);
-    if tag == IN_ORDER {
-        return stores::order(numbers, store, answer);
-    }
-    if tag == ARRIVE {
-        return stores::arrive(numbers, store, first, answer);
-    }
-    if tag == TAKE {
-        return stores::take(numbers, store, out, answer);
-    }
-    if tag == JOIN {
-        return joins::join(numbers, store, first, out, answer);
+        packets::read(c);
     }
     if tag == VIEW {
-        return joins::view(numbers, first, lists::part(strings, ends, 1), out, answer);
+        joins::view(c);
+    }
+}
+
+// Writing and cutting.
+fn run_writes(tag: u64, c: &[u8], out: &mut [u8]) {
+    let mut list = [0u64; LENGTHS];
+    let k = case::list(c, 6, &mut list);
+    let lengths = &list[0..k];
+    if tag == WRITE {
+        packets::write(c, lengths, out);
+        return;
+    }
+    if tag == COUNT {
+        packets::count(c, lengths);
+        return;
+    }
+    if tag == PACKET {
+        packets::packet(c, lengths, out);
+    }
+}
+
+fn run_outputs(tag: u64, c: &[u8], out: &mut [u8]) {
+    if tag == VARINT_WRITE {
+        varints::write(c, out);
+        return;
     }
     if tag == RECORDING {
-        return recordings::join(first, out, answer);
-    }
-    0
-}
-
-// Runs the call with this tag.
-fn run(
-    tag: u8,
-    numbers: &[u64],
-    strings: &[u8],
-    ends: &[u64],
-    store: &mut [u8],
-    out: &mut [u8],
-    answer: &mut [u64],
-) -> usize {
-    if tag < IN_ORDER {
-        return run_packet(tag, numbers, strings, ends, out, answer);
-    }
-    run_store(tag, numbers, strings, ends, store, out, answer)
-}
-
-// A line: the answers, then the lent buffers that the case has.
-fn line(
-    text: &mut [u8],
-    used: usize,
-    answer: &[u64],
-    store: &[u8],
-    has_store: bool,
-    out: &[u8],
-    has_out: bool,
-) -> usize {
-    let told = print::numbers(text, used, answer);
-    let stored = print::lent(text, told, store, has_store);
-    let written = print::lent(text, stored, out, has_out);
-    print::newline(text, written)
-}
-
-// Prints that no case follows, and ends the run.
-fn malformed(text: &mut [u8], used: usize, input: Input) -> State {
-    State {
-        input: input,
-        used: print::put_all(text, used, b"malformed\n"),
-        go: false,
+        recordings::join(c, out);
     }
 }
 
-// Runs a case that was read, and prints its line.
-fn answered(
-    c: Case,
-    numbers: &[u64],
-    strings: &[u8],
-    ends: &[u64],
-    store: &mut [u8],
-    out: &mut [u8],
-    answer: &mut [u64],
-    text: &mut [u8],
-    used: usize,
-) -> State {
-    let n = run(c.tag, numbers, strings, ends, store, out, answer);
-    let told = least(n, answer.len());
-    let input = c.input;
-    if told == 0 {
-        return malformed(text, used, input);
+// The calls that know no store.
+fn run_packets(tag: u64, c: &[u8], out: &mut [u8]) {
+    run_reads(tag, c);
+    run_writes(tag, c, out);
+    run_outputs(tag, c, out);
+}
+
+fn run_arrivals(tag: u64, c: &[u8], store: &mut [u8]) {
+    if tag == IN_ORDER {
+        stores::order(c, store);
+        return;
     }
-    let has_store = c.store.is_there;
-    let has_out = c.out.is_there;
-    State {
-        input: input,
-        used: line(text, used, &answer[0..told], store, has_store, out, has_out),
-        go: true,
+    if tag == ARRIVE {
+        stores::arrive(c, store);
     }
 }
 
-// Runs a case on just its numbers, its strings and its buffers.
-fn cut(
-    c: Case,
-    numbers: &[u64],
-    strings: &[u8],
-    ends: &[u64],
-    store: &mut [u8],
-    out: &mut [u8],
-    answer: &mut [u64],
-    text: &mut [u8],
-    used: usize,
-) -> State {
-    let n = least(c.numbers, numbers.len());
-    let k = least(c.ends, ends.len());
-    let s = least(c.store.length, store.len());
-    let o = least(c.out.length, out.len());
-    answered(
-        c,
-        &numbers[0..n],
-        strings,
-        &ends[0..k],
-        &mut store[0..s],
-        &mut out[0..o],
-        answer,
-        text,
-        used,
-    )
+fn run_takings(tag: u64, c: &[u8], store: &mut [u8], out: &mut [u8]) {
+    if tag == TAKE {
+        stores::take(c, store, out);
+        return;
+    }
+    if tag == JOIN {
+        joins::join(c, store, out);
+    }
 }
 
-// Reads the next case, if there is one, and runs it.
-fn turn(
-    buf: &mut [u8; INPUT],
-    numbers: &mut [u64; NUMBERS],
-    strings: &mut [u8; READ_ONLY],
-    ends: &mut [u64; ENDS],
-    store: &mut [u8; STORE],
-    out: &mut [u8; OUTPUT],
-    answer: &mut [u64; ANSWERS],
-    text: &mut [u8; TEXT],
-    before: State,
-) -> State {
-    let used = before.used;
-    let c = case::read(buf, before.input, numbers, strings, ends, store, out);
-    let w = c.input;
-    if c.is_end {
-        return State {
-            input: w,
-            used: used,
-            go: false,
-        };
+// Runs the call of a case on its buffers, and prints its line.
+fn run(c: &[u8], store: &mut [u8], out: &mut [u8]) {
+    let tag = case::number(c, 0);
+    run_packets(tag, c, out);
+    run_arrivals(tag, c, store);
+    run_takings(tag, c, store, out);
+    print::buffer(store, BAR);
+    print::buffer(out, NEWLINE);
+}
+
+// Unpacks a case and runs it on just its own part of the buffers.
+fn unpack(packed: &[u8], given: &mut [u8], store: &mut [u8], out: &mut [u8]) {
+    let g = case::unpacked(packed, 0, given);
+    let s = case::unpacked(packed, 1, store);
+    let o = case::unpacked(packed, 2, out);
+    run(&given[0..g], &mut store[0..s], &mut out[0..o]);
+}
+
+// Runs the next case, and tells whether there was one.
+fn turn(given: &mut [u8], store: &mut [u8], out: &mut [u8]) -> bool {
+    let mut packed = [0u8; PACKED];
+    let more = case::next(&mut packed);
+    if !more {
+        return false;
     }
-    if w.bad {
-        return malformed(text, used, w);
-    }
-    cut(c, numbers, strings, ends, store, out, answer, text, used)
+    unpack(&packed, given, store, out);
+    true
 }
 
 // Runs all cases. Nothing says that the input ends, so the turns are counted down from a number that no run uses up.
-fn turns(
-    buf: &mut [u8; INPUT],
-    numbers: &mut [u64; NUMBERS],
-    strings: &mut [u8; READ_ONLY],
-    ends: &mut [u64; ENDS],
-    store: &mut [u8; STORE],
-    out: &mut [u8; OUTPUT],
-    answer: &mut [u64; ANSWERS],
-    text: &mut [u8; TEXT],
-) {
+fn turns(given: &mut [u8; GIVEN], store: &mut [u8; STORE], out: &mut [u8; OUTPUT]) {
     let mut left = u64::MAX;
-    let mut t = State {
-        input: input::start(),
-        used: 0,
-        go: true,
-    };
-    while 0 < left && t.go {
-        t = turn(buf, numbers, strings, ends, store, out, answer, text, t);
+    let mut go = true;
+    while 0 < left && go {
+        go = turn(given, store, out);
         left -= 1;
     }
-    print::flush(text, t.used);
 }
 
 // Every buffer is here, and lent on.
 fn main() {
-    let mut buf = [0u8; INPUT];
-    let mut numbers = [0u64; NUMBERS];
-    let mut strings = [0u8; READ_ONLY];
-    let mut ends = [0u64; ENDS];
+    let mut given = [0u8; GIVEN];
     let mut store = [0u8; STORE];
     let mut out = [0u8; OUTPUT];
-    let mut answer = [0u64; ANSWERS];
-    let mut text = [0u8; TEXT];
-    turns(
-        &mut buf,
-        &mut numbers,
-        &mut strings,
-        &mut ends,
-        &mut store,
-        &mut out,
-        &mut answer,
-        &mut text,
-    );
+    turns(&mut given, &mut store, &mut out);
 }

@@ -1,6 +1,6 @@
-// Lines of text through a buffer, which is written out where it is full: numbers in decimal, octets in hex with runs.
+// Text to standard output: the numbers of an answer in decimal, and octets in hex with runs.
 //
-// `used` is how much of the text buffer is taken; each call answers it anew.
+// Each call makes its text from the front of a buffer of its own: `used` is how much of it is taken, and what does not fit is dropped.
 ghost use Prim.Native.Nat.{_≤_, _<_};
 ghost use lib.ListN.{length};
 
@@ -8,21 +8,12 @@ const BLANK: u8 = 32;
 
 const COMMA: u8 = 44;
 
-const HYPHEN: u8 = 45;
-
 const STAR: u8 = 42;
 
-const NEWLINE: u8 = 10;
+// The sizes of the two buffers.
+const ANSWER: usize = 2048;
 
-// The fewest equal octets that are written as a run.
-const RUN: usize = 16;
-
-// Writes out what is in the buffer.
-pub fn flush(text: &[u8], used: usize) {
-    if used <= text.len() {
-        io::write_all(1, &text[0..used]);
-    }
-}
+const TEXT: usize = 65536;
 
 // An octet.
 fn put(text: &mut [u8], used: usize, x: u8) -> usize {
@@ -30,68 +21,47 @@ fn put(text: &mut [u8], used: usize, x: u8) -> usize {
         text[used] = x;
         return used + 1;
     }
-    flush(text, used);
-    octets::put_octet(text, 0, x);
-    1
-}
-
-// An octet, if it is due.
-fn put_if(text: &mut [u8], used: usize, x: u8, due: bool) -> usize {
-    if due {
-        return put(text, used, x);
-    }
     used
 }
 
-// All octets of a slice.
-pub fn put_all(text: &mut [u8], used: usize, from: &[u8]) -> usize {
-    let mut to = used;
-    let mut i: usize = 0;
-    while i < from.len() {
-        to = put(text, to, from[i]);
-        i += 1;
-    }
-    to
-}
-
-// The end of a line.
-pub fn newline(text: &mut [u8], used: usize) -> usize {
-    put(text, used, NEWLINE)
-}
-
-// A number in decimal.
-fn decimal(text: &mut [u8], used: usize, v: u64) -> usize {
+// A number in decimal, and a mark behind it.
+fn decimal(text: &mut [u8], used: usize, v: u64, mark: u8) -> usize {
     let mut digits = [0u8; 20];
     let k = io::decimal(v, &mut digits);
-    put_all(text, used, &digits[..k])
-}
-
-// The hex digit of a number below 16.
-fn digit(x: u8) -> u8
-    requires { ⌜ x < 16 ⌝ }
-{
-    if x < 10 {
-        return 48 + x;
-    }
-    87 + x
+    let to = octets::lay(text, used, &digits[..k]);
+    put(text, to, mark)
 }
 
 // An octet as two hex digits.
 fn hex(text: &mut [u8], used: usize, x: u8) -> usize {
-    let high = put(text, used, digit(x / 16));
-    put(text, high, digit(x % 16))
+    let mut digits = [0u8; 16];
+    let k = io::hex(x as u64, 2, &mut digits);
+    octets::lay(text, used, &digits[..k])
 }
 
-// Numbers with blanks between.
-pub fn numbers(text: &mut [u8], used: usize, list: &[u64]) -> usize {
-    let mut to = used;
+// Writes out what was made.
+fn write(text: &[u8], used: usize) {
+    if used <= text.len() {
+        io::write_all(1, &text[0..used]);
+    }
+}
+
+// Numbers, each with a blank behind it.
+fn listed(text: &mut [u8], list: &[u64]) -> usize {
+    let mut used: usize = 0;
     let mut i: usize = 0;
     while i < list.len() {
-        to = put_if(text, to, BLANK, 0 < i);
-        to = decimal(text, to, list[i]);
+        used = decimal(text, used, list[i], BLANK);
         i += 1;
     }
-    to
+    used
+}
+
+// The numbers of an answer.
+pub fn numbers(list: &[u64]) {
+    let mut text = [0u8; ANSWER];
+    let used = listed(&mut text, list);
+    write(&text, used);
 }
 
 // Where the equal octets from a place on end.
@@ -110,56 +80,32 @@ fn run_end(s: &[u8], at: usize) -> usize
     i
 }
 
-// A run of n equal octets.
+// n equal octets.
 fn run(text: &mut [u8], used: usize, x: u8, n: usize) -> usize {
-    let mut to = hex(text, used, x);
-    to = put(text, to, STAR);
-    decimal(text, to, n as u64)
+    let one = hex(text, used, x);
+    if n == 1 {
+        return one;
+    }
+    let star = put(text, one, STAR);
+    decimal(text, star, n as u64, COMMA)
 }
 
-// An octet n times.
-fn plain(text: &mut [u8], used: usize, x: u8, n: usize) -> usize {
-    let mut to = used;
-    let mut left = n;
-    while 0 < left {
-        to = hex(text, to, x);
-        left -= 1;
-    }
-    to
-}
-
-// n equal octets, as a run or one by one.
-fn equals(text: &mut [u8], used: usize, x: u8, n: usize, is_run: bool) -> usize {
-    if is_run {
-        return run(text, used, x, n);
-    }
-    plain(text, used, x, n)
-}
-
-// The octets of a buffer, after a blank.
-pub fn buffer(text: &mut [u8], used: usize, s: &[u8]) -> usize {
-    let mut to = put(text, used, BLANK);
-    if s.len() == 0 {
-        return put(text, to, HYPHEN);
-    }
+// All octets of a slice, run by run.
+fn runs(text: &mut [u8], s: &[u8]) -> usize {
+    let mut used: usize = 0;
     let mut i: usize = 0;
-    let mut after_run = false;
     while i < s.len() {
         let end = run_end(s, i);
-        let n = end - i;
-        let is_run = RUN <= n;
-        to = put_if(text, to, COMMA, 0 < i && (is_run || after_run));
-        to = equals(text, to, s[i], n, is_run);
-        after_run = is_run;
+        used = run(text, used, s[i], end - i);
         i = end;
     }
-    to
+    used
 }
 
-// A lent buffer, if the case has it.
-pub fn lent(text: &mut [u8], used: usize, s: &[u8], is_there: bool) -> usize {
-    if is_there {
-        return buffer(text, used, s);
-    }
-    used
+// The octets of a buffer, and a mark behind them.
+pub fn buffer(s: &[u8], mark: u8) {
+    let mut text = [0u8; TEXT];
+    let used = runs(&mut text, s);
+    let all = put(&mut text, used, mark);
+    write(&text, all);
 }

@@ -1,17 +1,14 @@
--- `vectors::turns` is safe and ends. The loop's invariant says nothing; its measure is the turns that are left.
+-- `vectors::turns` is safe and ends. The loop's invariant: it says nothing; its measure is the turns that are left.
 -- Assumes nothing.
 use borrow.Author.Needs.{needs}
 use Rattle.vectors.proofs.turns.Statement.{statement}
 use Rattle.vectors.proofs.turns.Tie as tie
 
 abbrev Inv-loop : tie.InvT-loop
-Inv-loop buf₀ numbers₀ strings₀ ends₀ store₀ out₀ answer₀ text₀ left₀ t₀ buf numbers strings ends store out answer text left t = Unit {0}
+Inv-loop given₀ store₀ out₀ left₀ go₀ given store out left go = Unit {0}
 
 abbrev μ-loop : tie.MeasureT-loop
-μ-loop buf₀ numbers₀ strings₀ ends₀ store₀ out₀ answer₀ text₀ left₀ t₀ buf numbers strings ends store out answer text left t = left
-
-start-requires : tie.Need-start-requires Inv-loop μ-loop
-start-requires c κs = search needs
+μ-loop given₀ store₀ out₀ left₀ go₀ given store out left go = left
 
 loop-holds : tie.Need-loop-holds Inv-loop μ-loop
 loop-holds c = search needs
@@ -28,11 +25,11 @@ loop-less c = search needs
 loop-again : tie.Need-loop-again Inv-loop μ-loop
 loop-again c = search needs
 
-flush-requires : tie.Need-flush-requires Inv-loop μ-loop
-flush-requires c κs = search needs
-
 returns : tie.Need-returns Inv-loop μ-loop
 returns c = search needs
+
+returns-2 : tie.Need-returns-2 Inv-loop μ-loop
+returns-2 c = search needs
 
 pub turns-spec : {M : Type 1} → statement M
 turns-spec =
@@ -40,11 +37,10 @@ turns-spec =
     (tie.spec
     Inv-loop
     μ-loop
-    start-requires
     loop-holds
     turn-requires
     sub-left
     loop-less
     loop-again
-    flush-requires
-    returns)
+    returns
+    returns-2)

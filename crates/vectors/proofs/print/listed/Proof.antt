@@ -1,23 +1,20 @@
--- `vectors::print::numbers` is safe and ends. The loop's invariant: the place is inside, and the text buffer keeps its length.
+-- `vectors::print::listed` is safe and ends. The loop's invariant: the place is inside, and the text keeps its length.
 -- Assumes nothing.
 use Prim.Native.Nat.{_≤_, _-_}
 use borrow.Author.Needs.{needs}
 use lib.ListN.{length}
 use mathlib.Core.Path.{_≡_}
-use Rattle.vectors.proofs.print.numbers.Statement.{statement}
-use Rattle.vectors.proofs.print.numbers.Tie as tie
+use Rattle.vectors.proofs.print.listed.Statement.{statement}
+use Rattle.vectors.proofs.print.listed.Tie as tie
 
 abbrev Inv-loop : tie.InvT-loop
-Inv-loop text₀ used list to₀ i₀ text to i = (i ≤ length list) × (length text ≡ length text₀)
+Inv-loop text₀ list used₀ i₀ text used i = (i ≤ length list) × (length text ≡ length text₀)
 
 abbrev μ-loop : tie.MeasureT-loop
-μ-loop text₀ used list to₀ i₀ text to i = length list - i
+μ-loop text₀ list used₀ i₀ text used i = length list - i
 
 loop-holds : tie.Need-loop-holds Inv-loop μ-loop
 loop-holds c = search needs
-
-put-if-requires : tie.Need-put-if-requires Inv-loop μ-loop
-put-if-requires c κs = search needs
 
 mul-decimal : tie.Need-mul-decimal Inv-loop μ-loop
 mul-decimal c = search needs
@@ -43,14 +40,13 @@ same-length c = search needs
 returns : tie.Need-returns Inv-loop μ-loop
 returns c = search needs
 
-pub numbers-spec : {M : Type 1} → statement M
-numbers-spec =
+pub listed-spec : {M : Type 1} → statement M
+listed-spec =
     tie.close
     (tie.spec
     Inv-loop
     μ-loop
     loop-holds
-    put-if-requires
     mul-decimal
     shared-slice-read-decimal
     decimal-requires

@@ -1,17 +1,17 @@
--- `vectors::input::repeated` is safe and ends. The loop's invariant: the place is inside, and the buffer keeps its length.
+-- `vectors::case::repeated` is safe and ends. The loop's invariant: the place is inside, and the buffer keeps its length.
 -- Assumes nothing.
 use Prim.Native.Nat.{_≤_, _-_}
 use borrow.Author.Needs.{needs}
 use lib.ListN.{length}
 use mathlib.Core.Path.{_≡_}
-use Rattle.vectors.proofs.input.repeated.Statement.{statement}
-use Rattle.vectors.proofs.input.repeated.Tie as tie
+use Rattle.vectors.proofs.case.repeated.Statement.{statement}
+use Rattle.vectors.proofs.case.repeated.Tie as tie
 
 abbrev Inv-loop : tie.InvT-loop
-Inv-loop to₀ x i₀ to i = (i ≤ length to₀) × (length to ≡ length to₀)
+Inv-loop to₀ at n x end₀ left₀ to end left = (end ≤ length to₀) × (length to ≡ length to₀)
 
 abbrev μ-loop : tie.MeasureT-loop
-μ-loop to₀ x i₀ to i = length to₀ - i
+μ-loop to₀ at n x end₀ left₀ to end left = length to₀ - end
 
 loop-holds : tie.Need-loop-holds Inv-loop μ-loop
 loop-holds c = search needs
@@ -19,8 +19,11 @@ loop-holds c = search needs
 slice-write-to : tie.Need-slice-write-to Inv-loop μ-loop
 slice-write-to c = search needs
 
-add-i : tie.Need-add-i Inv-loop μ-loop
-add-i c = search needs
+add-end : tie.Need-add-end Inv-loop μ-loop
+add-end c = search needs
+
+sub-left : tie.Need-sub-left Inv-loop μ-loop
+sub-left c = search needs
 
 loop-less : tie.Need-loop-less Inv-loop μ-loop
 loop-less c = search needs
@@ -34,6 +37,12 @@ same-length c = search needs
 returns : tie.Need-returns Inv-loop μ-loop
 returns c = search needs
 
+same-length-2 : tie.Need-same-length-2 Inv-loop μ-loop
+same-length-2 c = search needs
+
+returns-2 : tie.Need-returns-2 Inv-loop μ-loop
+returns-2 c = search needs
+
 pub repeated-spec : {M : Type 1} → statement M
 repeated-spec =
     tie.close
@@ -42,8 +51,11 @@ repeated-spec =
     μ-loop
     loop-holds
     slice-write-to
-    add-i
+    add-end
+    sub-left
     loop-less
     loop-again
     same-length
-    returns)
+    returns
+    same-length-2
+    returns-2)
