@@ -7,12 +7,12 @@
 // stand one after another, behind a table, 4 octets each, of where every one begins and the last ends. All numbers have their most
 // significant octet first.
 //
-// Each case prints a line: the numbers of its answer in decimal, each with a blank behind it; the store, a bar and the output, as
-// they are after the call. Octets are in hex, two or more equal ones as `xx*n,`. Where there is no such call the line has no
-// numbers. The run ends with the input, and at a case that is too long for the buffer here.
+// Each case prints a line: the numbers of its answer in decimal, each with a blank behind it, and of a view also the octets of its
+// part; then the store, a bar and the output, as they are after the call. Octets are in hex, two or more equal ones as `xx*n,`. Where
+// there is no such call the line has no numbers. The run ends with the input, or at a case that is too long for the buffer.
 //
 // Module case reads a case, print writes; the others have the calls, most of them by way of `flat` and `flat_store`, whose answers
-// are lists of numbers. A new call is a line of a function here and a function beside the others.
+// are lists of numbers. A new call is a function beside the others, and a line of the function here that has its buffers.
 mod case;
 mod joins;
 mod packets;
@@ -51,7 +51,7 @@ const RECORDING: u64 = 12;
 // How many parts a domain has at most.
 const LENGTHS: usize = 384;
 
-// The sizes of the buffers, each for one case.
+// The sizes of the buffers, each for one case; what would not fit is cut off.
 const GIVEN: usize = 2097152;
 
 const STORE: usize = 4300800;
@@ -93,6 +93,7 @@ fn run_writes(tag: u64, c: &[u8], out: &mut [u8]) {
     }
 }
 
+// The others with an output.
 fn run_outputs(tag: u64, c: &[u8], out: &mut [u8]) {
     if tag == VARINT_WRITE {
         varints::write(c, out);
@@ -110,6 +111,7 @@ fn run_packets(tag: u64, c: &[u8], out: &mut [u8]) {
     run_outputs(tag, c, out);
 }
 
+// Those with a store.
 fn run_arrivals(tag: u64, c: &[u8], store: &mut [u8]) {
     if tag == IN_ORDER {
         stores::order(c, store);
@@ -120,6 +122,7 @@ fn run_arrivals(tag: u64, c: &[u8], store: &mut [u8]) {
     }
 }
 
+// Those with both.
 fn run_takings(tag: u64, c: &[u8], store: &mut [u8], out: &mut [u8]) {
     if tag == TAKE {
         stores::take(c, store, out);
