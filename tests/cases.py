@@ -122,17 +122,18 @@ HEADER_NUMBERS = (
 TEXTS = "timestamp zone session_name domain authentication".split()
 
 
-def header(row):
-    """The parts of a header to write: its numbers, then its texts, the domain's lengths behind the domain."""
-    given = row["header"]
-    texts = [octets(given[name]) for name in TEXTS]
-    return [numbered(given[name] for name in HEADER_NUMBERS), *texts[:4], numbered(given["domain_lengths"]), *texts[4:]]
-
-
 def sender(numbers):
     """A sender's numbers: sequence count, whether a counter is left, and the counter."""
     counter = numbers["counter"]
     return [numbers["seq"], 0, 0] if counter is None else [numbers["seq"], 1, counter]
+
+
+def header(row):
+    """The parts of a header to write: its numbers, the sender's, and its texts, the domain's lengths behind the domain."""
+    given = row["header"]
+    numbers = [numbered(given[name] for name in HEADER_NUMBERS), numbered(sender(row["sender"]) if "sender" in row else [])]
+    texts = [octets(given[name]) for name in TEXTS]
+    return numbers + texts[:4] + [numbered(given["domain_lengths"])] + texts[4:]
 
 
 def answer(row):
@@ -282,13 +283,13 @@ CALLS = {
     ),
     "count": Call(
         5,
-        lambda row: [row["T"], row["P"], *sender(row["sender"]), row["body_length"]],
+        lambda row: [row["T"], row["P"], row["body_length"]],
         header,
         lambda row: line([answer(row)["refusal"], answer(row)["count"]] + sender(answer(row)["sender"])),
     ),
     "packet": Call(
         6,
-        lambda row: [row["T"], row["P"], *sender(row["sender"]), row["i"]],
+        lambda row: [row["T"], row["P"], row["i"]],
         lambda row: header(row) + [octets(row["body"])],
         lambda row: line(
             [answer(row)["refusal"], answer(row)["length"]] + sender(answer(row)["sender"]), out=octets(row["expect"]["out"])

@@ -2,21 +2,14 @@
 ghost use Prim.Native.Nat.{_≤_};
 ghost use lib.ListN.{length};
 
-// How many numbers a case has at most, and a header.
-pub const NUMBERS: usize = 8;
-
-pub const HEADER: usize = 24;
-
-// The octets of the next case to the front of a buffer. Whether there is one: not at the input's end, nor where it is too long.
-pub fn next(buf: &mut [u8]) -> bool {
+// The octets of the next case to the front of a buffer. At the input's end, and where they are too many, the buffer stays as it is.
+pub fn next(buf: &mut [u8]) {
     let mut long = [0u8; 4];
     io::read_full(0, &mut long);
     let n = octets::be32(&long, 0) as usize;
-    if buf.len() < n {
-        return false;
+    if n <= buf.len() {
+        io::read_full(0, &mut buf[0..n]);
     }
-    io::read_full(0, &mut buf[0..n]);
-    0 < n
 }
 
 // Part k of the octets, none where there is no such part.
@@ -86,17 +79,17 @@ pub fn list(s: &[u8], k: u8, to: &mut [u64]) -> usize
     listed(part(s, k), to)
 }
 
-// The numbers of a case, 0 behind the last.
-pub fn numbers(s: &[u8]) -> [u64; NUMBERS] {
-    let mut n = [0u64; NUMBERS];
-    list(s, 0, &mut n);
+// The numbers of a header.
+pub fn header(s: &[u8]) -> [u64; flat::HEADER] {
+    let mut n = [0u64; flat::HEADER];
+    list(s, 1, &mut n);
     n
 }
 
-// The numbers of its header.
-pub fn header(s: &[u8]) -> [u64; HEADER] {
-    let mut n = [0u64; HEADER];
-    list(s, 1, &mut n);
+// The numbers of a sender.
+pub fn sender(s: &[u8]) -> [u64; flat::SENDER] {
+    let mut n = [0u64; flat::SENDER];
+    list(s, 2, &mut n);
     n
 }
 

@@ -19,14 +19,16 @@ fn which_of(n: u64) -> Which {
     }
 }
 
-// The part of packet or joined that the numbers name: the buffer, place and length.
-fn viewed<'a>(n: [u64; 8], packet: &'a [u8], joined: &'a [u8]) -> &'a [u8] {
-    join::view(packet, joined, which_of(n[1]), n[2] as usize, n[3] as usize)
-}
-
-// Parts 1 and 2 are the packet and the joined buffer. Answers: the length of the part that is seen, and its octets.
+// Numbers: the buffer, place and length. Parts 1 and 2 are the packet and the joined buffer. Answers: the length of the part that is
+// seen, and its octets.
 pub fn view(c: &[u8]) {
-    let part = viewed(case::numbers(c), case::part(c, 1), case::part(c, 2));
+    let part = join::view(
+        case::part(c, 1),
+        case::part(c, 2),
+        which_of(case::number(c, 1)),
+        case::number(c, 2) as usize,
+        case::number(c, 3) as usize,
+    );
     print::numbers(&[part.len() as u64]);
     print::buffer(part, BLANK);
 }

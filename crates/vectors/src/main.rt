@@ -7,12 +7,12 @@
 // stand one after another, behind a table, 4 octets each, of where every one begins and the last ends. All numbers have their most
 // significant octet first.
 //
-// Each case prints a line: the numbers of its answer in decimal, each with a blank behind it; the store, a bar and the output, as
-// they are after the call. Octets are in hex, two or more equal ones as `xx*n,`. Where there is no such call the line has no
-// numbers. The run ends with the input, and at a case that is too long for the buffer here.
+// Each case prints a line: the numbers of its answer in decimal, each with a blank behind it, and of a view also the octets of its
+// part; then the store, a bar and the output, as they are after the call. Octets are in hex, two or more equal ones as `xx*n,`. Where
+// there is no such call the line has no numbers. The run ends with the input, or at a case that is too long for the buffer.
 //
 // Module case reads a case, print writes; the others have the calls, most of them by way of `flat` and `flat_store`, whose answers
-// are lists of numbers. A new call is a line of a function here and a function beside the others.
+// are lists of numbers. A new call is a function beside the others, and a line of the function here that has its buffers.
 mod case;
 mod joins;
 mod packets;
@@ -20,6 +20,8 @@ mod print;
 mod recordings;
 mod stores;
 mod varints;
+
+ghost use Prim.Native.Nat.{_<_};
 
 // The calls.
 const VARINT_READ: u64 = 1;
@@ -49,9 +51,7 @@ const RECORDING: u64 = 12;
 // How many parts a domain has at most.
 const LENGTHS: usize = 384;
 
-// The sizes of the buffers, each for one case.
-const PACKED: usize = 65536;
-
+// The sizes of the buffers, each for one case; what would not fit is cut off.
 const GIVEN: usize = 2097152;
 
 const STORE: usize = 4300800;
@@ -78,7 +78,7 @@ fn run_reads(tag: u64, c: &[u8]) {
 // Writing and cutting.
 fn run_writes(tag: u64, c: &[u8], out: &mut [u8]) {
     let mut list = [0u64; LENGTHS];
-    let k = case::list(c, 6, &mut list);
+    let k = case::list(c, 7, &mut list);
     let lengths = &list[0..k];
     if tag == WRITE {
         packets::write(c, lengths, out);
@@ -93,6 +93,7 @@ fn run_writes(tag: u64, c: &[u8], out: &mut [u8]) {
     }
 }
 
+// The others with an output.
 fn run_outputs(tag: u64, c: &[u8], out: &mut [u8]) {
     if tag == VARINT_WRITE {
         varints::write(c, out);
@@ -110,6 +111,7 @@ fn run_packets(tag: u64, c: &[u8], out: &mut [u8]) {
     run_outputs(tag, c, out);
 }
 
+// Those with a store.
 fn run_arrivals(tag: u64, c: &[u8], store: &mut [u8]) {
     if tag == IN_ORDER {
         stores::order(c, store);
@@ -120,6 +122,7 @@ fn run_arrivals(tag: u64, c: &[u8], store: &mut [u8]) {
     }
 }
 
+// Those with both.
 fn run_takings(tag: u64, c: &[u8], store: &mut [u8], out: &mut [u8]) {
     if tag == TAKE {
         stores::take(c, store, out);
@@ -130,42 +133,58 @@ fn run_takings(tag: u64, c: &[u8], store: &mut [u8], out: &mut [u8]) {
     }
 }
 
+// The end of a line: the lent buffers. Where nothing is given there is no line.
+fn end(tag: u64, store: &[u8], out: &[u8]) {
+    if tag != 0 {
+        print::buffer(store, BAR);
+        print::buffer(out, NEWLINE);
+    }
+}
+
 // Runs the call of a case on its buffers, and prints its line.
 fn run(c: &[u8], store: &mut [u8], out: &mut [u8]) {
     let tag = case::number(c, 0);
     run_packets(tag, c, out);
     run_arrivals(tag, c, store);
     run_takings(tag, c, store, out);
-    print::buffer(store, BAR);
-    print::buffer(out, NEWLINE);
+    end(tag, store, out);
 }
 
-// Unpacks a case and runs it on just its own part of the buffers.
-fn unpack(packed: &[u8], given: &mut [u8], store: &mut [u8], out: &mut [u8]) {
-    let g = case::unpacked(packed, 0, given);
+// How many turns are left behind one in which so many octets were given: none where there was no case.
+fn fewer(left: u64, given: usize) -> u64
+    requires { ⌜ 0 < left ⌝ }
+    ensures { λ r. ⌜ r < left ⌝ }
+{
+    if given == 0 {
+        return 0;
+    }
+    left - 1
+}
+
+// Runs a case on just its own part of the buffers.
+fn filled(packed: &[u8], c: &[u8], store: &mut [u8], out: &mut [u8]) {
     let s = case::unpacked(packed, 1, store);
     let o = case::unpacked(packed, 2, out);
-    run(&given[0..g], &mut store[0..s], &mut out[0..o]);
+    run(c, &mut store[0..s], &mut out[0..o]);
 }
 
-// Runs the next case, and tells whether there was one.
-fn turn(given: &mut [u8], store: &mut [u8], out: &mut [u8]) -> bool {
-    let mut packed = [0u8; PACKED];
-    let more = case::next(&mut packed);
-    if !more {
-        return false;
-    }
-    unpack(&packed, given, store, out);
-    true
+// Runs the next case, and tells how many turns are left.
+fn turn(left: u64, given: &mut [u8], store: &mut [u8], out: &mut [u8]) -> u64
+    requires { ⌜ 0 < left ⌝ }
+    ensures { λ r. ⌜ r < left ⌝ }
+{
+    let mut packed = io::large_buffer();
+    case::next(&mut packed);
+    let g = case::unpacked(&packed, 0, given);
+    filled(&packed, &given[0..g], store, out);
+    fewer(left, g)
 }
 
 // Runs all cases. Nothing says that the input ends, so the turns are counted down from a number that no run uses up.
 fn turns(given: &mut [u8; GIVEN], store: &mut [u8; STORE], out: &mut [u8; OUTPUT]) {
     let mut left = u64::MAX;
-    let mut go = true;
-    while 0 < left && go {
-        go = turn(given, store, out);
-        left -= 1;
+    while 0 < left {
+        left = turn(left, given, store, out);
     }
 }
 

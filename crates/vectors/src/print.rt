@@ -13,7 +13,7 @@ const STAR: u8 = 42;
 // The sizes of the two buffers.
 const ANSWER: usize = 2048;
 
-const TEXT: usize = 65536;
+const TEXT: usize = 16384;
 
 // An octet.
 fn put(text: &mut [u8], used: usize, x: u8) -> usize {

@@ -5,19 +5,16 @@ use Rattle.vectors.proofs.turns.Statement.{statement}
 use Rattle.vectors.proofs.turns.Tie as tie
 
 abbrev Inv-loop : tie.InvT-loop
-Inv-loop given₀ store₀ out₀ left₀ go₀ given store out left go = Unit {0}
+Inv-loop given₀ store₀ out₀ left₀ given store out left = Unit {0}
 
 abbrev μ-loop : tie.MeasureT-loop
-μ-loop given₀ store₀ out₀ left₀ go₀ given store out left go = left
+μ-loop given₀ store₀ out₀ left₀ given store out left = left
 
 loop-holds : tie.Need-loop-holds Inv-loop μ-loop
 loop-holds c = search needs
 
 turn-requires : tie.Need-turn-requires Inv-loop μ-loop
 turn-requires c κs = search needs
-
-sub-left : tie.Need-sub-left Inv-loop μ-loop
-sub-left c = search needs
 
 loop-less : tie.Need-loop-less Inv-loop μ-loop
 loop-less c = search needs
@@ -28,19 +25,6 @@ loop-again c = search needs
 returns : tie.Need-returns Inv-loop μ-loop
 returns c = search needs
 
-returns-2 : tie.Need-returns-2 Inv-loop μ-loop
-returns-2 c = search needs
-
 pub turns-spec : {M : Type 1} → statement M
 turns-spec =
-    tie.close
-    (tie.spec
-    Inv-loop
-    μ-loop
-    loop-holds
-    turn-requires
-    sub-left
-    loop-less
-    loop-again
-    returns
-    returns-2)
+    tie.close (tie.spec Inv-loop μ-loop loop-holds turn-requires loop-less loop-again returns)
