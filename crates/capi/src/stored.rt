@@ -2,8 +2,8 @@
 ghost use mathlib.Core.Path.{_≡_};
 ghost use lib.ListN.{length};
 ghost use Rattle.cells.specs.Order.{countIn};
-ghost use Rattle.store.specs.Arriving.{arrived, storeWith};
-ghost use Rattle.store.specs.Taking.{took, outWith, storeLess};
+ghost use Rattle.arrival.specs.Arriving.{arrived, storeWith};
+ghost use Rattle.taking.specs.Taking.{took, outWith, storeLess};
 ghost use Rattle.join.specs.Joining.{joining, storeJoined, outJoined};
 ghost use Rattle.recording.specs.Ending.{recordedOf, outRecorded};
 ghost use Rattle.walk.specs.Walk.{settingsOf};

@@ -16,9 +16,9 @@ use Rattle.walk.specs.declared.Settings.{Settings}
 use Rattle.packet.specs.Reading.{segmented}
 use Rattle.cells.specs.Segments.{Seg, sameRest}
 use Rattle.cells.specs.Rows.{Cell, mayHold}
-use Rattle.store.specs.Messages.{cellsOf, look, top}
-use Rattle.store.specs.Arriving.{stored, again, refused, placed, beside, lowestFree, segmentArrived, arrivedIn, arrived}
-use Rattle.store.specs.Taking.{message}
+use Rattle.messages.specs.Messages.{cellsOf, look, top}
+use Rattle.arrival.specs.Arriving.{stored, again, refused, placed, beside, lowestFree, segmentArrived, arrivedIn, arrived}
+use Rattle.taking.specs.Taking.{message}
 use Rattle.keeping.specs.Cells.{hasFree}
 use Rattle.keeping.proofs.Picking.{pick-yes}
 use Rattle.keeping.proofs.After.{segment, has-free}

@@ -10,7 +10,7 @@ use mathlib.Core.List.{List, [], _∷_, List·Memᴰ·head, List·Memᴰ·tail, 
 use Rattle.octets.proofs.Lists.{bool}
 use Rattle.cells.specs.Segments.{Seg, carries}
 use Rattle.cells.specs.Rows.{Cell}
-use Rattle.store.specs.Messages.{first, Run, segments, look, chain, among, or}
+use Rattle.messages.specs.Messages.{first, Run, segments, look, chain, among, or}
 use Rattle.keeping.specs.Cells.{put, hasFree, clear}
 use Rattle.demand3.specs.Complete.{Held, Single}
 use Rattle.demand3.proofs.Looks.{carries-true, carries-yes, carries-no, look-held, look-at, look-same, put-same, put-other, put-full, put-held, clear-kept, clear-held}

@@ -25,11 +25,13 @@ use Rattle.cut.proofs.count.Reads as counts
 use Rattle.cut.proofs.packet.Reads as cuts
 use Rattle.fewest.proofs.Calls.{packet-wrote}
 use Rattle.cells.specs.Order.{inOrder, countIn}
-use Rattle.store.specs.Messages.{Run, cellsOf, picked, top}
-use Rattle.store.specs.Arriving.{Arrived, whole, stored, again, refused, arrived, storeWith}
-use Rattle.store.specs.Taking.{Took, message, unable, writing, drawn, tookIn, took, outWith, storeLess}
-use Rattle.store.specs.declared.Taken.{Taken}
-use Rattle.store.specs.Told.{refusalOf, arrivalOf, takenOf}
+use Rattle.messages.specs.Messages.{Run, cellsOf, picked, top}
+use Rattle.arrival.specs.Arriving.{Arrived, whole, stored, again, refused, arrived, storeWith}
+use Rattle.taking.specs.Taking.{Took, message, unable, writing, drawn, tookIn, took, outWith, storeLess}
+use Rattle.taking.specs.declared.Taken.{Taken}
+use Rattle.messages.specs.Told.{refusalOf}
+use Rattle.arrival.specs.Told.{arrivalOf}
+use Rattle.taking.specs.Told.{takenOf}
 use Rattle.store.proofs.arrive.Reads as arrives
 use Rattle.store.proofs.take.Reads as takes
 use Rattle.join.specs.Joining.{Joining, inPacket, unjoined, bodyFrom, tookAs, joinedBy, storeBy as storeJoinedBy, outBy as outJoinedBy, joining as joined, storeJoined, outJoined}

@@ -12,8 +12,8 @@ use lib.ListN.{length}
 use Rattle.walk.specs.declared.Settings.{Settings}
 use Rattle.cells.specs.Segments.{Seg, segOf}
 use Rattle.cells.specs.Rows.{Cell}
-use Rattle.store.specs.Messages.{cellsOf, look, top}
-use Rattle.store.specs.Taking.{message}
+use Rattle.messages.specs.Messages.{cellsOf, look, top}
+use Rattle.taking.specs.Taking.{message}
 use Rattle.keeping.specs.Cells.{hasFree}
 use Rattle.keeping.proofs.Empty.{empty-cells, empty-count, empty-order}
 use Rattle.demand3.specs.Traffic.{Sent, segmentsOf, Event, arrives, takes, empty, takenFrom, after, OneOf, Room as CellRoom}

@@ -24,7 +24,8 @@ use Rattle.fewest.specs.Runs.{place}
 use Rattle.fewest.proofs.Lists.{first-length, first-at}
 use Rattle.fewest.proofs.Parts.{packets-one, parts-joined}
 use Rattle.fewest.proofs.Numbers.{Starts, counter-of, counters, packet-range, cuts-well}
-use Rattle.store.specs.Told.{refusalOf, takenOf}
+use Rattle.messages.specs.Told.{refusalOf}
+use Rattle.taking.specs.Told.{takenOf}
 use Rattle.demand3.specs.Traffic.{joined}
 use Rattle.demand3.specs.Calls.{Call, outOf, tookBy, outBy}
 use Rattle.demand3.specs.Sendings.{Sending, wholeBody, flagsIn, ReadsAs, manyOf, valuesAt, packetWith, segmentAt, IsCut}

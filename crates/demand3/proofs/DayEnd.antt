@@ -16,8 +16,8 @@ use Rattle.write.specs.Given.{headOf}
 use Rattle.fewest.specs.Runs.{place}
 use Rattle.cells.specs.Segments.{carries, sameRest}
 use Rattle.cells.specs.Rows.{Cell, free, held}
-use Rattle.store.specs.Messages.{Run, look, roleOf, bodies, chain, runFrom, pickIn, among, top}
-use Rattle.store.specs.Taking.{message, unable}
+use Rattle.messages.specs.Messages.{Run, look, roleOf, bodies, chain, runFrom, pickIn, among, top}
+use Rattle.taking.specs.Taking.{message, unable}
 use Rattle.keeping.specs.Cells.{put, hasFree}
 use Rattle.demand3.specs.Traffic.{Event, empty, takenFrom, stepped, after}
 use Rattle.demand3.specs.Promise.{Untaken as CellUntaken}

@@ -13,8 +13,8 @@ use lib.ListN.{length, replicate}
 use Rattle.octets.specs.Octets.{alike}
 use Rattle.cells.specs.Segments.{carries, sameRest}
 use Rattle.cells.specs.Rows.{Cell, free}
-use Rattle.store.specs.Messages.{look, roleOf, bodies, chain, runFrom, pickIn, among, top}
-use Rattle.store.specs.Taking.{message}
+use Rattle.messages.specs.Messages.{look, roleOf, bodies, chain, runFrom, pickIn, among, top}
+use Rattle.taking.specs.Taking.{message}
 use Rattle.keeping.specs.Cells.{put, hasFree}
 use Rattle.keeping.proofs.Empty.{empty-cells}
 use Rattle.demand3.specs.Traffic.{Event, arrives, passes, takes, empty, takenFrom, stepped, after, Room as CellRoom}

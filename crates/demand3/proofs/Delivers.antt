@@ -14,10 +14,11 @@ use Rattle.octets.specs.Octets.{pick}
 use Rattle.walk.specs.declared.Settings.{Settings}
 use Rattle.cells.specs.Rows.{Cell, held, rowAt, zeroRow}
 use Rattle.cells.specs.Order.{countIn, cellAt}
-use Rattle.store.specs.declared.Taken.{Taken}
-use Rattle.store.specs.Messages.{Run, bodyOf, segments, picked, top}
-use Rattle.store.specs.Taking.{Took, message, unable, writing, took, outWith, storeLess}
-use Rattle.store.specs.Told.{refusalOf, takenOf}
+use Rattle.taking.specs.declared.Taken.{Taken}
+use Rattle.messages.specs.Messages.{Run, bodyOf, segments, picked, top}
+use Rattle.taking.specs.Taking.{Took, message, unable, writing, took, outWith, storeLess}
+use Rattle.messages.specs.Told.{refusalOf}
+use Rattle.taking.specs.Told.{takenOf}
 use Rattle.keeping.proofs.Picking.{pick-yes}
 use Rattle.keeping.proofs.Zeroed.{taken-tells, segment-held, zeroed-row, other-row}
 use Rattle.keeping.proofs.Untouched.{unable-same, unable-output}

@@ -9,8 +9,8 @@ use native.Mathlib.Omega.{arith}
 use lib.ListN.{length, length-append}
 use Rattle.cells.specs.Segments.{Seg}
 use Rattle.cells.specs.Rows.{Cell}
-use Rattle.store.specs.Messages.{Run, bodyOf, segments, look, picked}
-use Rattle.store.specs.Taking.{message, unable, writing}
+use Rattle.messages.specs.Messages.{Run, bodyOf, segments, look, picked}
+use Rattle.taking.specs.Taking.{message, unable, writing}
 use Rattle.keeping.specs.Cells.{clear}
 use Rattle.demand3.specs.Complete.{Held}
 use Rattle.demand3.specs.Traffic.{Sent, bodyIn, stepsIn, runOf, segmentsOf, Event, arrives, takes, empty, takenFrom, stepped, after, OneOf, Stray, Traffic}

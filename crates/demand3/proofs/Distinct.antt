@@ -13,7 +13,7 @@ use Rattle.cells.specs.Segments.{Seg, carries}
 use Rattle.cells.specs.Rows.{Cell, free, held, broken}
 use Rattle.cells.specs.Order.{carriesIn, cellAt, allTo, newTo, newAt, distinct}
 use Rattle.cells.proofs.Apart.{all-at}
-use Rattle.store.specs.Messages.{listed, cellsOf, look}
+use Rattle.messages.specs.Messages.{listed, cellsOf, look}
 use Rattle.demand3.specs.Complete.{Held, Distinct, Single}
 use Rattle.demand3.proofs.Looks.{carries-true, carries-yes, look-hit, look-miss}
 

@@ -10,8 +10,8 @@ use native.Mathlib.Omega.{arith}
 use Rattle.octets.specs.Octets.{alike}
 use Rattle.cells.specs.Segments.{Seg, carries}
 use Rattle.cells.specs.Rows.{free, held}
-use Rattle.store.specs.Messages.{Run, bodies, look, roleOf, chain, runFrom, pickIn, among, top}
-use Rattle.store.specs.Taking.{message, unable}
+use Rattle.messages.specs.Messages.{Run, bodies, look, roleOf, chain, runFrom, pickIn, among, top}
+use Rattle.taking.specs.Taking.{message, unable}
 use Rattle.keeping.specs.Cells.{put, hasFree}
 use Rattle.demand3.specs.Traffic.{Sent, later, runOf, segmentsOf, arrives, takes, empty, takenFrom, stepped, after, OneOf}
 use Rattle.demand3.specs.Promise.{AllCame, Untaken, Anew, retaken, Promise}

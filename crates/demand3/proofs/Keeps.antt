@@ -10,8 +10,8 @@ use native.Mathlib.Omega.{arith}
 use Rattle.octets.proofs.Lists.{bool}
 use Rattle.cells.specs.Segments.{Seg, carries}
 use Rattle.cells.specs.Rows.{Cell}
-use Rattle.store.specs.Messages.{Run, segments, look}
-use Rattle.store.specs.Taking.{Took, message, unable}
+use Rattle.messages.specs.Messages.{Run, segments, look}
+use Rattle.taking.specs.Taking.{Took, message, unable}
 use Rattle.keeping.specs.Cells.{put, hasFree, clear}
 use Rattle.demand3.specs.Traffic.{Event, arrives, passes, takes, stowed, lessened, empty, takenFrom, stepped, after, Room}
 use Rattle.demand3.proofs.Looks.{carries-true, carries-no, look-same, put-same, put-other, clear-gone, clear-kept}

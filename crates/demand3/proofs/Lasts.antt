@@ -9,8 +9,8 @@ use mathlib.Core.List.{List, [], _∷_, _++_}
 use lib.ListN.{length}
 use Rattle.cells.specs.Segments.{Seg}
 use Rattle.cells.specs.Rows.{Cell}
-use Rattle.store.specs.Messages.{Run, segments, look}
-use Rattle.store.specs.Taking.{message}
+use Rattle.messages.specs.Messages.{Run, segments, look}
+use Rattle.taking.specs.Taking.{message}
 use Rattle.keeping.specs.Cells.{put, clear}
 use Rattle.demand3.specs.Complete.{Held, Single, Complete}
 use Rattle.demand3.specs.Traffic.{Event, takes, takenFrom, stepped, after}

@@ -8,7 +8,7 @@ use mathlib.Core.List.{List, [], _∷_, _++_, List·Memᴰ, List·Memᴰ·head, 
 use native.Mathlib.Omega.{arith}
 use lib.ListN.{length}
 use Rattle.cells.specs.Segments.{Seg}
-use Rattle.store.specs.Messages.{Role, first, middle, last, roleOf, Run, bodies, bodyOf, segments}
+use Rattle.messages.specs.Messages.{Role, first, middle, last, roleOf, Run, bodies, bodyOf, segments}
 use Rattle.demand3.specs.Complete.{steps}
 use Rattle.demand3.specs.Traffic.{Sent, joined, bodyIn, stepsIn, later, runOf}
 use Rattle.demand3.specs.Promise.{Original}

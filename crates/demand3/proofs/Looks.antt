@@ -14,7 +14,7 @@ use Rattle.octets.proofs.Lists.{bool, alike-self, alike-true}
 use Rattle.cells.specs.Segments.{Seg, carries}
 use Rattle.cells.specs.Rows.{Cell, free, held, broken}
 use Rattle.cells.proofs.Held.{both-true}
-use Rattle.store.specs.Messages.{orElse, heldAs, look, among}
+use Rattle.messages.specs.Messages.{orElse, heldAs, look, among}
 use Rattle.keeping.specs.Cells.{put, hasFree, freed, clear}
 use Rattle.demand3.specs.Complete.{Held}
 

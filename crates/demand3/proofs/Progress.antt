@@ -14,8 +14,8 @@ use Rattle.octets.proofs.Lists.{bool}
 use Rattle.cells.specs.Segments.{Seg}
 use Rattle.cells.specs.Rows.{Cell, free, held, broken}
 use Rattle.cells.specs.Order.{isFree}
-use Rattle.store.specs.Messages.{Run, segments, picked, among}
-use Rattle.store.specs.Taking.{message, writing}
+use Rattle.messages.specs.Messages.{Run, segments, picked, among}
+use Rattle.taking.specs.Taking.{message, writing}
 use Rattle.keeping.specs.Cells.{clear}
 use Rattle.demand3.specs.Complete.{Held, Single, Complete}
 use Rattle.demand3.specs.Traffic.{takes, takenFrom, stepped, after}

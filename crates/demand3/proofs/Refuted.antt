@@ -17,10 +17,11 @@ use Rattle.packet.specs.Format.{presence, identification, fixedOctets, frontOct
 use Rattle.write.specs.Given.{headOf}
 use Rattle.fewest.specs.Runs.{place}
 use Rattle.cells.specs.Segments.{carries, sameRest}
-use Rattle.store.specs.declared.Taken.{Taken}
-use Rattle.store.specs.Messages.{Run, look, roleOf, bodies, bodyOf, chain, runFrom, pickIn, picked, among, top}
-use Rattle.store.specs.Taking.{Took, message, unable}
-use Rattle.store.specs.Told.{refusalOf, takenOf}
+use Rattle.taking.specs.declared.Taken.{Taken}
+use Rattle.messages.specs.Messages.{Run, look, roleOf, bodies, bodyOf, chain, runFrom, pickIn, picked, among, top}
+use Rattle.taking.specs.Taking.{Took, message, unable}
+use Rattle.messages.specs.Told.{refusalOf}
+use Rattle.taking.specs.Told.{takenOf}
 use Rattle.keeping.specs.Cells.{put, hasFree}
 use Rattle.keeping.proofs.Empty.{empty-cells}
 use Rattle.demand3.specs.Complete.{Held}

@@ -11,7 +11,7 @@ use lib.ListN.{length, length-replicate, length-map}
 use Rattle.octets.proofs.Lists.{bool}
 use Rattle.cells.specs.Segments.{Seg}
 use Rattle.cells.specs.Rows.{Cell, free, held, broken}
-use Rattle.store.specs.Messages.{segments, look}
+use Rattle.messages.specs.Messages.{segments, look}
 use Rattle.keeping.specs.Cells.{put, hasFree, freed}
 use Rattle.demand3.specs.Traffic.{Event, arrives, passes, takes, empty, stepped, after, Room}
 use Rattle.demand3.proofs.Takings.{step-keeps}

@@ -9,8 +9,8 @@ use mathlib.Core.Option.{some}
 use mathlib.Core.List.{List, _∷_, _++_}
 use lib.ListN.{length}
 use Rattle.cells.specs.Rows.{Cell}
-use Rattle.store.specs.Messages.{Run, picked}
-use Rattle.store.specs.Taking.{message}
+use Rattle.messages.specs.Messages.{Run, picked}
+use Rattle.taking.specs.Taking.{message}
 use Rattle.demand3.specs.Complete.{Single, Complete}
 use Rattle.demand3.specs.Traffic.{Event, takes, empty, takenFrom, after}
 use Rattle.demand3.specs.Promise.{LongEnough, HandsOut}

@@ -12,7 +12,7 @@ use Rattle.octets.proofs.Lists.{below-or}
 use Rattle.walk.specs.declared.Settings.{Settings}
 use Rattle.format.proofs.Frame.{identification-long}
 use Rattle.cells.specs.Segments.{Seg}
-use Rattle.store.specs.Messages.{listed, segments, top}
+use Rattle.messages.specs.Messages.{listed, segments, top}
 use Rattle.demand3.specs.Traffic.{Sent, joined, bodyIn, flagsBefore, later, runOf, segmentsOf}
 use Rattle.demand3.specs.Base.{final}
 use Rattle.demand3.specs.Sendings.{Sending, wholeBody, flagsIn, manyOf, segmentAt, identificationOf, headerOf, keyIn, headerSize, startOf, endOf, IsCut}

@@ -13,8 +13,8 @@ use Rattle.octets.specs.Octets.{pick}
 use Rattle.walk.specs.declared.Settings.{Settings}
 use Rattle.cells.specs.Segments.{Seg}
 use Rattle.cells.specs.Rows.{Cell}
-use Rattle.store.specs.Messages.{cellsOf, Run, top}
-use Rattle.store.specs.Taking.{message, took}
+use Rattle.messages.specs.Messages.{cellsOf, Run, top}
+use Rattle.taking.specs.Taking.{message, took}
 use Rattle.demand3.specs.Traffic.{Event, arrives, takes, takenFrom, stepped, after}
 use Rattle.demand3.specs.Calls.{Call, arrival, taking, joining, Brings, Handed, outOf, takenStore, draws, storeAt, tookBy, storeBy, storeAfter}
 use Rattle.demand3.proofs.Keeps.{after-append}

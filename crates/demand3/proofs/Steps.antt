@@ -21,9 +21,9 @@ use Rattle.cells.specs.Segments.{Seg, both, sameRest}
 use Rattle.cells.specs.Rows.{Cell, mayHold}
 use Rattle.cells.specs.Order.{inOrder, countIn}
 use Rattle.cells.proofs.Held.{both-true}
-use Rattle.store.specs.Messages.{cellsOf, look, top}
-use Rattle.store.specs.Arriving.{Arrived, whole, stored, again, refused, placed, beside, lowestFree, segmentArrived, arrivedIn, arrived, storeWith}
-use Rattle.store.specs.Taking.{Took, message, unable, tookIn, took, storeLess}
+use Rattle.messages.specs.Messages.{cellsOf, look, top}
+use Rattle.arrival.specs.Arriving.{Arrived, whole, stored, again, refused, placed, beside, lowestFree, segmentArrived, arrivedIn, arrived, storeWith}
+use Rattle.taking.specs.Taking.{Took, message, unable, tookIn, took, storeLess}
 use Rattle.keeping.specs.Cells.{put}
 use Rattle.keeping.proofs.Picking.{pick-yes}
 use Rattle.keeping.proofs.Order.{cells-inside}

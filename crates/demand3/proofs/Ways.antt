@@ -15,8 +15,8 @@ use Rattle.octets.proofs.Lists.{bool}
 use Rattle.walk.specs.declared.Settings.{Settings}
 use Rattle.cells.specs.Segments.{Seg, both}
 use Rattle.cells.specs.Rows.{Cell, free, held, broken}
-use Rattle.store.specs.Messages.{Run, Role, first, middle, last, roleOf, cellsOf, orElse, look, link, opensBy, chain, runFrom, pickIn, picked, top}
-use Rattle.store.specs.Taking.{Took, drawn, took}
+use Rattle.messages.specs.Messages.{Run, Role, first, middle, last, roleOf, cellsOf, orElse, look, link, opensBy, chain, runFrom, pickIn, picked, top}
+use Rattle.taking.specs.Taking.{Took, drawn, took}
 use Rattle.keeping.proofs.Picking.{pick-yes}
 use Rattle.keeping.proofs.Empty.{empty-cells}
 use Rattle.demand3.specs.Traffic.{Event, arrives, passes, takes, stowed, lessened, empty, takenFrom, stepped, after}

@@ -9,8 +9,8 @@ use native.Mathlib.Omega.{arith}
 use lib.ListN.{length}
 use Rattle.cells.specs.Segments.{Seg}
 use Rattle.cells.specs.Rows.{Cell}
-use Rattle.store.specs.Messages.{top}
-use Rattle.store.specs.Taking.{message, took}
+use Rattle.messages.specs.Messages.{top}
+use Rattle.taking.specs.Taking.{message, took}
 use Rattle.demand3.specs.Traffic.{Sent, Event, arrives, empty, takenFrom, after}
 use Rattle.demand3.specs.Promise.{Original, Promise as CellPromise}
 use Rattle.demand3.specs.Base.{Done01, Traffic01}

@@ -6,8 +6,8 @@ use mathlib.Core.Logic.{_≢_, _⊎_}
 use mathlib.Core.List.{List, _++_, List·Memᴰ}
 use Rattle.cells.specs.Segments.{Seg}
 use Rattle.cells.specs.Rows.{Cell}
-use Rattle.store.specs.Messages.{Run, first, middle, last, top}
-use Rattle.store.specs.Taking.{message}
+use Rattle.messages.specs.Messages.{Run, first, middle, last, top}
+use Rattle.taking.specs.Taking.{message}
 use Rattle.demand3.specs.Complete.{Has}
 use Rattle.demand3.specs.Traffic.{Sent, stepsIn, segmentsOf, Event, arrives, empty, takenFrom, after, OneOf, Room}
 use Rattle.demand3.specs.Promise.{Original, AllCame, Untaken, Anew, Delivery, Promise}

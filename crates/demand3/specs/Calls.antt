@@ -14,8 +14,8 @@ use lib.ListN.{length}
 use Rattle.octets.specs.Octets.{pick}
 use Rattle.walk.specs.declared.Settings.{Settings}
 use Rattle.cells.specs.Order.{countIn}
-use Rattle.store.specs.Arriving.{Arrived, whole, stored, again, refused, arrived, storeWith}
-use Rattle.store.specs.Taking.{Took, took, outWith, storeLess}
+use Rattle.arrival.specs.Arriving.{Arrived, whole, stored, again, refused, arrived, storeWith}
+use Rattle.taking.specs.Taking.{Took, took, outWith, storeLess}
 
 -- of `store::arrive` the packet, of `store::take` the lent output, of `join::join` both; each of any length and content
 pub data Call : Type 0 where

@@ -9,7 +9,7 @@ use mathlib.Core.Option.{some}
 use mathlib.Core.List.{List, _∷_, _++_, List·Memᴰ}
 use Rattle.cells.specs.Segments.{Seg}
 use Rattle.cells.specs.Rows.{Cell, held}
-use Rattle.store.specs.Messages.{Role, first, middle, last, roleOf, look}
+use Rattle.messages.specs.Messages.{Role, first, middle, last, roleOf, look}
 
 -- a cell holds the segment
 abbrev pub Held : Seg → List Cell → Type 0

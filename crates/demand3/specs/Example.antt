@@ -3,8 +3,8 @@
 use Prim.Native.Nat.{ℕ, suc}
 use mathlib.Core.List.{List, [], _∷_, _++_}
 use Rattle.cells.specs.Rows.{Cell}
-use Rattle.store.specs.Messages.{top}
-use Rattle.store.specs.Taking.{Took}
+use Rattle.messages.specs.Messages.{top}
+use Rattle.taking.specs.Taking.{Took}
 use Rattle.demand3.specs.Traffic.{Sent, Event, arrives, passes, takes, takenFrom, stepped}
 
 abbrev pub theKey : List ℕ

@@ -10,8 +10,8 @@ use mathlib.Core.List.{List, [], _∷_, _++_, List·Memᴰ}
 use lib.ListN.{length, replicate}
 use Rattle.cells.specs.Segments.{Seg}
 use Rattle.cells.specs.Rows.{Cell, free}
-use Rattle.store.specs.Messages.{Run, segments, look, picked}
-use Rattle.store.specs.Taking.{Took, message, unable, drawn}
+use Rattle.messages.specs.Messages.{Run, segments, look, picked}
+use Rattle.taking.specs.Taking.{Took, message, unable, drawn}
 use Rattle.keeping.specs.Cells.{put, hasFree, clear}
 
 -- ---- messages

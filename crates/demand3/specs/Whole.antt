@@ -14,9 +14,10 @@ use Rattle.octets.specs.Octets.{Octets}
 use Rattle.walk.specs.declared.Settings.{Settings}
 use Rattle.cells.specs.Rows.{held, rowAt, zeroRow}
 use Rattle.cells.specs.Order.{cellAt}
-use Rattle.store.specs.Messages.{Run, picked, top}
-use Rattle.store.specs.Taking.{message, unable, writing}
-use Rattle.store.specs.Told.{refusalOf, takenOf}
+use Rattle.messages.specs.Messages.{Run, picked, top}
+use Rattle.taking.specs.Taking.{message, unable, writing}
+use Rattle.messages.specs.Told.{refusalOf}
+use Rattle.taking.specs.Told.{takenOf}
 use Rattle.demand3.specs.Base.{CompleteFrom}
 use Rattle.demand3.specs.Calls.{Call, taking, Brings, packetsIn, outOf, draws, storeAt, tookBy, storeBy, outBy, storeAfter, outsAfter}
 use Rattle.demand3.specs.Sendings.{Sending, wholeBody, manyOf, segmentAt, identificationOf, headerOf, keyIn, headerSize, bodySize, startOf, endOf}

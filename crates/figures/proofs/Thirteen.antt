@@ -20,8 +20,8 @@ use Rattle.cut.specs.Cutting.{packets, rounded, limitTest, valueTests, messageT
 use Rattle.fewest.proofs.Figures.{settings, zeros}
 use Rattle.cells.specs.Segments.{Seg, segOf, carries}
 use Rattle.cells.specs.Rows.{Cell, held, mayHold}
-use Rattle.store.specs.Messages.{cellsOf, look, roleOf, bodies, chain, runFrom, pickIn, top}
-use Rattle.store.specs.Taking.{Took}
+use Rattle.messages.specs.Messages.{cellsOf, look, roleOf, bodies, chain, runFrom, pickIn, top}
+use Rattle.taking.specs.Taking.{Took}
 use Rattle.keeping.specs.Cells.{put}
 use Rattle.demand3.specs.Traffic.{Event, arrives, empty, takenFrom, stepped, after}
 use Rattle.demand3.specs.Calls.{Call, arrival, storeBy, storeAfter}

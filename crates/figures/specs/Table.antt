@@ -12,8 +12,8 @@ use Rattle.packet.specs.Reading.{readPacket}
 use Rattle.write.specs.Writing.{fine, writeOutput}
 use Rattle.cut.specs.declared.Counted.{Counted}
 use Rattle.cut.specs.Cutting.{headerLength, countAnswer, packetAnswer, packetOutput}
-use Rattle.store.specs.Arriving.{arrived, storeWith}
-use Rattle.store.specs.Taking.{Took, message, unable, writing, took}
+use Rattle.arrival.specs.Arriving.{arrived, storeWith}
+use Rattle.taking.specs.Taking.{Took, message, unable, writing, took}
 use Rattle.format.proofs.Figure14.{packet as fourteen, header as told}
 use Rattle.two_way.proofs.Figures.{header as values, own, texts}
 use Rattle.fewest.proofs.Figures.{settings, sender, zeros}

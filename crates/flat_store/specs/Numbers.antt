@@ -8,10 +8,11 @@ use lib.Dec.{eqb}
 use Rattle.octets.specs.Octets.{pick}
 use Rattle.walk.specs.declared.Settings.{Settings}
 use Rattle.cells.specs.Order.{countIn}
-use Rattle.store.specs.declared.Taken.{Taken}
-use Rattle.store.specs.Arriving.{Arrived}
-use Rattle.store.specs.Taking.{Took}
-use Rattle.store.specs.Told.{Word, silent, said-whole, said-stored, said-held, Said, saidOf, takenOf}
+use Rattle.taking.specs.declared.Taken.{Taken}
+use Rattle.arrival.specs.Arriving.{Arrived}
+use Rattle.taking.specs.Taking.{Took}
+use Rattle.arrival.specs.Told.{Word, silent, said-whole, said-stored, said-held, Said, saidOf}
+use Rattle.taking.specs.Told.{takenOf}
 use Rattle.store.specs.Inner.{gate}
 use Rattle.join.specs.Joining.{Joining}
 use Rattle.join.specs.Told.{Word as Place, silent as nowhere, said-packet, said-joined, Said as Says, said, joinedOf}

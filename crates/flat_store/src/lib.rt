@@ -5,22 +5,22 @@
 ghost use mathlib.Core.Path.{_≡_};
 ghost use lib.ListN.{length};
 ghost use Rattle.cells.specs.Order.{countIn};
-ghost use Rattle.store.specs.Arriving.{arrived, storeWith};
-ghost use Rattle.store.specs.Taking.{took, outWith, storeLess};
-ghost use Rattle.store.specs.Told.{wordOf as kindOf, said as saidOf};
+ghost use Rattle.arrival.specs.Arriving.{arrived, storeWith};
+ghost use Rattle.taking.specs.Taking.{took, outWith, storeLess};
+ghost use Rattle.arrival.specs.Told.{wordOf as kindOf, said as saidOf};
 ghost use Rattle.join.specs.Joining.{joining, storeJoined, outJoined};
 ghost use Rattle.join.specs.Told.{wordOf as bufferOf, said as saysOf};
 ghost use Rattle.recording.specs.Ending.{recordedOf, outRecorded};
 ghost use Rattle.walk.specs.Walk.{settingsOf};
 ghost use Rattle.flat_store.specs.Numbers.{wordNumber, saidNumbers, arriveNumbers, takenNumbers, takeNumbers, placeNumber, saysNumbers, joinNumbers, orderNumbers, whyNumber, recordedNumbers};
 ghost use Rattle.flat_store.specs.Views.{insideNumbers, viewNumbers};
+use arrival::Arrival;
+use arrival::Kind;
 use join::Joined;
 use join::Which;
 use recording::Recorded;
 use recording::Why;
-use store::Arrival;
-use store::Kind;
-use store::Taken;
+use taking::Taken;
 use walk::Settings;
 
 fn kind_number(k: Kind) -> u64

@@ -8,7 +8,7 @@ use lib.ListN.{length}
 use Rattle.octets.specs.Octets.{blank}
 use Rattle.walk.specs.declared.Settings.{Settings}
 use Rattle.cells.specs.Rows.{zeroRow}
-use Rattle.store.proofs.Beside.{blank-is, zero-told, other-told}
+use Rattle.messages.proofs.Blank.{blank-is, zero-told, other-told}
 use Rattle.join.specs.declared.Joined.{Joined}
 use Rattle.join.specs.Joining.{unjoined}
 use Rattle.join.specs.Told.{joinedOf}

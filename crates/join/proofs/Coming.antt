@@ -19,11 +19,12 @@ use Rattle.packet.specs.Reading.{readPacket, segmented, counterSize}
 use Rattle.format.proofs.Accepting.{accepted}
 use Rattle.cells.specs.Segments.{Seg, segOf, sameRest}
 use Rattle.cells.specs.Order.{inOrder, countIn}
-use Rattle.store.specs.Messages.{Run, bodyOf, cellsOf, look, picked, top}
-use Rattle.store.specs.Arriving.{whole, stored, again, refused, placed, beside, lowestFree, segmentArrived, arrivedIn, arrived}
-use Rattle.store.specs.Taking.{message, unable, writing, drawn, tookIn}
-use Rattle.store.specs.declared.Taken.{Taken}
-use Rattle.store.specs.Told.{refusalOf, takenOf}
+use Rattle.messages.specs.Messages.{Run, bodyOf, cellsOf, look, picked, top}
+use Rattle.arrival.specs.Arriving.{whole, stored, again, refused, placed, beside, lowestFree, segmentArrived, arrivedIn, arrived}
+use Rattle.taking.specs.Taking.{message, unable, writing, drawn, tookIn}
+use Rattle.taking.specs.declared.Taken.{Taken}
+use Rattle.messages.specs.Told.{refusalOf}
+use Rattle.taking.specs.Told.{takenOf}
 use Rattle.join.specs.declared.Which.the-variants.{Joined as InJoined}
 use Rattle.join.specs.Joining.{bodyFrom, tookAs, unjoined}
 use Rattle.join.specs.Told.{taken, joinedOf}

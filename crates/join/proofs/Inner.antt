@@ -7,8 +7,8 @@ use mathlib.Core.List.{List}
 use lib.ListN.{length}
 use Rattle.walk.specs.declared.Settings.{Settings}
 use Rattle.cells.specs.Order.{countIn}
-use Rattle.store.specs.Arriving.{Arrived, whole, stored, again, refused, arrivedIn, arrived, storeWith}
-use Rattle.store.specs.Taking.{Took, tookIn, took, outWith, storeLess}
+use Rattle.arrival.specs.Arriving.{Arrived, whole, stored, again, refused, arrivedIn, arrived, storeWith}
+use Rattle.taking.specs.Taking.{Took, tookIn, took, outWith, storeLess}
 use Rattle.store.specs.Inner.{gate}
 use Rattle.store.proofs.Opening.{opened-order, arrived-open, took-open}
 use Rattle.keeping.proofs.Keeps.{arrive-long, arrive-keeps}

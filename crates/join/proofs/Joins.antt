@@ -12,15 +12,16 @@ use Rattle.octets.specs.Octets.{Octets}
 use Rattle.walk.specs.declared.Settings.{Settings}
 use Rattle.walk.specs.declared.Refusal.{Refusal}
 use Rattle.packet.specs.Reading.{readPacket}
-use Rattle.store.specs.declared.Kind.{Kind}
-use Rattle.store.specs.declared.Kind.the-variants.{Whole, Stored, Held}
-use Rattle.store.specs.declared.Arrival.{Arrival}
-use Rattle.store.specs.declared.Arrival.the-variants.{Answer, Refused}
-use Rattle.store.specs.declared.Taken.{Taken}
-use Rattle.store.proofs.Kind.{the-type}
-use Rattle.store.specs.Arriving.{Arrived, whole, stored, again, refused, arrivedIn, arrived, storeWith}
-use Rattle.store.specs.Taking.{tookIn, outWith}
-use Rattle.store.specs.Told.{arrivalOf, takenOf}
+use Rattle.arrival.specs.declared.Kind.{Kind}
+use Rattle.arrival.specs.declared.Kind.the-variants.{Whole, Stored, Held}
+use Rattle.arrival.specs.declared.Arrival.{Arrival}
+use Rattle.arrival.specs.declared.Arrival.the-variants.{Answer, Refused}
+use Rattle.taking.specs.declared.Taken.{Taken}
+use Rattle.arrival.proofs.Kind.{the-type}
+use Rattle.arrival.specs.Arriving.{Arrived, whole, stored, again, refused, arrivedIn, arrived, storeWith}
+use Rattle.taking.specs.Taking.{tookIn, outWith}
+use Rattle.arrival.specs.Told.{arrivalOf}
+use Rattle.taking.specs.Told.{takenOf}
 use Rattle.store.specs.Inner.{gate}
 use Rattle.store.proofs.Opening.{arrived-shut}
 use Rattle.join.specs.declared.Joined.{Joined}

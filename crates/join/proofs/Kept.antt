@@ -12,8 +12,8 @@ use Rattle.octets.specs.Octets.{pick}
 use Rattle.walk.specs.declared.Settings.{Settings}
 use Rattle.walk.specs.Walk.{begun}
 use Rattle.cells.specs.Order.{countIn, inOrder}
-use Rattle.store.specs.Arriving.{Arrived, whole, stored, again, refused, arrived, storeWith}
-use Rattle.store.specs.Taking.{Took, message, unable, writing, took, outWith}
+use Rattle.arrival.specs.Arriving.{Arrived, whole, stored, again, refused, arrived, storeWith}
+use Rattle.taking.specs.Taking.{Took, message, unable, writing, took, outWith}
 use Rattle.store.specs.Inner.{gate}
 use Rattle.store.proofs.Opening.{opened-order}
 use Rattle.keeping.proofs.Keeps.{arrive-long, arrive-keeps, take-long, take-keeps}

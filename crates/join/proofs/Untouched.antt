@@ -8,8 +8,8 @@ use native.Mathlib.Omega.{arith}
 use lib.ListN.{length}
 use Rattle.walk.specs.declared.Settings.{Settings}
 use Rattle.cells.specs.Order.{countIn}
-use Rattle.store.specs.Arriving.{Arrived, whole, stored, again, refused, arrived, storeWith}
-use Rattle.store.specs.Taking.{Took, message, unable, took, outWith, storeLess}
+use Rattle.arrival.specs.Arriving.{Arrived, whole, stored, again, refused, arrived, storeWith}
+use Rattle.taking.specs.Taking.{Took, message, unable, took, outWith, storeLess}
 use Rattle.join.specs.Joining.{inPacket, unjoined, tookAs, joinedBy, storeBy, outBy, joining, storeJoined, outJoined}
 
 -- a taking gives no body in the packet

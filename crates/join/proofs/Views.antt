@@ -20,9 +20,9 @@ use Rattle.cells.specs.Segments.{Seg, segOf}
 use Rattle.cells.specs.Rows.{free, held, rowAt, zeroRow, packetIn, cellOf}
 use Rattle.cells.specs.Order.{isSound}
 use Rattle.cells.proofs.Carries.{free-cell, holding}
-use Rattle.store.specs.Messages.{bodyOf}
-use Rattle.store.specs.Arriving.{Arrived, whole, stored, again, refused, arrived, storeWith}
-use Rattle.store.specs.Taking.{Took, message, unable, took, outWith}
+use Rattle.messages.specs.Messages.{bodyOf}
+use Rattle.arrival.specs.Arriving.{Arrived, whole, stored, again, refused, arrived, storeWith}
+use Rattle.taking.specs.Taking.{Took, message, unable, took, outWith}
 use Rattle.keeping.proofs.Opens.{opens}
 use Rattle.keeping.proofs.Zeroed.{taken-tells, segment-held}
 use Rattle.join.specs.declared.Which.the-variants.{Packet}

@@ -9,12 +9,12 @@ use Rattle.octets.specs.Octets.{pick}
 use Rattle.walk.specs.declared.Refusal.{Refusal}
 use Rattle.walk.specs.declared.Settings.{Settings}
 use Rattle.packet.specs.declared.Header.{Header}
-use Rattle.store.specs.declared.Arrival.{Arrival}
-use Rattle.store.specs.declared.Arrival.the-variants.{Answer, Refused}
-use Rattle.store.specs.declared.Taken.{Taken}
-use Rattle.store.specs.Arriving.{Arrived, whole, stored, again, refused, arrivedIn, storeWith}
-use Rattle.store.specs.Taking.{tookIn, storeLess, outWith}
-use Rattle.store.specs.Told.{refusalOf}
+use Rattle.arrival.specs.declared.Arrival.{Arrival}
+use Rattle.arrival.specs.declared.Arrival.the-variants.{Answer, Refused}
+use Rattle.taking.specs.declared.Taken.{Taken}
+use Rattle.arrival.specs.Arriving.{Arrived, whole, stored, again, refused, arrivedIn, storeWith}
+use Rattle.taking.specs.Taking.{tookIn, storeLess, outWith}
+use Rattle.messages.specs.Told.{refusalOf}
 use Rattle.join.specs.declared.Joined.{Joined}
 use Rattle.join.specs.Joining.{Joining, inPacket, unjoined, bodyFrom, tookAs}
 use Rattle.join.specs.Told.{taken, joinedOf}

@@ -10,9 +10,9 @@ use lib.ListN.{length}
 use Rattle.walk.specs.declared.Settings.{Settings}
 use Rattle.packet.specs.Reading.{readPacket}
 use Rattle.cells.specs.Order.{countIn}
-use Rattle.store.specs.Messages.{Run}
-use Rattle.store.specs.Arriving.{Arrived, whole, stored, again, refused, arrived, storeWith}
-use Rattle.store.specs.Taking.{Took, message, unable, took, storeLess, outWith}
+use Rattle.messages.specs.Messages.{Run}
+use Rattle.arrival.specs.Arriving.{Arrived, whole, stored, again, refused, arrived, storeWith}
+use Rattle.taking.specs.Taking.{Took, message, unable, took, storeLess, outWith}
 
 -- what joining comes to: a body at a place of the arrived packet, with its length; a message that was taken; or a refusal
 pub data Joining : Type 0 where

@@ -4,9 +4,10 @@
 -- Assumes nothing: these are definitions.
 use Prim.Native.Nat.{ℕ, _+_}
 use Rattle.packet.specs.declared.SegmentCounter.{SegmentCounter}
-use Rattle.store.specs.declared.Taken.{Taken}
-use Rattle.store.specs.Taking.{message}
-use Rattle.store.specs.Told.{refusalOf, takenOf}
+use Rattle.taking.specs.declared.Taken.{Taken}
+use Rattle.taking.specs.Taking.{message}
+use Rattle.messages.specs.Told.{refusalOf}
+use Rattle.taking.specs.Told.{takenOf}
 use Rattle.join.specs.declared.Which.{Which}
 use Rattle.join.specs.declared.Which.the-variants.{Packet, Joined as InJoined, Nothing}
 use Rattle.join.specs.declared.Joined.{Joined}

@@ -13,10 +13,10 @@ ghost use Rattle.join.specs.Joining.{unjoined, joining, storeJoined, out
 ghost use Rattle.join.specs.Told.{joinedOf};
 ghost use Rattle.join.specs.Beside.{joiningBeside, storeBeside, outBeside};
 ghost use Rattle.join.specs.Inner.{refusalIn, bodyIn, takenAs, joiningIn, storeJoinedIn, outJoinedIn};
+use arrival::Arrival;
+use arrival::Kind;
 use packet::SegmentCounter;
-use store::Arrival;
-use store::Kind;
-use store::Taken;
+use taking::Taken;
 use walk::Refusal;
 use walk::Settings;
 
@@ -150,14 +150,14 @@ pub fn join_on(
     ensures { λ r. ⌜ now (store .exit) ≡ storeJoinedIn s (length (now (zero .entry))) (now (store .entry)) n (now (p .entry)) (length (now (out .entry))) ⌝ }
     ensures { λ r. ⌜ now (out .exit) ≡ outJoinedIn s (length (now (zero .entry))) (now (store .entry)) n (now (p .entry)) (now (out .entry)) ⌝ }
 {
-    let got = store::arrive_on(s, store, n, zero, p);
+    let got = arrival::arrive_on(s, store, n, zero, p);
     let Arrival::Answer(kind) = got else {
         return refused(refusal_of(got));
     };
     if let Kind::Whole = kind {
         return in_packet(s, p);
     }
-    in_output(store::take_on(s, store, n, zero, out))
+    in_output(taking::take_on(s, store, n, zero, out))
 }
 
 // The same beside any octets: where they are not all zeros, no store is in order beside them.

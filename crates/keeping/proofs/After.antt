@@ -17,9 +17,9 @@ use Rattle.packet.specs.Reading.{readPacket, segmented}
 use Rattle.cells.specs.Segments.{Seg, segOf, sameRest}
 use Rattle.cells.specs.Rows.{free, held, rowAt, zeroRow, heldRow, cellOf}
 use Rattle.cells.specs.Order.{isFree, cellAt}
-use Rattle.store.specs.Messages.{cellsOf, look, Run, segments, amongIn}
-use Rattle.store.specs.Arriving.{Arrived, whole, stored, again, refused, placed, beside, lowestFree, segmentArrived, arrivedIn, storeWith}
-use Rattle.store.specs.Taking.{message, storeLess}
+use Rattle.messages.specs.Messages.{cellsOf, look, Run, segments, amongIn}
+use Rattle.arrival.specs.Arriving.{Arrived, whole, stored, again, refused, placed, beside, lowestFree, segmentArrived, arrivedIn, storeWith}
+use Rattle.taking.specs.Taking.{message, storeLess}
 use Rattle.keeping.specs.Cells.{put, hasFree, freed, clear}
 use Rattle.keeping.proofs.Picking.{pick-yes, pick-tells}
 use Rattle.keeping.proofs.Rows.{row-written, row-other, cleared-row}

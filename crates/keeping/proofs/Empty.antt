@@ -13,7 +13,7 @@ use Rattle.walk.specs.declared.Settings.{Settings}
 use Rattle.cells.specs.Rows.{free, held, rowAt, zeroRow, cellOf}
 use Rattle.cells.specs.Order.{cellsMost, countIn, isSound, cellAt, inOrder}
 use Rattle.cells.proofs.Scans.{fits-all}
-use Rattle.store.specs.Messages.{listed, cellsOf}
+use Rattle.messages.specs.Messages.{listed, cellsOf}
 use Rattle.keeping.proofs.HeldRow.{zero-free}
 use Rattle.keeping.proofs.Listed.{listed-same}
 use Rattle.keeping.proofs.Order.{order-told}

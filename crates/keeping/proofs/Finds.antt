@@ -14,9 +14,9 @@ use Rattle.cells.specs.Segments.{Seg, carries}
 use Rattle.cells.specs.Rows.{Cell, free, held, broken}
 use Rattle.cells.specs.Order.{carriesIn, cellAt, allTo, newTo, newAt, distinct}
 use Rattle.cells.proofs.Apart.{all-at}
-use Rattle.store.specs.Messages.{cellsOf, look}
+use Rattle.messages.specs.Messages.{cellsOf, look}
 use Rattle.keeping.proofs.Listed.{among-below}
-use Rattle.store.proofs.Distinct.{Apart, carries-true, carries-yes}
+use Rattle.messages.proofs.Distinct.{Apart, carries-true, carries-yes}
 use Rattle.keeping.proofs.Looking.{look-none, look-some}
 
 module _ (s : Settings) (Z : ℕ) (st : List ℕ) where

@@ -17,16 +17,16 @@ use Rattle.walk.specs.Walk.{begun}
 use Rattle.cells.specs.Segments.{Seg, carries}
 use Rattle.cells.specs.Rows.{Cell, free, held, heldRow}
 use Rattle.cells.specs.Order.{isSound, carriesIn, cellAt, countIn, inOrder}
-use Rattle.store.specs.Messages.{Run, segments, amongIn}
-use Rattle.store.specs.Arriving.{Arrived, whole, stored, again, refused, arrivedIn, arrived, storeWith}
-use Rattle.store.specs.Taking.{Took, message, unable, took, storeLess}
+use Rattle.messages.specs.Messages.{Run, segments, amongIn}
+use Rattle.arrival.specs.Arriving.{Arrived, whole, stored, again, refused, arrivedIn, arrived, storeWith}
+use Rattle.taking.specs.Taking.{Took, message, unable, took, storeLess}
 use Rattle.keeping.specs.Cells.{freed}
 use Rattle.keeping.proofs.Picking.{pick-tells}
 use Rattle.keeping.proofs.Rows.{cleared-long}
 use Rattle.keeping.proofs.Listed.{among-below}
-use Rattle.store.proofs.Distinct.{carries-yes}
+use Rattle.messages.proofs.Distinct.{carries-yes}
 use Rattle.keeping.proofs.Looking.{look-none}
-use Rattle.store.proofs.Distinct.{Apart}
+use Rattle.messages.proofs.Distinct.{Apart}
 use Rattle.keeping.proofs.Order.{cells-inside, Ordered, order-tells, order-same}
 use Rattle.keeping.proofs.After.{segment, Stored, not-refused, stored-tells, cell-kept, cell-stored, cell-taken}
 

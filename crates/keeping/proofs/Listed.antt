@@ -13,7 +13,7 @@ use Rattle.octets.proofs.Lists.{bool, below-or}
 use Rattle.cells.specs.Segments.{Seg}
 use Rattle.cells.specs.Rows.{Cell, free, held, broken}
 use Rattle.cells.specs.Order.{isFree, lowest}
-use Rattle.store.specs.Messages.{listed, or}
+use Rattle.messages.specs.Messages.{listed, or}
 use Rattle.keeping.specs.Cells.{put, hasFree}
 
 -- a number among the n from i on

@@ -18,13 +18,13 @@ use Rattle.packet.specs.Reading.{readPacket, segmented}
 use Rattle.cells.specs.Segments.{Seg, carries}
 use Rattle.cells.specs.Rows.{Cell, free, held, broken}
 use Rattle.cells.specs.Order.{isFree, carriesIn, cellAt, countIn, inOrder}
-use Rattle.store.specs.Messages.{cellsOf, look, Run, segments, among}
-use Rattle.store.specs.Arriving.{stored, lowestFree, arrivedIn, arrived}
-use Rattle.store.specs.Taking.{message, took}
+use Rattle.messages.specs.Messages.{cellsOf, look, Run, segments, among}
+use Rattle.arrival.specs.Arriving.{stored, lowestFree, arrivedIn, arrived}
+use Rattle.taking.specs.Taking.{message, took}
 use Rattle.keeping.specs.Cells.{freed}
 use Rattle.keeping.proofs.Picking.{pick-yes}
 use Rattle.keeping.proofs.Listed.{among-below, Lowest, lowest-is, lowest-some}
-use Rattle.store.proofs.Distinct.{carries-true}
+use Rattle.messages.proofs.Distinct.{carries-true}
 use Rattle.keeping.proofs.Looking.{look-empty}
 use Rattle.keeping.proofs.Members.{In, among-yes}
 use Rattle.keeping.proofs.Order.{cells-inside}

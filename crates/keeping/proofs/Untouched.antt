@@ -6,8 +6,8 @@ use mathlib.Core.Path.{_≡_, ap}
 use mathlib.Core.List.{List}
 use Rattle.walk.specs.declared.Settings.{Settings}
 use Rattle.cells.specs.Order.{countIn}
-use Rattle.store.specs.Arriving.{whole, again, refused, arrived, storeWith}
-use Rattle.store.specs.Taking.{unable, took, outWith, storeLess}
+use Rattle.arrival.specs.Arriving.{whole, again, refused, arrived, storeWith}
+use Rattle.taking.specs.Taking.{unable, took, outWith, storeLess}
 
 module _ (s : Settings) (Z : ℕ) (st : List ℕ) where
   module _ (p : List ℕ) where

@@ -17,8 +17,8 @@ use Rattle.walk.specs.Walk.{begun}
 use Rattle.cells.specs.Segments.{Seg}
 use Rattle.cells.specs.Rows.{Cell, free, held, broken, rowAt, zeroRow, cellOf}
 use Rattle.cells.specs.Order.{cellAt, countIn, inOrder}
-use Rattle.store.specs.Messages.{cellsOf, Run, segments, picked, among, amongIn, top}
-use Rattle.store.specs.Taking.{message, unable, writing, drawn, tookIn, took, storeLess}
+use Rattle.messages.specs.Messages.{cellsOf, Run, segments, picked, among, amongIn, top}
+use Rattle.taking.specs.Taking.{message, unable, writing, drawn, tookIn, took, storeLess}
 use Rattle.keeping.proofs.Picking.{pick-tells}
 use Rattle.keeping.proofs.Order.{cells-inside, order-tells}
 use Rattle.keeping.proofs.Members.{In, among-yes, among-some, picked-held}

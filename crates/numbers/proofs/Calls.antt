@@ -16,10 +16,10 @@ use Rattle.cut.specs.declared.Cut.{Cut}
 use Rattle.cut.specs.Cutting.{countAnswer, packetAnswer}
 use Rattle.cut.proofs.count.Reads as counts
 use Rattle.cut.proofs.packet.Reads as cuts
-use Rattle.store.specs.declared.Arrival.{Arrival}
-use Rattle.store.specs.declared.Taken.{Taken}
-use Rattle.store.specs.Arriving.{Arrived, whole, stored, again, refused, arrived}
-use Rattle.store.specs.Told.{Said, said, arrivalOf, saidOf}
+use Rattle.arrival.specs.declared.Arrival.{Arrival}
+use Rattle.taking.specs.declared.Taken.{Taken}
+use Rattle.arrival.specs.Arriving.{Arrived, whole, stored, again, refused, arrived}
+use Rattle.arrival.specs.Told.{Said, said, arrivalOf, saidOf}
 use Rattle.store.proofs.arrive.Reads as arrives
 use Rattle.store.proofs.take.Reads as takes
 use Rattle.join.specs.declared.Joined.{Joined}

@@ -12,10 +12,11 @@ use Rattle.walk.specs.Walk.{begun}
 use Rattle.packet.specs.Reading.{readPacket, segmented}
 use Rattle.cells.specs.Segments.{Seg, segOf, sameRest}
 use Rattle.cells.specs.Order.{inOrder, countIn}
-use Rattle.store.specs.Messages.{Run, cellsOf, look, picked as pickedFrom, top}
-use Rattle.store.specs.Arriving.{Arrived, whole, stored, again, refused, placed, beside, lowestFree, segmentArrived, arrivedIn, arrived, storeWith}
-use Rattle.store.specs.Taking.{Took, message, unable, writing, drawn, tookIn, took}
-use Rattle.store.specs.Told.{saidOf, takenOf}
+use Rattle.messages.specs.Messages.{Run, cellsOf, look, picked as pickedFrom, top}
+use Rattle.arrival.specs.Arriving.{Arrived, whole, stored, again, refused, placed, beside, lowestFree, segmentArrived, arrivedIn, arrived, storeWith}
+use Rattle.taking.specs.Taking.{Took, message, unable, writing, drawn, tookIn, took}
+use Rattle.arrival.specs.Told.{saidOf}
+use Rattle.taking.specs.Told.{takenOf}
 use Rattle.join.specs.Joining.{Joining, tookAs, joinedBy, joining}
 use Rattle.join.specs.Told.{joinedOf}
 use Rattle.numbers.specs.Lists.{Numbered, ofReading, ofArrival, ofTaking, ofJoining}

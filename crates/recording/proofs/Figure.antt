@@ -8,7 +8,7 @@ use mathlib.Core.List.{List, [], _∷_, _++_, append-nil}
 use Rattle.octets.specs.Octets.{number, alike, wide}
 use Rattle.format.proofs.Figure14.{packet, reads}
 use Rattle.cells.specs.Order.{countIn}
-use Rattle.store.specs.Arriving.{Arrived, whole, arrivedIn, arrived}
+use Rattle.arrival.specs.Arriving.{Arrived, whole, arrivedIn, arrived}
 use Rattle.store.specs.Inner.{gate}
 use Rattle.store.proofs.Opening.{arrived-open}
 use Rattle.join.specs.Joining.{joinedBy, joining}

@@ -20,10 +20,10 @@ use Rattle.cells.specs.Segments.{Seg, segOf}
 use Rattle.cells.specs.Rows.{free, held, zeroRow, rowAt, packetIn, cellOf}
 use Rattle.cells.specs.Order.{isSound}
 use Rattle.cells.proofs.Carries.{free-cell, Holding, holding}
-use Rattle.store.specs.Messages.{Run, bodyOf}
-use Rattle.store.specs.Arriving.{Arrived, whole, stored, again, refused, arrived, storeWith}
-use Rattle.store.specs.Taking.{Took, message, unable, writing, took, outWith}
-use Rattle.store.specs.Told.{refusalOf}
+use Rattle.messages.specs.Messages.{Run, bodyOf}
+use Rattle.arrival.specs.Arriving.{Arrived, whole, stored, again, refused, arrived, storeWith}
+use Rattle.taking.specs.Taking.{Took, message, unable, writing, took, outWith}
+use Rattle.messages.specs.Told.{refusalOf}
 use Rattle.keeping.proofs.Opens.{opens}
 use Rattle.keeping.proofs.Zeroed.{taken-tells, segment-held}
 use Rattle.join.specs.declared.Joined.{Joined}

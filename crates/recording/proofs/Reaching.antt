@@ -17,7 +17,7 @@ use Rattle.walk.specs.declared.Settings.{Settings}
 use Rattle.cells.specs.Rows.{zeroRow}
 use Rattle.cells.specs.Order.{countIn}
 use Rattle.store.specs.Inner.{gate}
-use Rattle.store.specs.Told.{refusalOf}
+use Rattle.messages.specs.Told.{refusalOf}
 use Rattle.recording.specs.declared.Done.{Done}
 use Rattle.recording.specs.declared.Why.{Why}
 use Rattle.recording.specs.declared.Why.the-variants.{Unsaid}

@@ -21,10 +21,10 @@ use Rattle.packet.specs.Key.{keyOf, counterPlace}
 use Rattle.cells.specs.Segments.{Seg, segOf}
 use Rattle.cells.specs.Rows.{Cell, free, held, broken, rowAt, packetIn, cellOf}
 use Rattle.cells.specs.Order.{cellAt, countIn}
-use Rattle.store.specs.Messages.{listed, cellsOf, look, Role, first, middle, last, roleOf, Run, bodies, bodyOf, segments, linkBy, link, chain, picked, top}
-use Rattle.store.specs.Arriving.{Arrived, whole, stored, again, refused, arrived, storeWith}
-use Rattle.store.specs.Taking.{writing, drawn, tookIn, took, storeLess}
-use Rattle.store.proofs.Distinct.{carries-true}
+use Rattle.messages.specs.Messages.{listed, cellsOf, look, Role, first, middle, last, roleOf, Run, bodies, bodyOf, segments, linkBy, link, chain, picked, top}
+use Rattle.arrival.specs.Arriving.{Arrived, whole, stored, again, refused, arrived, storeWith}
+use Rattle.taking.specs.Taking.{writing, drawn, tookIn, took, storeLess}
+use Rattle.messages.proofs.Distinct.{carries-true}
 use Rattle.keeping.proofs.Listed.{Among, among-cases}
 use Rattle.keeping.proofs.Looking.{look-some}
 use Rattle.keeping.proofs.Members.{In, opening, picked-held}

@@ -14,8 +14,8 @@ use Rattle.octets.proofs.Has.{octets-drop, octets-part}
 use Rattle.walk.specs.declared.Settings.{Settings}
 use Rattle.cells.specs.Rows.{sizeIn}
 use Rattle.cells.specs.Order.{countIn}
-use Rattle.store.specs.Arriving.{Arrived, whole as wholly', stored, again, refused as refused', arrived, storeWith}
-use Rattle.store.specs.Taking.{Took, message as message', unable, writing, took, storeLess}
+use Rattle.arrival.specs.Arriving.{Arrived, whole as wholly', stored, again, refused as refused', arrived, storeWith}
+use Rattle.taking.specs.Taking.{Took, message as message', unable, writing, took, storeLess}
 use Rattle.join.specs.Joining.{tookAs, joinedBy, storeBy, joining, storeJoined}
 use Rattle.recording.specs.Recording.{Found, nothing, other, cut, whole, foundIn, longest, room, over, refused, kept, cameBy, cameOf, storeAfter, without, wrote, Stepped, stepBy, stepped, storeBehind, usedBy, writtenBy, recordedFrom, recorded, settings, cellSize, cellCount, emptyStore}
 use Rattle.recording.proofs.Frames.{framed-long}

@@ -14,7 +14,7 @@ use Rattle.octets.specs.Octets.{pick}
 use Rattle.walk.specs.declared.Settings.{Settings}
 use Rattle.cells.specs.Rows.{sizeIn, packetIn}
 use Rattle.octets.proofs.Lists.{bool}
-use Rattle.store.specs.Taking.{writing}
+use Rattle.taking.specs.Taking.{writing}
 use Rattle.join.specs.Joining.{Joining, inPacket, inOutput, unjoined, joining, storeJoined}
 use Rattle.recording.specs.declared.What.the-variants.{More, Ended, Unmarked, Torn}
 use Rattle.recording.specs.declared.Stands.{Stands}

@@ -21,10 +21,10 @@ use Rattle.format.proofs.Accepting.{accepted}
 use Rattle.cells.specs.Segments.{Seg, segOf, carries, both}
 use Rattle.cells.specs.Rows.{Cell, free, held, broken}
 use Rattle.cells.specs.Order.{cellAt, countIn}
-use Rattle.store.specs.Messages.{listed, look, Role, first, middle, last, roleOf, Run, bodies, segments, linkBy, link, chain, or, among, amongIn, top}
-use Rattle.store.specs.Arriving.{stored, arrived, storeWith}
-use Rattle.store.specs.Taking.{message, writing, took, storeLess}
-use Rattle.store.proofs.Distinct.{carries-true, carries-yes}
+use Rattle.messages.specs.Messages.{listed, look, Role, first, middle, last, roleOf, Run, bodies, segments, linkBy, link, chain, or, among, amongIn, top}
+use Rattle.arrival.specs.Arriving.{stored, arrived, storeWith}
+use Rattle.taking.specs.Taking.{message, writing, took, storeLess}
+use Rattle.messages.proofs.Distinct.{carries-true, carries-yes}
 use Rattle.keeping.specs.Cells.{freed}
 use Rattle.keeping.proofs.Listed.{Among, among-cases, among-first, among-more}
 use Rattle.keeping.proofs.Looking.{look-some}

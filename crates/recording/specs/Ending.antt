@@ -9,7 +9,7 @@ use lib.ListN.{length, drop}
 use lib.Seq.{sets}
 use lib.Dec.{leb}
 use Rattle.octets.specs.Octets.{pick}
-use Rattle.store.specs.Told.{refusalOf}
+use Rattle.messages.specs.Told.{refusalOf}
 use Rattle.recording.specs.declared.Why.{Why}
 use Rattle.recording.specs.declared.Why.the-variants.{Unsaid, Ended, Unmarked, Torn}
 use Rattle.recording.specs.declared.Recorded.{Recorded}

@@ -6,8 +6,8 @@ use mathlib.Core.List.{List, []}
 use lib.Dec.{eqb}
 use Rattle.octets.specs.Octets.{pick}
 use Rattle.walk.specs.declared.Refusal.{Refusal}
-use Rattle.store.specs.Taking.{writing}
-use Rattle.store.specs.Told.{refusalOf}
+use Rattle.taking.specs.Taking.{writing}
+use Rattle.messages.specs.Told.{refusalOf}
 use Rattle.join.specs.Joining.{Joining, inPacket, inOutput, unjoined}
 use Rattle.recording.specs.declared.What.{What}
 use Rattle.recording.specs.declared.What.the-variants.{More, Refused, Kept}

@@ -3,7 +3,7 @@
 use Prim.Native.Nat.{ℕ, _+_}
 use mathlib.Core.List.{List}
 use lib.ListN.{length}
-use Rattle.store.specs.Told.{refusalOf}
+use Rattle.messages.specs.Told.{refusalOf}
 use Rattle.recording.specs.declared.What.{What}
 use Rattle.recording.specs.declared.What.the-variants.{More, Ended, Unmarked, Torn, Passed, Refused, Kept, Whole, Joined}
 use Rattle.recording.specs.declared.Stands.{Stands}

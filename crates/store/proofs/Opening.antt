@@ -19,8 +19,8 @@ use Rattle.cells.specs.Segments.{both}
 use Rattle.cells.specs.Order.{cellsMost, lengthFits, countIn, sound as allSound, distinct, inOrder}
 use Rattle.cells.proofs.Held.{both-true}
 use Rattle.store.specs.declared.Opened.{Opened}
-use Rattle.store.specs.Arriving.{Arrived, refused, arrivedIn, arrived}
-use Rattle.store.specs.Taking.{Took, unable, tookIn, took}
+use Rattle.arrival.specs.Arriving.{Arrived, refused, arrivedIn, arrived}
+use Rattle.taking.specs.Taking.{Took, unable, tookIn, took}
 use Rattle.store.specs.Inner.{gate, openedOf}
 
 module _ (s : Settings) (Z : ℕ) (st : List ℕ) where

@@ -3,8 +3,8 @@
 use mathlib.Core.Path.{_≡_, refl, ap, _∙_}
 use contract.Lifetimes as L
 use denote.Ref.{now}
-use Rattle.store.specs.Arriving.{Arrived, whole, stored, again, refused, arrived}
-use Rattle.store.specs.Told.{said, saidOf, arrivalOf}
+use Rattle.arrival.specs.Arriving.{Arrived, whole, stored, again, refused, arrived}
+use Rattle.arrival.specs.Told.{said, saidOf, arrivalOf}
 use Rattle.store.proofs.arrive.Reads as arrives
 
 pub said-is : (a : Arrived) → said (arrivalOf a) ≡ saidOf a

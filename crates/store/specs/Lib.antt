@@ -1,7 +1,1 @@
-pub mod Messages
-pub mod Arriving
-pub mod Taking
-pub mod Beside
-pub mod Told
 pub mod Inner
-pub mod Follow

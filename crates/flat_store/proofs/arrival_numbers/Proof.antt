@@ -3,8 +3,8 @@
 use mathlib.Core.Path.{ap, sym, _∙_}
 use Prim.Native.Nat.{ℕ}
 use mathlib.Core.List.{List, [], _∷_}
-use Rattle.store.specs.declared.Arrival.{Arrival}
-use Rattle.store.specs.Told.{said}
+use Rattle.arrival.specs.declared.Arrival.{Arrival}
+use Rattle.arrival.specs.Told.{said}
 use Rattle.flat_store.specs.Numbers.{saidNumbers}
 use borrow.Author.Needs.{needs}
 use Rattle.flat_store.proofs.arrival_numbers.Statement.{statement}

@@ -2,9 +2,9 @@
 -- Assumes nothing.
 use denote.Ref.{now}
 use mathlib.Core.Path.{ap, _∙_}
-use Rattle.store.specs.declared.Arrival.{Arrival}
-use Rattle.store.specs.Arriving.{arrived}
-use Rattle.store.specs.Told.{Said, said}
+use Rattle.arrival.specs.declared.Arrival.{Arrival}
+use Rattle.arrival.specs.Arriving.{arrived}
+use Rattle.arrival.specs.Told.{Said, said}
 use Rattle.store.proofs.Saying.{said-is}
 use Rattle.walk.specs.Walk.{settingsOf}
 use Rattle.flat_store.specs.Numbers.{saidNumbers}

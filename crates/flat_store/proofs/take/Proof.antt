@@ -1,7 +1,7 @@
 -- `flat_store::take` meets its contract.
 -- Assumes nothing.
 use mathlib.Core.Path.{ap, _∙_}
-use Rattle.store.specs.declared.Taken.{Taken}
+use Rattle.taking.specs.declared.Taken.{Taken}
 use Rattle.flat_store.specs.Numbers.{takenNumbers}
 use borrow.Author.Needs.{needs}
 use Rattle.flat_store.proofs.take.Statement.{statement}

@@ -1,7 +1,7 @@
 -- `join::join_in` meets its contract: the zero cell is tested, and then the joining itself.
 -- Assumes nothing.
 use denote.Ref.{now}
-use Rattle.store.proofs.Beside.{zero-told}
+use Rattle.messages.proofs.Blank.{zero-told}
 use Rattle.join.proofs.Beside.{joins-on, joins-other}
 use borrow.Author.Needs.{needs}
 use Rattle.join.proofs.join_in.Statement.{statement}

@@ -2,9 +2,9 @@
 -- Assumes nothing.
 use mathlib.Core.Path.{ap, sym, _∙_, refl}
 use denote.Ref.{now}
-use Rattle.store.specs.Told.{arrivalOf}
-use Rattle.store.specs.Arriving.{refused, storeWith, arrivedIn}
-use Rattle.store.proofs.Beside.{arrived-beside}
+use Rattle.arrival.specs.Told.{arrivalOf}
+use Rattle.arrival.specs.Arriving.{refused, storeWith, arrivedIn}
+use Rattle.arrival.proofs.Beside.{arrived-beside}
 use Rattle.store.proofs.Opening.{arrived-open, arrived-shut, opened-number, opened-gate, opened-cells}
 use borrow.Author.Needs.{needs}
 use Rattle.store.proofs.arrive.Statement.{statement}

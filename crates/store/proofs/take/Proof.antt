@@ -4,9 +4,9 @@ use mathlib.Core.Path.{ap, ap₂, sym, _∙_, refl}
 use denote.Ref.{now}
 use lib.ListN.{length}
 use Rattle.cells.specs.Order.{countIn}
-use Rattle.store.specs.Told.{takenOf}
-use Rattle.store.specs.Taking.{unable, outWith, storeLess, tookIn}
-use Rattle.store.proofs.Beside.{took-beside}
+use Rattle.taking.specs.Told.{takenOf}
+use Rattle.taking.specs.Taking.{unable, outWith, storeLess, tookIn}
+use Rattle.taking.proofs.Beside.{took-beside}
 use Rattle.store.proofs.Opening.{took-open, took-shut, opened-number, opened-gate, opened-cells}
 use borrow.Author.Needs.{needs}
 use Rattle.store.proofs.take.Statement.{statement}

@@ -1,0 +1,44 @@
+-- `arrival::arrive_on` meets its contract: reading's refusal, whole, 17, and then the segment.
+-- Assumes nothing.
+use mathlib.Core.Path.{ap, sym, _∙_, refl}
+use denote.Ref.{now}
+use lib.ListN.{length}
+use Rattle.arrival.specs.Told.{arrivalOf}
+use Rattle.arrival.specs.Arriving.{storeWith}
+use Rattle.arrival.proofs.Arrivals.{packet-bad, packet-whole, packet-segment, packet-asked, packet-long, packet-fits}
+use borrow.Author.Needs.{needs}
+use Rattle.arrival.proofs.arrive_on.Statement.{statement}
+use Rattle.arrival.proofs.arrive_on.Tie as tie
+
+read-requires : tie.Need-read-requires
+read-requires c κs = search needs
+
+returns : tie.Need-returns
+unfolding storeWith
+returns c = let e = packet-bad (c .before .before .before .before .before .before .before .before .before .before .before .args .s) (length (now (c .before .before .before .before .before .before .before .before .before .before .before .args .zero))) (now (c .before .before .before .before .before .before .before .before .before .before .before .args .store)) (now (c .before .before .before .before .before .before .before .before .before .before .before .args .p)) (c .before .before .before .before .before .before .before .before .before .before .before .args .n) (c .before .before .before .before .before .before .before .read .ensures .0) (c .if1 .taken) in (ap arrivalOf (sym e), ap (storeWith (length (now (c .before .before .before .before .before .before .before .before .before .before .before .args .zero))) (now (c .before .before .before .before .before .before .before .before .before .before .before .args .store)) (now (c .before .before .before .before .before .before .before .before .before .before .before .args .p))) (sym e))
+
+returns-2 : tie.Need-returns-2
+unfolding storeWith
+returns-2 c = let e = packet-whole (c .before .before .before .before .before .before .before .before .before .before .before .before .before .args .s) (length (now (c .before .before .before .before .before .before .before .before .before .before .before .before .before .args .zero))) (now (c .before .before .before .before .before .before .before .before .before .before .before .before .before .args .store)) (now (c .before .before .before .before .before .before .before .before .before .before .before .before .before .args .p)) (c .before .before .before .before .before .before .before .before .before .before .before .before .before .args .n) (c .before .before .before .before .before .before .before .before .before .read .ensures .0) (c .before .before .if1 .left) (c .if2 .taken) in (ap arrivalOf (sym e), ap (storeWith (length (now (c .before .before .before .before .before .before .before .before .before .before .before .before .before .args .zero))) (now (c .before .before .before .before .before .before .before .before .before .before .before .before .before .args .store)) (now (c .before .before .before .before .before .before .before .before .before .before .before .before .before .args .p))) (sym e))
+
+add-if3 : tie.Need-add-if3
+add-if3 c = search needs
+
+refused-requires : tie.Need-refused-requires
+refused-requires c κs = search needs
+
+returns-3 : tie.Need-returns-3
+unfolding storeWith
+returns-3 c = let e = packet-long (c .before .before .before .before .before .before .before .before .before .before .before .before .before .before .before .args .s) (length (now (c .before .before .before .before .before .before .before .before .before .before .before .before .before .before .before .args .zero))) (now (c .before .before .before .before .before .before .before .before .before .before .before .before .before .before .before .args .store)) (now (c .before .before .before .before .before .before .before .before .before .before .before .before .before .before .before .args .p)) (c .before .before .before .before .before .before .before .before .before .before .before .before .before .before .before .args .n) (c .before .before .before .before .before .before .before .before .before .before .before .read .ensures .0) (c .before .before .before .before .if1 .left) (c .before .before .if2 .left) (c .before .if3 .taken) in (c .refused .ensures ∙ ap arrivalOf (sym e), ap (storeWith (length (now (c .before .before .before .before .before .before .before .before .before .before .before .before .before .before .before .args .zero))) (now (c .before .before .before .before .before .before .before .before .before .before .before .before .before .before .before .args .store)) (now (c .before .before .before .before .before .before .before .before .before .before .before .before .before .before .before .args .p))) (sym e))
+
+store-segment-requires : tie.Need-store-segment-requires
+store-segment-requires c κs = (c .before .before .before .before .before .before .before .before .before .before .before .before .before .before .before .pre, (packet-asked (c .before .before .before .before .before .before .before .before .before .before .before .before .before .before .before .args .s) (length (now (c .before .before .before .before .before .before .before .before .before .before .before .before .before .before .before .args .zero))) (now (c .before .before .before .before .before .before .before .before .before .before .before .before .before .before .before .args .store)) (now (c .before .before .before .before .before .before .before .before .before .before .before .before .before .before .before .args .p)) (c .before .before .before .before .before .before .before .before .before .before .before .before .before .before .before .args .n) (c .before .before .before .before .before .before .before .before .before .before .before .read .ensures .0) (c .before .before .before .before .if1 .left) (c .before .before .if2 .left) (λ i. c .before .before .before .before .before .before .before .before .before .before .before .before .shared-slice-known2 .given i .fits), c .before .if3 .left))
+
+same-length : tie.Need-same-length
+same-length c = search needs
+
+returns-4 : tie.Need-returns-4
+returns-4 c = let e = packet-fits (c .before .before .before .before .before .before .before .before .before .before .before .before .before .before .before .before .before .before .args .s) (length (now (c .before .before .before .before .before .before .before .before .before .before .before .before .before .before .before .before .before .before .args .zero))) (now (c .before .before .before .before .before .before .before .before .before .before .before .before .before .before .before .before .before .before .args .store)) (now (c .before .before .before .before .before .before .before .before .before .before .before .before .before .before .before .before .before .before .args .p)) (c .before .before .before .before .before .before .before .before .before .before .before .before .before .before .before .before .before .before .args .n) (c .before .before .before .before .before .before .before .before .before .before .before .before .before .before .read .ensures .0) (c .before .before .before .before .before .before .before .if1 .left) (c .before .before .before .before .before .if2 .left) (c .before .before .before .before .if3 .left) in (c .before .before .store-segment .ensures .0 ∙ ap arrivalOf e, c .before .before .store-segment .ensures .1 ∙ ap (storeWith (length (now (c .before .before .before .before .before .before .before .before .before .before .before .before .before .before .before .before .before .before .args .zero))) (now (c .before .before .before .before .before .before .before .before .before .before .before .before .before .before .before .before .before .before .args .store)) (now (c .before .before .before .before .before .before .before .before .before .before .before .before .before .before .before .before .before .before .args .p))) e)
+
+pub arrive-on-spec : {M : Type 1} → statement M
+arrive-on-spec = tie.close (tie.spec read-requires returns returns-2 add-if3 refused-requires returns-3 store-segment-requires same-length returns-4)

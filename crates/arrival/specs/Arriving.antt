@@ -1,0 +1,66 @@
+-- A packet arrives at a store.
+-- Document 01, "The store": "an unsegmented packet is answered "whole" and the store isn't touched. A new segment goes to the lowest
+-- free cell and is answered "stored". A segment held already is answered "held", even in a full store." The order of the refusals:
+-- "Arrival: 15, 16, reading, whole, 17, held, 18, 19."
+-- Assumes nothing: these are definitions.
+use Prim.Native.Nat.{ℕ, _+_, _*_}
+use mathlib.Core.Bool.{Bool, true, false}
+use mathlib.Core.List.{List}
+use mathlib.Core.Option.{Option, none, some}
+use lib.ListN.{length}
+use lib.Seq.{sets}
+use lib.Dec.{leb, ltb, eqb}
+use Rattle.octets.specs.Octets.{pick}
+use Rattle.walk.specs.declared.Settings.{Settings}
+use Rattle.walk.specs.Walk.{begun}
+use Rattle.packet.specs.Reading.{readPacket, segmented}
+use Rattle.cells.specs.Segments.{Seg, segOf, sameRest}
+use Rattle.cells.specs.Rows.{heldRow}
+use Rattle.cells.specs.Order.{isFree, lowest, cellAt, inOrder, countIn}
+use Rattle.messages.specs.Messages.{cellsOf, look}
+
+-- what an arrival comes to: a new segment with the cell it goes to
+pub data Arrived : Type 0 where
+  whole : Arrived
+  stored : ℕ → Arrived
+  again : Arrived
+  refused : ℕ → Arrived
+
+-- the cell that a new segment goes to, of n: 19 where none is free
+unfoldable pub placed : ℕ → ℕ → Arrived
+placed n i = pick (ltb i n) (stored i) (refused 19)
+
+-- beside what is held under its key and counter: the same one again, one that contradicts it, or a new one
+abbrev pub beside : Option Seg → Seg → Arrived → Arrived
+beside none t new = new
+beside (some u) t new = pick (sameRest u t) again (refused 18)
+
+abbrev pub lowestFree : Settings → ℕ → List ℕ → ℕ → ℕ
+lowestFree s Z st n = lowest (λ i. isFree (cellAt s Z st i)) n 0
+
+-- a segment of a packet at the first n cells
+unfoldable pub segmentArrived : Settings → ℕ → List ℕ → ℕ → Seg → Arrived
+segmentArrived s Z st n t = beside (look (cellsOf s Z st n) (t .key) (t .counter)) t (placed n (lowestFree s Z st n))
+
+-- a packet at a store that is in order
+unfoldable pub arrivedIn : Settings → ℕ → List ℕ → ℕ → List ℕ → Arrived
+arrivedIn s Z st n p =
+    pick (eqb (readPacket s p .refusal .number) 0)
+    (pick (segmented p)
+    (pick (leb (2 + length p) Z) (segmentArrived s Z st n (segOf p (readPacket s p))) (refused 17))
+    whole)
+    (refused (readPacket s p .refusal .number))
+
+-- a packet at any octets
+unfoldable pub arrived : Settings → ℕ → List ℕ → List ℕ → Arrived
+arrived s Z st p =
+    pick (eqb (begun s .refusal .number) 0)
+    (pick (inOrder s Z st) (arrivedIn s Z st (countIn Z st) p) (refused 16))
+    (refused 15)
+
+-- the store behind it: a new segment's cell is written, and nothing else
+unfoldable pub storeWith : ℕ → List ℕ → List ℕ → Arrived → List ℕ
+storeWith Z st p whole = st
+storeWith Z st p (stored i) = sets st (i * Z) (heldRow Z p)
+storeWith Z st p again = st
+storeWith Z st p (refused k) = st

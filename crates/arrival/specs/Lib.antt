@@ -1,0 +1,4 @@
+pub mod Arriving
+pub mod Beside
+pub mod Told
+pub mod Inner

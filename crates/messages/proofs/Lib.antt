@@ -1,0 +1,4 @@
+pub mod Looks
+pub mod Found
+pub mod Distinct
+pub mod Blank

@@ -1,0 +1,192 @@
+-- The bodies of a complete run laid one after another: what the loop has done, and one turn of it.
+-- Assumes nothing.
+use Prim.Native.Nat.{ℕ, suc, _+_, _-_, _≤_, _<_}
+use mathlib.Core.Path.{_≡_, refl, ap, ap₂, sym, _∙_}
+use mathlib.Core.Logic.{⊎-elim}
+use mathlib.Core.Bool.{Bool, true, false}
+use mathlib.Core.List.{List, [], _∷_, _++_, append-nil}
+use mathlib.Core.Option.{Option, none, some, Option·map}
+use native.Mathlib.Numerals.{add-one}
+use native.Mathlib.Omega.{arith}
+use lib.ListN.{length, length-append}
+use lib.Seq.{sets, length-sets}
+use lib.Dec.{eqb, ltb}
+use borrow.Author.Tests.{ltb-true, eqb-true, eqb-false, ne-eqb}
+use Rattle.octets.specs.Octets.{pick, part}
+use Rattle.octets.proofs.Lists.{bool, sets-append}
+use Rattle.walk.specs.declared.Settings.{Settings}
+use Rattle.packet.specs.Reading.{readPacket}
+use Rattle.cells.specs.Segments.{segOf}
+use Rattle.cells.specs.Rows.{rowAt, packetIn}
+use Rattle.cells.specs.Order.{foundIn}
+use Rattle.messages.specs.declared.Piece.{Piece}
+use Rattle.messages.specs.Messages.{first, middle, last, roleOf}
+use Rattle.messages.specs.Inner.{segIn, pieceOf}
+use Rattle.taking.specs.Follow.{segAt, onBy, onAt, follow, placesFrom, bodiesAt, Ready}
+
+-- ---- the next cell of a run
+
+taken : (b : Bool) (x : Option (List ℕ)) (js : List ℕ) → pick b x none ≡ some js → (b ≡ true) × (x ≡ some js)
+taken true x js e = (refl, e)
+taken false x js e = let z : _≡_ {A = ℕ} 0 1 = cc in absurd (omega arith)
+
+mapped : (j : ℕ) (r : Option (List ℕ)) (ks : List ℕ) → Option·map (λ (js : List ℕ). j ∷ js) r ≡ some ks → (js : List ℕ) × (ks ≡ j ∷ js) × (r ≡ some js)
+mapped j none ks e = let z : _≡_ {A = ℕ} 0 1 = cc in absurd (omega arith)
+mapped j (some js) ks e = (js, cc, refl)
+
+some-same : (a b : List ℕ) → _≡_ {A = Option (List ℕ)} (some a) (some b) → b ≡ a
+some-same a b e = cc
+
+-- a last ends the run
+role-last : (f j : ℕ) (r : Option (List ℕ)) (ks : List ℕ) → f ≡ 2 → onBy (roleOf f) j r ≡ some ks → ks ≡ j ∷ []
+unfolding roleOf
+role-last f j r ks e h = some-same (j ∷ []) ks (ap (λ (x : ℕ). onBy (roleOf x) j r) (sym e) ∙ h)
+
+-- any other goes on
+role-on : (f j : ℕ) (r : Option (List ℕ)) (ks : List ℕ) → (f ≡ 2 → ⊥) → onBy (roleOf f) j r ≡ some ks → (js : List ℕ) × (ks ≡ j ∷ js) × (r ≡ some js)
+unfolding roleOf
+role-on f j r ks no2 h = go (eqb f 1) (eqb f 2) (ne-eqb f 2 no2) h
+  where
+    go :
+        (a b : Bool) → b ≡ false → onBy (pick a first (pick b last middle)) j r ≡ some ks →
+        (js : List ℕ) × (ks ≡ j ∷ js) × (r ≡ some js)
+    go true b e u = let z : _≡_ {A = ℕ} 0 1 = cc in absurd (omega arith)
+    go false true e u = let z : _≡_ {A = ℕ} 0 1 = cc in absurd (omega arith)
+    go false false e u = mapped j r ks u
+
+module _ (s : Settings) (Z : ℕ) (st : List ℕ) (n : ℕ) (k : List ℕ) where
+  follow-step : (f c : ℕ) → 0 < f → follow s Z st n k f c ≡ onAt s Z st n (foundIn s Z st n k c) (follow s Z st n k (f - 1) (c + 1))
+  unfolding follow
+  follow-step f c h =
+      let e : f ≡ suc (f - 1) = omega arith in
+      ap (λ (g : ℕ). follow s Z st n k g c) e
+      ∙ ap (λ (d : ℕ). onAt s Z st n (foundIn s Z st n k c) (follow s Z st n k (f - 1) d)) (sym (add-one c))
+
+  pub follow-none : (f c : ℕ) (ks : List ℕ) → f ≤ 0 → follow s Z st n k f c ≡ some ks → ⊥
+  unfolding follow
+  follow-none f c ks h e =
+      let z : f ≡ 0 = omega arith in
+      let u : none ≡ some ks = ap (λ (g : ℕ). follow s Z st n k g c) (sym z) ∙ e in
+      let y : _≡_ {A = ℕ} 0 1 = cc in
+      omega arith
+
+  module _ (f c : ℕ) (ks : List ℕ) (h : 0 < f) (e : follow s Z st n k f c ≡ some ks) {j : ℕ} (ej : j ≡ foundIn s Z st n k c) where
+    stepped : (ltb j n ≡ true) × (onBy (roleOf (segAt s Z st j .flags)) j (follow s Z st n k (f - 1) (c + 1)) ≡ some ks)
+    stepped =
+        taken (ltb j n) (onBy (roleOf (segAt s Z st j .flags)) j (follow s Z st n k (f - 1) (c + 1))) ks
+        (ap (λ (i : ℕ). onAt s Z st n i (follow s Z st n k (f - 1) (c + 1))) ej ∙ sym (follow-step f c h) ∙ e)
+
+    pub next-inside : j < n
+    next-inside = ltb-true j n (stepped .0)
+
+    pub next-last : segAt s Z st j .flags ≡ 2 → ks ≡ j ∷ []
+    next-last g = role-last (segAt s Z st j .flags) j (follow s Z st n k (f - 1) (c + 1)) ks g (stepped .1)
+
+    pub next-on : (segAt s Z st j .flags ≡ 2 → ⊥) → (js : List ℕ) × (ks ≡ j ∷ js) × (follow s Z st n k (f - 1) (c + 1) ≡ some js)
+    next-on g = role-on (segAt s Z st j .flags) j (follow s Z st n k (f - 1) (c + 1)) ks g (stepped .1)
+
+    next-some : (js : List ℕ) × (ks ≡ j ∷ js)
+    next-some = ⊎-elim ends goes-on (bool (eqb (segAt s Z st j .flags) 2))
+      where
+        ends : eqb (segAt s Z st j .flags) 2 ≡ true → (js : List ℕ) × (ks ≡ j ∷ js)
+        ends b = ([], next-last (eqb-true (segAt s Z st j .flags) 2 b))
+
+        goes-on : eqb (segAt s Z st j .flags) 2 ≡ false → (js : List ℕ) × (ks ≡ j ∷ js)
+        goes-on b = let o = next-on (eqb-false (segAt s Z st j .flags) 2 b) in (o .0, o .1)
+
+-- ---- a body, as it stands in its row
+
+module _ (s : Settings) (Z : ℕ) (st : List ℕ) (j : ℕ) {r : List ℕ} {t : Piece} (er : r ≡ rowAt Z st j) (et : t ≡ pieceOf (readPacket s (packetIn 0 r))) where
+  pub body-there : part (packetIn 0 r) (t .at) (t .length) ≡ segAt s Z st j .body
+  unfolding segOf pieceOf
+  body-there =
+      ap (λ (u : Piece). part (packetIn 0 r) (u .at) (u .length)) et ∙ ap (λ (x : List ℕ). segIn s Z x .body) er
+
+  pub flags-there : t .flags ≡ segAt s Z st j .flags
+  unfolding segOf pieceOf
+  flags-there = ap (λ (u : Piece). u .flags) et ∙ ap (λ (x : List ℕ). segIn s Z x .flags) er
+
+bodies-first : (s : Settings) (Z : ℕ) (st : List ℕ) (j : ℕ) (js ks : List ℕ) {x : List ℕ} → ks ≡ j ∷ js → x ≡ segAt s Z st j .body → bodiesAt s Z st ks ≡ x ++ bodiesAt s Z st js
+unfolding bodiesAt
+bodies-first s Z st j js ks e ex = ap (bodiesAt s Z st) e ∙ ap (λ (y : List ℕ). y ++ bodiesAt s Z st js) (sym ex)
+
+bodies-last : (s : Settings) (Z : ℕ) (st : List ℕ) (j : ℕ) (ks : List ℕ) {x : List ℕ} → ks ≡ j ∷ [] → x ≡ segAt s Z st j .body → bodiesAt s Z st ks ≡ x
+unfolding bodiesAt
+bodies-last s Z st j ks {x} e ex = bodies-first s Z st j [] ks e ex ∙ append-nil x
+
+-- ---- the loop
+
+-- what is done, over what is left to do: the run from the counter c on, its bodies from `at` on
+pub record Copying (s : Settings) (Z : ℕ) (st : List ℕ) (n : ℕ) (k js : List ℕ) (place : ℕ) (o : List ℕ) (start : ℕ) (out : List ℕ) (c left at : ℕ) : Type 0 where
+  pub rest : List ℕ
+  pub ahead : follow s Z st n k left c ≡ some rest
+  pub octets : sets out at (bodiesAt s Z st rest) ≡ sets o place (bodiesAt s Z st js)
+  pub room : at + length (bodiesAt s Z st rest) ≤ length out
+  pub long : length out ≡ length o
+  pub told : c + length rest ≡ start + length js
+  pub count : c + left ≤ 8589934591
+
+pub copying-first :
+    (s : Settings) (Z : ℕ) (st : List ℕ) (n : ℕ) (k : List ℕ) (c place : ℕ) (o : List ℕ) → c ≤ 4294967296 → Ready s Z st n k c place o →
+    Copying s Z st n k (placesFrom s Z st n k c) place o c o c 4294967295 place
+copying-first s Z st n k c place o h r =
+    record {
+      rest = placesFrom s Z st n k c;
+      ahead = r .complete;
+      octets = refl;
+      room = r .room;
+      long = refl;
+      told = refl;
+      count = omega arith;
+    }
+
+module _ {s : Settings} {Z : ℕ} {st : List ℕ} {n : ℕ} {k js : List ℕ} {place start : ℕ} {o out : List ℕ} {c left at : ℕ}
+    (w : Copying s Z st n k js place o start out c left at) where
+  pub copying-ended : left ≤ 0 → ⊥
+  copying-ended h = follow-none s Z st n k left c (w .rest) h (w .ahead)
+
+  pub copying-inside : 0 < left → {j : ℕ} → j ≡ foundIn s Z st n k c → j < n
+  copying-inside h ej = next-inside s Z st n k left c (w .rest) h (w .ahead) ej
+
+  module _ (h : 0 < left) {j : ℕ} {r : List ℕ} {t : Piece} (ej : j ≡ foundIn s Z st n k c) (er : r ≡ rowAt Z st j) (et : t ≡ pieceOf (readPacket s (packetIn 0 r))) where
+    abbrev x : List ℕ
+    x = part (packetIn 0 r) (t .at) (t .length)
+
+    body-is : x ≡ segAt s Z st j .body
+    body-is = body-there s Z st j er et
+
+    pub copying-room : at + length x ≤ length out
+    copying-room =
+        let y = next-some s Z st n k left c (w .rest) h (w .ahead) ej in
+        let e = ap length (bodies-first s Z st j (y .0) (w .rest) (y .1) body-is) ∙ length-append x (bodiesAt s Z st (y .0)) in
+        omega (arith, w .room)
+
+    module _ {place′ : ℕ} {out′ : List ℕ} (ea : place′ ≡ at + length x) (eo : out′ ≡ sets out at x) where
+      pub copying-long : length out′ ≡ length o
+      copying-long = ap length eo ∙ length-sets out at x ∙ w .long
+
+      pub copying-last : t .flags ≡ 2 → (c + 1 ≡ start + length js) × (out′ ≡ sets o place (bodiesAt s Z st js))
+      copying-last f =
+          let e = next-last s Z st n k left c (w .rest) h (w .ahead) ej (sym (flags-there s Z st j er et) ∙ f) in (
+            omega (arith, w .told, ap length e),
+            eo ∙ ap (sets out at) (sym (bodies-last s Z st j (w .rest) e body-is)) ∙ w .octets,
+          )
+
+      pub copying-turn : (t .flags ≡ 2 → ⊥) → Copying s Z st n k js place o start out′ (c + 1) (left - 1) place′
+      copying-turn f =
+          let y = next-on s Z st n k left c (w .rest) h (w .ahead) ej (λ g. f (flags-there s Z st j er et ∙ g)) in
+          let b = bodies-first s Z st j (y .0) (w .rest) (y .1) body-is in
+          let l = ap length b ∙ length-append x (bodiesAt s Z st (y .0)) in
+          record {
+            rest = y .0;
+            ahead = y .2;
+            octets =
+                ap₂ (λ (p : List ℕ) (i : ℕ). sets p i (bodiesAt s Z st (y .0))) eo ea
+                ∙ sets-append out at x (bodiesAt s Z st (y .0))
+                ∙ ap (sets out at) (sym b)
+                ∙ w .octets;
+            room = omega (arith, w .room, ap length eo, length-sets out at x);
+            long = copying-long;
+            told = omega (arith, w .told, ap length (y .1));
+            count = omega (arith, w .count);
+          }

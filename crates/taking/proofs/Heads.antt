@@ -1,0 +1,162 @@
+-- The message that opens in a cell, to the output: its key, the first's body, then the others'; and what is told of it.
+-- Assumes nothing.
+use Prim.Native.Nat.{ℕ, suc, _+_, _-_, _*_, _≤_, _<_}
+use mathlib.Core.Path.{_≡_, refl, ap, ap₂, sym, _∙_, subst}
+use mathlib.Core.Logic.{⊎-elim}
+use mathlib.Core.Bool.{true, false}
+use mathlib.Core.List.{List, _∷_, _++_}
+use mathlib.Core.Option.{some}
+use native.Mathlib.Numerals.{add-one}
+use native.Mathlib.Omega.{arith}
+use lib.ListN.{length, length-append}
+use lib.Seq.{sets, length-sets}
+use Rattle.octets.specs.Octets.{Octets, part, number, alike}
+use Rattle.octets.proofs.Has.{octets-part}
+use Rattle.octets.proofs.Lists.{bool, sets-append}
+use Rattle.walk.specs.declared.Settings.{Settings}
+use Rattle.packet.specs.declared.Header.{Header}
+use Rattle.packet.specs.Format.{identification, headerOctets}
+use Rattle.packet.specs.Reading.{readPacket}
+use Rattle.packet.specs.Key.{keyOf}
+use Rattle.format.specs.Told.{valuesOf}
+use Rattle.format.proofs.Frame.{identification-long}
+use Rattle.format.proofs.Accepting.{accepted}
+use Rattle.cells.specs.Segments.{Seg, segOf}
+use Rattle.cells.specs.Rows.{free, held, rowAt, zeroRow, packetIn}
+use Rattle.cells.specs.Order.{cellAt}
+use Rattle.cells.specs.Inner.{Asked}
+use Rattle.cells.proofs.Carries.{Holding, held-is}
+use Rattle.messages.specs.declared.Piece.{Piece}
+use Rattle.messages.specs.Inner.{pieceOf}
+use Rattle.taking.specs.Follow.{segAt, follow, placesOf, placesFrom, bodiesAt, copiedOf, Ready, Opens}
+use Rattle.taking.proofs.Bodies.{body-there}
+
+-- one list after another from the front on
+three-laid : (o a b d : List ℕ) → sets (sets (sets o 0 a) (length a) b) (length a + length b) d ≡ sets o 0 (a ++ (b ++ d))
+three-laid o a b d =
+    let z : length a ≡ 0 + length a = omega arith in
+    sets-append (sets o 0 a) (length a) b d
+    ∙ ap (λ (n : ℕ). sets (sets o 0 a) n (b ++ d)) z
+    ∙ sets-append o 0 a (b ++ d)
+
+-- H, by the key
+pub header-of : (s : Settings) (p : List ℕ) → Octets p → readPacket s p .refusal .number ≡ 0 → readPacket s p .h ≡ length (keyOf p (readPacket s p)) - 2
+header-of s p o z =
+    let a = accepted s p o z in
+    let v = valuesOf p (readPacket s p) .head in
+    let l = ap length (a .key) ∙ length-append (identification v) (headerOctets s v) in
+    omega (arith, a .h-is, identification-long v)
+
+-- a key has the two octets of identification
+pub key-two : (s : Settings) (p : List ℕ) → Octets p → readPacket s p .refusal .number ≡ 0 → 2 ≤ length (keyOf p (readPacket s p))
+key-two s p o z =
+    let a = accepted s p o z in
+    let v = valuesOf p (readPacket s p) .head in
+    let l = ap length (a .key) ∙ length-append (identification v) (headerOctets s v) in
+    omega (arith, identification-long v)
+
+-- the places of a run that is complete
+places-are : (s : Settings) (Z : ℕ) (st : List ℕ) (n : ℕ) (k : List ℕ) (c : ℕ) (js : List ℕ) → follow s Z st n k 4294967295 c ≡ some js → placesFrom s Z st n k c ≡ js
+unfolding placesFrom
+places-are s Z st n k c js e = ap placesOf e
+
+module _ (s : Settings) (Z : ℕ) (st : List ℕ) (n i : ℕ) (o : Octets st) (there : cellAt s Z st i ≡ held (segAt s Z st i))
+    {r q : List ℕ} {h : Header} {t : Piece} (er : r ≡ rowAt Z st i) (eq : q ≡ packetIn 0 r) (eh : h ≡ readPacket s q) (et : t ≡ pieceOf (readPacket s (packetIn 0 r))) where
+  holds-it : Holding s Z (rowAt Z st i)
+  holds-it = held-is s Z (rowAt Z st i) (segAt s Z st i) there
+
+  packet-is : q ≡ packetIn Z (rowAt Z st i)
+  packet-is = eq ∙ ap (λ (x : List ℕ). packetIn Z x) er
+
+  pub head-asked : Asked s q (h .body .at)
+  head-asked =
+      record {
+        octets = subst (λ (x : List ℕ). Octets x) (sym packet-is) (octets-part (rowAt Z st i) 2 (number 2 (rowAt Z st i) 6 + 7) (octets-part st (i * Z) Z o));
+        accepted = ap (λ (x : List ℕ). readPacket s x .refusal .number) packet-is ∙ holds-it .accepted;
+        segment = rw packet-is (holds-it .segment);
+        body = ap (λ (x : Header). x .body .at) eh;
+      }
+
+  key-is : keyOf q (readPacket s q) ≡ segAt s Z st i .key
+  unfolding segOf
+  key-is = ap (λ (x : List ℕ). keyOf x (readPacket s x)) packet-is
+
+  counter-is : h .ids .counter .0 ≡ segAt s Z st i .counter
+  unfolding segOf
+  counter-is = ap (λ (x : Header). x .ids .counter .0) eh ∙ ap (λ (x : List ℕ). readPacket s x .ids .counter .0) packet-is
+
+  next-is : h .ids .counter .0 + 1 ≡ suc (segAt s Z st i .counter)
+  next-is = add-one (h .ids .counter .0) ∙ ap suc counter-is
+
+  -- the places of the others
+  abbrev js : List ℕ
+  js = placesFrom s Z st n (segAt s Z st i .key) (suc (segAt s Z st i .counter))
+
+  others-are : placesFrom s Z st n (keyOf q (readPacket s q)) (h .ids .counter .0 + 1) ≡ js
+  others-are = ap₂ (λ (k : List ℕ) (c : ℕ). placesFrom s Z st n k c) key-is next-is
+
+  -- what is told
+  pub head-told :
+      {m : ℕ} → m ≡ h .ids .counter .0 + 1 + length (placesFrom s Z st n (keyOf q (readPacket s q)) (h .ids .counter .0 + 1)) →
+      record { header = h .h; counter = h .ids .counter; until = m } ≡ copiedOf (segAt s Z st i) (length js)
+  unfolding copiedOf
+  head-told em =
+      let e : h .h ≡ length (segAt s Z st i .key) - 2 =
+      ap (λ (x : Header). x .h) eh ∙ header-of s q (head-asked .octets) (head-asked .accepted) ∙ ap (λ (x : List ℕ). length x - 2) key-is in
+      let u = em ∙ ap₂ (λ (a : ℕ) (b : List ℕ). a + length b) next-is others-are in
+      λ k. record { header = e k; counter = record { 0 = counter-is k }; until = u k }
+
+  abbrev x : List ℕ
+  x = part (packetIn 0 r) (t .at) (t .length)
+
+  body-is : x ≡ segAt s Z st i .body
+  body-is = body-there s Z st i er et
+
+  whole-is : segAt s Z st i .key ++ bodiesAt s Z st (i ∷ js) ≡ keyOf q (readPacket s q) ++ (x ++ bodiesAt s Z st js)
+  unfolding bodiesAt
+  whole-is = ap₂ (λ (k b : List ℕ). k ++ (b ++ bodiesAt s Z st js)) (sym key-is) (sym body-is)
+
+  module _ {out : List ℕ} (w : Opens s Z st n i out) where
+    places-is : js ≡ w .places
+    places-is = places-are s Z st n (segAt s Z st i .key) (suc (segAt s Z st i .counter)) (w .places) (w .complete)
+
+    -- there is room for all of it
+    room : length (keyOf q (readPacket s q)) + (length x + length (bodiesAt s Z st js)) ≤ length out
+    room =
+        let a = ap length whole-is ∙ length-append (keyOf q (readPacket s q)) (x ++ bodiesAt s Z st js) in
+        let b = length-append x (bodiesAt s Z st js) in
+        let d = length-append (segAt s Z st i .key) (bodiesAt s Z st (i ∷ js)) in
+        let e = ap (λ (l : List ℕ). length (bodiesAt s Z st (i ∷ l))) places-is in
+        omega (arith, w .room)
+
+    pub head-key-room : length (keyOf q (readPacket s q)) ≤ length out
+    head-key-room = omega (arith, room)
+
+    module _ {key : ℕ} {one : List ℕ} (ek : key ≡ length (keyOf q (readPacket s q))) (eo : one ≡ sets out 0 (keyOf q (readPacket s q))) where
+      pub head-body-room : key + length x ≤ length one
+      head-body-room = omega (arith, room, ap length eo, length-sets out 0 (keyOf q (readPacket s q)))
+
+      module _ {at : ℕ} {two : List ℕ} (ea : at ≡ key + length x) (ew : two ≡ sets one key x) where
+        pub head-ready : Ready s Z st n (keyOf q (readPacket s q)) (h .ids .counter .0 + 1) at two
+        head-ready =
+            let f : follow s Z st n (keyOf q (readPacket s q)) 4294967295 (h .ids .counter .0 + 1) ≡ some (w .places) =
+            ap₂ (λ (k : List ℕ) (c : ℕ). follow s Z st n k 4294967295 c) key-is next-is ∙ w .complete in
+            let l = ap (λ (y : List ℕ). length (bodiesAt s Z st y)) others-are in
+            record {
+              complete = f ∙ ap some (sym (others-are ∙ places-is));
+              room =
+                  omega
+                  (arith, room, ap length eo, length-sets out 0 (keyOf q (readPacket s q)), ap length ew, length-sets one key x);
+            }
+
+        pub head-written :
+            {m : List ℕ} → m ≡ sets two at (bodiesAt s Z st (placesFrom s Z st n (keyOf q (readPacket s q)) (h .ids .counter .0 + 1))) →
+            m ≡ sets out 0 (segAt s Z st i .key ++ bodiesAt s Z st (i ∷ js))
+        head-written em =
+            em
+            ∙ ap (λ (y : List ℕ). sets two at (bodiesAt s Z st y)) others-are
+            ∙ ap₂ (λ (y : List ℕ) (p : ℕ). sets y p (bodiesAt s Z st js))
+            (ew ∙ ap₂ (λ (y : List ℕ) (p : ℕ). sets y p x) eo ek)
+            (ea ∙ ap (λ (p : ℕ). p + length x) ek)
+            ∙ three-laid out (keyOf q (readPacket s q)) x (bodiesAt s Z st js)
+            ∙ ap (sets out 0) (sym whole-is)

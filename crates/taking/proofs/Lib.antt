@@ -1,0 +1,15 @@
+pub mod Following
+pub mod Counting
+pub mod Ends
+pub mod Pieces
+pub mod Running
+pub mod Picks
+pub mod Clearing
+pub mod Copying
+pub mod Bodies
+pub mod Heads
+pub mod Drawing
+pub mod Among
+pub mod Drawn
+pub mod Takings
+pub mod Beside

@@ -1,0 +1,51 @@
+-- `taking::clear` meets its contract. The loop's invariant: those of the cells passed are zero, and the others are as they were.
+-- Assumes nothing.
+use Prim.Native.Nat.{ℕ, _-_}
+use mathlib.Core.List.{List}
+use mathlib.Core.Logic.{⊎-elim}
+use mathlib.Core.Path.{sym, _∙_}
+use denote.Ref.{now}
+use lib.ListN.{length}
+use Rattle.cells.specs.Rows.{cellOf}
+use Rattle.cells.specs.Order.{cellAt}
+use Rattle.cells.specs.Inner.{withinIn}
+use Rattle.taking.proofs.Clearing.{Clearing, clearing-first, clearing-long, clearing-done, clearing-told, clearing-here, clearing-not}
+use borrow.Author.Needs.{needs}
+use Rattle.taking.proofs.clear.Statement.{statement}
+use Rattle.taking.proofs.clear.Tie as tie
+
+abbrev Inv-loop : tie.InvT-loop
+Inv-loop s store₀ n zero key from to z i₀ store i = Clearing (λ j. withinIn key from to (cellAt s (length zero) store₀ j)) (length zero) n store₀ store i
+
+abbrev μ-loop : tie.MeasureT-loop
+μ-loop s store₀ n zero key from to z i₀ store i = n - i
+
+loop-holds : tie.Need-loop-holds Inv-loop μ-loop
+loop-holds c = clearing-first _ _ _ _
+
+row-requires : tie.Need-row-requires Inv-loop μ-loop
+row-requires c κs = search needs
+
+is-within-requires : tie.Need-is-within-requires Inv-loop μ-loop
+is-within-requires c κs = c .before .before .before .before .before .before .before .pre
+
+put-zero-requires : tie.Need-put-zero-requires Inv-loop μ-loop
+put-zero-requires c κs = search needs
+
+add-i : tie.Need-add-i Inv-loop μ-loop
+add-i c = search needs
+
+loop-less : tie.Need-loop-less Inv-loop μ-loop
+loop-less c = search needs
+
+loop-again : tie.Need-loop-again Inv-loop μ-loop
+loop-again c = ⊎-elim (λ w. clearing-here (now (c .before .before .before .before .before .before .before .before .before .args .zero)) (c .before .before .before .before .before .loop .inv) (c .before .before .before .before .loop-test .taken) (c .before .before .before .before .before .before .before .before .before .pre) (sym (clearing-told (λ (r : List ℕ). withinIn (now (c .before .before .before .before .before .before .before .before .before .args .key)) (c .before .before .before .before .before .before .before .before .before .args .from) (c .before .before .before .before .before .before .before .before .before .args .to) (cellOf (c .before .before .before .before .before .before .before .before .before .args .s) (length (now (c .before .before .before .before .before .before .before .before .before .args .zero))) r)) (length (now (c .before .before .before .before .before .before .before .before .before .args .zero))) (c .before .before .before .before .before .loop .inv) (c .before .before .row .ensures) (c .before .is-within .ensures)) ∙ w .0 .taken) (w .5 ∙ w .2 .ensures)) (λ w. clearing-not (c .before .before .before .before .before .loop .inv) (c .before .before .before .before .loop-test .taken) (sym (clearing-told (λ (r : List ℕ). withinIn (now (c .before .before .before .before .before .before .before .before .before .args .key)) (c .before .before .before .before .before .before .before .before .before .args .from) (c .before .before .before .before .before .before .before .before .before .args .to) (cellOf (c .before .before .before .before .before .before .before .before .before .args .s) (length (now (c .before .before .before .before .before .before .before .before .before .args .zero))) r)) (length (now (c .before .before .before .before .before .before .before .before .before .args .zero))) (c .before .before .before .before .before .loop .inv) (c .before .before .row .ensures) (c .before .is-within .ensures)) ∙ w .0 .left) (w .1)) (c .if1 .came)
+
+same-length : tie.Need-same-length Inv-loop μ-loop
+same-length c = clearing-long (c .before .loop .inv)
+
+returns : tie.Need-returns Inv-loop μ-loop
+returns c = clearing-done (c .before .loop .inv) (c .loop-test .left)
+
+pub clear-spec : {M : Type 1} → statement M
+clear-spec = tie.close (tie.spec Inv-loop μ-loop loop-holds row-requires is-within-requires put-zero-requires add-i loop-less loop-again same-length returns)

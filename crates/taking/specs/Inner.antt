@@ -1,0 +1,13 @@
+-- What the code hands about: a segment in its cell, told where its body begins.
+-- Assumes nothing: these are definitions.
+use Prim.Native.Nat.{ℕ, _/_}
+use mathlib.Core.List.{List}
+use lib.ListN.{length}
+use Rattle.octets.specs.Octets.{octetAt, part}
+use Rattle.cells.specs.Rows.{packetIn}
+use Rattle.messages.specs.declared.Piece.{Piece}
+
+-- what is kept of a segment, by the octets of its row, told where its packet's body begins
+unfoldable pub pieceIn : List ℕ → ℕ → Piece
+pieceIn r stop =
+    record { flags = octetAt r 4 / 64; at = stop; length = length (part (packetIn 0 r) stop (length (packetIn 0 r))) }

@@ -1,0 +1,58 @@
+-- Taking a message out of a store.
+-- Document 01, "The store": taking "writes the two octets of packet identification, the H header octets without counter, and the body,
+-- tells H, B and c, and zeroes just its cells." The order of the refusals: "Taking: 15, 16, 20, 21."
+-- Assumes nothing: these are definitions.
+use Prim.Native.Nat.{ℕ, zero, suc, _+_, _-_, _*_}
+use mathlib.Core.Bool.{Bool, true, false}
+use mathlib.Core.List.{List, _++_}
+use mathlib.Core.Option.{Option, none, some}
+use lib.ListN.{length}
+use lib.Seq.{sets}
+use lib.Dec.{leb, eqb}
+use Rattle.octets.specs.Octets.{pick}
+use Rattle.walk.specs.declared.Settings.{Settings}
+use Rattle.walk.specs.Walk.{begun}
+use Rattle.cells.specs.Segments.{Seg}
+use Rattle.cells.specs.Rows.{zeroRow}
+use Rattle.cells.specs.Order.{cellAt, inOrder, countIn}
+use Rattle.messages.specs.Messages.{cellsOf, Run, bodyOf, segments, picked, amongIn, top}
+
+-- what a taking comes to
+pub data Took : Type 0 where
+  message : Run → Took
+  unable : ℕ → Took
+
+-- what is written: a key is identification and header without counter
+abbrev pub writing : Run → List ℕ
+writing r = r .head .key ++ bodyOf r
+
+-- a message that was picked, with an output of some length
+abbrev pub drawn : Option Run → ℕ → Took
+drawn none long = unable 20
+drawn (some r) long = pick (leb (length (writing r)) long) (message r) (unable 21)
+
+-- from the first n cells of a store that is in order
+unfoldable pub tookIn : Settings → ℕ → List ℕ → ℕ → ℕ → Took
+tookIn s Z st n long = drawn (picked suc top (cellsOf s Z st n)) long
+
+-- from any octets
+unfoldable pub took : Settings → ℕ → List ℕ → ℕ → Took
+took s Z st long =
+    pick (eqb (begun s .refusal .number) 0)
+    (pick (inOrder s Z st) (tookIn s Z st (countIn Z st) long) (unable 16))
+    (unable 15)
+
+-- the output behind it
+unfoldable pub outWith : List ℕ → Took → List ℕ
+outWith out (message r) = sets out 0 (writing r)
+outWith out (unable k) = out
+
+-- those of the first n cells of which a test holds made zero
+unfoldable pub clearedTo : (ℕ → Bool) → ℕ → ℕ → List ℕ → List ℕ
+clearedTo f Z zero st = st
+clearedTo f Z (suc i) st = let x = clearedTo f Z i st in pick (f i) (sets x (i * Z) (zeroRow Z)) x
+
+-- the store behind it: just the message's cells are zero
+unfoldable pub storeLess : Settings → ℕ → List ℕ → ℕ → Took → List ℕ
+storeLess s Z st n (message r) = clearedTo (λ i. amongIn (segments r) (cellAt s Z st i)) Z n st
+storeLess s Z st n (unable k) = st

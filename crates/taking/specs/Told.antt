@@ -1,0 +1,20 @@
+-- What a taking answers: document 01's number and values for what a taking comes to.
+-- Document 01, "Refusal numbers": "A refusal answers its number, every other answer zero".
+-- Assumes nothing: these are definitions.
+use Prim.Native.Nat.{ℕ, _-_}
+use lib.ListN.{length}
+use Rattle.messages.specs.Messages.{Run, bodyOf}
+use Rattle.messages.specs.Told.{refusalOf}
+use Rattle.taking.specs.declared.Taken.{Taken}
+use Rattle.taking.specs.Taking.{Took, message, unable}
+
+-- H, B and c of a message; the key is the two octets of identification and H octets of header
+abbrev pub takenOf : Took → Taken
+takenOf (message r) =
+    record {
+      refusal = refusalOf 0;
+      header = length (r .head .key) - 2;
+      body = length (bodyOf r);
+      counter = record { 0 = r .head .counter };
+    }
+takenOf (unable k) = record { refusal = refusalOf k; header = 0; body = 0; counter = record { 0 = 0 } }

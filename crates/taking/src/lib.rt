@@ -1,0 +1,449 @@
+// Taking from the store: the complete message whose first lies in the lowest cell is found, written out, and its cells are freed.
+//
+// The store is any octets here, and the size of a cell is that of the zero cell lent: T and the store's order are tested by
+// `store::take`, or by whoever keeps a store in order.
+ghost use mathlib.Core.Path.{_≡_};
+ghost use mathlib.Core.List.{_∷_, _++_};
+ghost use Prim.Native.Nat.{suc, _+_, _*_, _/_, _≤_, _<_};
+ghost use lib.ListN.{length};
+ghost use lib.Seq.{sets};
+ghost use Rattle.octets.specs.Octets.{octetAt, part};
+ghost use Rattle.packet.specs.Reading.{readPacket};
+ghost use Rattle.packet.specs.Key.{keyOf};
+ghost use Rattle.cells.specs.Rows.{zeroRow, packetIn, held};
+ghost use Rattle.cells.specs.Order.{cellsMost, lowest, cellAt};
+ghost use Rattle.cells.specs.Inner.{withinIn, Asked};
+ghost use Rattle.messages.specs.Messages.{cellsOf, runIn, picked, top};
+ghost use Rattle.taking.specs.Taking.{unable, tookIn, outWith, clearedTo, storeLess};
+ghost use Rattle.taking.specs.Beside.{tookBeside};
+ghost use Rattle.taking.specs.Told.{takenOf};
+ghost use Rattle.taking.specs.Inner.{pieceIn};
+ghost use Rattle.taking.specs.Follow.{segAt, follow as followed, placesFrom, bodiesAt, total, answer, opensAt, endsAt, pickedOf, copiedOf, Lent, Ready, Opens};
+use messages::Piece;
+use packet::SegmentCounter;
+use walk::Refusal;
+use walk::Settings;
+
+// The most cells that a taking searches without chains: so few are searched faster than chains are made.
+const SEARCH_MOST: usize = 64;
+
+// What taking answers: H, the octets of the body, and the first segment's counter.
+pub struct Taken {
+    pub refusal: Refusal,
+    pub header: usize,
+    pub body: usize,
+    pub counter: SegmentCounter,
+}
+
+// A message that was picked: the cell of its first segment, and one more than the octets of its body; 0 where none is complete.
+struct Picked {
+    cell: usize,
+    body: usize,
+}
+
+// A message that was copied: H, the counter of its first segment, and the one behind its last.
+struct Copied {
+    header: usize,
+    counter: SegmentCounter,
+    until: u64,
+}
+
+// The one place where a taking is refused.
+pub fn not_taken(k: u8) -> Taken
+    ensures { λ r. ⌜ r ≡ takenOf (unable k) ⌝ }
+{
+    Taken {
+        refusal: Refusal { number: k },
+        header: 0,
+        body: 0,
+        counter: SegmentCounter(0),
+    }
+}
+
+// The segment in a cell that was found by the key of another, told where the other's body begins: so does this one's, and the header is
+// not read again.
+fn piece_with(row: &[u8], stop: usize) -> Piece
+    ensures { λ r. ⌜ r ≡ pieceIn (now (row .entry)) stop ⌝ }
+{
+    let p = cells::packet_in(row);
+    let body = cells::span(p, stop, p.len());
+    Piece {
+        flags: flags_in(row),
+        at: stop,
+        length: body.len(),
+    }
+}
+
+// The segments with the key of q from a counter on, up to a last: one more than the octets of their bodies and b, or 0 where the
+// run is not complete.
+fn follow(
+    s: Settings,
+    store: &[u8],
+    n: usize,
+    zero: &[u8],
+    q: &[u8],
+    stop: usize,
+    from: u64,
+    b: usize,
+    chained: bool,
+    heads: &[u16; cells::CHAINS],
+    links: &[u16; cells::CELLS_MOST],
+) -> usize
+    requires { ⌜ Lent s (now zero) (now store) n chained (now heads) (now links) ⌝ }
+    requires { ⌜ Asked s (now q) stop × ((from ≤ 4294967296) × (b ≤ 65542)) ⌝ }
+    ensures { λ r. ⌜ r ≡ total s (length (now (zero .entry))) (now (store .entry)) b (followed s (length (now (zero .entry))) (now (store .entry)) n (keyOf (now (q .entry)) (readPacket s (now (q .entry)))) 4294967295 from) ⌝ }
+{
+    let z = zero.len();
+    let mut c = from;
+    let mut left: u64 = 4294967295;
+    let mut sum = b;
+    while 0 < left {
+        let j = cells::find_by(s, store, n, zero, q, stop, c, chained, heads, links);
+        if n <= j {
+            return 0;
+        }
+        let t = piece_with(cells::row(store, z, j), stop);
+        sum += t.length;
+        if t.flags == 1 {
+            return 0;
+        }
+        if t.flags == 2 {
+            return sum + 1;
+        }
+        c += 1;
+        left -= 1;
+    }
+    0
+}
+
+// The sequence flags of the packet in a row.
+fn flags_in(row: &[u8]) -> u8
+    ensures { λ r. ⌜ r ≡ octetAt (now (row .entry)) 4 / 64 ⌝ }
+{
+    octets::octet(row, 4) / 64
+}
+
+// The lowest of the first n cells whose packet is a last segment; n where there is none, and then no message is complete.
+fn lowest_last(store: &[u8], n: usize, z: usize) -> usize
+    ensures { λ r. ⌜ r ≡ lowest (endsAt z (now (store .entry))) n 0 ⌝ }
+{
+    let mut i: usize = 0;
+    while i < n {
+        if flags_in(cells::row(store, z, i)) == 2 {
+            return i;
+        }
+        i += 1;
+    }
+    n
+}
+
+// One more than the octets of the body of the message that opens in cell i, or 0 where none does that is complete.
+fn run_at(
+    s: Settings,
+    store: &[u8],
+    n: usize,
+    zero: &[u8],
+    i: usize,
+    chained: bool,
+    heads: &[u16; cells::CHAINS],
+    links: &[u16; cells::CELLS_MOST],
+) -> usize
+    requires { ⌜ Lent s (now zero) (now store) n chained (now heads) (now links) ⌝ }
+    ensures { λ r. ⌜ r ≡ answer (runIn suc top (cellsOf s (length (now (zero .entry))) (now (store .entry)) n) (cellAt s (length (now (zero .entry))) (now (store .entry)) i)) ⌝ }
+{
+    let r = cells::row(store, zero.len(), i);
+    if flags_in(r) != 1 {
+        return 0;
+    }
+    let t = cells::judge(s, r, zero);
+    if t.kind != 1 {
+        return 0;
+    }
+    let q = cells::packet_in(r);
+    follow(
+        s,
+        store,
+        n,
+        zero,
+        q,
+        t.at,
+        t.counter as u64 + 1,
+        q.len() - t.at,
+        chained,
+        heads,
+        links,
+    )
+}
+
+// The complete message whose first lies in the lowest cell.
+fn pick_message(
+    s: Settings,
+    store: &[u8],
+    n: usize,
+    zero: &[u8],
+    chained: bool,
+    heads: &[u16; cells::CHAINS],
+    links: &[u16; cells::CELLS_MOST],
+) -> Picked
+    requires { ⌜ Lent s (now zero) (now store) n chained (now heads) (now links) ⌝ }
+    ensures { λ r. ⌜ r ≡ pickedOf s (length (now (zero .entry))) (now (store .entry)) n ⌝ }
+{
+    let mut i: usize = 0;
+    while i < n {
+        let b = run_at(s, store, n, zero, i, chained, heads, links);
+        if b != 0 {
+            return Picked { cell: i, body: b };
+        }
+        i += 1;
+    }
+    Picked { cell: n, body: 0 }
+}
+
+// The key of a segment, told where its body begins, to the front of the output. The place behind it.
+fn put_key(s: Settings, out: &mut [u8], q: &[u8], stop: usize) -> usize
+    requires { ⌜ Asked s (now q) stop ⌝ }
+    requires { ⌜ length (keyOf (now q) (readPacket s (now q))) ≤ length (now out) ⌝ }
+    ensures { λ r. ⌜ r ≡ length (keyOf (now (q .entry)) (readPacket s (now (q .entry)))) ⌝ }
+    ensures { λ r. ⌜ now (out .exit) ≡ sets (now (out .entry)) 0 (keyOf (now (q .entry)) (readPacket s (now (q .entry)))) ⌝ }
+{
+    let c = cells::counter_place(q);
+    let ids = octets::lay(out, 0, cells::span(q, 0, 2));
+    let fore = octets::lay(out, ids, cells::span(q, 6, c - 6));
+    octets::lay(out, fore, cells::span(q, c + 4, stop - (c + 4)))
+}
+
+// The body of the segment in a row to a place of the output. The place behind it.
+fn put_body(out: &mut [u8], at: usize, row: &[u8], t: Piece) -> usize
+    requires { ⌜ at + length (part (packetIn 0 (now row)) (t .at) (t .length)) ≤ length (now out) ⌝ }
+    ensures { λ r. ⌜ r ≡ at + length (part (packetIn 0 (now (row .entry))) (t .at) (t .length)) ⌝ }
+    ensures { λ r. ⌜ now (out .exit) ≡ sets (now (out .entry)) at (part (packetIn 0 (now (row .entry))) (t .at) (t .length)) ⌝ }
+{
+    let p = cells::packet_in(row);
+    octets::lay(out, at, cells::span(p, t.at, t.length))
+}
+
+// The bodies of a complete run from a counter on to a place of the output. The counter behind its last.
+fn copy_rest(
+    s: Settings,
+    store: &[u8],
+    n: usize,
+    zero: &[u8],
+    q: &[u8],
+    stop: usize,
+    start: u64,
+    out: &mut [u8],
+    place: usize,
+    chained: bool,
+    heads: &[u16; cells::CHAINS],
+    links: &[u16; cells::CELLS_MOST],
+) -> u64
+    requires { ⌜ Lent s (now zero) (now store) n chained (now heads) (now links) ⌝ }
+    requires { ⌜ Asked s (now q) stop ⌝ }
+    requires { ⌜ start ≤ 4294967296 ⌝ }
+    requires { ⌜ Ready s (length (now zero)) (now store) n (keyOf (now q) (readPacket s (now q))) start place (now out) ⌝ }
+    ensures { λ r. ⌜ r ≡ start + length (placesFrom s (length (now (zero .entry))) (now (store .entry)) n (keyOf (now (q .entry)) (readPacket s (now (q .entry)))) start) ⌝ }
+    ensures { λ r. ⌜ now (out .exit) ≡ sets (now (out .entry)) place (bodiesAt s (length (now (zero .entry))) (now (store .entry)) (placesFrom s (length (now (zero .entry))) (now (store .entry)) n (keyOf (now (q .entry)) (readPacket s (now (q .entry)))) start)) ⌝ }
+{
+    let z = zero.len();
+    let mut c = start;
+    let mut left: u64 = 4294967295;
+    let mut at = place;
+    while 0 < left {
+        let j = cells::find_by(s, store, n, zero, q, stop, c, chained, heads, links);
+        let r = cells::row(store, z, j);
+        let t = piece_with(r, stop);
+        at = put_body(out, at, r, t);
+        if t.flags == 2 {
+            return c + 1;
+        }
+        c += 1;
+        left -= 1;
+    }
+    c
+}
+
+// The message that opens in cell i to the output.
+fn copy_message(
+    s: Settings,
+    store: &[u8],
+    n: usize,
+    zero: &[u8],
+    i: usize,
+    out: &mut [u8],
+    chained: bool,
+    heads: &[u16; cells::CHAINS],
+    links: &[u16; cells::CELLS_MOST],
+) -> Copied
+    requires { ⌜ Lent s (now zero) (now store) n chained (now heads) (now links) ⌝ }
+    requires { ⌜ cellAt s (length (now zero)) (now store) i ≡ held (segAt s (length (now zero)) (now store) i) ⌝ }
+    requires { ⌜ Opens s (length (now zero)) (now store) n i (now out) ⌝ }
+    ensures { λ r. ⌜ r ≡ copiedOf (segAt s (length (now (zero .entry))) (now (store .entry)) i) (length (placesFrom s (length (now (zero .entry))) (now (store .entry)) n (segAt s (length (now (zero .entry))) (now (store .entry)) i .key) (suc (segAt s (length (now (zero .entry))) (now (store .entry)) i .counter)))) ⌝ }
+    ensures { λ r. ⌜ now (out .exit) ≡ sets (now (out .entry)) 0 (segAt s (length (now (zero .entry))) (now (store .entry)) i .key ++ bodiesAt s (length (now (zero .entry))) (now (store .entry)) (i ∷ placesFrom s (length (now (zero .entry))) (now (store .entry)) n (segAt s (length (now (zero .entry))) (now (store .entry)) i .key) (suc (segAt s (length (now (zero .entry))) (now (store .entry)) i .counter)))) ⌝ }
+{
+    let r = cells::row(store, zero.len(), i);
+    let q = cells::packet_in(r);
+    let h = packet::read(s, q);
+    let ids = h.ids;
+    let counter = ids.counter;
+    let body = h.body;
+    let end = body.at;
+    let t = messages::piece_in(s, r);
+    let key = put_key(s, out, q, end);
+    let at = put_body(out, key, r, t);
+    let c = counter.0 as u64 + 1;
+    let until = copy_rest(s, store, n, zero, q, end, c, out, at, chained, heads, links);
+    Copied {
+        header: h.h,
+        counter: counter,
+        until: until,
+    }
+}
+
+// The zero cell goes over cell i.
+fn put_zero(store: &mut [u8], i: usize, zero: &[u8])
+    ensures { λ r. ⌜ now (store .exit) ≡ sets (now (store .entry)) (i * length (now (zero .entry))) (now (zero .entry)) ⌝ }
+{
+    let at = octets::place(store.len(), zero.len(), i);
+    octets::copy(store, at, zero);
+}
+
+// Those of the first n cells are made zero that hold a segment of this key, with a counter from one number on and below another.
+fn clear(s: Settings, store: &mut [u8], n: usize, zero: &[u8], key: &[u8], from: u64, to: u64)
+    requires { ⌜ now zero ≡ zeroRow (length (now zero)) ⌝ }
+    ensures { λ r. ⌜ now (store .exit) ≡ clearedTo (λ i. withinIn (now (key .entry)) from to (cellAt s (length (now (zero .entry))) (now (store .entry)) i)) (length (now (zero .entry))) n (now (store .entry)) ⌝ }
+{
+    let z = zero.len();
+    let mut i: usize = 0;
+    while i < n {
+        if cells::is_within(s, cells::row(store, z, i), zero, key, from, to) {
+            put_zero(store, i, zero);
+        }
+        i += 1;
+    }
+}
+
+// The message that opens in cell i, with b octets of body, to the output; just its cells are made zero.
+fn draw(
+    s: Settings,
+    store: &mut [u8],
+    n: usize,
+    zero: &[u8],
+    i: usize,
+    b: usize,
+    out: &mut [u8],
+    chained: bool,
+    heads: &[u16; cells::CHAINS],
+    links: &[u16; cells::CELLS_MOST],
+) -> Taken
+    requires { ⌜ Lent s (now zero) (now store) n chained (now heads) (now links) ⌝ }
+    requires { ⌜ i ≡ lowest (opensAt s (length (now zero)) (now store) n) n 0 ⌝ }
+    requires { ⌜ (i < n) × (suc b ≡ answer (picked suc top (cellsOf s (length (now zero)) (now store) n))) ⌝ }
+    requires { ⌜ length (segAt s (length (now zero)) (now store) i .key) + b ≤ length (now out) ⌝ }
+    ensures { λ r. ⌜ r ≡ takenOf (tookIn s (length (now (zero .entry))) (now (store .entry)) n (length (now (out .entry)))) ⌝ }
+    ensures { λ r. ⌜ now (out .exit) ≡ outWith (now (out .entry)) (tookIn s (length (now (zero .entry))) (now (store .entry)) n (length (now (out .entry)))) ⌝ }
+    ensures { λ r. ⌜ now (store .exit) ≡ storeLess s (length (now (zero .entry))) (now (store .entry)) n (tookIn s (length (now (zero .entry))) (now (store .entry)) n (length (now (out .entry)))) ⌝ }
+{
+    let t = copy_message(s, store, n, zero, i, out, chained, heads, links);
+    let counter = t.counter;
+    let key = cells::span(out, 0, 2 + t.header);
+    clear(s, store, n, zero, key, counter.0 as u64, t.until);
+    Taken {
+        refusal: Refusal { number: 0 },
+        header: t.header,
+        body: b,
+        counter: counter,
+    }
+}
+
+// Taking from the first n cells of any octets, by their chains where they are made.
+fn take_by(
+    s: Settings,
+    store: &mut [u8],
+    n: usize,
+    zero: &[u8],
+    out: &mut [u8],
+    chained: bool,
+    heads: &[u16; cells::CHAINS],
+    links: &[u16; cells::CELLS_MOST],
+) -> Taken
+    requires { ⌜ Lent s (now zero) (now store) n chained (now heads) (now links) ⌝ }
+    ensures { λ r. ⌜ r ≡ takenOf (tookIn s (length (now (zero .entry))) (now (store .entry)) n (length (now (out .entry)))) ⌝ }
+    ensures { λ r. ⌜ now (out .exit) ≡ outWith (now (out .entry)) (tookIn s (length (now (zero .entry))) (now (store .entry)) n (length (now (out .entry)))) ⌝ }
+    ensures { λ r. ⌜ now (store .exit) ≡ storeLess s (length (now (zero .entry))) (now (store .entry)) n (tookIn s (length (now (zero .entry))) (now (store .entry)) n (length (now (out .entry)))) ⌝ }
+{
+    let m = pick_message(s, store, n, zero, chained, heads, links);
+    let cell = m.cell;
+    if m.body == 0 {
+        return not_taken(20);
+    }
+    let b = m.body - 1;
+    let h = packet::read(s, cells::packet_in(cells::row(store, zero.len(), cell)));
+    let long = out.len();
+    if long < 2 {
+        return not_taken(21);
+    }
+    if long - 2 < h.h {
+        return not_taken(21);
+    }
+    if long - 2 - h.h < b {
+        return not_taken(21);
+    }
+    draw(s, store, n, zero, cell, b, out, chained, heads, links)
+}
+
+// The same by plain searches, without chains.
+fn take_plain(s: Settings, store: &mut [u8], n: usize, zero: &[u8], out: &mut [u8]) -> Taken
+    requires { ⌜ now zero ≡ zeroRow (length (now zero)) ⌝ }
+    ensures { λ r. ⌜ r ≡ takenOf (tookIn s (length (now (zero .entry))) (now (store .entry)) n (length (now (out .entry)))) ⌝ }
+    ensures { λ r. ⌜ now (out .exit) ≡ outWith (now (out .entry)) (tookIn s (length (now (zero .entry))) (now (store .entry)) n (length (now (out .entry)))) ⌝ }
+    ensures { λ r. ⌜ now (store .exit) ≡ storeLess s (length (now (zero .entry))) (now (store .entry)) n (tookIn s (length (now (zero .entry))) (now (store .entry)) n (length (now (out .entry)))) ⌝ }
+{
+    let heads = [0u16; cells::CHAINS];
+    let links = [0u16; cells::CELLS_MOST];
+    take_by(s, store, n, zero, out, false, &heads, &links)
+}
+
+// The same by chains, which are made first.
+fn take_chained(s: Settings, store: &mut [u8], n: usize, zero: &[u8], out: &mut [u8]) -> Taken
+    requires { ⌜ now zero ≡ zeroRow (length (now zero)) ⌝ }
+    requires { ⌜ n ≤ cellsMost ⌝ }
+    ensures { λ r. ⌜ r ≡ takenOf (tookIn s (length (now (zero .entry))) (now (store .entry)) n (length (now (out .entry)))) ⌝ }
+    ensures { λ r. ⌜ now (out .exit) ≡ outWith (now (out .entry)) (tookIn s (length (now (zero .entry))) (now (store .entry)) n (length (now (out .entry)))) ⌝ }
+    ensures { λ r. ⌜ now (store .exit) ≡ storeLess s (length (now (zero .entry))) (now (store .entry)) n (tookIn s (length (now (zero .entry))) (now (store .entry)) n (length (now (out .entry)))) ⌝ }
+{
+    let mut heads = [0u16; cells::CHAINS];
+    let mut links = [0u16; cells::CELLS_MOST];
+    cells::order_by(s, store, n, zero, &mut heads, &mut links);
+    take_by(s, store, n, zero, out, true, &heads, &links)
+}
+
+// The same: without a last segment nothing is searched, and chains are made where they save more than they cost.
+pub fn take_on(s: Settings, store: &mut [u8], n: usize, zero: &[u8], out: &mut [u8]) -> Taken
+    requires { ⌜ now zero ≡ zeroRow (length (now zero)) ⌝ }
+    ensures { λ r. ⌜ r ≡ takenOf (tookIn s (length (now (zero .entry))) (now (store .entry)) n (length (now (out .entry)))) ⌝ }
+    ensures { λ r. ⌜ now (out .exit) ≡ outWith (now (out .entry)) (tookIn s (length (now (zero .entry))) (now (store .entry)) n (length (now (out .entry)))) ⌝ }
+    ensures { λ r. ⌜ now (store .exit) ≡ storeLess s (length (now (zero .entry))) (now (store .entry)) n (tookIn s (length (now (zero .entry))) (now (store .entry)) n (length (now (out .entry)))) ⌝ }
+{
+    if n <= lowest_last(store, n, zero.len()) {
+        return not_taken(20);
+    }
+    if n <= SEARCH_MOST {
+        return take_plain(s, store, n, zero, out);
+    }
+    if cells::CELLS_MOST < n {
+        return take_plain(s, store, n, zero, out);
+    }
+    take_chained(s, store, n, zero, out)
+}
+
+// The same beside any octets: where they are not all zeros, no store is in order beside them.
+pub fn take_in(s: Settings, store: &mut [u8], n: usize, zero: &[u8], out: &mut [u8]) -> Taken
+    ensures { λ r. ⌜ r ≡ takenOf (tookBeside s (now (zero .entry)) (now (store .entry)) n (length (now (out .entry)))) ⌝ }
+    ensures { λ r. ⌜ now (out .exit) ≡ outWith (now (out .entry)) (tookBeside s (now (zero .entry)) (now (store .entry)) n (length (now (out .entry)))) ⌝ }
+    ensures { λ r. ⌜ now (store .exit) ≡ storeLess s (length (now (zero .entry))) (now (store .entry)) n (tookBeside s (now (zero .entry)) (now (store .entry)) n (length (now (out .entry)))) ⌝ }
+{
+    if !octets::zeros(zero) {
+        return not_taken(16);
+    }
+    take_on(s, store, n, zero, out)
+}
