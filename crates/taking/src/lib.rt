@@ -24,7 +24,7 @@ use packet::SegmentCounter;
 use walk::Refusal;
 use walk::Settings;
 
-// The most cells that a taking searches without chains: so few are searched faster than chains are made.
+// The most cells that a taking searches without chains: making them for so few does not pay for a message of few segments.
 const SEARCH_MOST: usize = 64;
 
 // What taking answers: H, the octets of the body, and the first segment's counter.
@@ -417,7 +417,7 @@ fn take_chained(s: Settings, store: &mut [u8], n: usize, zero: &[u8], out: &mut 
     take_by(s, store, n, zero, out, true, &heads, &links)
 }
 
-// The same: without a last segment nothing is searched, and chains are made where they save more than they cost.
+// The same: without a last segment nothing is searched, and chains are made only for many cells.
 pub fn take_on(s: Settings, store: &mut [u8], n: usize, zero: &[u8], out: &mut [u8]) -> Taken
     requires { ⌜ now zero ≡ zeroRow (length (now zero)) ⌝ }
     ensures { λ r. ⌜ r ≡ takenOf (tookIn s (length (now (zero .entry))) (now (store .entry)) n (length (now (out .entry)))) ⌝ }
