@@ -19,7 +19,7 @@ use Rattle.varint.specs.Answer.{found}
 use Rattle.varint.proofs.Told.{got, told}
 use Rattle.varint.proofs.Laws.{within, only-written}
 use Rattle.walk.specs.declared.Settings.{Settings}
-use Rattle.walk.specs.Walk.{Reading, Step, goes, refused, going, headerEnd, octets, octetsIf, check, numberStep, number}
+use Rattle.walk.specs.Walk.{Reading, Step, goes, refused, going, headerEnd, octets, check, numberStep, number}
 
 -- ---- by cases
 

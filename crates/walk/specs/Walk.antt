@@ -71,10 +71,6 @@ octets p n w =
 unfoldable pub check : Bool → ℕ → Reading → Reading
 check ok k w = pick (going w) (pick ok w (refused k)) w
 
--- n octets that are there only if `there`
-unfoldable pub octetsIf : Bool → List ℕ → ℕ → Reading → Reading
-octetsIf there p n w = pick there (octets p n w) w
-
 -- what a Varint's reading means here. Where its octets end, the header's limit comes first: 12, else 6
 unfoldable pub numberStep : List ℕ → Got → Step ℕ
 numberStep p (value v next) = record { walk = goes next; value = v }

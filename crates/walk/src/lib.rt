@@ -8,7 +8,7 @@ ghost use Prim.Native.Nat.{min};
 ghost use lib.Dec.{leb};
 ghost use Rattle.octets.specs.Octets.{pick};
 ghost use lib.ListN.{length};
-ghost use Rattle.walk.specs.Walk.{goes as goesAt, refused as refusedBy, octets as octetsOf, octetsIf, check as checkOf, number, begun, unless as unlessOf, headerEnd};
+ghost use Rattle.walk.specs.Walk.{goes as goesAt, refused as refusedBy, octets as octetsOf, check as checkOf, number, begun, unless as unlessOf, headerEnd};
 ghost use Rattle.walk.specs.Inner.{asWalk, ofWalk, asNumber};
 use varint::Found;
 
@@ -107,16 +107,6 @@ impl Walk {
             return self;
         }
         refused(k)
-    }
-
-    // n octets at the place if they are there.
-    pub fn octets_if(self, there: bool, p: &[u8], n: usize) -> Walk
-        ensures { λ r. ⌜ r ≡ asWalk (octetsIf there (now (p .entry)) n (ofWalk self)) ⌝ }
-    {
-        if there {
-            return self.octets(p, n);
-        }
-        self
     }
 }
 
