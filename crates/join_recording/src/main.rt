@@ -43,6 +43,18 @@ struct Hand {
     stop: u8,
 }
 
+fn in_hand(from: usize, till: usize, ends: bool, stop: u8) -> Hand
+    ensures { λ r. ⌜ r .from ≡ from ⌝ }
+    ensures { λ r. ⌜ r .till ≡ till ⌝ }
+{
+    Hand {
+        from: from,
+        till: till,
+        ends: ends,
+        stop: stop,
+    }
+}
+
 // Counts the octets read, and tells a failure.
 fn took(got: isize, n: usize, counts: &mut [u64; COUNTS]) -> u8 {
     let before = counts::at(counts, counts::READ);
@@ -125,25 +137,14 @@ fn turn(
     let what = d.what;
     let used = d.used;
     let written = d.written;
-    let number = d.refusal.number;
     if let What::More = what {
         return refill(fd, buf, from, till, counts);
     }
     if used == 0 {
-        return Hand {
-            from: from,
-            till: till,
-            ends: ends,
-            stop: why(what),
-        };
+        return in_hand(from, till, ends, why(what));
     }
-    let stop = settle(&out[0..written], what, number, used, counts);
-    Hand {
-        from: from + used,
-        till: till,
-        ends: ends,
-        stop: stop,
-    }
+    let stop = settle(&out[0..written], what, d.refusal.number, used, counts);
+    in_hand(from + used, till, ends, stop)
 }
 
 // Steps until one stops, and why. A proved loop has to end, so it counts down from a number that no run uses up.
@@ -179,8 +180,7 @@ fn run(
 
 // The end of a run: the summary, and the report where all was read and written.
 fn end(store: &[u8], counts: &mut [u64; COUNTS], stop: u8) {
-    let s = Settings { t: 8 };
-    let left = tally::left(s, store);
+    let left = tally::left(Settings { t: 8 }, store);
     counts::add(counts, counts::SEGMENTS, left.segments as u64);
     counts::add(counts, counts::KEYS, left.keys as u64);
     say::summary(counts, stop);

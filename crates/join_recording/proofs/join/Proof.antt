@@ -1,22 +1,24 @@
 -- `join_recording::join` is safe and ends: a store of zeros is in order.
 -- Assumes nothing.
+use Prim.Native.Nat.{ℕ}
 use mathlib.Core.Path.{refl}
+use lib.ListN.{length-replicate}
 use Rattle.join_recording.proofs.Turns.{begins-zero, begins-order, begins-cells, begins-room}
 use borrow.Author.Needs.{needs}
 use Rattle.join_recording.proofs.join.Statement.{statement}
 use Rattle.join_recording.proofs.join.Tie as tie
 
 slice-aggregate-run : tie.Need-slice-aggregate-run
-slice-aggregate-run c = search needs
+slice-aggregate-run c = length-replicate {A = ℕ} 32768 0
 
 slice-aggregate-run-2 : tie.Need-slice-aggregate-run-2
-slice-aggregate-run-2 c = search needs
+slice-aggregate-run-2 c = length-replicate {A = ℕ} 1024 0
 
 slice-aggregate-run-3 : tie.Need-slice-aggregate-run-3
-slice-aggregate-run-3 c = search needs
+slice-aggregate-run-3 c = length-replicate {A = ℕ} 131072 0
 
 slice-aggregate-run-4 : tie.Need-slice-aggregate-run-4
-slice-aggregate-run-4 c = search needs
+slice-aggregate-run-4 c = length-replicate {A = ℕ} 65542 0
 
 run-requires : tie.Need-run-requires
 run-requires c κs = (begins-zero refl, (begins-order refl refl, (begins-cells refl refl, begins-room refl)))

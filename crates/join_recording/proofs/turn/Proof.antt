@@ -19,7 +19,9 @@ part-step-end : tie.Need-part-step-end
 part-step-end c = search needs
 
 step-requires : tie.Need-step-requires
-step-requires c κs = (c .before .before .before .before .before .before .before .before .pre .0, (c .before .before .before .before .before .before .before .before .pre .1 .0, (c .before .before .before .before .before .before .before .before .pre .1 .1 .0, c .before .before .before .before .before .before .before .before .pre .1 .1 .1 .0)))
+step-requires c κs =
+    let p = c .before .before .before .before .before .before .before .before .pre in
+    (p .0, (p .1 .0, (p .1 .1 .0, p .1 .1 .1 .0)))
 
 enum-told : tie.Need-enum-told
 enum-told c = search needs
@@ -37,10 +39,19 @@ same-length-3 : tie.Need-same-length-3
 same-length-3 c = search needs
 
 returns : tie.Need-returns
-returns c = ((next-gate (length (now (c .before .before .before .before .before .before .before .before .before .before .before .before .before .before .before .before .before .before .before .before .args .zero))) (now (c .before .before .before .before .before .before .before .before .before .before .before .before .before .before .before .before .before .before .before .before .args .store)) (take (c .before .before .before .before .before .before .before .before .before .before .before .before .before .before .before .before .before .before .before .before .args .till - c .before .before .before .before .before .before .before .before .before .before .before .before .before .before .before .before .before .before .before .before .args .from) (drop (c .before .before .before .before .before .before .before .before .before .before .before .before .before .before .before .before .before .before .before .before .args .from) (now (c .before .before .before .before .before .before .before .before .before .before .before .before .before .before .before .before .before .before .before .before .args .buf)))) (c .before .before .before .before .before .before .before .before .before .before .before .before .before .before .before .before .before .before .before .before .args .ends) (c .before .before .before .before .before .before .before .before .before .before .before .step .ensures .1 .0) (c .before .before .before .before .before .before .before .before .before .before .before .before .before .before .before .before .before .before .before .before .pre .1 .0)), ((next-count (length (now (c .before .before .before .before .before .before .before .before .before .before .before .before .before .before .before .before .before .before .before .before .args .zero))) (now (c .before .before .before .before .before .before .before .before .before .before .before .before .before .before .before .before .before .before .before .before .args .store)) (take (c .before .before .before .before .before .before .before .before .before .before .before .before .before .before .before .before .before .before .before .before .args .till - c .before .before .before .before .before .before .before .before .before .before .before .before .before .before .before .before .before .before .before .before .args .from) (drop (c .before .before .before .before .before .before .before .before .before .before .before .before .before .before .before .before .before .before .before .before .args .from) (now (c .before .before .before .before .before .before .before .before .before .before .before .before .before .before .before .before .before .before .before .before .args .buf)))) (c .before .before .before .before .before .before .before .before .before .before .before .before .before .before .before .before .before .before .before .before .args .ends) (c .before .before .before .before .before .before .before .before .before .before .before .step .ensures .1 .0) (c .before .before .before .before .before .before .before .before .before .before .before .before .before .before .before .before .before .before .before .before .pre .1 .1 .0)), (c .before .before .refill .ensures .0, c .before .before .refill .ensures .1)))
+returns c =
+    let b = c .before .before .before .before .before .before .before .before .before .before .before in
+    let a = b .before .before .before .before .before .before .before .before .before in
+    let behind = b .step .ensures .1 .0 in (
+      next-gate (length (now (a .args .zero))) (now (a .args .store)) (take (a .args .till - a .args .from) (drop (a .args .from) (now (a .args .buf)))) (a .args .ends) behind (a .pre .1 .0),
+      (next-count (length (now (a .args .zero))) (now (a .args .store)) (take (a .args .till - a .args .from) (drop (a .args .from) (now (a .args .buf)))) (a .args .ends) behind (a .pre .1 .1 .0), (c .before .before .refill .ensures .0, c .before .before .refill .ensures .1)),
+    )
 
 why-requires : tie.Need-why-requires
 why-requires c κs = search needs
+
+in-hand-requires : tie.Need-in-hand-requires
+in-hand-requires c κs = search needs
 
 same-length-4 : tie.Need-same-length-4
 same-length-4 c = search needs
@@ -52,7 +63,13 @@ same-length-6 : tie.Need-same-length-6
 same-length-6 c = search needs
 
 returns-2 : tie.Need-returns-2
-returns-2 c = ((next-gate (length (now (c .before .before .before .before .before .before .before .before .before .before .before .before .before .before .before .before .args .zero))) (now (c .before .before .before .before .before .before .before .before .before .before .before .before .before .before .before .before .args .store)) (take (c .before .before .before .before .before .before .before .before .before .before .before .before .before .before .before .before .args .till - c .before .before .before .before .before .before .before .before .before .before .before .before .before .before .before .before .args .from) (drop (c .before .before .before .before .before .before .before .before .before .before .before .before .before .before .before .before .args .from) (now (c .before .before .before .before .before .before .before .before .before .before .before .before .before .before .before .before .args .buf)))) (c .before .before .before .before .before .before .before .before .before .before .before .before .before .before .before .before .args .ends) (c .before .before .before .before .before .before .before .step .ensures .1 .0) (c .before .before .before .before .before .before .before .before .before .before .before .before .before .before .before .before .pre .1 .0)), ((next-count (length (now (c .before .before .before .before .before .before .before .before .before .before .before .before .before .before .before .before .args .zero))) (now (c .before .before .before .before .before .before .before .before .before .before .before .before .before .before .before .before .args .store)) (take (c .before .before .before .before .before .before .before .before .before .before .before .before .before .before .before .before .args .till - c .before .before .before .before .before .before .before .before .before .before .before .before .before .before .before .before .args .from) (drop (c .before .before .before .before .before .before .before .before .before .before .before .before .before .before .before .before .args .from) (now (c .before .before .before .before .before .before .before .before .before .before .before .before .before .before .before .before .args .buf)))) (c .before .before .before .before .before .before .before .before .before .before .before .before .before .before .before .before .args .ends) (c .before .before .before .before .before .before .before .step .ensures .1 .0) (c .before .before .before .before .before .before .before .before .before .before .before .before .before .before .before .before .pre .1 .1 .0)), (c .before .before .before .before .before .before .before .before .before .before .before .before .before .before .before .before .pre .1 .1 .1 .1 .0, c .before .before .before .before .before .before .before .before .before .before .before .before .before .before .before .before .pre .1 .1 .1 .1 .1)))
+returns-2 c =
+    let b = c .before .before .before .before .before .before .before .before in
+    let a = b .before .before .before .before .before .before .before .before .before in
+    let behind = b .step .ensures .1 .0 in (
+      next-gate (length (now (a .args .zero))) (now (a .args .store)) (take (a .args .till - a .args .from) (drop (a .args .from) (now (a .args .buf)))) (a .args .ends) behind (a .pre .1 .0),
+      (next-count (length (now (a .args .zero))) (now (a .args .store)) (take (a .args .till - a .args .from) (drop (a .args .from) (now (a .args .buf)))) (a .args .ends) behind (a .pre .1 .1 .0), (omega (arith, c .in-hand .ensures .0, c .in-hand .ensures .1, a .pre .1 .1 .1 .1 .0), omega (arith, c .in-hand .ensures .1, a .pre .1 .1 .1 .1 .1))),
+    )
 
 sub-settle : tie.Need-sub-settle
 sub-settle c = search needs
@@ -61,13 +78,22 @@ part-settle-start : tie.Need-part-settle-start
 part-settle-start c = search needs
 
 part-settle-end : tie.Need-part-settle-end
-part-settle-end c = omega (arith, window-within (length (now (c .before .before .before .before .before .before .before .before .before .before .before .before .before .before .before .before .args .zero))) (now (c .before .before .before .before .before .before .before .before .before .before .before .before .before .before .before .before .args .store)) (now (c .before .before .before .before .before .before .before .before .before .before .before .before .before .before .before .before .args .buf)) (c .before .before .before .before .before .before .before .before .before .before .before .before .before .before .before .before .args .ends) (c .before .before .before .before .before .before .before .before .before .before .before .before .before .before .before .before .args .from) (c .before .before .before .before .before .before .before .before .before .before .before .before .before .before .before .before .args .till) (c .before .before .before .before .before .before .before .step .ensures .0) .1, c .before .before .before .before .before .before .before .before .before .before .before .before .before .before .before .before .pre .1 .1 .1 .0, c .before .before .before .before .before .before .before .step .kept .1 .1 .1 .1 .1 .1 .0)
+part-settle-end c =
+    let b = c .before .before .before .before .before .before .before in
+    let a = b .before .before .before .before .before .before .before .before .before in
+    omega (arith, window-within (length (now (a .args .zero))) (now (a .args .store)) (now (a .args .buf)) (a .args .ends) (a .args .from) (a .args .till) (b .step .ensures .0) .1, a .pre .1 .1 .1 .0, b .step .kept .1 .1 .1 .1 .1 .1 .0)
 
 settle-requires : tie.Need-settle-requires
 settle-requires c κs = search needs
 
-add-t20 : tie.Need-add-t20
-add-t20 c = omega (arith, window-within (length (now (c .before .before .before .before .before .before .before .before .before .before .before .before .before .before .before .before .before .before .before .args .zero))) (now (c .before .before .before .before .before .before .before .before .before .before .before .before .before .before .before .before .before .before .before .args .store)) (now (c .before .before .before .before .before .before .before .before .before .before .before .before .before .before .before .before .before .before .before .args .buf)) (c .before .before .before .before .before .before .before .before .before .before .before .before .before .before .before .before .before .before .before .args .ends) (c .before .before .before .before .before .before .before .before .before .before .before .before .before .before .before .before .before .before .before .args .from) (c .before .before .before .before .before .before .before .before .before .before .before .before .before .before .before .before .before .before .before .args .till) (c .before .before .before .before .before .before .before .before .before .before .step .ensures .0) .0, c .before .before .before .before .before .before .before .before .before .before .before .before .before .before .before .before .before .before .before .pre .1 .1 .1 .1 .0)
+add-in-hand : tie.Need-add-in-hand
+add-in-hand c =
+    let b = c .before .before .before .before .before .before .before .before .before .before in
+    let a = b .before .before .before .before .before .before .before .before .before in
+    omega (arith, window-within (length (now (a .args .zero))) (now (a .args .store)) (now (a .args .buf)) (a .args .ends) (a .args .from) (a .args .till) (b .step .ensures .0) .0, a .pre .1 .1 .1 .1 .0, a .pre .1 .1 .1 .1 .1)
+
+in-hand-requires-2 : tie.Need-in-hand-requires-2
+in-hand-requires-2 c κs = search needs
 
 same-length-7 : tie.Need-same-length-7
 same-length-7 c = search needs
@@ -79,7 +105,41 @@ same-length-9 : tie.Need-same-length-9
 same-length-9 c = search needs
 
 returns-3 : tie.Need-returns-3
-returns-3 c = ((next-gate (length (now (c .before .before .before .before .before .before .before .before .before .before .before .before .before .before .before .before .before .before .before .args .zero))) (now (c .before .before .before .before .before .before .before .before .before .before .before .before .before .before .before .before .before .before .before .args .store)) (take (c .before .before .before .before .before .before .before .before .before .before .before .before .before .before .before .before .before .before .before .args .till - c .before .before .before .before .before .before .before .before .before .before .before .before .before .before .before .before .before .before .before .args .from) (drop (c .before .before .before .before .before .before .before .before .before .before .before .before .before .before .before .before .before .before .before .args .from) (now (c .before .before .before .before .before .before .before .before .before .before .before .before .before .before .before .before .before .before .before .args .buf)))) (c .before .before .before .before .before .before .before .before .before .before .before .before .before .before .before .before .before .before .before .args .ends) (c .before .before .before .before .before .before .before .before .before .before .step .ensures .1 .0) (c .before .before .before .before .before .before .before .before .before .before .before .before .before .before .before .before .before .before .before .pre .1 .0)), ((next-count (length (now (c .before .before .before .before .before .before .before .before .before .before .before .before .before .before .before .before .before .before .before .args .zero))) (now (c .before .before .before .before .before .before .before .before .before .before .before .before .before .before .before .before .before .before .before .args .store)) (take (c .before .before .before .before .before .before .before .before .before .before .before .before .before .before .before .before .before .before .before .args .till - c .before .before .before .before .before .before .before .before .before .before .before .before .before .before .before .before .before .before .before .args .from) (drop (c .before .before .before .before .before .before .before .before .before .before .before .before .before .before .before .before .before .before .before .args .from) (now (c .before .before .before .before .before .before .before .before .before .before .before .before .before .before .before .before .before .before .before .args .buf)))) (c .before .before .before .before .before .before .before .before .before .before .before .before .before .before .before .before .before .before .before .args .ends) (c .before .before .before .before .before .before .before .before .before .before .step .ensures .1 .0) (c .before .before .before .before .before .before .before .before .before .before .before .before .before .before .before .before .before .before .before .pre .1 .1 .0)), (omega (arith, window-within (length (now (c .before .before .before .before .before .before .before .before .before .before .before .before .before .before .before .before .before .before .before .args .zero))) (now (c .before .before .before .before .before .before .before .before .before .before .before .before .before .before .before .before .before .before .before .args .store)) (now (c .before .before .before .before .before .before .before .before .before .before .before .before .before .before .before .before .before .before .before .args .buf)) (c .before .before .before .before .before .before .before .before .before .before .before .before .before .before .before .before .before .before .before .args .ends) (c .before .before .before .before .before .before .before .before .before .before .before .before .before .before .before .before .before .before .before .args .from) (c .before .before .before .before .before .before .before .before .before .before .before .before .before .before .before .before .before .before .before .args .till) (c .before .before .before .before .before .before .before .before .before .before .step .ensures .0) .0, c .before .before .before .before .before .before .before .before .before .before .before .before .before .before .before .before .before .before .before .pre .1 .1 .1 .1 .0), c .before .before .before .before .before .before .before .before .before .before .before .before .before .before .before .before .before .before .before .pre .1 .1 .1 .1 .1)))
+returns-3 c =
+    let b = c .before .before .before .before .before .before .before .before .before .before .before in
+    let a = b .before .before .before .before .before .before .before .before .before in
+    let behind = b .step .ensures .1 .0 in (
+      next-gate (length (now (a .args .zero))) (now (a .args .store)) (take (a .args .till - a .args .from) (drop (a .args .from) (now (a .args .buf)))) (a .args .ends) behind (a .pre .1 .0),
+      (next-count (length (now (a .args .zero))) (now (a .args .store)) (take (a .args .till - a .args .from) (drop (a .args .from) (now (a .args .buf)))) (a .args .ends) behind (a .pre .1 .1 .0), (omega (arith, c .in-hand2 .ensures .0, c .in-hand2 .ensures .1, window-within (length (now (a .args .zero))) (now (a .args .store)) (now (a .args .buf)) (a .args .ends) (a .args .from) (a .args .till) (b .step .ensures .0) .0, a .pre .1 .1 .1 .1 .0), omega (arith, c .in-hand2 .ensures .1, a .pre .1 .1 .1 .1 .1))),
+    )
 
 pub turn-spec : {M : Type 1} → statement M
-turn-spec = tie.close (tie.spec sub-step part-step-start part-step-end step-requires enum-told refill-requires same-length same-length-2 same-length-3 returns why-requires same-length-4 same-length-5 same-length-6 returns-2 sub-settle part-settle-start part-settle-end settle-requires add-t20 same-length-7 same-length-8 same-length-9 returns-3)
+turn-spec =
+    tie.close
+    (tie.spec
+    sub-step
+    part-step-start
+    part-step-end
+    step-requires
+    enum-told
+    refill-requires
+    same-length
+    same-length-2
+    same-length-3
+    returns
+    why-requires
+    in-hand-requires
+    same-length-4
+    same-length-5
+    same-length-6
+    returns-2
+    sub-settle
+    part-settle-start
+    part-settle-end
+    settle-requires
+    add-in-hand
+    in-hand-requires-2
+    same-length-7
+    same-length-8
+    same-length-9
+    returns-3)
