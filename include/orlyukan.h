@@ -24,7 +24,7 @@
  *   may.
  * - While a call runs, no other thread writes what was lent to it, and none reads what it may write: one thread at a time for a
  *   store. Calls on separate memory may run at the same time.
- * - There is stack enough: measured were 124 kilobytes for orl_join_recording, 30 for the calls on a store, 10 for the others.
+ * - There is stack enough: measured were 118 kilobytes for orl_join_recording, 48 for the calls on a store, 10 for the others.
  *
  * Refusals
  *
