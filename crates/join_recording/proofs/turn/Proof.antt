@@ -1,6 +1,7 @@
 -- `join_recording::turn` meets its contract: a step keeps the store in order, and what it answers lies inside the buffers.
 -- Assumes nothing.
 use denote.Ref.{now}
+use mathlib.Core.Path.{refl}
 use native.Mathlib.Omega.{arith}
 use Prim.Native.Nat.{_-_}
 use lib.ListN.{length, take, drop}
@@ -10,7 +11,7 @@ use Rattle.join_recording.proofs.turn.Statement.{statement}
 use Rattle.join_recording.proofs.turn.Tie as tie
 
 sub-step : tie.Need-sub-step
-sub-step c = search needs
+sub-step c = c .before .before .before .before .before .pre .1 .1 .1 .1 .0
 
 part-step-start : tie.Need-part-step-start
 part-step-start c = search needs
@@ -27,16 +28,16 @@ enum-told : tie.Need-enum-told
 enum-told c = search needs
 
 refill-requires : tie.Need-refill-requires
-refill-requires c κs = search needs
+refill-requires c κs = (c .before .before .before .before .before .before .before .before .before .before .before .before .before .before .before .before .before .pre .1 .1 .1 .1 .0, c .before .before .before .before .before .before .before .before .before .before .before .before .before .before .before .before .before .pre .1 .1 .1 .1 .1)
 
 same-length : tie.Need-same-length
-same-length c = search needs
+same-length c = c .before .before .before .before .before .before .before .before .before .before .before .step .kept .1 .0
 
 same-length-2 : tie.Need-same-length-2
-same-length-2 c = search needs
+same-length-2 c = c .before .before .refill .kept .1 .0
 
 same-length-3 : tie.Need-same-length-3
-same-length-3 c = search needs
+same-length-3 c = c .before .before .before .before .before .before .before .before .before .before .before .step .kept .1 .1 .1 .1 .1 .1 .0
 
 returns : tie.Need-returns
 returns c =
@@ -54,13 +55,13 @@ in-hand-requires : tie.Need-in-hand-requires
 in-hand-requires c κs = search needs
 
 same-length-4 : tie.Need-same-length-4
-same-length-4 c = search needs
+same-length-4 c = c .before .before .before .before .before .before .before .before .step .kept .1 .0
 
 same-length-5 : tie.Need-same-length-5
-same-length-5 c = search needs
+same-length-5 c = refl
 
 same-length-6 : tie.Need-same-length-6
-same-length-6 c = search needs
+same-length-6 c = c .before .before .before .before .before .before .before .before .step .kept .1 .1 .1 .1 .1 .1 .0
 
 returns-2 : tie.Need-returns-2
 returns-2 c =
@@ -96,13 +97,13 @@ in-hand-requires-2 : tie.Need-in-hand-requires-2
 in-hand-requires-2 c κs = search needs
 
 same-length-7 : tie.Need-same-length-7
-same-length-7 c = search needs
+same-length-7 c = c .before .before .before .before .before .before .before .before .before .before .before .step .kept .1 .0
 
 same-length-8 : tie.Need-same-length-8
-same-length-8 c = search needs
+same-length-8 c = refl
 
 same-length-9 : tie.Need-same-length-9
-same-length-9 c = search needs
+same-length-9 c = c .before .before .before .before .before .before .before .before .before .before .before .step .kept .1 .1 .1 .1 .1 .1 .0
 
 returns-3 : tie.Need-returns-3
 returns-3 c =
