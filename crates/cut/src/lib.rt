@@ -114,7 +114,7 @@ impl Sender {
 // ---- the plan
 
 // 15: T and P.
-fn test_limit(s: Settings, p: usize, r: Refusal) -> Refusal
+pub fn test_limit(s: Settings, p: usize, r: Refusal) -> Refusal
     ensures { λ q. ⌜ q ≡ limitTest s p r ⌝ }
 {
     let a = write::test_settings(s, r);

@@ -13,7 +13,6 @@ ghost use Rattle.walk.specs.Walk.{settingsOf, noRefusal};
 ghost use Rattle.packet.specs.Format.{bit};
 ghost use Rattle.packet.specs.Reading.{readPacket};
 ghost use Rattle.write.specs.Given.{lent};
-ghost use Rattle.cut.specs.Cutting.{limitTest};
 ghost use Rattle.flat.specs.Given.{fitsTo, headerFits, presentOf, headerOf, packetFits, packetOf, senderFits, senderOf};
 ghost use Rattle.flat.specs.Answers.{tooWide, nextNumbers, writeRefused, writeNumbers, writeOut, afterPacketNumbers, afterSegmentNumbers, cutRefused, countNumbers, packetNumbers, packetOut};
 ghost use Rattle.flat.specs.Told.{primaryNumbers, nameNumbers, routingNumbers, presentNumbers, idsNumbers, placeNumbers, placesTo, textNumbers, readNumbers, writtenNumbers, leftNumber, counterNumber, senderNumbers, countedNumbers, cutNumbers};
@@ -487,21 +486,12 @@ pub fn after_segment(sender: &[u64; SENDER]) -> [u64; AFTER]
     [0, d[0], d[1], d[2]]
 }
 
-// 15: T and P.
-fn test_limit(s: Settings, p: usize) -> Refusal
-    ensures { λ q. ⌜ q ≡ limitTest s p noRefusal ⌝ }
-{
-    let none = Refusal { number: 0 };
-    let a = write::test_settings(s, none);
-    let b = walk::unless(a, cut::LIMIT_LEAST <= p, 15);
-    walk::unless(b, p <= write::PACKET_MOST, 15)
-}
-
 fn cut_too_wide(t: u64, p: u64, sender: &[u64; SENDER]) -> [u64; CUT]
     ensures { λ r. ⌜ r ≡ cutRefused t p (now (sender .entry)) ⌝ }
 {
     let s = Settings { t: t as usize };
-    let number = too_wide(test_limit(s, p as usize));
+    let none = Refusal { number: 0 };
+    let number = too_wide(cut::test_limit(s, p as usize, none));
     [number, 0, sender[0], sender[1], sender[2]]
 }
 
