@@ -22,7 +22,7 @@ use Rattle.arrival.specs.Arriving.{Arrived, whole, stored, again, refused, plac
 use Rattle.taking.specs.Taking.{message, storeLess}
 use Rattle.keeping.specs.Cells.{put, hasFree, freed, clear}
 use Rattle.keeping.proofs.Picking.{pick-yes, pick-tells}
-use Rattle.keeping.proofs.Rows.{row-written, row-other, cleared-row}
+use Rattle.clearing.proofs.Rows.{row-written, row-other, cleared-row}
 use Rattle.keeping.proofs.HeldRow.{zero-free, held-long, cell-held}
 use Rattle.keeping.proofs.Listed.{listed-same, listed-map, Lowest, lowest-is, is-free, listed-put, listed-free}
 

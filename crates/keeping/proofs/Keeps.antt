@@ -22,7 +22,7 @@ use Rattle.arrival.specs.Arriving.{Arrived, whole, stored, again, refused, arri
 use Rattle.taking.specs.Taking.{Took, message, unable, took, storeLess}
 use Rattle.keeping.specs.Cells.{freed}
 use Rattle.keeping.proofs.Picking.{pick-tells}
-use Rattle.keeping.proofs.Rows.{cleared-long}
+use Rattle.clearing.proofs.Rows.{cleared-long}
 use Rattle.keeping.proofs.Listed.{among-below}
 use Rattle.messages.proofs.Distinct.{carries-yes}
 use Rattle.keeping.proofs.Looking.{look-none}

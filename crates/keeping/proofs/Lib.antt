@@ -1,5 +1,4 @@
 pub mod Picking
-pub mod Rows
 pub mod Opens
 pub mod HeldRow
 pub mod Listed

@@ -4,7 +4,6 @@ pub mod Ends
 pub mod Pieces
 pub mod Running
 pub mod Picks
-pub mod Clearing
 pub mod Copying
 pub mod Bodies
 pub mod Heads

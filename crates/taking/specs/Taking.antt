@@ -2,8 +2,7 @@
 -- Document 01, "The store": taking "writes the two octets of packet identification, the H header octets without counter, and the body,
 -- tells H, B and c, and zeroes just its cells." The order of the refusals: "Taking: 15, 16, 20, 21."
 -- Assumes nothing: these are definitions.
-use Prim.Native.Nat.{ℕ, zero, suc, _+_, _-_, _*_}
-use mathlib.Core.Bool.{Bool, true, false}
+use Prim.Native.Nat.{ℕ, suc}
 use mathlib.Core.List.{List, _++_}
 use mathlib.Core.Option.{Option, none, some}
 use lib.ListN.{length}
@@ -12,9 +11,8 @@ use lib.Dec.{leb, eqb}
 use Rattle.octets.specs.Octets.{pick}
 use Rattle.walk.specs.declared.Settings.{Settings}
 use Rattle.walk.specs.Walk.{begun}
-use Rattle.cells.specs.Segments.{Seg}
-use Rattle.cells.specs.Rows.{zeroRow}
 use Rattle.cells.specs.Order.{cellAt, inOrder, countIn}
+use Rattle.clearing.specs.Cleared.{clearedTo}
 use Rattle.messages.specs.Messages.{cellsOf, Run, bodyOf, segments, picked, amongIn, top}
 
 -- what a taking comes to
@@ -46,11 +44,6 @@ took s Z st long =
 unfoldable pub outWith : List ℕ → Took → List ℕ
 outWith out (message r) = sets out 0 (writing r)
 outWith out (unable k) = out
-
--- those of the first n cells of which a test holds made zero
-unfoldable pub clearedTo : (ℕ → Bool) → ℕ → ℕ → List ℕ → List ℕ
-clearedTo f Z zero st = st
-clearedTo f Z (suc i) st = let x = clearedTo f Z i st in pick (f i) (sets x (i * Z) (zeroRow Z)) x
 
 -- the store behind it: just the message's cells are zero
 unfoldable pub storeLess : Settings → ℕ → List ℕ → ℕ → Took → List ℕ

@@ -4,17 +4,16 @@
 // `store::take`, or by whoever keeps a store in order.
 ghost use mathlib.Core.Path.{_≡_};
 ghost use mathlib.Core.List.{_∷_, _++_};
-ghost use Prim.Native.Nat.{suc, _+_, _*_, _/_, _≤_, _<_};
+ghost use Prim.Native.Nat.{suc, _+_, _/_, _≤_, _<_};
 ghost use lib.ListN.{length};
-ghost use lib.Seq.{sets};
 ghost use Rattle.octets.specs.Octets.{octetAt, part};
 ghost use Rattle.packet.specs.Reading.{readPacket};
 ghost use Rattle.packet.specs.Key.{keyOf};
 ghost use Rattle.cells.specs.Rows.{zeroRow, packetIn, held};
 ghost use Rattle.cells.specs.Order.{cellsMost, lowest, cellAt};
-ghost use Rattle.cells.specs.Inner.{withinIn, Asked};
+ghost use Rattle.cells.specs.Inner.{Asked};
 ghost use Rattle.messages.specs.Messages.{cellsOf, runIn, picked, top};
-ghost use Rattle.taking.specs.Taking.{unable, tookIn, outWith, clearedTo, storeLess};
+ghost use Rattle.taking.specs.Taking.{unable, tookIn, outWith, storeLess};
 ghost use Rattle.taking.specs.Beside.{tookBeside};
 ghost use Rattle.taking.specs.Told.{takenOf};
 ghost use Rattle.taking.specs.Inner.{pieceIn};
@@ -299,29 +298,6 @@ fn copy_message(
     }
 }
 
-// The zero cell goes over cell i.
-fn put_zero(store: &mut [u8], i: usize, zero: &[u8])
-    ensures { λ r. ⌜ now (store .exit) ≡ sets (now (store .entry)) (i * length (now (zero .entry))) (now (zero .entry)) ⌝ }
-{
-    let at = octets::place(store.len(), zero.len(), i);
-    octets::copy(store, at, zero);
-}
-
-// Those of the first n cells are made zero that hold a segment of this key, with a counter from one number on and below another.
-fn clear(s: Settings, store: &mut [u8], n: usize, zero: &[u8], key: &[u8], from: u64, to: u64)
-    requires { ⌜ now zero ≡ zeroRow (length (now zero)) ⌝ }
-    ensures { λ r. ⌜ now (store .exit) ≡ clearedTo (λ i. withinIn (now (key .entry)) from to (cellAt s (length (now (zero .entry))) (now (store .entry)) i)) (length (now (zero .entry))) n (now (store .entry)) ⌝ }
-{
-    let z = zero.len();
-    let mut i: usize = 0;
-    while i < n {
-        if cells::is_within(s, cells::row(store, z, i), zero, key, from, to) {
-            put_zero(store, i, zero);
-        }
-        i += 1;
-    }
-}
-
 // The message that opens in cell i, with b octets of body, to the output; just its cells are made zero.
 fn draw(
     s: Settings,
@@ -346,7 +322,7 @@ fn draw(
     let t = copy_message(s, store, n, zero, i, out, chained, heads, links);
     let counter = t.counter;
     let key = cells::span(out, 0, 2 + t.header);
-    clear(s, store, n, zero, key, counter.0 as u64, t.until);
+    clearing::clear(s, store, n, zero, key, counter.0 as u64, t.until);
     Taken {
         refusal: Refusal { number: 0 },
         header: t.header,

@@ -13,7 +13,7 @@ use lib.Seq.{sets, sets-eq, length-sets, length-take-le, take-at, drop-at, take-
 use Rattle.octets.specs.Octets.{pick, part}
 use Rattle.octets.proofs.Lists.{below-or}
 use Rattle.cells.specs.Rows.{rowAt, zeroRow}
-use Rattle.taking.specs.Taking.{clearedTo}
+use Rattle.clearing.specs.Cleared.{clearedTo}
 
 -- ---- a part of a list over which another was laid
 

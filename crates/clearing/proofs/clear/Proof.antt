@@ -1,4 +1,4 @@
--- `taking::clear` meets its contract. The loop's invariant: those of the cells passed are zero, and the others are as they were.
+-- `clearing::clear` meets its contract. The loop's invariant: those of the cells passed are zero, and the others are as they were.
 -- Assumes nothing.
 use Prim.Native.Nat.{ℕ, _-_}
 use mathlib.Core.List.{List}
@@ -9,10 +9,10 @@ use lib.ListN.{length}
 use Rattle.cells.specs.Rows.{cellOf}
 use Rattle.cells.specs.Order.{cellAt}
 use Rattle.cells.specs.Inner.{withinIn}
-use Rattle.taking.proofs.Clearing.{Clearing, clearing-first, clearing-long, clearing-done, clearing-told, clearing-here, clearing-not}
+use Rattle.clearing.proofs.Clearing.{Clearing, clearing-first, clearing-long, clearing-done, clearing-told, clearing-here, clearing-not}
 use borrow.Author.Needs.{needs}
-use Rattle.taking.proofs.clear.Statement.{statement}
-use Rattle.taking.proofs.clear.Tie as tie
+use Rattle.clearing.proofs.clear.Statement.{statement}
+use Rattle.clearing.proofs.clear.Tie as tie
 
 abbrev Inv-loop : tie.InvT-loop
 Inv-loop s store₀ n zero key from to z i₀ store i = Clearing (λ j. withinIn key from to (cellAt s (length zero) store₀ j)) (length zero) n store₀ store i

@@ -1,11 +1,11 @@
--- `taking::put_zero` meets its contract: the place is kept inside the store, and past its end nothing is written.
+-- `clearing::put_zero` meets its contract: the place is kept inside the store, and past its end nothing is written.
 -- Assumes nothing.
 use denote.Ref.{now}
 use mathlib.Core.Path.{_∙_}
-use Rattle.taking.proofs.Clearing.{zero-there}
+use Rattle.clearing.proofs.Clearing.{zero-there}
 use borrow.Author.Needs.{needs}
-use Rattle.taking.proofs.put_zero.Statement.{statement}
-use Rattle.taking.proofs.put_zero.Tie as tie
+use Rattle.clearing.proofs.put_zero.Statement.{statement}
+use Rattle.clearing.proofs.put_zero.Tie as tie
 
 place-requires : tie.Need-place-requires
 place-requires c κs = search needs
