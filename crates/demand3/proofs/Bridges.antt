@@ -27,14 +27,14 @@ use Rattle.fewest.proofs.Calls.{packet-wrote}
 use Rattle.cells.specs.Order.{inOrder, countIn}
 use Rattle.messages.specs.Messages.{Run, cellsOf, picked, top}
 use Rattle.arrival.specs.Arriving.{Arrived, whole, stored, again, refused, arrived, storeWith}
-use Rattle.taking.specs.Taking.{Took, message, unable, writing, drawn, tookIn, took, outWith, storeLess}
+use Rattle.taking.specs.Taking.{Took, message, unable, writing, drawn, tookIn, took}
 use Rattle.taking.specs.declared.Taken.{Taken}
 use Rattle.messages.specs.Told.{refusalOf}
 use Rattle.arrival.specs.Told.{arrivalOf}
 use Rattle.taking.specs.Told.{takenOf}
 use Rattle.store.proofs.arrive.Reads as arrives
 use Rattle.store.proofs.take.Reads as takes
-use Rattle.join.specs.Joining.{Joining, inPacket, unjoined, bodyFrom, tookAs, joinedBy, storeBy as storeJoinedBy, outBy as outJoinedBy, joining as joined, storeJoined, outJoined}
+use Rattle.join.specs.Joining.{Joining, inPacket, unjoined, bodyFrom, tookAs, joinedBy, joining as joined}
 use Rattle.join.specs.Told.{taken, joinedOf}
 use Rattle.join.proofs.join.Reads as joins
 use Rattle.demand3.specs.Calls.{arrival, taking, joining, goesOn, storeBy, tookBy, outBy}
@@ -52,74 +52,37 @@ pub arrive-steps : (κs : L.Lfts 2) (a : _) (r : _) (x : _) → arrives.Post κs
 unfolding storeBy
 arrive-steps κs a r x k = k .1
 
--- ---- a taking and a joining in the words of their definitions
+-- ---- a joining in the words of its definition
 
 -- a joining that takes nothing: the body's place in a packet that came whole, or the refusal of its arrival
 abbrev pub Ended : Settings → List ℕ → Arrived → Joining → Type 0
 Ended s p a j =
     ((a ≡ whole) × (j ≡ inPacket (bodyFrom s p) (length p - bodyFrom s p))) ⊎ ((k : ℕ) × (a ≡ refused k) × (j ≡ unjoined k))
 
-module _ (s : Settings) (Z : ℕ) (st out : List ℕ) where
-  pub taking-steps : storeBy s Z st (taking out) ≡ storeLess s Z st (countIn Z st) (took s Z st (length out))
-  unfolding storeBy
-  taking-steps = refl
+module _ (s : Settings) (Z : ℕ) (st out p : List ℕ) where
+  -- where there is a taking, joining comes to what it does
+  pub joining-takes : (t : Took) → tookBy s Z st (joining p out) ≡ some t → joined s Z st p (length out) ≡ tookAs t
+  unfolding tookBy joined
+  joining-takes t = by (arrived s Z st p)
+    where
+      by : (a : Arrived) → pick (goesOn a) (some (took s Z (storeWith Z st p a) (length out))) none ≡ some t →
+          joinedBy s Z st p (length out) a ≡ tookAs t
+      by whole g = let z : _≡_ {A = ℕ} 0 1 = cc in absurd (omega arith)
+      by (stored i) g = ap tookAs (Option·some-injective (took s Z (storeWith Z st p (stored i)) (length out)) t g)
+      by again g = ap tookAs (Option·some-injective (took s Z (storeWith Z st p again) (length out)) t g)
+      by (refused k) g = let z : _≡_ {A = ℕ} 0 1 = cc in absurd (omega arith)
 
-  pub taking-writes : outBy s Z st (taking out) ≡ outWith out (took s Z st (length out))
-  unfolding outBy
-  taking-writes = refl
-
-  pub taking-takes : tookBy s Z st (taking out) ≡ some (took s Z st (length out))
-  unfolding tookBy
-  taking-takes = refl
-
-  module _ (p : List ℕ) where
-    pub joining-steps : storeBy s Z st (joining p out) ≡ storeJoined s Z st p (length out)
-    unfolding storeBy storeJoined
-    joining-steps = by (arrived s Z st p)
-      where
-        by : (a : Arrived) →
-            pick (goesOn a)
-            (storeLess s Z (storeWith Z st p a) (countIn Z (storeWith Z st p a)) (took s Z (storeWith Z st p a) (length out)))
-            (storeWith Z st p a)
-            ≡ storeJoinedBy s Z st p (length out) a
-        by whole = refl
-        by (stored i) = refl
-        by again = refl
-        by (refused k) = refl
-
-    pub joining-writes : outBy s Z st (joining p out) ≡ outJoined s Z st p out
-    unfolding outBy outJoined
-    joining-writes = by (arrived s Z st p)
-      where
-        by : (a : Arrived) → pick (goesOn a) (outWith out (took s Z (storeWith Z st p a) (length out))) out ≡ outJoinedBy s Z st p out a
-        by whole = refl
-        by (stored i) = refl
-        by again = refl
-        by (refused k) = refl
-
-    -- where there is a taking, joining comes to what it does
-    pub joining-takes : (t : Took) → tookBy s Z st (joining p out) ≡ some t → joined s Z st p (length out) ≡ tookAs t
-    unfolding tookBy joined
-    joining-takes t = by (arrived s Z st p)
-      where
-        by : (a : Arrived) → pick (goesOn a) (some (took s Z (storeWith Z st p a) (length out))) none ≡ some t →
-            joinedBy s Z st p (length out) a ≡ tookAs t
-        by whole g = let z : _≡_ {A = ℕ} 0 1 = cc in absurd (omega arith)
-        by (stored i) g = ap tookAs (Option·some-injective (took s Z (storeWith Z st p (stored i)) (length out)) t g)
-        by again g = ap tookAs (Option·some-injective (took s Z (storeWith Z st p again) (length out)) t g)
-        by (refused k) g = let z : _≡_ {A = ℕ} 0 1 = cc in absurd (omega arith)
-
-    -- where there is none, to what its arrival does
-    pub joining-ends : tookBy s Z st (joining p out) ≡ none → Ended s p (arrived s Z st p) (joined s Z st p (length out))
-    unfolding tookBy joined
-    joining-ends = by (arrived s Z st p)
-      where
-        by : (a : Arrived) → pick (goesOn a) (some (took s Z (storeWith Z st p a) (length out))) none ≡ none →
-            Ended s p a (joinedBy s Z st p (length out) a)
-        by whole g = inl (refl, refl)
-        by (stored i) g = let z : _≡_ {A = ℕ} 0 1 = cc in absurd (omega arith)
-        by again g = let z : _≡_ {A = ℕ} 0 1 = cc in absurd (omega arith)
-        by (refused k) g = inr (k, refl, refl)
+  -- where there is none, to what its arrival does
+  pub joining-ends : tookBy s Z st (joining p out) ≡ none → Ended s p (arrived s Z st p) (joined s Z st p (length out))
+  unfolding tookBy joined
+  joining-ends = by (arrived s Z st p)
+    where
+      by : (a : Arrived) → pick (goesOn a) (some (took s Z (storeWith Z st p a) (length out))) none ≡ none →
+          Ended s p a (joinedBy s Z st p (length out) a)
+      by whole g = inl (refl, refl)
+      by (stored i) g = let z : _≡_ {A = ℕ} 0 1 = cc in absurd (omega arith)
+      by again g = let z : _≡_ {A = ℕ} 0 1 = cc in absurd (omega arith)
+      by (refused k) g = inr (k, refl, refl)
 
 -- `store::take`
 pub take-answers : (κs : L.Lfts 2) (a : _) (r : _) (x : _) → takes.Post κs a r x →
@@ -150,13 +113,13 @@ join-ends κs a r x k e = (_, k .0, joining-ends (a .0) cellSize (now (a .1 .0))
 
 pub join-steps : (κs : L.Lfts 3) (a : _) (r : _) (x : _) → joins.Post κs a r x →
     now (x .1 .0) ≡ storeBy (a .0) cellSize (now (a .1 .0)) (joining (now (a .1 .1 .0)) (now (a .1 .1 .1 .0)))
-join-steps κs a r x k =
-    k .1 .0 ∙ sym (joining-steps (a .0) cellSize (now (a .1 .0)) (now (a .1 .1 .1 .0)) (now (a .1 .1 .0)))
+unfolding storeBy
+join-steps κs a r x k = k .1 .0
 
 pub join-writes : (κs : L.Lfts 3) (a : _) (r : _) (x : _) → joins.Post κs a r x →
     now (x .1 .1 .1 .0) ≡ outBy (a .0) cellSize (now (a .1 .0)) (joining (now (a .1 .1 .0)) (now (a .1 .1 .1 .0)))
-join-writes κs a r x k =
-    k .1 .1 ∙ sym (joining-writes (a .0) cellSize (now (a .1 .0)) (now (a .1 .1 .1 .0)) (now (a .1 .1 .0)))
+unfolding outBy
+join-writes κs a r x k = k .1 .1
 
 -- ---- a message that is handed out
 

@@ -24,10 +24,12 @@ use Rattle.keeping.proofs.Zeroed.{taken-tells, segment-held, zeroed-row, other-
 use Rattle.keeping.proofs.Untouched.{unable-same, unable-output}
 use Rattle.demand3.specs.Traffic.{bodyIn, takes, takenFrom, after}
 use Rattle.demand3.specs.Promise.{Original, Gives, Output, LongEnough as CellLongEnough, Handed}
-use Rattle.demand3.specs.Calls.{Call, taking, outOf, takenStore, draws, storeAt, tookBy, storeBy, outBy, storeAfter}
+use Rattle.join.specs.Joining.{lessTaken}
+use Rattle.demand3.specs.Calls.{Call, taking, outOf, draws, storeAt, tookBy, storeBy, outBy, storeAfter}
 use Rattle.demand3.specs.Sendings.{Sending, wholeBody, manyOf, segmentAt, identificationOf, headerOf, keyIn, headerSize, bodySize, startOf, IsCut}
 use Rattle.demand3.specs.Presupposed.{cellsIn}
 use Rattle.demand3.specs.Whole.{Holds, Delivers, Picks, Takes, HandsOut}
+use Rattle.demand3.proofs.Called.{store-by, out-by}
 use Rattle.demand3.proofs.Sents.{sentOf, own-in, in-own, body-is, key-long}
 use Rattle.demand3.proofs.Steps.{Kept, took-is}
 use Rattle.demand3.proofs.Events.{events-takings}
@@ -74,7 +76,7 @@ module _ (s : Settings) (Z n : ℕ) (m : Sending) (k : IsCut s Z m) where
 
     -- a call that takes the original
     pub delivers : draws s Z st c ≡ true → (r : Run) → took s Z at long ≡ message r → Original suc (sentOf s m) r → Delivers s Z n m st c
-    unfolding tookBy storeBy outBy
+    unfolding tookBy
     delivers d r e o =
         record { told = tells; written = writes; there = held-there; zeroed = zeroes; others = leaves }
       where
@@ -96,7 +98,7 @@ module _ (s : Settings) (Z n : ℕ) (m : Sending) (k : IsCut s Z m) where
         writes : outBy s Z st c ≡
             identificationOf s m ++ headerOf s m ++ wholeBody m ++ drop (2 + headerSize s m + bodySize s m) (outOf c)
         writes =
-            pick-yes (draws s Z st c) (outWith (outOf c) (took s Z at long)) (outOf c) d ∙ ap (outWith (outOf c)) e
+            out-by s Z st c ∙ pick-yes (draws s Z st c) (outWith (outOf c) (took s Z at long)) (outOf c) d ∙ ap (outWith (outOf c)) e
             ∙ written-out (outOf c) (keyIn s m ++ wholeBody m) r all-same (taken-tells s Z at long r e .fits)
             ∙ ap (λ (x : ℕ). keyIn s m ++ wholeBody m ++ drop x (outOf c)) all-long
 
@@ -110,7 +112,7 @@ module _ (s : Settings) (Z n : ℕ) (m : Sending) (k : IsCut s Z m) where
 
         behind : (j : ℕ) → rowAt Z (storeBy s Z st c) j ≡ rowAt Z (storeLess s Z at (countIn Z at) (message r)) j
         behind j =
-            ap (λ (x : List ℕ). rowAt Z x j) (pick-yes (draws s Z st c) (takenStore s Z at long) at d)
+            ap (λ (x : List ℕ). rowAt Z x j) (store-by s Z st c ∙ pick-yes (draws s Z st c) (lessTaken s Z at long) at d)
             ∙ ap (λ (x : Took). rowAt Z (storeLess s Z at (countIn Z at) x) j) e
 
         zeroes : (j : ℕ) → j < n → Holds s Z n m at j → rowAt Z (storeBy s Z st c) j ≡ zeroRow Z
@@ -128,7 +130,7 @@ module _ (s : Settings) (Z n : ℕ) (m : Sending) (k : IsCut s Z m) where
 
     -- a taking at the cells is a taking at the octets
     pub takes-of : Gives suc top (sentOf s m) (cellsIn s Z n at) → Output suc top (sentOf s m) (cellsIn s Z n at) → Takes s Z n m st c
-    unfolding tookBy storeBy outBy
+    unfolding tookBy
     takes-of g u = record { gives = given; enough = plenty; short = brief }
       where
         size : length (keyIn s m) + length (bodyIn (sentOf s m)) ≡ 2 + headerSize s m + bodySize s m
@@ -160,8 +162,8 @@ module _ (s : Settings) (Z n : ℕ) (m : Sending) (k : IsCut s Z m) where
             let v = u .short (p .1 .0) (p .1 .1) (p .1 .2) long (omega (arith, size)) in
             let w = took-is s Z n at kept long ∙ v .0 in (
               pick-yes (draws s Z st c) (some (took s Z at long)) none (p .0) ∙ ap some w,
-              pick-yes (draws s Z st c) (takenStore s Z at long) at (p .0) ∙ unable-same s Z at long 21 w,
-              pick-yes (draws s Z st c) (outWith (outOf c) (took s Z at long)) (outOf c) (p .0) ∙ unable-output s Z at (outOf c) long 21 w,
+              store-by s Z st c ∙ pick-yes (draws s Z st c) (lessTaken s Z at long) at (p .0) ∙ unable-same s Z at long 21 w,
+              out-by s Z st c ∙ pick-yes (draws s Z st c) (outWith (outOf c) (took s Z at long)) (outOf c) (p .0) ∙ unable-output s Z at (outOf c) long 21 w,
             )
 
   -- ---- takings one after the other

@@ -18,6 +18,7 @@ pub mod ReadAs
 pub mod OwnPackets
 pub mod AnyCut
 pub mod Sents
+pub mod Called
 pub mod Steps
 pub mod Events
 pub mod Simulates

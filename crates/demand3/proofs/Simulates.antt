@@ -2,7 +2,7 @@
 -- handed over exactly if its event is among them.
 -- Assumes nothing.
 use Prim.Native.Nat.{ℕ, suc}
-use mathlib.Core.Path.{_≡_, refl, ap, sym, _∙_}
+use mathlib.Core.Path.{_≡_, refl, ap, sym, _∙_, subst}
 use mathlib.Core.Logic.{_⊎_, inl, inr}
 use mathlib.Core.Bool.{Bool, true, false}
 use mathlib.Core.Option.{none, some}
@@ -15,8 +15,10 @@ use Rattle.cells.specs.Segments.{Seg}
 use Rattle.cells.specs.Rows.{Cell}
 use Rattle.messages.specs.Messages.{cellsOf, Run, top}
 use Rattle.taking.specs.Taking.{message, took}
+use Rattle.join.specs.Joining.{lessTaken}
 use Rattle.demand3.specs.Traffic.{Event, arrives, takes, takenFrom, stepped, after}
-use Rattle.demand3.specs.Calls.{Call, arrival, taking, joining, Brings, Handed, outOf, takenStore, draws, storeAt, tookBy, storeBy, storeAfter}
+use Rattle.demand3.specs.Calls.{Call, arrival, taking, joining, Brings, Handed, outOf, draws, storeAt, tookBy, storeBy, storeAfter}
+use Rattle.demand3.proofs.Called.{store-by}
 use Rattle.demand3.proofs.Keeps.{after-append}
 use Rattle.demand3.proofs.Steps.{eventOf, Kept, arrival-cells, arrival-keeps, took-is, taking-cells, taking-keeps}
 use Rattle.demand3.proofs.Events.{before, drawing, eventsBy, eventsIn}
@@ -62,18 +64,20 @@ module _ (s : Settings) (Z n : ℕ) where
         ∙ ap (λ (x : List Cell). takenFrom suc top x (length (outOf c))) (at-cells c))
 
     pub by-keeps : (c : Call) → Kept s Z n (storeBy s Z st c)
-    unfolding storeBy
-    by-keeps c = go (draws s Z st c)
+    by-keeps c = subst (Kept s Z n) (sym (store-by s Z st c)) (go (draws s Z st c))
       where
-        go : (b : Bool) → Kept s Z n (pick b (takenStore s Z (storeAt s Z st c) (length (outOf c))) (storeAt s Z st c))
+        go : (b : Bool) → Kept s Z n (pick b (lessTaken s Z (storeAt s Z st c) (length (outOf c))) (storeAt s Z st c))
         go true = taking-keeps s Z n (storeAt s Z st c) (at-keeps c) (length (outOf c))
         go false = at-keeps c
 
     pub by-cells : (c : Call) → cellsOf s Z (storeBy s Z st c) n ≡ after suc top cs (eventsBy s Z st c)
-    unfolding storeBy after
-    by-cells c = go (draws s Z st c) ∙ sym (after-append suc top cs (before s Z c) (drawing s Z (draws s Z st c) c))
+    unfolding after
+    by-cells c =
+        ap (λ (x : List ℕ). cellsOf s Z x n) (store-by s Z st c)
+        ∙ go (draws s Z st c)
+        ∙ sym (after-append suc top cs (before s Z c) (drawing s Z (draws s Z st c) c))
       where
-        go : (b : Bool) → cellsOf s Z (pick b (takenStore s Z (storeAt s Z st c) (length (outOf c))) (storeAt s Z st c)) n ≡
+        go : (b : Bool) → cellsOf s Z (pick b (lessTaken s Z (storeAt s Z st c) (length (outOf c))) (storeAt s Z st c)) n ≡
             after suc top (after suc top cs (before s Z c)) (drawing s Z b c)
         go true =
             taking-cells s Z n (storeAt s Z st c) (at-keeps c) (length (outOf c))

@@ -30,7 +30,8 @@ use Rattle.keeping.proofs.Order.{cells-inside}
 use Rattle.keeping.proofs.After.{segment, cells-stored, has-free, cells-taken}
 use Rattle.keeping.proofs.Keeps.{arrive-long, take-long, arrive-keeps, take-keeps}
 use Rattle.demand3.specs.Traffic.{Event, arrives, passes, takes, stowed, lessened, takenFrom, stepped}
-use Rattle.demand3.specs.Calls.{goesOn, arrivedStore, takenStore}
+use Rattle.join.specs.Joining.{lessTaken}
+use Rattle.demand3.specs.Calls.{goesOn, arrivedStore}
 use Rattle.demand3.specs.Sendings.{ReadsAs}
 use Rattle.demand3.proofs.Looks.{put-full}
 
@@ -214,7 +215,7 @@ module _ (s : Settings) (Z n : ℕ) (st : List ℕ) (k : Kept s Z n st) where
         ∙ ap (λ (x : ℕ). tookIn s Z st x long) (k .count)
 
     -- the cells behind it
-    pub taking-cells : cellsOf s Z (takenStore s Z st long) n ≡ stepped suc top cs (takes long)
+    pub taking-cells : cellsOf s Z (lessTaken s Z st long) n ≡ stepped suc top cs (takes long)
     unfolding stepped storeLess
     taking-cells =
         ap (λ (x : ℕ). cellsOf s Z (storeLess s Z st x (took s Z st long)) n) (k .count)
@@ -225,7 +226,7 @@ module _ (s : Settings) (Z n : ℕ) (st : List ℕ) (k : Kept s Z n st) where
         go (message r) = cells-taken s Z st n r inside
         go (unable x) = refl
 
-    pub taking-keeps : Kept s Z n (takenStore s Z st long)
+    pub taking-keeps : Kept s Z n (lessTaken s Z st long)
     taking-keeps =
         record {
           settings = k .settings;

@@ -1,8 +1,6 @@
 -- Calls on a store's octets, one after the other, by the very definitions that the calls promise: an arrival of a packet, a taking with
 -- a lent output, a joining of a packet with a lent output. Demand 3 speaks of lists of them: "Begin with an empty store that only these
 -- calls touch", "with takes between".
--- Document 01: "Joining is arrival, answering "whole" with the body's place, or else taking's answer. If arrival refuses, so does
--- joining; if taking refuses, the arrived segment stays stored".
 -- Assumes nothing: these are definitions.
 use Prim.Native.Nat.{ℕ, suc}
 use mathlib.Core.Path.{_≡_}
@@ -13,9 +11,9 @@ use mathlib.Core.List.{List, [], _∷_, List·Memᴰ}
 use lib.ListN.{length}
 use Rattle.octets.specs.Octets.{pick}
 use Rattle.walk.specs.declared.Settings.{Settings}
-use Rattle.cells.specs.Order.{countIn}
 use Rattle.arrival.specs.Arriving.{Arrived, whole, stored, again, refused, arrived, storeWith}
-use Rattle.taking.specs.Taking.{Took, took, outWith, storeLess}
+use Rattle.taking.specs.Taking.{Took, took, outWith}
+use Rattle.join.specs.Joining.{lessTaken, storeJoined, outJoined}
 
 -- of `store::arrive` the packet, of `store::take` the lent output, of `join::join` both; each of any length and content
 pub data Call : Type 0 where
@@ -56,10 +54,6 @@ module _ (s : Settings) (Z : ℕ) where
   abbrev pub arrivedStore : List ℕ → List ℕ → List ℕ
   arrivedStore st p = storeWith Z st p (arrived s Z st p)
 
-  -- and behind a taking with so many octets of output
-  abbrev pub takenStore : List ℕ → ℕ → List ℕ
-  takenStore st long = storeLess s Z st (countIn Z st) (took s Z st long)
-
   -- whether a call takes, where it finds this store
   abbrev pub draws : List ℕ → Call → Bool
   draws st (arrival p) = false
@@ -78,11 +72,15 @@ module _ (s : Settings) (Z : ℕ) where
 
   -- the store behind a call
   unfoldable pub storeBy : List ℕ → Call → List ℕ
-  storeBy st c = pick (draws st c) (takenStore (storeAt st c) (length (outOf c))) (storeAt st c)
+  storeBy st (arrival p) = arrivedStore st p
+  storeBy st (taking out) = lessTaken s Z st (length out)
+  storeBy st (joining p out) = storeJoined s Z st p (length out)
 
   -- and its output
   unfoldable pub outBy : List ℕ → Call → List ℕ
-  outBy st c = pick (draws st c) (outWith (outOf c) (took s Z (storeAt st c) (length (outOf c)))) (outOf c)
+  outBy st (arrival p) = []
+  outBy st (taking out) = outWith out (took s Z st (length out))
+  outBy st (joining p out) = outJoined s Z st p out
 
   -- the store behind a list of calls
   unfoldable pub storeAfter : List ℕ → List Call → List ℕ
