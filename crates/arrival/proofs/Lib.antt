@@ -1,2 +1,3 @@
 pub mod Arrivals
 pub mod Beside
+pub mod Checked

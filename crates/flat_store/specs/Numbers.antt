@@ -13,7 +13,7 @@ use Rattle.arrival.specs.Arriving.{Arrived}
 use Rattle.taking.specs.Taking.{Took}
 use Rattle.arrival.specs.Told.{Word, silent, said-whole, said-stored, said-held, Said, saidOf}
 use Rattle.taking.specs.Told.{takenOf}
-use Rattle.store.specs.Inner.{gate}
+use Rattle.opening.specs.Inner.{gate}
 use Rattle.join.specs.Joining.{Joining}
 use Rattle.join.specs.Told.{Word as Place, silent as nowhere, said-packet, said-joined, Said as Says, said, joinedOf}
 use Rattle.recording.specs.declared.Why.{Why}

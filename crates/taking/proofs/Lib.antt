@@ -13,3 +13,4 @@ pub mod Among
 pub mod Drawn
 pub mod Takings
 pub mod Beside
+pub mod Checked
