@@ -13,7 +13,7 @@ use Rattle.opening.specs.Inner.{gate}
 use Rattle.opening.proofs.Gate.{opened-order, gate-again}
 use Rattle.arrival.proofs.Checked.{arrived-open}
 use Rattle.taking.proofs.Checked.{took-open}
-use Rattle.keeping.proofs.Keeps.{arrive-long, arrive-keeps}
+use Rattle.arrival.proofs.Keeps.{arrive-long, arrive-keeps}
 use Rattle.join.specs.declared.Joined.{Joined}
 use Rattle.join.specs.Joining.{Joining, tookAs, joinedBy, storeBy, outBy, joining, storeJoined, outJoined}
 use Rattle.join.specs.Told.{joinedOf}

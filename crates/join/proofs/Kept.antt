@@ -12,7 +12,8 @@ use Rattle.arrival.specs.Arriving.{Arrived, whole, stored, again, refused, arri
 use Rattle.taking.specs.Taking.{Took, message, unable, writing, took, outWith}
 use Rattle.opening.specs.Inner.{gate}
 use Rattle.opening.proofs.Gate.{opened-order, gate-again}
-use Rattle.keeping.proofs.Keeps.{arrive-long, arrive-keeps, take-long, take-keeps}
+use Rattle.arrival.proofs.Keeps.{arrive-long, arrive-keeps}
+use Rattle.taking.proofs.Keeps.{take-long, take-keeps}
 use Rattle.join.specs.Joining.{lessTaken, storeBy, outBy, storeJoined, outJoined}
 
 -- an output is as long behind a taking as before

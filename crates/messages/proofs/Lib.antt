@@ -1,4 +1,13 @@
+pub mod Picking
+pub mod Rows
+pub mod Opens
+pub mod HeldRow
+pub mod Listed
+pub mod Looking
 pub mod Looks
 pub mod Found
 pub mod Distinct
+pub mod Order
+pub mod Empty
+pub mod Members
 pub mod Blank

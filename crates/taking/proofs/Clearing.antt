@@ -1,18 +1,20 @@
--- The zero cell over a cell, and over those of the first cells of which a test holds.
+-- The zero cell over a cell, and over those of the first cells of which a test holds (S-8): their rows are zeros, the others are as they
+-- were, and the length stays.
 -- Assumes nothing.
 use Prim.Native.Nat.{ℕ, zero, suc, _+_, _*_, _≤_, _<_, min}
 use mathlib.Core.Path.{_≡_, refl, ap, ap₂, sym, _∙_}
-use mathlib.Core.Logic.{⊎-elim}
+use mathlib.Core.Logic.{_≢_, ⊎-elim}
 use mathlib.Core.Bool.{Bool, true, false}
-use mathlib.Core.List.{List, [], _∷_}
+use mathlib.Core.List.{List}
 use native.Mathlib.Numerals.{add-one}
 use native.Mathlib.Omega.{arith}
-use native.Mathlib.Nat.{mul-le-mul-right, suc-mul}
-use lib.ListN.{length, take, drop, set, length-replicate}
-use lib.Seq.{sets, length-sets, drop-set-lt}
+use native.Mathlib.Nat.{suc-mul}
+use lib.ListN.{length, length-replicate}
+use lib.Seq.{sets, length-sets}
 use Rattle.octets.specs.Octets.{pick}
-use Rattle.octets.proofs.Lists.{bool, below-or, sets-out}
+use Rattle.octets.proofs.Lists.{below-or, sets-out}
 use Rattle.cells.specs.Rows.{rowAt, zeroRow}
+use Rattle.messages.proofs.Rows.{row-written, row-other}
 use Rattle.taking.specs.Taking.{clearedTo}
 
 -- a place kept inside the store does as well
@@ -38,38 +40,46 @@ cleared-not : (f : ℕ → Bool) (Z i : ℕ) (st : List ℕ) → f i ≡ false �
 unfolding clearedTo
 cleared-not f Z i st e = ap (λ (b : Bool). pick b (sets (clearedTo f Z i st) (i * Z) (zeroRow Z)) (clearedTo f Z i st)) e
 
-pub cleared-length : (f : ℕ → Bool) (Z n : ℕ) (st : List ℕ) → length (clearedTo f Z n st) ≡ length st
-unfolding clearedTo
-cleared-length f Z zero st = refl
-cleared-length f Z (suc i) st = ⊎-elim (here (cleared-length f Z i st)) (on (cleared-length f Z i st)) (bool (f i))
-  where
-    here : length (clearedTo f Z i st) ≡ length st → f i ≡ true → length (clearedTo f Z (suc i) st) ≡ length st
-    here rest e =
-        ap length (cleared-here f Z i st e) ∙ length-sets (clearedTo f Z i st) (i * Z) (zeroRow Z) ∙ rest
+module _ (f : ℕ → Bool) (Z : ℕ) (st : List ℕ) where
+  pub cleared-long : (n : ℕ) → length (clearedTo f Z n st) ≡ length st
+  unfolding clearedTo
+  cleared-long zero = refl
+  cleared-long (suc n) = go (f n) ∙ cleared-long n
+    where
+      go : (b : Bool) → length (pick b (sets (clearedTo f Z n st) (n * Z) (zeroRow Z)) (clearedTo f Z n st)) ≡ length (clearedTo f Z n st)
+      go true = length-sets (clearedTo f Z n st) (n * Z) (zeroRow Z)
+      go false = refl
 
-    on : length (clearedTo f Z i st) ≡ length st → f i ≡ false → length (clearedTo f Z (suc i) st) ≡ length st
-    on rest e = ap length (cleared-not f Z i st e) ∙ rest
+  -- rows other than the last one
+  one-other : (b : Bool) (x : List ℕ) (n j : ℕ) → j ≢ n → rowAt Z (pick b (sets x (n * Z) (zeroRow Z)) x) j ≡ rowAt Z x j
+  one-other true x n j h = row-other Z n j x (zeroRow Z) (length-replicate Z 0) h
+  one-other false x n j h = refl
 
--- what is written lies before
-drop-behind : (l : List ℕ) (at : ℕ) (x : List ℕ) (a : ℕ) → at + length x ≤ a → drop a (sets l at x) ≡ drop a l
-drop-behind l at [] a h = refl
-drop-behind l at (v ∷ x) a h = drop-behind (set l at v) (suc at) x a (omega arith) ∙ drop-set-lt a l at v (omega arith)
+  one-there : (b : Bool) (x : List ℕ) (n : ℕ) → suc n * Z ≤ length x → rowAt Z (pick b (sets x (n * Z) (zeroRow Z)) x) n ≡ pick b (zeroRow Z) (rowAt Z x n)
+  one-there true x n h = row-written Z n (suc n) x (zeroRow Z) (length-replicate Z 0) (omega arith) h
+  one-there false x n h = refl
 
--- a row that was not reached is as it was
-pub cleared-row : (f : ℕ → Bool) (Z n m : ℕ) (st : List ℕ) → n ≤ m → rowAt Z (clearedTo f Z n st) m ≡ rowAt Z st m
-unfolding clearedTo
-cleared-row f Z zero m st h = refl
-cleared-row f Z (suc i) m st h = ⊎-elim (here (cleared-row f Z i m st (omega arith))) (on (cleared-row f Z i m st (omega arith))) (bool (f i))
-  where
-    here : rowAt Z (clearedTo f Z i st) m ≡ rowAt Z st m → f i ≡ true → rowAt Z (clearedTo f Z (suc i) st) m ≡ rowAt Z st m
-    here rest e =
-        let l : i * Z + length (zeroRow Z) ≤ m * Z = omega (arith, mul-le-mul-right Z h, suc-mul i Z, length-replicate {A = ℕ} Z 0) in
-        ap (λ (x : List ℕ). rowAt Z x m) (cleared-here f Z i st e)
-        ∙ ap (take Z) (drop-behind (clearedTo f Z i st) (i * Z) (zeroRow Z) (m * Z) l)
-        ∙ rest
+  -- the rows behind them are as they were
+  pub cleared-past : (n j : ℕ) → n ≤ j → rowAt Z (clearedTo f Z n st) j ≡ rowAt Z st j
+  unfolding clearedTo
+  cleared-past zero j h = refl
+  cleared-past (suc n) j h = one-other (f n) (clearedTo f Z n st) n j (λ e. omega arith) ∙ cleared-past n j (omega arith)
 
-    on : rowAt Z (clearedTo f Z i st) m ≡ rowAt Z st m → f i ≡ false → rowAt Z (clearedTo f Z (suc i) st) m ≡ rowAt Z st m
-    on rest e = ap (λ (x : List ℕ). rowAt Z x m) (cleared-not f Z i st e) ∙ rest
+  -- of the first n, just those of which the test holds are zero
+  pub cleared-row : (n j : ℕ) → n * Z ≤ length st → j < n → rowAt Z (clearedTo f Z n st) j ≡ pick (f j) (zeroRow Z) (rowAt Z st j)
+  unfolding clearedTo
+  cleared-row zero j l h = absurd (omega arith)
+  cleared-row (suc n) j l h =
+      ⊎-elim
+      (λ k.
+      one-other (f n) (clearedTo f Z n st) n j (λ e. omega arith)
+      ∙ cleared-row n j (omega (arith, suc-mul n Z)) k)
+      (λ k.
+      let e : j ≡ n = omega arith in
+      rw e
+      (one-there (f n) (clearedTo f Z n st) n (omega (arith, cleared-long n))
+      ∙ ap (pick (f n) (zeroRow Z)) (cleared-past n n (omega arith))))
+      (below-or j n)
 
 -- two tests that agree clear the same cells
 pub cleared-same : (f g : ℕ → Bool) (Z n : ℕ) (st : List ℕ) → ((j : ℕ) → j < n → f j ≡ g j) → clearedTo f Z n st ≡ clearedTo g Z n st
@@ -87,7 +97,7 @@ unfolding clearedTo
 clearing-first f Z n st = record { most = omega arith; same = refl }
 
 pub clearing-long : {f : ℕ → Bool} {Z n i : ℕ} {st x : List ℕ} → Clearing f Z n st x i → length x ≡ length st
-clearing-long {f} {Z} {n} {i} {st} p = ap length (p .same) ∙ cleared-length f Z i st
+clearing-long {f} {Z} {n} {i} {st} p = ap length (p .same) ∙ cleared-long f Z st i
 
 pub clearing-done : {f : ℕ → Bool} {Z n i : ℕ} {st x : List ℕ} → Clearing f Z n st x i → n ≤ i → x ≡ clearedTo f Z n st
 clearing-done {f} {Z} {n} {i} {st} p h = let e : i ≡ n = omega (arith, p .most) in p .same ∙ ap (λ (k : ℕ). clearedTo f Z k st) e
@@ -98,7 +108,7 @@ pub clearing-told :
     b ≡ g (rowAt Z st i)
 clearing-told {n} {i} {st} g Z p er eb =
     let l : i ≤ i = omega arith in
-    eb ∙ ap g (er ∙ ap (λ (y : List ℕ). rowAt Z y i) (p .same) ∙ cleared-row (λ j. g (rowAt Z st j)) Z i i st l)
+    eb ∙ ap g (er ∙ ap (λ (y : List ℕ). rowAt Z y i) (p .same) ∙ cleared-past (λ j. g (rowAt Z st j)) Z st i i l)
 
 -- cell i is made zero
 pub clearing-here :

@@ -14,3 +14,5 @@ pub mod Drawn
 pub mod Takings
 pub mod Beside
 pub mod Checked
+pub mod Keeps
+pub mod Tells
