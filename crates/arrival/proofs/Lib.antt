@@ -1,2 +1,5 @@
 pub mod Arrivals
 pub mod Beside
+pub mod Checked
+pub mod After
+pub mod Keeps

@@ -1,7 +1,7 @@
 // The calls for programs in other languages. `include/orlyukan.h` declares them for C and says what each number means.
 //
-// Each export hands its numbers and slices to a call of crate `flat`, or in `stored` of `flat_store`, and puts what it answers into
-// the lent array, the refusal first.
+// Each export hands its numbers and slices to a call of crate `flat`, or in `stored` of `flat_store` and `flat_recording`, and puts
+// what it answers into the lent array, the refusal first.
 // A slice is a pointer and a length, an array is one pointer; no struct goes by value and no reference comes back.
 mod stored;
 

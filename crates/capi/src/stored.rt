@@ -7,8 +7,9 @@ ghost use Rattle.taking.specs.Taking.{took, outWith, storeLess};
 ghost use Rattle.join.specs.Joining.{joining, storeJoined, outJoined};
 ghost use Rattle.recording.specs.Ending.{recordedOf, outRecorded};
 ghost use Rattle.walk.specs.Walk.{settingsOf};
-ghost use Rattle.flat_store.specs.Numbers.{arriveNumbers, takeNumbers, joinNumbers, orderNumbers, recordedNumbers};
+ghost use Rattle.flat_store.specs.Numbers.{arriveNumbers, takeNumbers, joinNumbers, orderNumbers};
 ghost use Rattle.flat_store.specs.Views.{viewNumbers};
+ghost use Rattle.flat_recording.specs.Numbers.{recordedNumbers};
 
 // A packet arrives.
 #[no_mangle]
@@ -74,5 +75,5 @@ pub extern "C" fn orl_join_recording(recording: &[u8], out: &mut [u8], answer: &
     ensures { λ r. ⌜ now (answer .exit) ≡ recordedNumbers (recordedOf (length (now (out .entry))) (now (recording .entry))) ⌝ }
     ensures { λ r. ⌜ now (out .exit) ≡ outRecorded (now (out .entry)) (now (recording .entry)) ⌝ }
 {
-    *answer = flat_store::join_recording(recording, out);
+    *answer = flat_recording::join_recording(recording, out);
 }

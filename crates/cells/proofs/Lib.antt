@@ -1,3 +1,4 @@
+pub mod Rows
 pub mod Held
 pub mod Scans
 pub mod Counters

@@ -1,19 +1,21 @@
--- The zero cell over a cell, and over those of the first cells of which a test holds.
+-- The zero cell over a cell, and over those of the first cells of which a test holds (S-8): their rows are zeros, the others are as they
+-- were, and the length stays.
 -- Assumes nothing.
 use Prim.Native.Nat.{ℕ, zero, suc, _+_, _*_, _≤_, _<_, min}
 use mathlib.Core.Path.{_≡_, refl, ap, ap₂, sym, _∙_}
-use mathlib.Core.Logic.{⊎-elim}
+use mathlib.Core.Logic.{_≢_, ⊎-elim}
 use mathlib.Core.Bool.{Bool, true, false}
 use mathlib.Core.List.{List}
 use native.Mathlib.Numerals.{add-one}
 use native.Mathlib.Omega.{arith}
-use lib.ListN.{length}
-use lib.Seq.{sets}
+use native.Mathlib.Nat.{suc-mul}
+use lib.ListN.{length, length-replicate}
+use lib.Seq.{sets, length-sets}
 use Rattle.octets.specs.Octets.{pick}
 use Rattle.octets.proofs.Lists.{below-or, sets-out}
 use Rattle.cells.specs.Rows.{rowAt, zeroRow}
+use Rattle.cells.proofs.Rows.{row-written, row-other}
 use Rattle.clearing.specs.Cleared.{clearedTo}
-use Rattle.clearing.proofs.Rows.{cleared-long, cleared-past}
 
 -- a place kept inside the store does as well
 pub zero-there : (st z : List ℕ) (i : ℕ) {at : ℕ} → at ≡ min (i * length z) (length st) → sets st at z ≡ sets st (i * length z) z
@@ -37,6 +39,47 @@ cleared-here f Z i st e = ap (λ (b : Bool). pick b (sets (clearedTo f Z i st) (
 cleared-not : (f : ℕ → Bool) (Z i : ℕ) (st : List ℕ) → f i ≡ false → clearedTo f Z (suc i) st ≡ clearedTo f Z i st
 unfolding clearedTo
 cleared-not f Z i st e = ap (λ (b : Bool). pick b (sets (clearedTo f Z i st) (i * Z) (zeroRow Z)) (clearedTo f Z i st)) e
+
+module _ (f : ℕ → Bool) (Z : ℕ) (st : List ℕ) where
+  pub cleared-long : (n : ℕ) → length (clearedTo f Z n st) ≡ length st
+  unfolding clearedTo
+  cleared-long zero = refl
+  cleared-long (suc n) = go (f n) ∙ cleared-long n
+    where
+      go : (b : Bool) → length (pick b (sets (clearedTo f Z n st) (n * Z) (zeroRow Z)) (clearedTo f Z n st)) ≡ length (clearedTo f Z n st)
+      go true = length-sets (clearedTo f Z n st) (n * Z) (zeroRow Z)
+      go false = refl
+
+  -- rows other than the last one
+  one-other : (b : Bool) (x : List ℕ) (n j : ℕ) → j ≢ n → rowAt Z (pick b (sets x (n * Z) (zeroRow Z)) x) j ≡ rowAt Z x j
+  one-other true x n j h = row-other Z n j x (zeroRow Z) (length-replicate Z 0) h
+  one-other false x n j h = refl
+
+  one-there : (b : Bool) (x : List ℕ) (n : ℕ) → suc n * Z ≤ length x → rowAt Z (pick b (sets x (n * Z) (zeroRow Z)) x) n ≡ pick b (zeroRow Z) (rowAt Z x n)
+  one-there true x n h = row-written Z n (suc n) x (zeroRow Z) (length-replicate Z 0) (omega arith) h
+  one-there false x n h = refl
+
+  -- the rows behind them are as they were
+  pub cleared-past : (n j : ℕ) → n ≤ j → rowAt Z (clearedTo f Z n st) j ≡ rowAt Z st j
+  unfolding clearedTo
+  cleared-past zero j h = refl
+  cleared-past (suc n) j h = one-other (f n) (clearedTo f Z n st) n j (λ e. omega arith) ∙ cleared-past n j (omega arith)
+
+  -- of the first n, just those of which the test holds are zero
+  pub cleared-row : (n j : ℕ) → n * Z ≤ length st → j < n → rowAt Z (clearedTo f Z n st) j ≡ pick (f j) (zeroRow Z) (rowAt Z st j)
+  unfolding clearedTo
+  cleared-row zero j l h = absurd (omega arith)
+  cleared-row (suc n) j l h =
+      ⊎-elim
+      (λ k.
+      one-other (f n) (clearedTo f Z n st) n j (λ e. omega arith)
+      ∙ cleared-row n j (omega (arith, suc-mul n Z)) k)
+      (λ k.
+      let e : j ≡ n = omega arith in
+      rw e
+      (one-there (f n) (clearedTo f Z n st) n (omega (arith, cleared-long n))
+      ∙ ap (pick (f n) (zeroRow Z)) (cleared-past n n (omega arith))))
+      (below-or j n)
 
 -- two tests that agree clear the same cells
 pub cleared-same : (f g : ℕ → Bool) (Z n : ℕ) (st : List ℕ) → ((j : ℕ) → j < n → f j ≡ g j) → clearedTo f Z n st ≡ clearedTo g Z n st

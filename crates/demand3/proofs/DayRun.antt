@@ -16,7 +16,7 @@ use Rattle.cells.specs.Rows.{Cell, free}
 use Rattle.messages.specs.Messages.{look, roleOf, bodies, chain, runFrom, pickIn, among, top}
 use Rattle.taking.specs.Taking.{message}
 use Rattle.keeping.specs.Cells.{put, hasFree}
-use Rattle.keeping.proofs.Empty.{empty-cells}
+use Rattle.messages.proofs.Empty.{empty-cells}
 use Rattle.demand3.specs.Traffic.{Event, arrives, passes, takes, empty, takenFrom, stepped, after, Room as CellRoom}
 use Rattle.demand3.specs.Calls.{Call, arrival, taking, joining, draws, tookBy}
 use Rattle.demand3.specs.Sendings.{Sending, manyOf, segmentAt, keyIn, IsCut}

@@ -19,8 +19,9 @@ use Rattle.messages.specs.Messages.{Run, bodyOf, segments, picked, top}
 use Rattle.taking.specs.Taking.{Took, message, unable, writing, took, outWith, storeLess}
 use Rattle.messages.specs.Told.{refusalOf}
 use Rattle.taking.specs.Told.{takenOf}
-use Rattle.keeping.proofs.Picking.{pick-yes}
-use Rattle.keeping.proofs.Zeroed.{taken-tells, segment-held, zeroed-row, other-row}
+use Rattle.messages.proofs.Picking.{pick-yes}
+use Rattle.taking.proofs.Tells.{taken-tells, segment-held}
+use Rattle.keeping.proofs.Zeroed.{zeroed-row, other-row}
 use Rattle.keeping.proofs.Untouched.{unable-same, unable-output}
 use Rattle.demand3.specs.Traffic.{bodyIn, takes, takenFrom, after}
 use Rattle.demand3.specs.Promise.{Original, Gives, Output, LongEnough as CellLongEnough, Handed}

@@ -23,7 +23,7 @@ use Rattle.taking.specs.Taking.{Took, message, unable}
 use Rattle.messages.specs.Told.{refusalOf}
 use Rattle.taking.specs.Told.{takenOf}
 use Rattle.keeping.specs.Cells.{put, hasFree}
-use Rattle.keeping.proofs.Empty.{empty-cells}
+use Rattle.messages.proofs.Empty.{empty-cells}
 use Rattle.demand3.specs.Complete.{Held}
 use Rattle.demand3.specs.Traffic.{Event, passes, empty, after}
 use Rattle.demand3.specs.Calls.{Call, arrival, taking, joining, Brings, Handed, tookBy, storeAfter}

@@ -25,10 +25,12 @@ use Rattle.messages.specs.Messages.{cellsOf, look, top}
 use Rattle.arrival.specs.Arriving.{Arrived, whole, stored, again, refused, placed, beside, lowestFree, segmentArrived, arrivedIn, arrived, storeWith}
 use Rattle.taking.specs.Taking.{Took, message, unable, tookIn, took, storeLess}
 use Rattle.keeping.specs.Cells.{put}
-use Rattle.keeping.proofs.Picking.{pick-yes}
-use Rattle.keeping.proofs.Order.{cells-inside}
-use Rattle.keeping.proofs.After.{segment, cells-stored, has-free, cells-taken}
-use Rattle.keeping.proofs.Keeps.{arrive-long, take-long, arrive-keeps, take-keeps}
+use Rattle.messages.proofs.Picking.{pick-yes}
+use Rattle.messages.proofs.Order.{cells-inside}
+use Rattle.arrival.proofs.After.{segment}
+use Rattle.arrival.proofs.Keeps.{arrive-long, arrive-keeps}
+use Rattle.taking.proofs.Keeps.{take-long, take-keeps}
+use Rattle.keeping.proofs.After.{cells-stored, has-free, cells-taken}
 use Rattle.demand3.specs.Traffic.{Event, arrives, passes, takes, stowed, lessened, takenFrom, stepped}
 use Rattle.join.specs.Joining.{lessTaken}
 use Rattle.demand3.specs.Calls.{goesOn, arrivedStore}

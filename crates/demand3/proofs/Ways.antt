@@ -17,8 +17,8 @@ use Rattle.cells.specs.Segments.{Seg, both}
 use Rattle.cells.specs.Rows.{Cell, free, held, broken}
 use Rattle.messages.specs.Messages.{Run, Role, first, middle, last, roleOf, cellsOf, orElse, look, link, opensBy, chain, runFrom, pickIn, picked, top}
 use Rattle.taking.specs.Taking.{Took, drawn, took}
-use Rattle.keeping.proofs.Picking.{pick-yes}
-use Rattle.keeping.proofs.Empty.{empty-cells}
+use Rattle.messages.proofs.Picking.{pick-yes}
+use Rattle.messages.proofs.Empty.{empty-cells}
 use Rattle.demand3.specs.Traffic.{Event, arrives, passes, takes, stowed, lessened, empty, takenFrom, stepped, after}
 use Rattle.demand3.specs.Calls.{Call, arrival, taking, joining, draws, storeAt, tookBy, storeBy, storeAfter}
 use Rattle.demand3.specs.Presupposed.{InUse, emptyStore, storeBehind}

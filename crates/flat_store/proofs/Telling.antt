@@ -14,8 +14,8 @@ use Rattle.octets.proofs.Lists.{bool}
 use Rattle.walk.specs.declared.Settings.{Settings}
 use Rattle.walk.specs.Walk.{begun}
 use Rattle.cells.specs.Order.{inOrder, countIn}
-use Rattle.store.specs.Inner.{gate}
-use Rattle.store.proofs.Opening.{order-has}
+use Rattle.opening.specs.Inner.{gate}
+use Rattle.opening.proofs.Gate.{order-has}
 use Rattle.flat_store.specs.Numbers.{orderNumbers}
 use Rattle.flat_store.specs.Views.{insideNumbers, unnamed, viewNumbers}
 

@@ -13,12 +13,9 @@ use Rattle.arrival.specs.Arriving.{Arrived}
 use Rattle.taking.specs.Taking.{Took}
 use Rattle.arrival.specs.Told.{Word, silent, said-whole, said-stored, said-held, Said, saidOf}
 use Rattle.taking.specs.Told.{takenOf}
-use Rattle.store.specs.Inner.{gate}
+use Rattle.opening.specs.Inner.{gate}
 use Rattle.join.specs.Joining.{Joining}
 use Rattle.join.specs.Told.{Word as Place, silent as nowhere, said-packet, said-joined, Said as Says, said, joinedOf}
-use Rattle.recording.specs.declared.Why.{Why}
-use Rattle.recording.specs.declared.Why.the-variants.{Unsaid, Ended, Unmarked, Torn}
-use Rattle.recording.specs.declared.Recorded.{Recorded}
 
 -- ---- arrival
 
@@ -66,15 +63,3 @@ joinNumbers j = saysNumbers (said (joinedOf j))
 -- refusal, 15 or 16, and the number of cells
 unfoldable pub orderNumbers : Settings → ℕ → List ℕ → List ℕ
 orderNumbers s Z st = pick (eqb (gate s Z st) 0) (0 ∷ countIn Z st ∷ []) (gate s Z st ∷ 0 ∷ [])
-
--- ---- a whole recording
-
-abbrev pub whyNumber : Why → ℕ
-whyNumber Unsaid = 0
-whyNumber Ended = 1
-whyNumber Unmarked = 2
-whyNumber Torn = 3
-
--- refusal, octets written, the place where it stopped, and why
-abbrev pub recordedNumbers : Recorded → List ℕ
-recordedNumbers r = r .refusal .number ∷ r .written ∷ r .place ∷ whyNumber (r .why) ∷ []

@@ -10,16 +10,13 @@ ghost use Rattle.taking.specs.Taking.{took, outWith, storeLess};
 ghost use Rattle.arrival.specs.Told.{wordOf as kindOf, said as saidOf};
 ghost use Rattle.join.specs.Joining.{joining, storeJoined, outJoined};
 ghost use Rattle.join.specs.Told.{wordOf as bufferOf, said as saysOf};
-ghost use Rattle.recording.specs.Ending.{recordedOf, outRecorded};
 ghost use Rattle.walk.specs.Walk.{settingsOf};
-ghost use Rattle.flat_store.specs.Numbers.{wordNumber, saidNumbers, arriveNumbers, takenNumbers, takeNumbers, placeNumber, saysNumbers, joinNumbers, orderNumbers, whyNumber, recordedNumbers};
+ghost use Rattle.flat_store.specs.Numbers.{wordNumber, saidNumbers, arriveNumbers, takenNumbers, takeNumbers, placeNumber, saysNumbers, joinNumbers, orderNumbers};
 ghost use Rattle.flat_store.specs.Views.{insideNumbers, viewNumbers};
 use arrival::Arrival;
 use arrival::Kind;
 use join::Joined;
 use join::Which;
-use recording::Recorded;
-use recording::Why;
 use taking::Taken;
 use walk::Settings;
 
@@ -156,36 +153,4 @@ pub fn in_order(t: u64, store: &[u8]) -> [u64; 2]
         return [16, 0];
     }
     [0, n as u64]
-}
-
-fn why_number(w: Why) -> u64
-    ensures { λ r. ⌜ r ≡ whyNumber w ⌝ }
-{
-    match w {
-        Why::Unsaid => 0,
-        Why::Ended => 1,
-        Why::Unmarked => 2,
-        Why::Torn => 3,
-    }
-}
-
-fn recorded_numbers(r: Recorded) -> [u64; 4]
-    ensures { λ x. ⌜ x ≡ recordedNumbers r ⌝ }
-{
-    let refusal = r.refusal;
-    let why = r.why;
-    [
-        refusal.number as u64,
-        r.written as u64,
-        r.place as u64,
-        why_number(why),
-    ]
-}
-
-// A whole recording is joined: the refusal, the octets written, and where and why it stopped: 1 ended, 2 no mark, 3 torn.
-pub fn join_recording(recording: &[u8], out: &mut [u8]) -> [u64; 4]
-    ensures { λ r. ⌜ r ≡ recordedNumbers (recordedOf (length (now (out .entry))) (now (recording .entry))) ⌝ }
-    ensures { λ r. ⌜ now (out .exit) ≡ outRecorded (now (out .entry)) (now (recording .entry)) ⌝ }
-{
-    recorded_numbers(recording::join_all(recording, out))
 }

@@ -9,14 +9,15 @@ use Rattle.walk.specs.declared.Settings.{Settings}
 use Rattle.cells.specs.Order.{countIn}
 use Rattle.arrival.specs.Arriving.{Arrived, whole, stored, again, refused, arrivedIn, arrived, storeWith}
 use Rattle.taking.specs.Taking.{Took, tookIn, took, outWith, storeLess}
-use Rattle.store.specs.Inner.{gate}
-use Rattle.store.proofs.Opening.{opened-order, arrived-open, took-open}
-use Rattle.keeping.proofs.Keeps.{arrive-long, arrive-keeps}
+use Rattle.opening.specs.Inner.{gate}
+use Rattle.opening.proofs.Gate.{opened-order, gate-again}
+use Rattle.arrival.proofs.Checked.{arrived-open}
+use Rattle.taking.proofs.Checked.{took-open}
+use Rattle.arrival.proofs.Keeps.{arrive-long, arrive-keeps}
 use Rattle.join.specs.declared.Joined.{Joined}
 use Rattle.join.specs.Joining.{Joining, tookAs, joinedBy, storeBy, outBy, joining, storeJoined, outJoined}
 use Rattle.join.specs.Told.{joinedOf}
 use Rattle.join.specs.Inner.{joinedInBy, storeInBy, outInBy, joiningIn, storeJoinedIn, outJoinedIn}
-use Rattle.join.proofs.Kept.{gate-again}
 use Rattle.join.proofs.Joins.{Joins, JoinsIn}
 
 module _ (s : Settings) (Z : ℕ) (st p : List ℕ) {n : ℕ} (g : gate s Z st ≡ 0) (en : n ≡ countIn Z st) where

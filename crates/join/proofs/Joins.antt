@@ -22,8 +22,8 @@ use Rattle.arrival.specs.Arriving.{Arrived, whole, stored, again, refused, arri
 use Rattle.taking.specs.Taking.{tookIn, outWith}
 use Rattle.arrival.specs.Told.{arrivalOf}
 use Rattle.taking.specs.Told.{takenOf}
-use Rattle.store.specs.Inner.{gate}
-use Rattle.store.proofs.Opening.{arrived-shut}
+use Rattle.opening.specs.Inner.{gate}
+use Rattle.arrival.proofs.Checked.{arrived-shut}
 use Rattle.join.specs.declared.Joined.{Joined}
 use Rattle.join.specs.Joining.{inPacket, unjoined, bodyFrom, tookAs, joinedBy, storeBy, outBy, joining, storeJoined, outJoined}
 use Rattle.join.specs.Told.{joinedOf}

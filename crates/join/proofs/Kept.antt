@@ -2,32 +2,19 @@
 -- Assumes nothing.
 use Prim.Native.Nat.{ℕ, _/_}
 use mathlib.Core.Path.{_≡_, refl, ap, sym, _∙_}
-use mathlib.Core.Bool.{Bool, true, false}
+use mathlib.Core.Bool.{true}
 use mathlib.Core.List.{List}
-use native.Mathlib.Omega.{arith}
 use lib.ListN.{length}
 use lib.Seq.{length-sets}
-use lib.Dec.{eqb}
-use Rattle.octets.specs.Octets.{pick}
 use Rattle.walk.specs.declared.Settings.{Settings}
-use Rattle.walk.specs.Walk.{begun}
 use Rattle.cells.specs.Order.{countIn, inOrder}
 use Rattle.arrival.specs.Arriving.{Arrived, whole, stored, again, refused, arrived, storeWith}
 use Rattle.taking.specs.Taking.{Took, message, unable, writing, took, outWith}
-use Rattle.store.specs.Inner.{gate}
-use Rattle.store.proofs.Opening.{opened-order}
-use Rattle.keeping.proofs.Keeps.{arrive-long, arrive-keeps, take-long, take-keeps}
+use Rattle.opening.specs.Inner.{gate}
+use Rattle.opening.proofs.Gate.{opened-order, gate-again}
+use Rattle.arrival.proofs.Keeps.{arrive-long, arrive-keeps}
+use Rattle.taking.proofs.Keeps.{take-long, take-keeps}
 use Rattle.join.specs.Joining.{lessTaken, storeBy, outBy, storeJoined, outJoined}
-
--- another store in order, the settings being the same
-pub gate-again : (s : Settings) (Z : ℕ) (st x : List ℕ) → gate s Z st ≡ 0 → inOrder s Z x ≡ true → gate s Z x ≡ 0
-unfolding gate
-gate-again s Z st x g o = told (eqb (begun s .refusal .number) 0) (inOrder s Z st) (inOrder s Z x) g o
-  where
-    told : (a b d : Bool) → _≡_ {A = ℕ} (pick a (pick b 0 16) 15) 0 → d ≡ true → _≡_ {A = ℕ} (pick a (pick d 0 16) 15) 0
-    told true b true e o = refl
-    told true b false e o = let z : _≡_ {A = ℕ} 0 1 = cc in absurd (omega arith)
-    told false b d e o = absurd (omega arith)
 
 -- an output is as long behind a taking as before
 out-long : (out : List ℕ) (t : Took) → length (outWith out t) ≡ length out

@@ -23,8 +23,8 @@ use Rattle.cells.proofs.Carries.{free-cell, holding}
 use Rattle.messages.specs.Messages.{bodyOf}
 use Rattle.arrival.specs.Arriving.{Arrived, whole, stored, again, refused, arrived, storeWith}
 use Rattle.taking.specs.Taking.{Took, message, unable, took, outWith}
-use Rattle.keeping.proofs.Opens.{opens}
-use Rattle.keeping.proofs.Zeroed.{taken-tells, segment-held}
+use Rattle.messages.proofs.Opens.{opens}
+use Rattle.taking.proofs.Tells.{taken-tells, segment-held}
 use Rattle.join.specs.declared.Which.the-variants.{Packet}
 use Rattle.join.specs.Viewing.{inside, viewed}
 use Rattle.join.specs.Joining.{Joining, inPacket, inOutput, unjoined, bodyFrom, tookAs, joinedBy, outBy, joining, outJoined}

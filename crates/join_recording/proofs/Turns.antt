@@ -9,7 +9,7 @@ use native.Mathlib.Omega.{arith}
 use lib.ListN.{length, take, drop, replicate, length-take, length-replicate}
 use Rattle.cells.specs.Rows.{zeroRow}
 use Rattle.cells.specs.Order.{countIn}
-use Rattle.store.specs.Inner.{gate}
+use Rattle.opening.specs.Inner.{gate}
 use Rattle.recording.specs.declared.Done.{Done}
 use Rattle.recording.specs.Recording.{room, settings, cellCount, stepped, storeBehind}
 use Rattle.recording.specs.Told.{doneOf}

@@ -18,7 +18,7 @@ ghost use Prim.Native.Nat.{_+_, _≤_};
 ghost use lib.ListN.{length};
 ghost use Rattle.cells.specs.Rows.{zeroRow};
 ghost use Rattle.cells.specs.Order.{countIn};
-ghost use Rattle.store.specs.Inner.{gate};
+ghost use Rattle.opening.specs.Inner.{gate};
 ghost use Rattle.recording.specs.Recording.{room, settings, cellCount};
 use counts::COUNTS;
 use recording::What;

@@ -15,9 +15,9 @@ use Rattle.cells.specs.Rows.{Cell, free, held, broken}
 use Rattle.cells.specs.Order.{carriesIn, cellAt, allTo, newTo, newAt, distinct}
 use Rattle.cells.proofs.Apart.{all-at}
 use Rattle.messages.specs.Messages.{cellsOf, look}
-use Rattle.keeping.proofs.Listed.{among-below}
+use Rattle.messages.proofs.Listed.{among-below}
+use Rattle.messages.proofs.Looking.{look-none, look-some}
 use Rattle.messages.proofs.Distinct.{Apart, carries-true, carries-yes}
-use Rattle.keeping.proofs.Looking.{look-none, look-some}
 
 module _ (s : Settings) (Z : ℕ) (st : List ℕ) where
   -- what is held is found

@@ -1,14 +1,6 @@
-pub mod Picking
-pub mod Opens
-pub mod HeldRow
-pub mod Listed
+pub mod Putting
 pub mod After
-pub mod Looking
 pub mod Finds
-pub mod Order
-pub mod Empty
-pub mod Keeps
-pub mod Members
 pub mod Untouched
 pub mod Zeroed
 pub mod Repeats

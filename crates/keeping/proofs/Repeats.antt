@@ -22,15 +22,16 @@ use Rattle.messages.specs.Messages.{cellsOf, look, Run, segments, among}
 use Rattle.arrival.specs.Arriving.{stored, lowestFree, arrivedIn, arrived}
 use Rattle.taking.specs.Taking.{message, took}
 use Rattle.keeping.specs.Cells.{freed}
-use Rattle.keeping.proofs.Picking.{pick-yes}
-use Rattle.keeping.proofs.Listed.{among-below, Lowest, lowest-is, lowest-some}
+use Rattle.messages.proofs.Picking.{pick-yes}
+use Rattle.messages.proofs.Listed.{among-below, Lowest, lowest-is, lowest-some}
+use Rattle.messages.proofs.Looking.{look-empty}
+use Rattle.messages.proofs.Order.{cells-inside}
+use Rattle.messages.proofs.Members.{In, among-yes}
+use Rattle.arrival.proofs.After.{segment, Stored, stored-told}
+use Rattle.taking.proofs.Keeps.{cell-taken, take-long, taken-keeps}
+use Rattle.taking.proofs.Tells.{taken-tells, segment-held}
+use Rattle.keeping.proofs.Zeroed.{after, zeroed-free}
 use Rattle.messages.proofs.Distinct.{carries-true}
-use Rattle.keeping.proofs.Looking.{look-empty}
-use Rattle.keeping.proofs.Members.{In, among-yes}
-use Rattle.keeping.proofs.Order.{cells-inside}
-use Rattle.keeping.proofs.After.{segment, Stored, stored-told, cell-taken}
-use Rattle.keeping.proofs.Keeps.{take-long, taken-keeps}
-use Rattle.keeping.proofs.Zeroed.{after, taken-tells, segment-held, zeroed-free}
 
 -- a cell freed of some segments holds none of them
 freed-gone : (us : List Seg) (t : Seg) → In t us → (x : Cell) → carriesIn (t .key) (t .counter) (freed us x) ≡ false

@@ -1,55 +1,23 @@
 -- A taking zeroes just its message's cells (S-8): the cells that hold its segments are free afterwards, every other row is the same,
--- octet by octet. The cells freed are those of its segments, each held in a cell before.
+-- octet by octet.
 -- Assumes nothing.
-use Prim.Native.Nat.{ℕ, suc, _≤_, _<_}
+use Prim.Native.Nat.{ℕ, _<_}
 use mathlib.Core.Path.{_≡_, refl, ap, sym, _∙_}
 use mathlib.Core.Logic.{_↔_}
 use mathlib.Core.Bool.{Bool, true, false}
 use mathlib.Core.List.{List}
-use mathlib.Core.Option.{Option, none, some}
 use native.Mathlib.Omega.{arith}
-use lib.ListN.{length}
-use lib.Dec.{leb, eqb}
-use borrow.Author.Tests.{leb-true}
 use Rattle.octets.specs.Octets.{pick}
 use Rattle.walk.specs.declared.Settings.{Settings}
-use Rattle.walk.specs.Walk.{begun}
 use Rattle.cells.specs.Segments.{Seg}
 use Rattle.cells.specs.Rows.{Cell, free, held, broken, rowAt, zeroRow, cellOf}
-use Rattle.cells.specs.Order.{cellAt, countIn, inOrder}
-use Rattle.messages.specs.Messages.{cellsOf, Run, segments, picked, among, amongIn, top}
-use Rattle.taking.specs.Taking.{message, unable, writing, drawn, tookIn, took, storeLess}
-use Rattle.keeping.proofs.Picking.{pick-tells}
-use Rattle.keeping.proofs.Order.{cells-inside, order-tells}
-use Rattle.keeping.proofs.Members.{In, among-yes, among-some, picked-held}
-use Rattle.keeping.proofs.After.{row-taken, cell-taken}
-
--- ---- what a taking tells
-
-not-unable : (k : ℕ) (r : Run) → unable k ≡ message r → ⊥
-not-unable k r e = let z : _≡_ {A = ℕ} 0 1 = cc in omega arith
-
-drawn-tells : (o : Option Run) (long : ℕ) (r : Run) → drawn o long ≡ message r → (o ≡ some r) × (length (writing r) ≤ long)
-drawn-tells none long r e = absurd (not-unable 20 r e)
-drawn-tells (some m) long r e =
-    let a = pick-tells (leb (length (writing m)) long) (message m) (unable 21) (message r) (not-unable 21 r) e in
-    let b : m ≡ r = cc (a .1) in
-    (ap some b, rw b at (leb-true (length (writing m)) long (a .0)))
-
--- the settings are in range, the store is in order, the message is the one that is picked, and it fits the output
-pub record Taken (s : Settings) (Z : ℕ) (st : List ℕ) (long : ℕ) (r : Run) : Type 0 where
-  pub settings : eqb (begun s .refusal .number) 0 ≡ true
-  pub order : inOrder s Z st ≡ true
-  pub picked : picked suc top (cellsOf s Z st (countIn Z st)) ≡ some r
-  pub fits : length (writing r) ≤ long
-
-pub taken-tells : (s : Settings) (Z : ℕ) (st : List ℕ) (long : ℕ) (r : Run) → took s Z st long ≡ message r → Taken s Z st long r
-unfolding took tookIn
-taken-tells s Z st long r e =
-    let a = pick-tells (eqb (begun s .refusal .number) 0) _ _ (message r) (not-unable 15 r) e in
-    let b = pick-tells (inOrder s Z st) _ _ (message r) (not-unable 16 r) (a .1) in
-    let c = drawn-tells (picked suc top (cellsOf s Z st (countIn Z st))) long r (b .1) in
-    record { settings = a .0; order = b .0; picked = c .0; fits = c .1 }
+use Rattle.cells.specs.Order.{cellAt, countIn}
+use Rattle.messages.specs.Messages.{Run, segments, among, amongIn}
+use Rattle.taking.specs.Taking.{message, took, storeLess}
+use Rattle.messages.proofs.Order.{cells-inside, order-tells}
+use Rattle.messages.proofs.Members.{In, among-yes, among-some}
+use Rattle.taking.proofs.Keeps.{row-taken, cell-taken}
+use Rattle.taking.proofs.Tells.{taken-tells, segment-held}
 
 -- ---- the cells of some segments
 
@@ -63,12 +31,6 @@ abbrev pub after : Settings → ℕ → List ℕ → Run → List ℕ
 after s Z st r = storeLess s Z st (countIn Z st) (message r)
 
 module _ (s : Settings) (Z : ℕ) (st : List ℕ) (long : ℕ) (r : Run) (e : took s Z st long ≡ message r) where
-  -- each segment of the message is held in a cell before
-  pub segment-held : (t : Seg) → In t (segments r) → (j : ℕ) × (j < countIn Z st) × (cellAt s Z st j ≡ held t)
-  segment-held t m =
-      let a = picked-held suc top (cellAt s Z st) (countIn Z st) r (taken-tells s Z st long r e .picked) t m in
-      (a .0, omega (arith, a .1 .top), a .2)
-
   module _ (j : ℕ) (l : j < countIn Z st) where
     -- S-8: the cells that are zeroed are those that hold a segment of the message
     pub message-cell : amongIn (segments r) (cellAt s Z st j) ≡ true ↔ ((t : Seg) × In t (segments r) × (cellAt s Z st j ≡ held t))
@@ -78,7 +40,7 @@ module _ (s : Settings) (Z : ℕ) (st : List ℕ) (long : ℕ) (r : Run) (e : to
         to d =
             let a = among-in (segments r) (cellAt s Z st j) d in
             let b = among-some (segments r) (a .0) (a .2) in
-            let c = segment-held (b .0) (b .1) in
+            let c = segment-held s Z st long r e (b .0) (b .1) in
             let o = order-tells s Z st (taken-tells s Z st long r e .order) in
             let k : c .0 ≡ j = o .apart (c .0) j (b .0) (a .0) (c .1) l (c .2) (a .1) (b .2) (b .3) in
             (b .0, b .1, ap (cellAt s Z st) (sym k) ∙ c .2)

@@ -1,1 +1,1 @@
-// Laws of the store: what arrival and taking keep. No code.
+// Laws of the store: its cells after an arrival and after a taking, and what both leave as it was. No code.

@@ -1,4 +1,12 @@
+pub mod Picking
+pub mod Opens
+pub mod HeldRow
+pub mod Listed
+pub mod Looking
 pub mod Looks
 pub mod Found
 pub mod Distinct
+pub mod Order
+pub mod Empty
+pub mod Members
 pub mod Blank

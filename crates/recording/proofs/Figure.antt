@@ -9,8 +9,8 @@ use Rattle.octets.specs.Octets.{number, alike, wide}
 use Rattle.format.proofs.Figure14.{packet, reads}
 use Rattle.cells.specs.Order.{countIn}
 use Rattle.arrival.specs.Arriving.{Arrived, whole, arrivedIn, arrived}
-use Rattle.store.specs.Inner.{gate}
-use Rattle.store.proofs.Opening.{arrived-open}
+use Rattle.opening.specs.Inner.{gate}
+use Rattle.arrival.proofs.Checked.{arrived-open}
 use Rattle.join.specs.Joining.{joinedBy, joining}
 use Rattle.recording.specs.Recording.{room, wholly, cameBy, cameOf, framed, without, foundIn, came, stepped, storeBehind, recordedFrom, recorded, settings, cellSize, emptyStore}
 use Rattle.recording.proofs.Kept.{begin-gate}

@@ -24,8 +24,8 @@ use Rattle.messages.specs.Messages.{Run, bodyOf}
 use Rattle.arrival.specs.Arriving.{Arrived, whole, stored, again, refused, arrived, storeWith}
 use Rattle.taking.specs.Taking.{Took, message, unable, writing, took, outWith}
 use Rattle.messages.specs.Told.{refusalOf}
-use Rattle.keeping.proofs.Opens.{opens}
-use Rattle.keeping.proofs.Zeroed.{taken-tells, segment-held}
+use Rattle.messages.proofs.Opens.{opens}
+use Rattle.taking.proofs.Tells.{taken-tells, segment-held}
 use Rattle.join.specs.declared.Joined.{Joined}
 use Rattle.join.specs.declared.Which.the-variants.{Packet, Joined as InJoined, Nothing}
 use Rattle.join.specs.Joining.{Joining, inPacket, inOutput, unjoined, tookAs, joinedBy, outBy, joining, outJoined}

@@ -11,8 +11,8 @@ use Rattle.octets.specs.Octets.{pick}
 use Rattle.walk.specs.declared.Settings.{Settings}
 use Rattle.walk.specs.Walk.{begun, check}
 use Rattle.cells.specs.Order.{countIn}
-use Rattle.store.specs.Inner.{gate}
-use Rattle.keeping.proofs.Empty.{empty-order, empty-count}
+use Rattle.opening.specs.Inner.{gate}
+use Rattle.messages.proofs.Empty.{empty-order, empty-count}
 use Rattle.join.specs.Joining.{storeJoined}
 use Rattle.join.proofs.Kept.{join-gate, join-long}
 use Rattle.recording.specs.Recording.{longest, room, storeAfter, Stepped, wanting, ended, unmarked, torn, came, storeBehind, settings, cellSize, cellCount, emptyStore}

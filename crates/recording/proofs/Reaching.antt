@@ -16,7 +16,7 @@ use Rattle.octets.proofs.Lists.{sets-append}
 use Rattle.walk.specs.declared.Settings.{Settings}
 use Rattle.cells.specs.Rows.{zeroRow}
 use Rattle.cells.specs.Order.{countIn}
-use Rattle.store.specs.Inner.{gate}
+use Rattle.opening.specs.Inner.{gate}
 use Rattle.messages.specs.Told.{refusalOf}
 use Rattle.recording.specs.declared.Done.{Done}
 use Rattle.recording.specs.declared.Why.{Why}

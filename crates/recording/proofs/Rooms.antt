@@ -25,10 +25,10 @@ use Rattle.messages.specs.Messages.{listed, cellsOf, look, Role, first, middle,
 use Rattle.arrival.specs.Arriving.{Arrived, whole, stored, again, refused, arrived, storeWith}
 use Rattle.taking.specs.Taking.{writing, drawn, tookIn, took, storeLess}
 use Rattle.messages.proofs.Distinct.{carries-true}
-use Rattle.keeping.proofs.Listed.{Among, among-cases}
-use Rattle.keeping.proofs.Looking.{look-some}
-use Rattle.keeping.proofs.Members.{In, opening, picked-held}
-use Rattle.keeping.proofs.Keeps.{arrive-long}
+use Rattle.messages.proofs.Listed.{Among, among-cases}
+use Rattle.messages.proofs.Looking.{look-some}
+use Rattle.messages.proofs.Members.{In, opening, picked-held}
+use Rattle.arrival.proofs.Keeps.{arrive-long}
 use Rattle.join.specs.Joining.{tookAs, joinedBy, storeBy, joining, storeJoined}
 use Rattle.recording.specs.Recording.{room}
 use Rattle.recording.proofs.Joins.{held-is}

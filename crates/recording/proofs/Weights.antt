@@ -25,15 +25,15 @@ use Rattle.messages.specs.Messages.{listed, look, Role, first, middle, last, ro
 use Rattle.arrival.specs.Arriving.{stored, arrived, storeWith}
 use Rattle.taking.specs.Taking.{message, writing, took, storeLess}
 use Rattle.messages.proofs.Distinct.{carries-true, carries-yes}
-use Rattle.keeping.specs.Cells.{freed}
-use Rattle.keeping.proofs.Listed.{Among, among-cases, among-first, among-more}
-use Rattle.keeping.proofs.Looking.{look-some}
-use Rattle.keeping.proofs.Members.{opening}
-use Rattle.keeping.proofs.Order.{cells-inside}
-use Rattle.keeping.proofs.After.{segment, stored-tells, stored-free, cell-kept, cell-stored, cell-taken}
-use Rattle.keeping.proofs.Keeps.{arrive-long, take-long, arrived-tells}
-use Rattle.keeping.proofs.Zeroed.{taken-tells}
-use Rattle.keeping.proofs.Empty.{zeros, empty-cell, empty-count}
+use Rattle.messages.proofs.Listed.{Among, among-cases, among-first, among-more}
+use Rattle.messages.proofs.Looking.{look-some}
+use Rattle.messages.proofs.Order.{cells-inside}
+use Rattle.messages.proofs.Members.{opening}
+use Rattle.arrival.proofs.After.{segment, stored-tells, stored-free, cell-kept, cell-stored}
+use Rattle.arrival.proofs.Keeps.{arrive-long, arrived-tells}
+use Rattle.taking.proofs.Keeps.{cell-taken, take-long}
+use Rattle.taking.proofs.Tells.{taken-tells}
+use Rattle.messages.proofs.Empty.{zeros, empty-cell, empty-count}
 
 -- ---- sums
 
@@ -151,6 +151,9 @@ module _ (f : ℕ → Cell) (n : ℕ) where
       rw (b, a) refl
 
   -- ---- they are freed
+
+  abbrev freed : List Seg → Cell → Cell
+  freed us x = pick (amongIn us x) free x
 
   abbrev left : List Seg → ℕ → ℕ
   left us j = inCell (freed us (f j))

@@ -16,7 +16,7 @@ ghost use lib.Seq.{sets};
 ghost use Rattle.octets.specs.Octets.{part, wide};
 ghost use Rattle.cells.specs.Rows.{zeroRow};
 ghost use Rattle.cells.specs.Order.{countIn};
-ghost use Rattle.store.specs.Inner.{gate};
+ghost use Rattle.opening.specs.Inner.{gate};
 ghost use Rattle.join.specs.Joining.{joining, storeJoined};
 ghost use Rattle.join.specs.Told.{joinedOf};
 ghost use Rattle.recording.specs.Recording.{foundIn, begins, room, longest, cameOf, cameBy, storeAfter, without, wrote, stepped, storeBehind, writtenBy, recorded, cellSize, emptyStore};

@@ -1,3 +1,2 @@
-pub mod Opening
 pub mod Calls
 pub mod Saying

@@ -1,56 +1,21 @@
 // The store of arrived segments: what a packet's arrival comes to, and taking a complete message out.
 //
-// The store is lent memory of 1 to 4,096 cells of 1,024 octets; an empty one is all zeros. Each public call checks T and the
-// store's order before anything else, and then calls an inner function of `arrival` or `taking` that takes any octets. Whoever keeps
-// a store in order calls those, and saves the check.
+// The store is lent memory of 1 to 4,096 cells of 1,024 octets; an empty one is all zeros. Each public call has T and the store's order
+// checked by `opening` before anything else, and then calls an inner function of `arrival` or `taking` that takes any octets. Whoever
+// keeps a store in order calls those, and saves the check.
 ghost use mathlib.Core.Path.{_≡_};
 ghost use lib.ListN.{length};
-ghost use Rattle.cells.specs.Rows.{zeroRow};
 ghost use Rattle.cells.specs.Order.{countIn};
 ghost use Rattle.arrival.specs.Arriving.{arrived, storeWith};
 ghost use Rattle.taking.specs.Taking.{took, outWith, storeLess};
 ghost use Rattle.arrival.specs.Told.{arrivalOf};
 ghost use Rattle.taking.specs.Told.{takenOf};
-ghost use Rattle.store.specs.Inner.{openedOf};
 use arrival::Arrival;
 use taking::Taken;
-use walk::Refusal;
 use walk::Settings;
 
 // The octets of a cell.
 pub const CELL: usize = 1024;
-
-// A store whose settings and order were checked: 15 or 16, or how many cells it has.
-pub struct Opened {
-    pub refusal: Refusal,
-    pub cells: usize,
-}
-
-// T and the order of the store are checked.
-pub fn check(s: Settings, store: &[u8], zero: &[u8]) -> Opened
-    requires { ⌜ now zero ≡ zeroRow (length (now zero)) ⌝ }
-    ensures { λ r. ⌜ r ≡ openedOf s (length (now (zero .entry))) (now (store .entry)) ⌝ }
-{
-    let w = walk::begin(s);
-    let refusal = w.refusal;
-    if refusal.number != 0 {
-        return Opened {
-            refusal: refusal,
-            cells: 0,
-        };
-    }
-    let n = cells::in_order(s, store, zero);
-    if n == 0 {
-        return Opened {
-            refusal: Refusal { number: 16 },
-            cells: 0,
-        };
-    }
-    Opened {
-        refusal: refusal,
-        cells: n,
-    }
-}
 
 // A packet arrives.
 pub fn arrive(s: Settings, store: &mut [u8], p: &[u8]) -> Arrival
@@ -58,7 +23,7 @@ pub fn arrive(s: Settings, store: &mut [u8], p: &[u8]) -> Arrival
     ensures { λ r. ⌜ now (store .exit) ≡ storeWith 1024 (now (store .entry)) (now (p .entry)) (arrived s 1024 (now (store .entry)) (now (p .entry))) ⌝ }
 {
     let zero = [0u8; CELL];
-    let o = check(s, store, &zero);
+    let o = opening::check(s, store, &zero);
     let refusal = o.refusal;
     if refusal.number != 0 {
         return Arrival::Refused(refusal);
@@ -73,7 +38,7 @@ pub fn take(s: Settings, store: &mut [u8], out: &mut [u8]) -> Taken
     ensures { λ r. ⌜ now (store .exit) ≡ storeLess s 1024 (now (store .entry)) (countIn 1024 (now (store .entry))) (took s 1024 (now (store .entry)) (length (now (out .entry)))) ⌝ }
 {
     let zero = [0u8; CELL];
-    let o = check(s, store, &zero);
+    let o = opening::check(s, store, &zero);
     let refusal = o.refusal;
     if refusal.number != 0 {
         return taking::not_taken(refusal.number);

@@ -1,7 +1,7 @@
 -- A store without a last segment has no complete message; and the sequence flags of a held cell stand in the fifth octet of its row.
 -- Assumes nothing.
 use Prim.Native.Nat.{ℕ, zero, suc, _+_, _/_, _≤_, _<_}
-use mathlib.Core.Path.{_≡_, refl, ap, sym, _∙_, subst}
+use mathlib.Core.Path.{_≡_, refl, ap, sym, _∙_}
 use mathlib.Core.Logic.{⊎-elim}
 use mathlib.Core.Bool.{Bool, true, false}
 use mathlib.Core.List.{List, [], _∷_}
@@ -12,14 +12,16 @@ use borrow.Author.Tests.{eqb-true, eq-eqb, ne-eqb}
 use Rattle.octets.specs.Octets.{pick, octetAt, number, alike}
 use Rattle.octets.proofs.Lists.{bool}
 use Rattle.walk.specs.declared.Settings.{Settings}
-use Rattle.cells.specs.Segments.{Seg, carries, segOf}
+use Rattle.cells.specs.Segments.{Seg, segOf}
 use Rattle.cells.specs.Rows.{Cell, free, held, broken, rowAt, zeroRow, packetIn}
 use Rattle.cells.specs.Order.{cellAt, lowest}
 use Rattle.cells.proofs.Held.{flags-same}
 use Rattle.cells.proofs.Transactions.{part-octet}
 use Rattle.cells.proofs.Carries.{Holding, held-is}
 use Rattle.cells.proofs.Lowest.{same-or}
-use Rattle.messages.specs.Messages.{Role, first, middle, last, roleOf, Run, orElse, listed, heldAs, look, cellsOf, linkBy, link, opensBy, chain, runFrom, runIn, pickIn, picked, top}
+use Rattle.messages.specs.Messages.{Role, first, middle, last, roleOf, Run, orElse, listed, look, cellsOf, linkBy, link, opensBy, chain, runFrom, runIn, pickIn, picked, top}
+use Rattle.messages.proofs.Listed.{lowest-hit, lowest-miss}
+use Rattle.messages.proofs.Looking.{look-some}
 use Rattle.taking.specs.Follow.{segAt, endsAt}
 
 -- ---- the flags in a row
@@ -42,18 +44,7 @@ module _ (s : Settings) (Z : ℕ) (st : List ℕ) (i : ℕ) (h : Holding s Z (ro
 
 module _ (P : Seg → Type 0) (f : ℕ → Cell) (k : List ℕ) (c : ℕ) where
   pub look-any : (n i : ℕ) → ((j : ℕ) → j < i + n → (t : Seg) → f j ≡ held t → P t) → (t : Seg) → look (listed f n i) k c ≡ some t → P t
-  unfolding look listed
-  look-any zero i h t e = let z : _≡_ {A = ℕ} 0 1 = cc in absurd (omega arith)
-  look-any (suc n) i h t e = go (look-any n (suc i) (λ j l. h j (omega arith)) t) (f i) refl e
-    where
-      test : (look (listed f n (suc i)) k c ≡ some t → P t) → (u : Seg) → f i ≡ held u → (b : Bool) → orElse (pick b (some u) none) (look (listed f n (suc i)) k c) ≡ some t → P t
-      test rest u d true x = let y : u ≡ t = cc in subst P y (h i (omega arith) u d)
-      test rest u d false x = rest x
-
-      go : (look (listed f n (suc i)) k c ≡ some t → P t) → (x : Cell) → f i ≡ x → orElse (heldAs k c x) (look (listed f n (suc i)) k c) ≡ some t → P t
-      go rest free d x = rest x
-      go rest (held u) d x = test rest u d (carries k c u) x
-      go rest broken d x = rest x
+  look-any n i h t e = let a = look-some f k c n i t e in h (a .0) (a .1 .top) t (a .2)
 
 -- ---- no last, no message
 
@@ -99,24 +90,16 @@ module _ (cs : List Cell) (no : (k : List ℕ) (c : ℕ) (t : Seg) → look cs k
 
 -- ---- over the store
 
-lowest-here : (f : ℕ → Bool) (n i : ℕ) → f i ≡ true → lowest f (suc n) i ≡ i
-unfolding lowest
-lowest-here f n i e = ap (λ (b : Bool). pick b i (lowest f n (suc i))) e
-
-lowest-on : (f : ℕ → Bool) (n i : ℕ) → f i ≡ false → lowest f (suc n) i ≡ lowest f n (suc i)
-unfolding lowest
-lowest-on f n i e = ap (λ (b : Bool). pick b i (lowest f n (suc i))) e
-
 -- none was found: the test holds of none
 lowest-misses : (f : ℕ → Bool) (n i : ℕ) → i + n ≤ lowest f n i → (j : ℕ) → i ≤ j → j < i + n → f j ≡ false
 lowest-misses f zero i h j a b = absurd (omega arith)
 lowest-misses f (suc n) i h j a b = ⊎-elim here (on (lowest-misses f n (suc i))) (bool (f i))
   where
     here : f i ≡ true → f j ≡ false
-    here e = absurd (omega (arith, lowest-here f n i e))
+    here e = absurd (omega (arith, lowest-hit f n i e))
 
     on : (suc i + n ≤ lowest f n (suc i) → (m : ℕ) → suc i ≤ m → m < suc i + n → f m ≡ false) → f i ≡ false → f j ≡ false
-    on rest e = ⊎-elim (λ (d : j ≡ i). ap f d ∙ e) (λ (d : j ≡ i → ⊥). rest (omega (arith, lowest-on f n i e)) j (omega (arith, d)) (omega arith)) (same-or j i)
+    on rest e = ⊎-elim (λ (d : j ≡ i). ap f d ∙ e) (λ (d : j ≡ i → ⊥). rest (omega (arith, lowest-miss f n i e)) j (omega (arith, d)) (omega arith)) (same-or j i)
 
 module _ (s : Settings) (Z : ℕ) (st : List ℕ) (n : ℕ) where
   no-last : n ≤ lowest (endsAt Z st) n 0 → (j : ℕ) → j < 0 + n → (t : Seg) → cellAt s Z st j ≡ held t → t .flags ≡ 2 → ⊥

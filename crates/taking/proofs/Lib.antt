@@ -12,3 +12,6 @@ pub mod Among
 pub mod Drawn
 pub mod Takings
 pub mod Beside
+pub mod Checked
+pub mod Keeps
+pub mod Tells

@@ -7,7 +7,8 @@ use Rattle.cells.specs.Order.{countIn}
 use Rattle.taking.specs.Told.{takenOf}
 use Rattle.taking.specs.Taking.{unable, outWith, storeLess, tookIn}
 use Rattle.taking.proofs.Beside.{took-beside}
-use Rattle.store.proofs.Opening.{took-open, took-shut, opened-number, opened-gate, opened-cells}
+use Rattle.taking.proofs.Checked.{took-open, took-shut}
+use Rattle.opening.proofs.Gate.{opened-number, opened-gate, opened-cells}
 use borrow.Author.Needs.{needs}
 use Rattle.store.proofs.take.Statement.{statement}
 use Rattle.store.proofs.take.Tie as tie

@@ -1,58 +1,34 @@
--- Arrival and taking keep a store in order (S-9).
+-- An arrival keeps a store in order (S-9), and as long as it was.
 -- Assumes nothing.
 use Prim.Native.Nat.{ℕ, _*_, _<_}
 use mathlib.Core.Path.{_≡_, refl, ap, sym, _∙_}
 use mathlib.Core.Logic.{_≢_, _⊎_, inl, inr}
-use mathlib.Core.Bool.{Bool, true, false}
+use mathlib.Core.Bool.{true, false}
 use mathlib.Core.List.{List}
 use native.Mathlib.Omega.{arith}
 use lib.ListN.{length}
 use lib.Dec.{eqb}
 use lib.Seq.{length-sets}
-use borrow.Author.Tests.{eqb-true, eqb-false}
-use Rattle.octets.specs.Octets.{pick}
-use Rattle.octets.proofs.Lists.{bool}
 use Rattle.walk.specs.declared.Settings.{Settings}
 use Rattle.walk.specs.Walk.{begun}
 use Rattle.cells.specs.Segments.{Seg, carries}
-use Rattle.cells.specs.Rows.{Cell, free, held, heldRow}
+use Rattle.cells.specs.Rows.{held, heldRow}
 use Rattle.cells.specs.Order.{isSound, carriesIn, cellAt, countIn, inOrder}
-use Rattle.messages.specs.Messages.{Run, segments, amongIn}
+use Rattle.cells.proofs.Lowest.{same-or}
+use Rattle.messages.proofs.Picking.{pick-tells}
+use Rattle.messages.proofs.Listed.{among-below}
+use Rattle.messages.proofs.Looking.{look-none}
+use Rattle.messages.proofs.Distinct.{Apart, carries-yes}
+use Rattle.messages.proofs.Order.{cells-inside, Ordered, order-tells, order-same}
 use Rattle.arrival.specs.Arriving.{Arrived, whole, stored, again, refused, arrivedIn, arrived, storeWith}
-use Rattle.taking.specs.Taking.{Took, message, unable, took, storeLess}
-use Rattle.keeping.specs.Cells.{freed}
-use Rattle.keeping.proofs.Picking.{pick-tells}
-use Rattle.clearing.proofs.Rows.{cleared-long}
-use Rattle.keeping.proofs.Listed.{among-below}
-use Rattle.messages.proofs.Distinct.{carries-yes}
-use Rattle.keeping.proofs.Looking.{look-none}
-use Rattle.messages.proofs.Distinct.{Apart}
-use Rattle.keeping.proofs.Order.{cells-inside, Ordered, order-tells, order-same}
-use Rattle.keeping.proofs.After.{segment, Stored, not-refused, stored-tells, cell-kept, cell-stored, cell-taken}
+use Rattle.arrival.proofs.After.{segment, Stored, not-refused, stored-tells, cell-kept, cell-stored}
 
-same-or : (i j : ℕ) → (i ≡ j) ⊎ (i ≢ j)
-same-or i j = go (bool (eqb i j))
-  where
-    go : (eqb i j ≡ true) ⊎ (eqb i j ≡ false) → (i ≡ j) ⊎ (i ≢ j)
-    go (inl e) = inl (eqb-true i j e)
-    go (inr e) = inr (eqb-false i j e)
-
--- ---- no call changes the length
-
-module _ (Z : ℕ) (st : List ℕ) where
-  pub arrive-long : (p : List ℕ) (a : Arrived) → length (storeWith Z st p a) ≡ length st
-  unfolding storeWith
-  arrive-long p whole = refl
-  arrive-long p (stored i) = length-sets st (i * Z) (heldRow Z p)
-  arrive-long p again = refl
-  arrive-long p (refused k) = refl
-
-  pub take-long : (s : Settings) (n : ℕ) (t : Took) → length (storeLess s Z st n t) ≡ length st
-  unfolding storeLess
-  take-long s n (message r) = cleared-long (λ i. amongIn (segments r) (cellAt s Z st i)) Z st n
-  take-long s n (unable k) = refl
-
--- ---- an arrival
+pub arrive-long : (Z : ℕ) (st p : List ℕ) (a : Arrived) → length (storeWith Z st p a) ≡ length st
+unfolding storeWith
+arrive-long Z st p whole = refl
+arrive-long Z st p (stored i) = length-sets st (i * Z) (heldRow Z p)
+arrive-long Z st p again = refl
+arrive-long Z st p (refused k) = refl
 
 module _ (s : Settings) (Z : ℕ) (st p : List ℕ) where
   -- one that is stored: the store was in order
@@ -120,48 +96,3 @@ module _ (s : Settings) (Z : ℕ) (st p : List ℕ) where
           order-same s Z st (storeWith Z st p (stored i)) (arrive-long Z st p (stored i)) o (stored-sound o i d) (stored-apart o i d)
       go again e = w
       go (refused k) e = w
-
--- ---- a taking
-
-module _ (us : List Seg) where
-  freed-sound : (c : Cell) → isSound c ≡ true → isSound (freed us c) ≡ true
-  freed-sound c e = go (amongIn us c)
-    where
-      go : (b : Bool) → isSound (pick b free c) ≡ true
-      go true = refl
-      go false = e
-
-  -- a cell that still holds a segment held it before
-  pub freed-held : (c : Cell) (t : Seg) → freed us c ≡ held t → c ≡ held t
-  freed-held c t e = go (amongIn us c) e
-    where
-      go : (b : Bool) → pick b free c ≡ held t → c ≡ held t
-      go true d = let z : _≡_ {A = ℕ} 0 1 = cc in absurd (omega arith)
-      go false d = d
-
-module _ (s : Settings) (Z : ℕ) (st : List ℕ) where
-  -- the cells of any message may be freed
-  pub taken-keeps : (r : Run) → inOrder s Z st ≡ true → inOrder s Z (storeLess s Z st (countIn Z st) (message r)) ≡ true
-  taken-keeps r w =
-      let o = order-tells s Z st w in
-      order-same s Z st x (take-long Z st s (countIn Z st) (message r)) o
-      (λ j l. ap isSound (after j l) ∙ freed-sound (segments r) (cellAt s Z st j) (o .sound j l))
-      (λ j k t u l m a b p q. o .apart j k t u l m (before j t l a) (before k u m b) p q)
-    where
-      x : List ℕ
-      x = storeLess s Z st (countIn Z st) (message r)
-
-      after : (j : ℕ) → j < countIn Z st → cellAt s Z x j ≡ freed (segments r) (cellAt s Z st j)
-      after j l = cell-taken s Z st (countIn Z st) r (cells-inside Z st) j l
-
-      before : (j : ℕ) (t : Seg) → j < countIn Z st → cellAt s Z x j ≡ held t → cellAt s Z st j ≡ held t
-      before j t l a = freed-held (segments r) (cellAt s Z st j) t (sym (after j l) ∙ a)
-
-  -- S-9: a store in order is in order after a taking
-  pub take-keeps : (long : ℕ) → inOrder s Z st ≡ true → inOrder s Z (storeLess s Z st (countIn Z st) (took s Z st long)) ≡ true
-  unfolding storeLess
-  take-keeps long w = go (took s Z st long)
-    where
-      go : (t : Took) → inOrder s Z (storeLess s Z st (countIn Z st) t) ≡ true
-      go (message r) = taken-keeps r w
-      go (unable k) = w

@@ -1,4 +1,4 @@
--- Settings and order are checked first: 15, then 16; and what a store in order has.
+-- The check of settings and order: 15, then 16; what a store in order has; and what is known where the check passes.
 -- Assumes nothing.
 use Prim.Native.Nat.{ℕ, _%_, _≤_}
 use mathlib.Core.Path.{_≡_, refl, ap, ap₂, sym, _∙_}
@@ -18,10 +18,8 @@ use Rattle.walk.specs.Inner.{asWalk}
 use Rattle.cells.specs.Segments.{both}
 use Rattle.cells.specs.Order.{cellsMost, lengthFits, countIn, sound as allSound, distinct, inOrder}
 use Rattle.cells.proofs.Held.{both-true}
-use Rattle.store.specs.declared.Opened.{Opened}
-use Rattle.arrival.specs.Arriving.{Arrived, refused, arrivedIn, arrived}
-use Rattle.taking.specs.Taking.{Took, unable, tookIn, took}
-use Rattle.store.specs.Inner.{gate, openedOf}
+use Rattle.opening.specs.declared.Opened.{Opened}
+use Rattle.opening.specs.Inner.{gate, openedOf}
 
 module _ (s : Settings) (Z : ℕ) (st : List ℕ) where
   -- what a store in order has
@@ -107,10 +105,10 @@ module _ (s : Settings) (Z : ℕ) (st : List ℕ) where
           out-of-it : inOrder s Z st ≡ false → record { refusal = w .refusal; cells = n } ≡ openedOf s Z st
           out-of-it e = absurd (k (en ∙ ap (λ (b : Bool). pick b (countIn Z st) 0) e))
 
--- ---- the calls behind it
+-- ---- where the check passes
 
 module _ (s : Settings) (Z : ℕ) (st : List ℕ) where
-  open-true : gate s Z st ≡ 0 → (eqb (begun s .refusal .number) 0 ≡ true) × (inOrder s Z st ≡ true)
+  pub open-true : gate s Z st ≡ 0 → (eqb (begun s .refusal .number) 0 ≡ true) × (inOrder s Z st ≡ true)
   unfolding gate
   open-true g = told (eqb (begun s .refusal .number) 0) (inOrder s Z st) g
     where
@@ -122,34 +120,6 @@ module _ (s : Settings) (Z : ℕ) (st : List ℕ) where
   -- a store that was opened is in order
   pub opened-order : gate s Z st ≡ 0 → inOrder s Z st ≡ true
   opened-order g = open-true g .1
-
-  module _ (p : List ℕ) where
-    pub arrived-open : gate s Z st ≡ 0 → arrivedIn s Z st (countIn Z st) p ≡ arrived s Z st p
-    unfolding arrived
-    arrived-open g = sym (rw (open-true g .0, open-true g .1) refl)
-
-    pub arrived-shut : (gate s Z st ≡ 0 → ⊥) → arrived s Z st p ≡ refused (gate s Z st)
-    unfolding arrived gate
-    arrived-shut h = told (eqb (begun s .refusal .number) 0) (inOrder s Z st) (arrivedIn s Z st (countIn Z st) p) h
-      where
-        told : (a b : Bool) (x : Arrived) → (_≡_ {A = ℕ} (pick a (pick b 0 16) 15) 0 → ⊥) → pick a (pick b x (refused 16)) (refused 15) ≡ refused (pick a (pick b 0 16) 15)
-        told true true x k = absurd (k refl)
-        told true false x k = refl
-        told false b x k = refl
-
-  module _ (long : ℕ) where
-    pub took-open : gate s Z st ≡ 0 → tookIn s Z st (countIn Z st) long ≡ took s Z st long
-    unfolding took
-    took-open g = sym (rw (open-true g .0, open-true g .1) refl)
-
-    pub took-shut : (gate s Z st ≡ 0 → ⊥) → took s Z st long ≡ unable (gate s Z st)
-    unfolding took gate
-    took-shut h = told (eqb (begun s .refusal .number) 0) (inOrder s Z st) (tookIn s Z st (countIn Z st) long) h
-      where
-        told : (a b : Bool) (x : Took) → (_≡_ {A = ℕ} (pick a (pick b 0 16) 15) 0 → ⊥) → pick a (pick b x (unable 16)) (unable 15) ≡ unable (pick a (pick b 0 16) 15)
-        told true true x k = absurd (k refl)
-        told true false x k = refl
-        told false b x k = refl
 
   -- what an opened store is told by
   module _ {o : Opened} (eo : o ≡ openedOf s Z st) where
@@ -164,3 +134,13 @@ module _ (s : Settings) (Z : ℕ) (st : List ℕ) where
       pub opened-cells : o .cells ≡ countIn Z st
       unfolding openedOf
       opened-cells = ap (λ (x : Opened). x .cells) eo ∙ ap (λ (b : Bool). pick b (countIn Z st) 0) (eq-eqb (gate s Z st) 0 opened-gate)
+
+-- another store in order, the settings being the same
+pub gate-again : (s : Settings) (Z : ℕ) (st x : List ℕ) → gate s Z st ≡ 0 → inOrder s Z x ≡ true → gate s Z x ≡ 0
+unfolding gate
+gate-again s Z st x g o = told (eqb (begun s .refusal .number) 0) (inOrder s Z st) (inOrder s Z x) g o
+  where
+    told : (a b d : Bool) → _≡_ {A = ℕ} (pick a (pick b 0 16) 15) 0 → d ≡ true → _≡_ {A = ℕ} (pick a (pick d 0 16) 15) 0
+    told true b true e o = refl
+    told true b false e o = let z : _≡_ {A = ℕ} 0 1 = cc in absurd (omega arith)
+    told false b d e o = absurd (omega arith)

@@ -1,11 +1,11 @@
--- `flat_store::join_recording` meets its contract.
+-- `flat_recording::join_recording` meets its contract.
 -- Assumes nothing.
 use mathlib.Core.Path.{ap, _∙_}
 use Rattle.recording.specs.declared.Recorded.{Recorded}
-use Rattle.flat_store.specs.Numbers.{recordedNumbers}
+use Rattle.flat_recording.specs.Numbers.{recordedNumbers}
 use borrow.Author.Needs.{needs}
-use Rattle.flat_store.proofs.join_recording.Statement.{statement}
-use Rattle.flat_store.proofs.join_recording.Tie as tie
+use Rattle.flat_recording.proofs.join_recording.Statement.{statement}
+use Rattle.flat_recording.proofs.join_recording.Tie as tie
 
 join-all-requires : tie.Need-join-all-requires
 join-all-requires c κs = search needs

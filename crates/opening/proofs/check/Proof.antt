@@ -1,11 +1,11 @@
--- `store::check` meets its contract: 15, then 16, then the cells of a store in order.
+-- `opening::check` meets its contract: 15, then 16, then the cells of a store in order.
 -- Assumes nothing.
 use denote.Ref.{now}
 use lib.ListN.{length}
-use Rattle.store.proofs.Opening.{open-t, open-order, open-held}
+use Rattle.opening.proofs.Gate.{open-t, open-order, open-held}
 use borrow.Author.Needs.{needs}
-use Rattle.store.proofs.check.Statement.{statement}
-use Rattle.store.proofs.check.Tie as tie
+use Rattle.opening.proofs.check.Statement.{statement}
+use Rattle.opening.proofs.check.Tie as tie
 
 begin-requires : tie.Need-begin-requires
 begin-requires c κs = search needs

@@ -1,4 +1,4 @@
--- What both calls do first: settings and order are checked.
+-- What every call on a store does first: settings and order are checked.
 -- Assumes nothing: these are definitions.
 use Prim.Native.Nat.{ℕ}
 use mathlib.Core.List.{List}
@@ -7,9 +7,9 @@ use Rattle.octets.specs.Octets.{pick}
 use Rattle.walk.specs.declared.Settings.{Settings}
 use Rattle.walk.specs.Walk.{begun, refusal}
 use Rattle.cells.specs.Order.{inOrder, countIn}
-use Rattle.store.specs.declared.Opened.{Opened}
+use Rattle.opening.specs.declared.Opened.{Opened}
 
--- what both calls test before anything else: 15, then 16; 0 where both pass
+-- what is tested before anything else: 15, then 16; 0 where both pass
 unfoldable pub gate : Settings → ℕ → List ℕ → ℕ
 gate s Z st = pick (eqb (begun s .refusal .number) 0) (pick (inOrder s Z st) 0 16) 15
 

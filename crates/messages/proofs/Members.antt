@@ -10,10 +10,10 @@ use mathlib.Core.Option.{Option, none, some}
 use native.Mathlib.Omega.{arith}
 use Rattle.cells.specs.Segments.{Seg, carries}
 use Rattle.cells.specs.Rows.{Cell, free, held, broken}
 use Rattle.messages.specs.Messages.{listed, look, Role, first, middle, last, roleOf, Run, segments, linkBy, link, opensBy, chain, runFrom, runIn, pickIn, or, among}
-use Rattle.keeping.proofs.Listed.{Among, among-first, among-more}
+use Rattle.messages.proofs.Listed.{Among, among-first, among-more}
 use Rattle.messages.proofs.Distinct.{carries-true, carries-yes}
-use Rattle.keeping.proofs.Looking.{or-some, look-some}
+use Rattle.messages.proofs.Looking.{or-some, look-some}
 
 -- a segment is one of these
 abbrev pub In : Seg → List Seg → Type 0

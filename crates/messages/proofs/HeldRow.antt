@@ -16,7 +16,7 @@ use Rattle.packet.specs.Reading.{readPacket, segmented}
 use Rattle.cells.specs.Segments.{segOf}
 use Rattle.cells.specs.Rows.{free, held, zeroRow, heldRow, sizeIn, packetIn, mayHold, holds, cellOf}
 use Rattle.cells.proofs.Carries.{free-cell}
-use Rattle.keeping.proofs.Opens.{opens}
+use Rattle.messages.proofs.Opens.{opens}
 
 -- a row of zeros is free
 pub zero-free : (s : Settings) (Z : ℕ) → cellOf s Z (zeroRow Z) ≡ free

@@ -11,8 +11,8 @@ use Rattle.octets.specs.Octets.{pick}
 use Rattle.cells.specs.Segments.{Seg, carries}
 use Rattle.cells.specs.Rows.{Cell, free, held, broken}
 use Rattle.cells.specs.Order.{carriesIn}
 use Rattle.messages.specs.Messages.{listed, orElse, heldAs, look}
-use Rattle.keeping.proofs.Listed.{Among, among-first, among-more, among-cases}
+use Rattle.messages.proofs.Listed.{Among, among-first, among-more, among-cases}
 
 -- ---- one cell
 
