@@ -9,17 +9,16 @@ use native.Mathlib.Omega.{arith}
 use native.Mathlib.Nat.{div-zero, div-eq-of-lt, add-div-right, add-mod-mod, add-zero}
 use lib.Dec.{leb, eqb}
 use borrow.Author.Tests.{le-leb, lt-leb, eq-eqb, ne-eqb}
-use Rattle.octets.specs.Octets.{pick}
+use Rattle.octets.specs.Octets.{pick, most32}
 use Rattle.octets.proofs.Lists.{below-or}
 use Rattle.packet.specs.Numbers.{nextCount, countMost, nextSequenceCount}
 use Rattle.packet.specs.declared.SegmentCounter.{SegmentCounter}
 use Rattle.packet.specs.declared.SequenceCount.{SequenceCount}
-use Rattle.write.specs.Given.{most32}
-use Rattle.cut.specs.declared.Sender.{Sender}
-use Rattle.cut.specs.declared.Next.{Next}
-use Rattle.cut.specs.declared.Next.the-variants.{At, NoneLeft}
-use Rattle.cut.specs.Sending.{nextCounter, afterSegment, afterSegments, countersFit, counterAt, countAt}
-use Rattle.cut.specs.Cutting.{rounded}
+use Rattle.sender.specs.declared.Sender.{Sender}
+use Rattle.sender.specs.declared.Next.{Next}
+use Rattle.sender.specs.declared.Next.the-variants.{At, NoneLeft}
+use Rattle.sender.specs.Sending.{nextCounter, afterSegment}
+use Rattle.cut.specs.Cutting.{afterSegments, countersFit, counterAt, countAt, rounded}
 use Rattle.cut.specs.Inner.{counterAfter, counterOf, countOf}
 
 -- ---- rounding up

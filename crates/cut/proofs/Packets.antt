@@ -10,7 +10,7 @@ use lib.ListN.{length, take, drop, length-drop, length-take, drop-of-length-le}
 use lib.Seq.{take-all, take-nil}
 use lib.Dec.{leb, ltb, eqb}
 use borrow.Author.Tests.{leb-true, ltb-true, le-leb, lt-leb, eq-eqb, ne-eqb}
-use Rattle.octets.specs.Octets.{pick, roomOf, part}
+use Rattle.octets.specs.Octets.{pick, roomOf, part, most32}
 use Rattle.octets.specs.Laying.{laid, Lays}
 use Rattle.octets.proofs.Lists.{bool, below-or}
 use Rattle.walk.specs.declared.Settings.{Settings}
@@ -20,20 +20,19 @@ use Rattle.fields.specs.Inner.{capped}
 use Rattle.octets.proofs.Places.{part-at}
 use Rattle.packet.specs.Format.{Values, segment, octetsOf, secondaryOctets, headerOctets, packetMost}
 use Rattle.packet.specs.Numbers.{countMost}
+use Rattle.sender.specs.declared.Sender.{Sender}
+use Rattle.sender.specs.declared.Next.{Next}
+use Rattle.sender.specs.declared.Next.the-variants.{At, NoneLeft}
 use Rattle.write.specs.declared.HeaderValues.{HeaderValues}
 use Rattle.write.specs.declared.PacketValues.{PacketValues}
-use Rattle.write.specs.Given.{Lent, headOf, packetOf, most32}
+use Rattle.write.specs.Given.{Lent, headOf, packetOf}
 use Rattle.write.specs.Writing.{givenPacket, fine}
 use Rattle.write.specs.Inner.{packetPieces}
 use Rattle.write.proofs.Tests.{unless-fine}
 use Rattle.write.proofs.Answers.{unless-same, size-is, packet-laid, packet-length, secondary-length, packet-least}
-use Rattle.cut.specs.declared.Sender.{Sender}
-use Rattle.cut.specs.declared.Next.{Next}
-use Rattle.cut.specs.declared.Next.the-variants.{At, NoneLeft}
 use Rattle.cut.specs.declared.Plan.{Plan}
 use Rattle.cut.specs.declared.Cut.{Cut}
-use Rattle.cut.specs.Sending.{countersFit, counterAt, countAt}
-use Rattle.cut.specs.Cutting.{single, chunk, packets, headerLength, countRefusal, flagsAt, bodyAt, packetAt, givenAt, packetRefusal, packetAnswer, packetOutput}
+use Rattle.cut.specs.Cutting.{countersFit, counterAt, countAt, single, chunk, packets, headerLength, countRefusal, flagsAt, bodyAt, packetAt, givenAt, packetRefusal, packetAnswer, packetOutput}
 use Rattle.cut.specs.Inner.{planOf, counterOf, fromOf, toOf, countOf, valuesOf}
 use Rattle.cut.proofs.Counting.{count-is}
 use Rattle.cut.proofs.Plans.{before, Planned, planned, refusal-same}

@@ -18,16 +18,16 @@ use Rattle.fields.specs.Inner.{capped}
 use Rattle.fields.specs.Fields.{partsMost}
 use Rattle.packet.specs.Format.{headerMost, packetMost}
 use Rattle.packet.specs.Numbers.{countMost}
+use Rattle.sender.specs.declared.Sender.{Sender}
+use Rattle.sender.specs.Sending.{afterPacket}
 use Rattle.write.specs.declared.HeaderValues.{HeaderValues}
 use Rattle.write.specs.Given.{Lent, headerChecks, unlessAll}
 use Rattle.write.specs.Writing.{settingsTest, partsTest, fine}
 use Rattle.write.proofs.Tests.{unless-fine, unlessAll-fine, AllHold}
 use Rattle.write.proofs.Answers.{shut, below-cap, cap-middle}
-use Rattle.cut.specs.declared.Sender.{Sender}
 use Rattle.cut.specs.declared.Plan.{Plan}
 use Rattle.cut.specs.declared.Counted.{Counted}
-use Rattle.cut.specs.Sending.{afterPacket, afterSegments, countersFit}
-use Rattle.cut.specs.Cutting.{single, chunk, packets, limitTest, valueTests, messageTests, headerLength, countRefusal, senderAfter, countAnswer, bodyMost, limitLeast}
+use Rattle.cut.specs.Cutting.{afterSegments, countersFit, single, chunk, packets, limitTest, valueTests, messageTests, headerLength, countRefusal, senderAfter, countAnswer, bodyMost, limitLeast}
 use Rattle.cut.specs.Inner.{singleOf, packetsOf, planRefusal, planOf}
 
 -- ---- the tests before the plan

@@ -3,19 +3,18 @@
 use Prim.Native.Nat.{ℕ, zero, suc, _+_, _-_, _*_, _%_, min}
 use mathlib.Core.Bool.{Bool, true, false}
 use lib.Dec.{leb, eqb}
-use Rattle.octets.specs.Octets.{pick, roomOf}
+use Rattle.octets.specs.Octets.{pick, roomOf, most32}
 use Rattle.walk.specs.declared.Refusal.{Refusal}
 use Rattle.walk.specs.Walk.{unless}
 use Rattle.fields.specs.Inner.{capped}
 use Rattle.packet.specs.Format.{headerMost}
+use Rattle.sender.specs.declared.Sender.{Sender}
+use Rattle.sender.specs.declared.Next.{Next}
+use Rattle.sender.specs.declared.Next.the-variants.{At, NoneLeft}
+use Rattle.sender.specs.Sending.{nextCounter}
 use Rattle.write.specs.declared.PacketValues.{PacketValues}
-use Rattle.write.specs.Given.{most32}
-use Rattle.cut.specs.declared.Sender.{Sender}
-use Rattle.cut.specs.declared.Next.{Next}
-use Rattle.cut.specs.declared.Next.the-variants.{At, NoneLeft}
 use Rattle.cut.specs.declared.Plan.{Plan}
-use Rattle.cut.specs.Sending.{nextCounter, countersFit}
-use Rattle.cut.specs.Cutting.{bodyMost, chunk, rounded}
+use Rattle.cut.specs.Cutting.{countersFit, bodyMost, chunk, rounded}
 
 abbrev pub singleOf : ℕ → ℕ → ℕ → Bool
 singleOf P h B = leb (capped (6 + h + B)) P

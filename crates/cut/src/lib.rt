@@ -4,8 +4,8 @@
 //                                    else             C = P - H - 10 body octets a packet, the last one the rest
 //
 // `count` answers how many packets a message takes and the sender's two numbers moved on; `packet` writes packet number i, by the
-// numbers as they stood before the message, and moves neither. A refusal leaves the sender and the output as they were. The tests
-// on a header, its size and its octets are those of crate `write`.
+// numbers as they stood before the message, and moves neither. A refusal leaves the sender and the output as they were. The sender is
+// that of crate `sender`; the tests on a header, its size and its octets are those of crate `write`.
 ghost use mathlib.Core.Path.{_≡_};
 ghost use Prim.Native.Nat.{suc, _+_, _≤_};
 ghost use Rattle.packet.specs.Numbers.{countMost};
@@ -15,14 +15,17 @@ ghost use Rattle.fields.specs.Inner.{capped};
 ghost use Rattle.octets.specs.Octets.{pick};
 ghost use Rattle.walk.specs.Walk.{unless};
 ghost use Rattle.write.specs.Given.{lent};
-ghost use Rattle.cut.specs.Sending.{afterPacket, afterSegment, afterSegments, nextCounter, countersFit};
-ghost use Rattle.cut.specs.Cutting.{limitTest, valueTests, chunk as chunkOf, rounded, flagsAt, countAnswer, packetAnswer, packetOutput};
+ghost use Rattle.sender.specs.Sending.{afterPacket};
+ghost use Rattle.cut.specs.Cutting.{afterSegments, countersFit, limitTest, valueTests, chunk as chunkOf, rounded, flagsAt, countAnswer, packetAnswer, packetOutput};
 ghost use Rattle.cut.specs.Inner.{packetsOf, planOf, counterAfter, counterOf, fromOf, toOf, countOf, valuesOf};
 ghost use mathlib.Core.Bool.{true};
 ghost use Rattle.write.specs.Writing.{partsTest};
 ghost use Rattle.walk.specs.Walk.{noRefusal};
 use packet::SegmentCounter;
 use packet::SequenceCount;
+use sender::COUNTER_MOST;
+use sender::Next;
+use sender::Sender;
 use walk::Refusal;
 use walk::Settings;
 use write::HeaderValues;
@@ -31,20 +34,6 @@ use write::PacketValues;
 pub const LIMIT_LEAST: usize = 27;
 
 pub const BODY_MOST: usize = 1048576;
-
-const COUNTER_MOST: u32 = 4294967295;
-
-// The counter that the next segment gets, or that none is left.
-pub enum Next {
-    At(SegmentCounter),
-    NoneLeft,
-}
-
-// The sender's two running numbers.
-pub struct Sender {
-    pub count: SequenceCount,
-    pub next: Next,
-}
 
 // What the count answers: a refusal, or the number of packets; and the sender.
 pub struct Counted {
@@ -66,49 +55,6 @@ struct Plan {
     single: bool,
     chunk: usize,
     count: usize,
-}
-
-// The counter after one that was used.
-fn next_counter(n: Next) -> Next
-    ensures { λ r. ⌜ r ≡ nextCounter n ⌝ }
-{
-    match n {
-        Next::At(c) => {
-            let x = c.0;
-            if COUNTER_MOST <= x {
-                return Next::NoneLeft;
-            }
-            Next::At(SegmentCounter(x + 1))
-        }
-        Next::NoneLeft => Next::NoneLeft,
-    }
-}
-
-impl Sender {
-    // The state after an unsegmented packet.
-    pub fn after_packet(self) -> Sender
-        ensures { λ r. ⌜ r ≡ afterPacket self ⌝ }
-    {
-        let later = packet::next_sequence_count(self.count);
-        let next = self.next;
-        Sender {
-            count: later,
-            next: next,
-        }
-    }
-
-    // The state after a segment: both numbers move.
-    pub fn after_segment(self) -> Sender
-        ensures { λ r. ⌜ r ≡ afterSegment self ⌝ }
-    {
-        let next = self.next;
-        let moved = next_counter(next);
-        let count = packet::next_sequence_count(self.count);
-        Sender {
-            count: count,
-            next: moved,
-        }
-    }
 }
 
 // ---- the plan

@@ -16,9 +16,9 @@ use lib.Dec.{leb, eqb}
 use Rattle.octets.specs.Octets.{pick}
 use Rattle.walk.specs.declared.Settings.{Settings}
 use Rattle.walk.specs.Walk.{begun}
+use Rattle.sender.specs.declared.Sender.{Sender}
 use Rattle.write.specs.declared.HeaderValues.{HeaderValues}
 use Rattle.write.specs.Given.{Lent, lent}
-use Rattle.cut.specs.declared.Sender.{Sender}
 use Rattle.cut.specs.declared.Counted.{Counted}
 use Rattle.cut.specs.Cutting.{countAnswer}
 use Rattle.cut.proofs.count.Reads as counts

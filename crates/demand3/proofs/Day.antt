@@ -21,12 +21,11 @@ use Rattle.packet.specs.Format.{presence, identification, fixedOctets, frontOct
 use Rattle.packet.specs.FixedPart.{octetField, wideField, sduField, afterSdu, afterArea, afterService, afterOperation, afterVersion, afterSession, afterSecondary, afterQualifier, afterTransaction, afterPresence, fixedOf, flagsOf, presentOf}
 use Rattle.packet.specs.Reading.{primaryTests, primaryOf, idsOf, textsOf, bodyTest, refusedHeader, acceptedHeader, readPacket}
 use Rattle.packet.specs.Key.{counterPlace, keyOf}
+use Rattle.sender.specs.declared.Next.the-variants.{At}
 use Rattle.write.specs.Given.{headOf, sum, nameChecks, routingChecks, idChecks, textChecks, headerChecks, unlessAll}
 use Rattle.write.specs.Writing.{settingsTest, partsTest}
 use Rattle.two_way.proofs.Figures.{header as values, texts}
-use Rattle.cut.specs.declared.Next.the-variants.{At}
-use Rattle.cut.specs.Sending.{countersFit}
-use Rattle.cut.specs.Cutting.{packets, rounded, limitTest, valueTests, messageTests, countRefusal, countAnswer, bodyAt}
+use Rattle.cut.specs.Cutting.{countersFit, packets, rounded, limitTest, valueTests, messageTests, countRefusal, countAnswer, bodyAt}
 use Rattle.cut.proofs.Packets.{packet-most}
 use Rattle.fewest.specs.Cutting.{Lends}
 use Rattle.fewest.specs.Carrying.{firstOf}

@@ -15,18 +15,16 @@ use lib.Dec.{ltb, leb}
 use borrow.Author.Tests.{eq-eqb, eqb-true, ltb-true}
 use Rattle.octets.specs.Octets.{pick, Octets}
 use Rattle.walk.specs.declared.Settings.{Settings}
+use Rattle.sender.specs.declared.Sender.{Sender}
 use Rattle.write.specs.declared.HeaderValues.{HeaderValues}
 use Rattle.write.specs.Given.{Lent, lent, headOf}
 use Rattle.write.specs.Writing.{fine}
 use Rattle.write.proofs.Tests.{unless-fine}
-use Rattle.cut.specs.declared.Sender.{Sender}
 use Rattle.cut.specs.declared.Counted.{Counted}
 use Rattle.cut.specs.declared.Cut.{Cut}
 use Rattle.cut.specs.Cutting.{packets, headerLength, countRefusal, senderAfter, countAnswer, packetRefusal, packetAnswer, packetOutput}
 use Rattle.cut.proofs.count.Reads as counts
 use Rattle.cut.proofs.packet.Reads as cuts
-use Rattle.cut.proofs.Sender.after_packet.Reads as packeted
-use Rattle.cut.proofs.Sender.after_segment.Reads as segmented
 use Rattle.fewest.specs.Carrying.{Carries}
 use Rattle.fewest.specs.Answers.{Counts, Wrote}
 use Rattle.fewest.specs.Cutting.{Lends, number, octetsAt, Back}
@@ -155,11 +153,3 @@ pub packet-same-lent :
     (κs : L.Lfts 8) (a : _) (r q : _) (s t : _) → cuts.Post κs a r s → cuts.Post κs a q t →
     now (s .1 .1 .1 .1 .1 .1 .1 .1 .1 .1 .1 .1 .0) ≡ now (t .1 .1 .1 .1 .1 .1 .1 .1 .1 .1 .1 .1 .0)
 packet-same-lent κs a r q s t k j = k .1 ∙ sym (j .1)
-
-pub after-packet-same-answer :
-    (κs : L.Lfts 0) (a : _) (r q : _) (s t : _) → packeted.Post κs a r s → packeted.Post κs a q t → r ≡ q
-after-packet-same-answer κs a r q s t k j = k ∙ sym j
-
-pub after-segment-same-answer :
-    (κs : L.Lfts 0) (a : _) (r q : _) (s t : _) → segmented.Post κs a r s → segmented.Post κs a q t → r ≡ q
-after-segment-same-answer κs a r q s t k j = k ∙ sym j

@@ -15,14 +15,14 @@ use Rattle.fields.specs.Form.{joined, split}
 use Rattle.packet.specs.Format.{presence, identification, fixedOctets, frontOctets, counterOctets, backOctets, headerOctets, secondaryOctets, dataOctets, octetsOf}
 use Rattle.packet.specs.FixedPart.{afterSdu, afterArea, afterService, afterOperation, afterVersion, afterSession, afterSecondary, afterQualifier, afterTransaction, afterPresence, fixedOf, flagsOf, presentOf, wideField}
 use Rattle.packet.specs.Reading.{primaryTests, primaryOf, idsOf, textsOf, bodyTest, acceptedHeader, readPacket}
+use Rattle.sender.specs.declared.Sender.{Sender}
+use Rattle.sender.specs.declared.Next.the-variants.{At, NoneLeft}
+use Rattle.sender.specs.Sending.{nextCounter, afterSegment}
 use Rattle.write.specs.Given.{headOf, sum, nameChecks, routingChecks, idChecks, textChecks, headerChecks, unlessAll}
 use Rattle.write.specs.Writing.{settingsTest, partsTest}
 use Rattle.two_way.proofs.Figures.{header as values, texts}
-use Rattle.cut.specs.declared.Sender.{Sender}
 use Rattle.cut.specs.declared.Counted.{Counted}
-use Rattle.cut.specs.declared.Next.the-variants.{At, NoneLeft}
-use Rattle.cut.specs.Sending.{nextCounter, afterSegment, afterSegments, countersFit, counterAt, countAt}
-use Rattle.cut.specs.Cutting.{packets, rounded, limitTest, valueTests, messageTests, countRefusal, senderAfter, countAnswer, flagsAt, bodyAt, packetAt}
+use Rattle.cut.specs.Cutting.{afterSegments, countersFit, counterAt, countAt, packets, rounded, limitTest, valueTests, messageTests, countRefusal, senderAfter, countAnswer, flagsAt, bodyAt, packetAt}
 use Rattle.fewest.specs.Carrying.{bodyOf, firstOf, Carries}
 use Rattle.fewest.specs.Cutting.{Lends, octetsAt, allPackets, AllBack}
 use Rattle.fewest.proofs.ReadBack.{packets-read-back, carries}

@@ -9,23 +9,22 @@ use native.Mathlib.Nat.{add-mod-mod}
 use lib.ListN.{length}
 use lib.Dec.{leb, eqb}
 use borrow.Author.Tests.{leb-true, eq-eqb, ne-eqb}
-use Rattle.octets.specs.Octets.{pick, part, Octets}
+use Rattle.octets.specs.Octets.{pick, part, Octets, most32}
 use Rattle.octets.proofs.Has.{octets-part}
 use Rattle.walk.specs.declared.Settings.{Settings}
 use Rattle.walk.specs.Walk.{noRefusal, unless, timestampLeast, timestampMost}
 use Rattle.packet.specs.declared.SegmentCounter.{SegmentCounter}
 use Rattle.packet.specs.Format.{Opt, segment, SettingsInRange, InRange}
 use Rattle.packet.specs.Numbers.{countMost}
+use Rattle.sender.specs.declared.Sender.{Sender}
+use Rattle.sender.specs.declared.Next.{Next}
+use Rattle.sender.specs.declared.Next.the-variants.{At, NoneLeft}
 use Rattle.write.specs.declared.HeaderValues.{HeaderValues}
-use Rattle.write.specs.Given.{Lent, most32}
+use Rattle.write.specs.Given.{Lent}
 use Rattle.write.specs.Writing.{settingsTest, fine}
 use Rattle.write.proofs.Tests.{unless-fine}
 use Rattle.write.proofs.Answers.{secondary-length}
-use Rattle.cut.specs.declared.Sender.{Sender}
-use Rattle.cut.specs.declared.Next.{Next}
-use Rattle.cut.specs.declared.Next.the-variants.{At, NoneLeft}
-use Rattle.cut.specs.Sending.{countersFit, counterAt, countAt}
-use Rattle.cut.specs.Cutting.{single, chunk, packets, headerLength, countRefusal, flagsAt, bodyAt, packetAt, givenAt}
+use Rattle.cut.specs.Cutting.{countersFit, counterAt, countAt, single, chunk, packets, headerLength, countRefusal, flagsAt, bodyAt, packetAt, givenAt}
 use Rattle.cut.proofs.Counting.{count-is}
 use Rattle.cut.proofs.Plans.{before, Good, good, Cuts, cuts}
 use Rattle.cut.proofs.Packets.{counter-flag, packet-most}

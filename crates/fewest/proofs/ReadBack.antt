@@ -16,14 +16,13 @@ use Rattle.fields.specs.Form.{joined}
 use Rattle.packet.specs.Format.{Values, segment, octetsOf}
 use Rattle.packet.specs.Numbers.{nextCount}
 use Rattle.packet.specs.Reading.{segmented}
+use Rattle.sender.specs.declared.Sender.{Sender}
 use Rattle.write.specs.declared.HeaderValues.{HeaderValues}
 use Rattle.write.specs.Given.{Lent, headOf}
 use Rattle.format.specs.Told.{valuesOf}
 use Rattle.format.proofs.TwoWay.{writes-octets, reads-back}
 use Rattle.format.proofs.Accepting.{written}
-use Rattle.cut.specs.declared.Sender.{Sender}
-use Rattle.cut.specs.Sending.{counterAt, countAt}
-use Rattle.cut.specs.Cutting.{single, chunk, packets, headerLength, countRefusal, flagsAt, bodyAt, packetAt, givenAt}
+use Rattle.cut.specs.Cutting.{counterAt, countAt, single, chunk, packets, headerLength, countRefusal, flagsAt, bodyAt, packetAt, givenAt}
 use Rattle.cut.proofs.Packets.{packet-most}
 use Rattle.fewest.specs.Carrying.{bodyOf, Carried, Carries}
 use Rattle.fewest.specs.Cutting.{Lends, told, number, octetsAt, allPackets, Segment, Back, AllBack}

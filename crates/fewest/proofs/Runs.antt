@@ -10,19 +10,18 @@ use native.Mathlib.Omega.{arith}
 use native.Mathlib.Nat.{add-zero}
 use lib.ListN.{length, length-append}
 use borrow.Author.Tests.{eqb-true}
-use Rattle.octets.specs.Octets.{pick}
+use Rattle.octets.specs.Octets.{pick, most32}
 use Rattle.octets.proofs.Lists.{bool, below-or}
 use Rattle.fields.specs.Form.{joined}
 use Rattle.packet.specs.declared.SegmentCounter.{SegmentCounter}
 use Rattle.packet.specs.Format.{Values, segment, when}
 use Rattle.packet.specs.Numbers.{nextCount}
-use Rattle.write.specs.Given.{most32}
+use Rattle.sender.specs.declared.Sender.{Sender}
+use Rattle.sender.specs.declared.Next.{Next}
+use Rattle.sender.specs.declared.Next.the-variants.{At, NoneLeft}
+use Rattle.sender.specs.Sending.{afterPacket}
 use Rattle.write.specs.Writing.{fine}
-use Rattle.cut.specs.declared.Sender.{Sender}
-use Rattle.cut.specs.declared.Next.{Next}
-use Rattle.cut.specs.declared.Next.the-variants.{At, NoneLeft}
-use Rattle.cut.specs.Sending.{afterPacket, afterSegments, counterAt, countAt}
-use Rattle.cut.specs.Cutting.{single, packets, headerLength, countRefusal, senderAfter, countAnswer, packetAt, givenAt}
+use Rattle.cut.specs.Cutting.{afterSegments, counterAt, countAt, single, packets, headerLength, countRefusal, senderAfter, countAnswer, packetAt, givenAt}
 use Rattle.cut.specs.Inner.{counterAfter}
 use Rattle.cut.proofs.Counting.{after-fits, after-past, after-both}
 use Rattle.fewest.specs.Carrying.{firstOf}

@@ -5,7 +5,7 @@ use mathlib.Core.Path.{_≡_}
 use mathlib.Core.Bool.{Bool, true, false}
 use mathlib.Core.List.{List, _++_}
 use lib.ListN.{length}
-use Rattle.octets.specs.Octets.{Octets}
+use Rattle.octets.specs.Octets.{Octets, most32}
 use Rattle.walk.specs.declared.Settings.{Settings}
 use Rattle.fields.specs.Form.{joined}
 use Rattle.packet.specs.declared.SegmentCounter.{SegmentCounter}
@@ -13,13 +13,12 @@ use Rattle.packet.specs.Format.{Values, identification, headerOctets, octetsOf,
 use Rattle.packet.specs.Numbers.{nextCount}
 use Rattle.packet.specs.Reading.{segmented, readPacket}
 use Rattle.packet.specs.Key.{keyOf}
+use Rattle.sender.specs.declared.Sender.{Sender}
+use Rattle.sender.specs.declared.Next.the-variants.{At}
 use Rattle.write.specs.declared.HeaderValues.{HeaderValues}
-use Rattle.write.specs.Given.{Lent, headOf, most32}
+use Rattle.write.specs.Given.{Lent, headOf}
 use Rattle.format.specs.Told.{valuesOf}
-use Rattle.cut.specs.declared.Sender.{Sender}
-use Rattle.cut.specs.declared.Next.the-variants.{At}
-use Rattle.cut.specs.Sending.{countAt}
-use Rattle.cut.specs.Cutting.{single, chunk, packets, headerLength, givenAt}
+use Rattle.cut.specs.Cutting.{countAt, single, chunk, packets, headerLength, givenAt}
 use Rattle.fewest.specs.Carrying.{bodyOf, firstOf}
 
 -- lent texts are octets, and a transaction id has 64 bits

@@ -4,17 +4,17 @@ use Prim.Native.Nat.{ℕ, _+_, _≤_}
 use mathlib.Core.Path.{_≡_}
 use mathlib.Core.List.{List, [], _∷_, _++_, map}
 use lib.ListN.{length}
+use Rattle.octets.specs.Octets.{most32}
 use Rattle.walk.specs.declared.Settings.{Settings}
 use Rattle.fields.specs.Form.{joined}
 use Rattle.packet.specs.Format.{Values, segment, when}
+use Rattle.sender.specs.declared.Sender.{Sender}
+use Rattle.sender.specs.declared.Next.{Next}
+use Rattle.sender.specs.declared.Next.the-variants.{At, NoneLeft}
 use Rattle.write.specs.declared.HeaderValues.{HeaderValues}
-use Rattle.write.specs.Given.{Lent, most32}
-use Rattle.cut.specs.declared.Sender.{Sender}
-use Rattle.cut.specs.declared.Next.{Next}
-use Rattle.cut.specs.declared.Next.the-variants.{At, NoneLeft}
+use Rattle.write.specs.Given.{Lent}
 use Rattle.cut.specs.declared.Counted.{Counted}
-use Rattle.cut.specs.Sending.{countAt}
-use Rattle.cut.specs.Cutting.{countAnswer, givenAt}
+use Rattle.cut.specs.Cutting.{countAt, countAnswer, givenAt}
 use Rattle.fewest.specs.Carrying.{firstOf}
 
 -- what a sender is asked to send, with its own settings and limit

@@ -15,8 +15,7 @@ use Rattle.packet.specs.FixedPart.{octetField, wideField, sduField, afterSdu, a
 use Rattle.packet.specs.Reading.{primaryTests, primaryOf, idsOf, textsOf, bodyTest, refusedHeader, acceptedHeader, readPacket}
 use Rattle.write.specs.Given.{headOf, packetOf, sum, nameChecks, routingChecks, idChecks, textChecks, headerChecks, packetChecks, unlessAll}
 use Rattle.write.specs.Writing.{settingsTest, partsTest, sizeTests, valueRefusal, writeRefusal, writeOutput}
-use Rattle.cut.specs.Sending.{countersFit, counterAt, countAt}
-use Rattle.cut.specs.Cutting.{packets, rounded, limitTest, valueTests, messageTests, countRefusal, countAnswer, flagsAt, bodyAt, packetAt, packetRefusal, packetAnswer, packetOutput}
+use Rattle.cut.specs.Cutting.{countersFit, counterAt, countAt, packets, rounded, limitTest, valueTests, messageTests, countRefusal, countAnswer, flagsAt, bodyAt, packetAt, packetRefusal, packetAnswer, packetOutput}
 use Rattle.recording.proofs.Figure.{figure-14}
 use Rattle.figures.specs.Table.{Said, octets as said-octets, Row, table}
 use Rattle.figures.proofs.Thirteen.{thirteen}

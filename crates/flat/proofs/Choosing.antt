@@ -11,11 +11,11 @@ use Rattle.write.specs.Writing.{writeAnswer, writeOutput}
 use Rattle.write.specs.declared.HeaderValues.{HeaderValues}
 use Rattle.write.specs.declared.PacketValues.{PacketValues}
 use Rattle.write.specs.declared.Written.{Written}
-use Rattle.cut.specs.declared.Sender.{Sender}
 use Rattle.cut.specs.declared.Counted.{Counted}
 use Rattle.cut.specs.declared.Cut.{Cut}
 use Rattle.cut.specs.Cutting.{countAnswer, packetAnswer, packetOutput}
 use Rattle.walk.specs.Walk.{settingsOf}
+use Rattle.sender.specs.declared.Sender.{Sender}
 use Rattle.flat.specs.Given.{headerFits, headerOf, packetFits, packetOf, senderFits, senderOf}
 use Rattle.flat.specs.Told.{writtenNumbers, countedNumbers, cutNumbers}
 use Rattle.flat.specs.Answers.{writeFits, writeRefused, writeNumbers, writeOut, cutFits, cutRefused, countNumbers, packetNumbers, packetOut}

@@ -6,13 +6,12 @@ use mathlib.Core.Bool.{Bool, true, false}
 use mathlib.Core.List.{List, [], _∷_}
 use lib.ListN.{getD}
 use lib.Dec.{leb, eqb}
-use Rattle.octets.specs.Octets.{pick}
+use Rattle.octets.specs.Octets.{pick, most8, most16, most32}
 use Rattle.packet.specs.declared.Present.{Present}
+use Rattle.sender.specs.declared.Sender.{Sender}
+use Rattle.sender.specs.declared.Next.the-variants.{At, NoneLeft}
 use Rattle.write.specs.declared.HeaderValues.{HeaderValues}
 use Rattle.write.specs.declared.PacketValues.{PacketValues}
-use Rattle.write.specs.Given.{most8, most16, most32}
-use Rattle.cut.specs.declared.Sender.{Sender}
-use Rattle.cut.specs.declared.Next.the-variants.{At, NoneLeft}
 
 -- the number at a place
 abbrev pub numberAt : List ℕ → ℕ → ℕ

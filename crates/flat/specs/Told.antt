@@ -13,10 +13,10 @@ use Rattle.packet.specs.declared.Present.{Present}
 use Rattle.packet.specs.declared.Ids.{Ids}
 use Rattle.packet.specs.declared.Texts.{Texts}
 use Rattle.packet.specs.declared.Header.{Header}
+use Rattle.sender.specs.declared.Next.{Next}
+use Rattle.sender.specs.declared.Next.the-variants.{At, NoneLeft}
+use Rattle.sender.specs.declared.Sender.{Sender}
 use Rattle.write.specs.declared.Written.{Written}
-use Rattle.cut.specs.declared.Next.{Next}
-use Rattle.cut.specs.declared.Next.the-variants.{At, NoneLeft}
-use Rattle.cut.specs.declared.Sender.{Sender}
 use Rattle.cut.specs.declared.Counted.{Counted}
 use Rattle.cut.specs.declared.Cut.{Cut}
 

@@ -18,8 +18,6 @@ ghost use Rattle.flat.specs.Answers.{tooWide, nextNumbers, writeRefused,
 ghost use Rattle.flat.specs.Told.{primaryNumbers, nameNumbers, routingNumbers, presentNumbers, idsNumbers, placeNumbers, placesTo, textNumbers, readNumbers, writtenNumbers, leftNumber, counterNumber, senderNumbers, countedNumbers, cutNumbers};
 use cut::Counted;
 use cut::Cut;
-use cut::Next;
-use cut::Sender;
 use fields::Place;
 use packet::Apid;
 use packet::Fixed;
@@ -31,6 +29,8 @@ use packet::SecondaryApid;
 use packet::SegmentCounter;
 use packet::SequenceCount;
 use packet::Texts;
+use sender::Next;
+use sender::Sender;
 use walk::Refusal;
 use walk::Settings;
 use write::HeaderValues;

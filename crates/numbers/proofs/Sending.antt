@@ -9,11 +9,11 @@ use lib.Dec.{eqb}
 use Rattle.walk.specs.declared.Settings.{Settings}
 use Rattle.walk.specs.declared.Refusal.{Refusal}
 use Rattle.walk.specs.Walk.{noRefusal, refusal, unless}
+use Rattle.sender.specs.declared.Sender.{Sender}
 use Rattle.write.specs.declared.HeaderValues.{HeaderValues}
 use Rattle.write.specs.declared.PacketValues.{PacketValues}
 use Rattle.write.specs.Given.{Lent, headerChecks, packetChecks, unlessAll}
 use Rattle.write.specs.Writing.{settingsTest, partsTest, sizeTests, valueRefusal, writeRefusal}
-use Rattle.cut.specs.declared.Sender.{Sender}
 use Rattle.cut.specs.Cutting.{limitTest, valueTests, messageTests, countRefusal, packetRefusal}
 use Rattle.numbers.specs.Lists.{Numbered, ofWriting, ofCount, ofCutting}
 use Rattle.numbers.proofs.Among.{has, among, among-all, picked}

@@ -1,13 +1,13 @@
 // The messages of the samples, by number: a header, a body of some octets, and where the sender stands.
 //
 // Odd ones carry every kind of optional field. Message 7 is cut into packets too long for a cell.
-use cut::Next;
-use cut::Sender;
 use packet::Apid;
 use packet::Present;
 use packet::SecondaryApid;
 use packet::SegmentCounter;
 use packet::SequenceCount;
+use sender::Next;
+use sender::Sender;
 use walk::Settings;
 use write::HeaderValues;
 

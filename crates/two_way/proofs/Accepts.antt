@@ -9,7 +9,7 @@ use native.Mathlib.Omega.{arith}
 use lib.ListN.{length}
 use lib.Dec.{leb}
 use borrow.Author.Tests.{leb-true, le-leb, eq-eqb}
-use Rattle.octets.specs.Octets.{pick, Octets}
+use Rattle.octets.specs.Octets.{pick, Octets, most32}
 use Rattle.walk.specs.declared.Settings.{Settings}
 use Rattle.walk.specs.declared.Refusal.{Refusal}
 use Rattle.walk.specs.Walk.{noRefusal, timestampLeast, timestampMost}
@@ -18,7 +18,7 @@ use Rattle.packet.specs.Format.{Values, segment, secondaryOctets, octetsOf, hea
 use Rattle.packet.specs.Numbers.{countMost}
 use Rattle.write.specs.declared.HeaderValues.{HeaderValues}
 use Rattle.write.specs.declared.PacketValues.{PacketValues}
-use Rattle.write.specs.Given.{Lent, headOf, packetOf, most32, headerChecks, packetChecks}
+use Rattle.write.specs.Given.{Lent, headOf, packetOf, headerChecks, packetChecks}
 use Rattle.write.specs.Writing.{settingsTest, partsTest, bodyFits, givenPacket, sizeTests, valueRefusal, writeRefusal}
 use Rattle.write.proofs.Tests.{unless-fine, unless-true, AllHold, unlessAll-fine, unlessAll-true}
 use Rattle.write.proofs.Answers.{secondary-length}

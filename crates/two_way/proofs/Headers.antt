@@ -8,13 +8,13 @@ use mathlib.Core.List.{_++_}
 use native.Mathlib.Omega.{arith}
 use lib.ListN.{length, length-append}
 use borrow.Author.Tests.{leb-true, ltb-true, le-leb, lt-ltb}
-use Rattle.octets.specs.Octets.{pick, Octets}
+use Rattle.octets.specs.Octets.{pick, Octets, most8, most16, most32}
 use Rattle.walk.specs.declared.Settings.{Settings}
 use Rattle.fields.specs.Fields.{partsMost}
 use Rattle.fields.specs.Form.{numberOctets, partOctets, joined, domainOctets}
 use Rattle.packet.specs.Format.{Head, Each, headerOctets, textMost, HeadInRange}
 use Rattle.write.specs.declared.HeaderValues.{HeaderValues}
-use Rattle.write.specs.Given.{Lent, headOf, sum, most8, most16, most32, nameChecks, routingChecks, idChecks, textChecks, headerChecks}
+use Rattle.write.specs.Given.{Lent, headOf, sum, nameChecks, routingChecks, idChecks, textChecks, headerChecks}
 use Rattle.write.proofs.Tests.{AllHold, hold-append, hold-first, hold-second}
 use Rattle.write.proofs.Sizes.{header-length}
 use Rattle.two_way.proofs.Lists.{joined-least}

@@ -7,7 +7,7 @@ use mathlib.Core.List.{List, [], _∷_, _++_}
 use mathlib.Core.Bool.{Bool, true, false}
 use lib.ListN.{length}
 use lib.Dec.{ltb, leb, eqb}
-use Rattle.octets.specs.Octets.{pick}
+use Rattle.octets.specs.Octets.{pick, most8, most16, most32}
 use Rattle.walk.specs.declared.Settings.{Settings}
 use Rattle.walk.specs.declared.Refusal.{Refusal}
 use Rattle.walk.specs.Walk.{unless}
@@ -89,16 +89,6 @@ sum (x ∷ xs) = x + sum xs
 -- domain lengths add up to the text if it is there; and there are none if it is not
 abbrev pub lengthsFit : Bool → List ℕ → ℕ → Bool
 lengthsFit there ns n = pick there (eqb (sum ns) n) (eqb (length ns) 0)
-
--- the largest of 8, 16 and 32 bits
-abbrev pub most8 : ℕ
-most8 = 255
-
-abbrev pub most16 : ℕ
-most16 = 65535
-
-abbrev pub most32 : ℕ
-most32 = 4294967295
 
 -- packet type, APID and SDU type to area version
 unfoldable pub nameChecks : HeaderValues → List Bool

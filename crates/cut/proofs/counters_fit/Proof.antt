@@ -5,7 +5,7 @@ use native.Mathlib.Omega.{arith}
 use Rattle.cut.proofs.Counting.{fit-at}
 use Rattle.cut.proofs.counters_fit.Statement.{statement}
 use Rattle.cut.proofs.counters_fit.Tie as tie
-use Rattle.cut.specs.Sending.{countersFit}
+use Rattle.cut.specs.Cutting.{countersFit}
 
 enum-known-next : tie.Need-enum-known-next
 enum-known-next c = search needs

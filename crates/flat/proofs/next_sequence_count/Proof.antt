@@ -3,7 +3,7 @@
 use borrow.Author.Needs.{needs}
 use borrow.Author.Tests.{le-leb, lt-leb}
 use native.Mathlib.Omega.{arith}
-use Rattle.write.specs.Given.{most16}
+use Rattle.octets.specs.Octets.{most16}
 use Rattle.flat.specs.Answers.{nextNumbers}
 use Rattle.flat.proofs.next_sequence_count.Statement.{statement}
 use Rattle.flat.proofs.next_sequence_count.Tie as tie

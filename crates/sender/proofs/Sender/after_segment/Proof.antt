@@ -1,9 +1,9 @@
--- `cut::Sender::after_segment` meets its contract.
+-- `sender::Sender::after_segment` meets its contract.
 -- Assumes nothing.
 use borrow.Author.Needs.{needs}
-use Rattle.cut.proofs.Sender.after_segment.Statement.{statement}
-use Rattle.cut.proofs.Sender.after_segment.Tie as tie
-use Rattle.cut.specs.Sending.{afterSegment}
+use Rattle.sender.proofs.Sender.after_segment.Statement.{statement}
+use Rattle.sender.proofs.Sender.after_segment.Tie as tie
+use Rattle.sender.specs.Sending.{afterSegment}
 
 next-counter-requires : tie.Need-next-counter-requires
 next-counter-requires c κs = search needs

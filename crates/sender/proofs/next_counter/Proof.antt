@@ -1,13 +1,13 @@
--- `cut::next_counter` meets its contract, case by case.
+-- `sender::next_counter` meets its contract, case by case.
 -- Assumes nothing.
 use borrow.Author.Needs.{needs}
 use borrow.Author.Tests.{le-leb, lt-leb}
 use mathlib.Core.Path.{sym}
 use native.Mathlib.Numerals.{add-one}
-use Rattle.cut.proofs.next_counter.Statement.{statement}
-use Rattle.cut.proofs.next_counter.Tie as tie
-use Rattle.cut.specs.Sending.{nextCounter}
-use Rattle.write.specs.Given.{most32}
+use Rattle.octets.specs.Octets.{most32}
+use Rattle.sender.proofs.next_counter.Statement.{statement}
+use Rattle.sender.proofs.next_counter.Tie as tie
+use Rattle.sender.specs.Sending.{nextCounter}
 
 enum-known-n : tie.Need-enum-known-n
 enum-known-n c = search needs

@@ -1,9 +1,9 @@
--- `cut::Sender::after_packet` meets its contract.
+-- `sender::Sender::after_packet` meets its contract.
 -- Assumes nothing.
 use borrow.Author.Needs.{needs}
-use Rattle.cut.proofs.Sender.after_packet.Statement.{statement}
-use Rattle.cut.proofs.Sender.after_packet.Tie as tie
-use Rattle.cut.specs.Sending.{afterPacket}
+use Rattle.sender.proofs.Sender.after_packet.Statement.{statement}
+use Rattle.sender.proofs.Sender.after_packet.Tie as tie
+use Rattle.sender.specs.Sending.{afterPacket}
 
 next-sequence-count-requires : tie.Need-next-sequence-count-requires
 next-sequence-count-requires c κs = search needs
