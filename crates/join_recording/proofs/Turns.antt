@@ -10,11 +10,13 @@ use lib.ListN.{length, take, drop, replicate, length-take, length-replicate}
 use Rattle.cells.specs.Rows.{zeroRow}
 use Rattle.cells.specs.Order.{countIn}
 use Rattle.opening.specs.Inner.{gate}
-use Rattle.recording.specs.declared.Done.{Done}
-use Rattle.recording.specs.Recording.{room, settings, cellCount, stepped, storeBehind}
-use Rattle.recording.specs.Told.{doneOf}
-use Rattle.recording.proofs.Kept.{step-gate, step-count, begin-gate, begin-count}
-use Rattle.recording.proofs.Steps.{step-within}
+use Rattle.steps.specs.declared.Done.{Done}
+use Rattle.steps.specs.Stepping.{room, stepped, storeBehind}
+use Rattle.recording.specs.Recording.{settings, cellCount}
+use Rattle.steps.specs.Told.{doneOf}
+use Rattle.steps.proofs.Kept.{step-gate, step-count}
+use Rattle.recording.proofs.Beginning.{begin-gate, begin-count}
+use Rattle.steps.proofs.Steps.{step-within}
 
 module _ (Z : ℕ) (st w : List ℕ) (e : Bool) where
   pub next-gate : {x : List ℕ} → x ≡ storeBehind settings Z st (stepped settings Z st w e) → gate settings Z st ≡ 0 → gate settings Z x ≡ 0

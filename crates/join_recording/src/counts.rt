@@ -1,7 +1,7 @@
 // What a run counts: a list of numbers, each at its own place.
 //
 // Places 1 to 26 count the packets refused with that number. A number that would pass 64 bits stays at the largest.
-use recording::What;
+use steps::What;
 
 pub const COUNTS: usize = 38;
 

@@ -2,7 +2,7 @@
 //
 //   join_recording [RECORDING [REPORT]]
 //
-// The recording is a file, or standard input where it is `-` or not named. The octets in hand stand in a window; `recording::step`
+// The recording is a file, or standard input where it is `-` or not named. The octets in hand stand in a window; `steps::step`
 // says what to write and how many octets it used up, and where it wants more, what is left goes to the window's front and more is
 // read behind it. A failed read or write is told on standard error, and at the end a summary of what was seen. A program has no exit
 // status, so REPORT is a file that is made only where all was read and written.
@@ -19,9 +19,10 @@ ghost use lib.ListN.{length};
 ghost use Rattle.cells.specs.Rows.{zeroRow};
 ghost use Rattle.cells.specs.Order.{countIn};
 ghost use Rattle.opening.specs.Inner.{gate};
-ghost use Rattle.recording.specs.Recording.{room, settings, cellCount};
+ghost use Rattle.steps.specs.Stepping.{room};
+ghost use Rattle.recording.specs.Recording.{settings, cellCount};
 use counts::COUNTS;
-use recording::What;
+use steps::What;
 use walk::Settings;
 
 // 32 cells, and the octets of them all.
@@ -74,7 +75,7 @@ fn refill(fd: i32, buf: &mut [u8], from: usize, till: usize, counts: &mut [u64; 
     ensures { λ r. ⌜ r .from ≤ r .till ⌝ }
     ensures { λ r. ⌜ r .till ≤ length (now (buf .entry)) ⌝ }
 {
-    recording::front(buf, from, till);
+    steps::front(buf, from, till);
     let had = till - from;
     let whole = buf.len();
     let space = &mut buf[had..whole];
@@ -133,7 +134,7 @@ fn turn(
     ensures { λ r. ⌜ r .till ≤ length (now (buf .entry)) ⌝ }
 {
     let s = Settings { t: 8 };
-    let d = recording::step(s, store, CELLS, zero, &buf[from..till], ends, out);
+    let d = steps::step(s, store, CELLS, zero, &buf[from..till], ends, out);
     let what = d.what;
     let used = d.used;
     let written = d.written;

@@ -12,8 +12,9 @@ use Rattle.arrival.specs.Arriving.{Arrived, whole, arrivedIn, arrived}
 use Rattle.opening.specs.Inner.{gate}
 use Rattle.arrival.proofs.Checked.{arrived-open}
 use Rattle.join.specs.Joining.{joinedBy, joining}
-use Rattle.recording.specs.Recording.{room, wholly, cameBy, cameOf, framed, without, foundIn, came, stepped, storeBehind, recordedFrom, recorded, settings, cellSize, emptyStore}
-use Rattle.recording.proofs.Kept.{begin-gate}
+use Rattle.steps.specs.Stepping.{room, wholly, cameBy, cameOf, framed, without, foundIn, came, stepped, storeBehind}
+use Rattle.recording.specs.Recording.{recordedFrom, recorded, settings, cellSize, emptyStore}
+use Rattle.recording.proofs.Beginning.{begin-gate}
 use Rattle.recording.proofs.Pieces.{one, stops, nothing-ends, goOn}
 
 abbrev pub alone : List ℕ

@@ -4,10 +4,10 @@ use Prim.Native.Nat.{ℕ}
 use mathlib.Core.Path.{_≡_, refl}
 use native.Mathlib.Omega.{arith}
 use Rattle.recording.specs.declared.Why.the-variants.{Unsaid, Ended, Unmarked, Torn}
-use Rattle.recording.specs.declared.Stands.{Stands}
-use Rattle.recording.specs.declared.Stands.the-variants.{Nothing, Other, Cut, Whole}
-use Rattle.recording.specs.Recording.{Found, nothing, other, cut, whole}
-use Rattle.recording.specs.Told.{standsOf}
+use Rattle.steps.specs.declared.Stands.{Stands}
+use Rattle.steps.specs.declared.Stands.the-variants.{Nothing, Other, Cut, Whole}
+use Rattle.steps.specs.Stepping.{Found, nothing, other, cut, whole}
+use Rattle.steps.specs.Told.{standsOf}
 use Rattle.recording.specs.Ending.{whyAt}
 
 pub why-nothing : (f : Found) {r : Stands} → r ≡ standsOf f → r ≡ Nothing → Ended ≡ whyAt f

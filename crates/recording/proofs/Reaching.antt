@@ -8,7 +8,7 @@ use mathlib.Core.Bool.{Bool, true, false}
 use mathlib.Core.List.{List, [], _∷_, _++_, append-nil, append-assoc}
 use native.Mathlib.Omega.{arith}
 use lib.ListN.{length, take, drop, length-append, length-drop, replicate, length-replicate}
-use lib.Seq.{sets, sets-eq, length-sets, take-at, take-all, drop-drop}
+use lib.Seq.{sets, length-sets, take-all, drop-drop}
 use lib.Dec.{leb}
 use borrow.Author.Tests.{le-leb, lt-leb}
 use Rattle.octets.specs.Octets.{pick, Octets}
@@ -18,16 +18,17 @@ use Rattle.cells.specs.Rows.{zeroRow}
 use Rattle.cells.specs.Order.{countIn}
 use Rattle.opening.specs.Inner.{gate}
 use Rattle.messages.specs.Told.{refusalOf}
-use Rattle.recording.specs.declared.Done.{Done}
+use Rattle.steps.specs.declared.Done.{Done}
 use Rattle.recording.specs.declared.Why.{Why}
 use Rattle.recording.specs.declared.Why.the-variants.{Unsaid}
 use Rattle.recording.specs.declared.Recorded.{Recorded}
-use Rattle.recording.specs.Recording.{Found, nothing, other, cut, whole, foundIn, room, Stepped, came, stepBy, stepped, storeBehind, usedBy, writtenBy, recordedFrom, recorded, settings, cellSize, cellCount, emptyStore}
-use Rattle.recording.specs.Told.{doneOf}
+use Rattle.steps.specs.Stepping.{Found, nothing, other, cut, whole, foundIn, room, Stepped, came, stepBy, stepped, storeBehind, usedBy, writtenBy}
+use Rattle.recording.specs.Recording.{recordedFrom, recorded, settings, cellSize, cellCount, emptyStore}
+use Rattle.steps.specs.Told.{doneOf}
 use Rattle.recording.specs.Ending.{past, reachFrom, reach, whyAt, whyOf, recordedOf, outRecorded}
-use Rattle.recording.proofs.Frames.{sets-part}
-use Rattle.recording.proofs.Steps.{used-most, written-most, done-used, done-written, step-within}
-use Rattle.recording.proofs.Kept.{step-gate, step-count, begin-gate, begin-count}
+use Rattle.steps.proofs.Steps.{used-most, done-used, done-written}
+use Rattle.steps.proofs.Kept.{step-gate, step-count}
+use Rattle.recording.proofs.Beginning.{begin-gate, begin-count}
 use Rattle.recording.proofs.Pieces.{one, Stop, stops, Ways, stop, goes, ways}
 use Rattle.recording.proofs.Shorter.{recorded-most}
 
@@ -36,25 +37,6 @@ use Rattle.recording.proofs.Shorter.{recorded-most}
 module _ (s : Settings) (Z : ℕ) (st w : List ℕ) where
   abbrev g : Stepped
   g = stepped s Z st w true
-
-  -- the front of a spare buffer is what was written
-  pub spare-front :
-      (spare : List ℕ) {d : Done} {y : List ℕ} → d ≡ doneOf g → y ≡ sets spare 0 (writtenBy g) → 6 + room ≤ length spare →
-      take (d .written - 0) (drop 0 y) ≡ writtenBy g
-  spare-front spare {d} {y} ed ey h =
-      let m = writtenBy g in
-      let a = ap (λ (x : Done). x .written) ed ∙ done-written s Z st w true g in
-      let n : d .written - 0 ≡ length m = omega arith in
-      ap₂ (λ (k : ℕ) (l : List ℕ). take k l) n (ey ∙ sets-eq m spare 0 (omega (arith, written-most s Z st w true)))
-      ∙ take-at m (drop (0 + length m) spare) (length m) refl
-
-  -- the part of the output that was lent
-  pub there-out :
-      (out : List ℕ) (at k : ℕ) {y : List ℕ} → at + k ≤ length out → 6 + room ≤ k → y ≡ sets (take k (drop at out)) 0 (writtenBy g) →
-      take at out ++ (y ++ drop k (drop at out)) ≡ sets out at (writtenBy g)
-  there-out out at k h l e =
-      ap (λ (z : List ℕ). take at out ++ (z ++ drop k (drop at out))) e
-      ∙ sets-part out (writtenBy g) at k h (omega (arith, written-most s Z st w true))
 
   past-by : (f : Found) → past f ≡ usedBy (stepBy s Z st true f)
   past-by nothing = refl

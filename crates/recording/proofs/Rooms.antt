@@ -30,8 +30,8 @@ use Rattle.messages.proofs.Looking.{look-some}
 use Rattle.messages.proofs.Members.{In, opening, picked-held}
 use Rattle.arrival.proofs.Keeps.{arrive-long}
 use Rattle.join.specs.Joining.{tookAs, joinedBy, storeBy, joining, storeJoined}
-use Rattle.recording.specs.Recording.{room}
-use Rattle.recording.proofs.Joins.{held-is}
+use Rattle.steps.specs.Stepping.{room}
+use Rattle.steps.proofs.Joins.{held-is}
 
 -- ---- no more segments than cells
 

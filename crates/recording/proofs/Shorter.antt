@@ -17,10 +17,11 @@ use Rattle.cells.specs.Order.{countIn}
 use Rattle.arrival.specs.Arriving.{Arrived, whole as wholly', stored, again, refused as refused', arrived, storeWith}
 use Rattle.taking.specs.Taking.{Took, message as message', unable, writing, took, storeLess}
 use Rattle.join.specs.Joining.{tookAs, joinedBy, storeBy, joining, storeJoined}
-use Rattle.recording.specs.Recording.{Found, nothing, other, cut, whole, foundIn, longest, room, over, refused, kept, cameBy, cameOf, storeAfter, without, wrote, Stepped, stepBy, stepped, storeBehind, usedBy, writtenBy, recordedFrom, recorded, settings, cellSize, cellCount, emptyStore}
-use Rattle.recording.proofs.Frames.{framed-long}
-use Rattle.recording.proofs.Showing.{whole-tells}
-use Rattle.recording.proofs.Steps.{used-most}
+use Rattle.steps.specs.Stepping.{Found, nothing, other, cut, whole, foundIn, longest, room, over, refused, kept, cameBy, cameOf, storeAfter, without, wrote, Stepped, stepBy, stepped, storeBehind, usedBy, writtenBy}
+use Rattle.recording.specs.Recording.{recordedFrom, recorded, settings, cellSize, cellCount, emptyStore}
+use Rattle.steps.proofs.Frames.{framed-long}
+use Rattle.steps.proofs.Showing.{whole-tells}
+use Rattle.steps.proofs.Steps.{used-most}
 use Rattle.recording.proofs.Pieces.{one}
 use Rattle.recording.proofs.Weights.{weighs, weighs-none, arrival-weighs, taking-weighs}
 

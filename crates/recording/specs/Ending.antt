@@ -13,7 +13,8 @@ use Rattle.messages.specs.Told.{refusalOf}
 use Rattle.recording.specs.declared.Why.{Why}
 use Rattle.recording.specs.declared.Why.the-variants.{Unsaid, Ended, Unmarked, Torn}
 use Rattle.recording.specs.declared.Recorded.{Recorded}
-use Rattle.recording.specs.Recording.{Found, nothing, other, cut, whole, foundIn, recorded}
+use Rattle.steps.specs.Stepping.{Found, nothing, other, cut, whole, foundIn}
+use Rattle.recording.specs.Recording.{recorded}
 
 -- a whole mark and packet are passed; at anything else it stops
 abbrev pub past : Found → ℕ

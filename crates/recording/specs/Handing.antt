@@ -9,7 +9,7 @@ use lib.ListN.{length, take, drop}
 use lib.Dec.{leb}
 use Rattle.walk.specs.declared.Settings.{Settings}
 use Rattle.cells.specs.Segments.{both}
-use Rattle.recording.specs.Recording.{Stepped, wanting, ended, unmarked, torn, came, wrote, stepped, storeBehind, usedBy}
+use Rattle.steps.specs.Stepping.{Stepped, wanting, ended, unmarked, torn, came, wrote, stepped, storeBehind, usedBy}
 
 -- how many octets are in hand, and whether the caller would know an end
 pub record Hand : Type 0 where

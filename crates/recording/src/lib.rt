@@ -1,71 +1,22 @@
-// Joining a recording: packets, each after the mark 4D 50, one step at a time over the part of the recording in hand.
+// Joining a whole recording in hand, step by step, with a store of its own.
 //
-// A step looks at the octets from the place reached on, joins the packet that stands there, and tells how many octets it used up and
-// how many of the output are to be written: for a message 4D 4D, the four-octet length of what follows, then what taking writes, and
-// for a whole packet likewise. It goes on only over a whole packet, so 65,544 octets in hand are always enough: the mark, and the
-// longest packet that a length field tells of. Settings and the store's order are checked once, by whoever begins; a step keeps them.
-//
-// `join_all` goes along a whole recording in hand, with a store of its own. What comes out is never longer than the recording, so an
-// output of its length is always enough.
+// `steps` has the step. What comes out is never longer than the recording, so an output of its length is always enough.
 ghost use mathlib.Core.Path.{_≡_};
-ghost use mathlib.Core.Bool.{true};
-ghost use mathlib.Core.List.{_∷_};
-ghost use Prim.Native.Nat.{_+_, _-_, _≤_};
+ghost use Prim.Native.Nat.{_+_, _≤_};
 ghost use lib.ListN.{length};
 ghost use lib.Seq.{sets};
-ghost use Rattle.octets.specs.Octets.{part, wide};
 ghost use Rattle.cells.specs.Rows.{zeroRow};
-ghost use Rattle.cells.specs.Order.{countIn};
-ghost use Rattle.opening.specs.Inner.{gate};
-ghost use Rattle.join.specs.Joining.{joining, storeJoined};
-ghost use Rattle.join.specs.Told.{joinedOf};
-ghost use Rattle.recording.specs.Recording.{foundIn, begins, room, longest, cameOf, cameBy, storeAfter, without, wrote, stepped, storeBehind, writtenBy, recorded, cellSize, emptyStore};
-ghost use Rattle.recording.specs.Told.{standsOf, still as stillAs, doneCame, doneOf};
-ghost use Rattle.recording.specs.Inner.{takenIn, leftAs, framedAs, stopAs};
+ghost use Rattle.steps.specs.Stepping.{foundIn, room};
+ghost use Rattle.recording.specs.Recording.{recorded, cellSize, emptyStore};
 ghost use Rattle.recording.specs.Ending.{reach, whyAt, recordedOf, outRecorded};
-use join::Joined;
-use join::Which;
+use steps::Stands;
 use walk::Refusal;
 use walk::Settings;
-
-// The longest packet that is joined.
-pub const LONGEST: usize = 32768;
-
-// The room for a message in the output, behind its mark and length.
-pub const ROOM: usize = 65536;
-
-// The octets of the mark and the length before a message.
-pub const FRAME: usize = 6;
-
-// The room for a message with its mark and length.
-const SPACE: usize = 65542;
 
 // The cells of the store that a recording in hand is joined with, and the octets of them all.
 const CELLS: usize = 32;
 
 const STORE: usize = 32768;
-
-// What a step comes to: more octets are wanted; the recording ends; no mark follows; a torn mark or packet follows; the packet is
-// passed over as too long; it is refused; it is stored or held already, and nothing is complete; it came whole; a message is joined.
-pub enum What {
-    More,
-    Ended,
-    Unmarked,
-    Torn,
-    Passed,
-    Refused,
-    Kept,
-    Whole,
-    Joined,
-}
-
-// What a step answers: what it comes to, the refusal of the packet, the octets used up, and those of the output to be written.
-pub struct Done {
-    pub what: What,
-    pub refusal: Refusal,
-    pub used: usize,
-    pub written: usize,
-}
 
 // Why a recording in hand was left: not said where it is refused; it ends there; no mark follows; a torn mark or packet follows.
 pub enum Why {
@@ -89,313 +40,6 @@ struct Reached {
     written: usize,
 }
 
-// What stands at a place: no octet, no mark, a mark and packet that are not whole, or whole ones.
-enum Stands {
-    Nothing,
-    Other,
-    Cut,
-    Whole,
-}
-
-// Whether the octets begin as the mark does.
-fn marked(x: &[u8]) -> bool
-    ensures { λ r. ⌜ r ≡ begins (now (x .entry)) ⌝ }
-{
-    let mark: [u8; 2] = [0x4d, 0x50];
-    let n = octets::within(2, 0, x.len());
-    octets::same(cells::span(x, 0, 2), &mark[0..n])
-}
-
-// What stands where a part of a recording begins.
-fn look(x: &[u8]) -> Stands
-    ensures { λ r. ⌜ r ≡ standsOf (foundIn (now (x .entry))) ⌝ }
-{
-    if x.len() == 0 {
-        return Stands::Nothing;
-    }
-    if !marked(x) {
-        return Stands::Other;
-    }
-    if x.len() < 2 + (octets::be16(x, 6) as usize + 7) {
-        return Stands::Cut;
-    }
-    Stands::Whole
-}
-
-// A step that uses up no octet and writes none.
-fn still(what: What) -> Done
-    ensures { λ r. ⌜ r ≡ stillAs what ⌝ }
-{
-    Done {
-        what: what,
-        refusal: Refusal { number: 0 },
-        used: 0,
-        written: 0,
-    }
-}
-
-// A stop where the recording ends; more octets are wanted where it does not.
-fn stop(ends: bool, what: What) -> Done
-    ensures { λ r. ⌜ r ≡ stopAs ends what ⌝ }
-{
-    if ends {
-        return still(what);
-    }
-    still(What::More)
-}
-
-// A packet that neither came whole nor completed a message; 20 refuses no packet.
-fn left(refusal: Refusal, used: usize) -> Done
-    ensures { λ r. ⌜ r ≡ leftAs (refusal .number) used ⌝ }
-{
-    if refusal.number == 20 {
-        return Done {
-            what: What::Kept,
-            refusal: Refusal { number: 0 },
-            used: used,
-            written: 0,
-        };
-    }
-    Done {
-        what: What::Refused,
-        refusal: refusal,
-        used: used,
-        written: 0,
-    }
-}
-
-// The mark and the length before a message of n octets.
-fn put_frame(out: &mut [u8], n: usize)
-    ensures { λ r. ⌜ now (out .exit) ≡ sets (now (out .entry)) 0 (0x4d ∷ 0x4d ∷ wide 4 n) ⌝ }
-{
-    octets::put16(out, 0, 0x4d4d);
-    octets::put_number(out, 2, 4, n as u64);
-}
-
-// The mark and the length before a message of n octets, and what is told of the step that writes it.
-fn framed(out: &mut [u8], what: What, refusal: Refusal, used: usize, n: usize) -> Done
-    requires { ⌜ n ≤ room ⌝ }
-    ensures { λ r. ⌜ r ≡ framedAs what refusal used n ⌝ }
-    ensures { λ r. ⌜ now (out .exit) ≡ sets (now (out .entry)) 0 (0x4d ∷ 0x4d ∷ wide 4 n) ⌝ }
-{
-    put_frame(out, n);
-    Done {
-        what: what,
-        refusal: refusal,
-        used: used,
-        written: FRAME + n,
-    }
-}
-
-// A whole packet without its octets 2 to 5, behind the room for mark and length. How many octets that are.
-fn put_whole(p: &[u8], out: &mut [u8]) -> usize
-    requires { ⌜ 6 + length (now p) ≤ length (now out) ⌝ }
-    ensures { λ r. ⌜ r ≡ length (without (now (p .entry))) ⌝ }
-    ensures { λ r. ⌜ now (out .exit) ≡ sets (now (out .entry)) 6 (without (now (p .entry))) ⌝ }
-{
-    let at = octets::lay(out, FRAME, cells::span(p, 0, 2));
-    let end = octets::lay(out, at, cells::span(p, 6, p.len()));
-    end - FRAME
-}
-
-// Joining, with a message behind the room for its mark and length.
-fn join_behind(
-    s: Settings,
-    store: &mut [u8],
-    n: usize,
-    zero: &[u8],
-    p: &[u8],
-    out: &mut [u8],
-) -> Joined
-    requires { ⌜ now zero ≡ zeroRow (length (now zero)) ⌝ }
-    requires { ⌜ gate s (length (now zero)) (now store) ≡ 0 ⌝ }
-    requires { ⌜ n ≡ countIn (length (now zero)) (now store) ⌝ }
-    requires { ⌜ 6 + room ≤ length (now out) ⌝ }
-    ensures { λ r. ⌜ r ≡ joinedOf (joining s (length (now (zero .entry))) (now (store .entry)) (now (p .entry)) room) ⌝ }
-    ensures { λ r. ⌜ now (store .exit) ≡ storeJoined s (length (now (zero .entry))) (now (store .entry)) (now (p .entry)) room ⌝ }
-    ensures { λ r. ⌜ now (out .exit) ≡ sets (now (out .entry)) 6 (takenIn (joining s (length (now (zero .entry))) (now (store .entry)) (now (p .entry)) room)) ⌝ }
-{
-    let from: usize = FRAME;
-    let to: usize = FRAME + ROOM;
-    join::join_on(s, store, n, zero, p, &mut out[from..to])
-}
-
-// A packet that is not too long is joined, and what is to be written stands in the output.
-fn join_packet(
-    s: Settings,
-    store: &mut [u8],
-    n: usize,
-    zero: &[u8],
-    p: &[u8],
-    out: &mut [u8],
-) -> Done
-    requires { ⌜ now zero ≡ zeroRow (length (now zero)) ⌝ }
-    requires { ⌜ gate s (length (now zero)) (now store) ≡ 0 ⌝ }
-    requires { ⌜ n ≡ countIn (length (now zero)) (now store) ⌝ }
-    requires { ⌜ 6 + room ≤ length (now out) ⌝ }
-    requires { ⌜ length (now p) ≤ longest ⌝ }
-    ensures { λ r. ⌜ r ≡ doneCame (now (p .entry)) (cameBy (joining s (length (now (zero .entry))) (now (store .entry)) (now (p .entry)) room)) ⌝ }
-    ensures { λ r. ⌜ now (store .exit) ≡ storeJoined s (length (now (zero .entry))) (now (store .entry)) (now (p .entry)) room ⌝ }
-    ensures { λ r. ⌜ now (out .exit) ≡ sets (now (out .entry)) 0 (wrote (now (p .entry)) (cameBy (joining s (length (now (zero .entry))) (now (store .entry)) (now (p .entry)) room))) ⌝ }
-{
-    let used = 2 + p.len();
-    let j = join_behind(s, store, n, zero, p, out);
-    let refusal = j.refusal;
-    let place = j.place;
-    let length = j.length;
-    let which = j.which;
-    match which {
-        Which::Nothing => left(refusal, used),
-        Which::Packet => {
-            let long = put_whole(p, out);
-            framed(out, What::Whole, refusal, used, long)
-        }
-        Which::Joined => framed(out, What::Joined, refusal, used, place + length),
-    }
-}
-
-// A packet is passed over as too long, or joined.
-fn step_packet(
-    s: Settings,
-    store: &mut [u8],
-    n: usize,
-    zero: &[u8],
-    p: &[u8],
-    out: &mut [u8],
-) -> Done
-    requires { ⌜ now zero ≡ zeroRow (length (now zero)) ⌝ }
-    requires { ⌜ gate s (length (now zero)) (now store) ≡ 0 ⌝ }
-    requires { ⌜ n ≡ countIn (length (now zero)) (now store) ⌝ }
-    requires { ⌜ 6 + room ≤ length (now out) ⌝ }
-    requires { ⌜ length (now p) ≤ 65542 ⌝ }
-    ensures { λ r. ⌜ r ≡ doneCame (now (p .entry)) (cameOf s (length (now (zero .entry))) (now (store .entry)) (now (p .entry))) ⌝ }
-    ensures { λ r. ⌜ now (store .exit) ≡ storeAfter s (length (now (zero .entry))) (now (store .entry)) (now (p .entry)) ⌝ }
-    ensures { λ r. ⌜ now (out .exit) ≡ sets (now (out .entry)) 0 (wrote (now (p .entry)) (cameOf s (length (now (zero .entry))) (now (store .entry)) (now (p .entry)))) ⌝ }
-{
-    if LONGEST < p.len() {
-        return Done {
-            what: What::Passed,
-            refusal: Refusal { number: 0 },
-            used: 2 + p.len(),
-            written: 0,
-        };
-    }
-    join_packet(s, store, n, zero, p, out)
-}
-
-// A step along a recording: `window` is the part in hand from the place reached on, and `ends` says that the recording ends with it.
-pub fn step(
-    s: Settings,
-    store: &mut [u8],
-    n: usize,
-    zero: &[u8],
-    window: &[u8],
-    ends: bool,
-    out: &mut [u8],
-) -> Done
-    requires { ⌜ now zero ≡ zeroRow (length (now zero)) ⌝ }
-    requires { ⌜ gate s (length (now zero)) (now store) ≡ 0 ⌝ }
-    requires { ⌜ n ≡ countIn (length (now zero)) (now store) ⌝ }
-    requires { ⌜ 6 + room ≤ length (now out) ⌝ }
-    ensures { λ r. ⌜ r ≡ doneOf (stepped s (length (now (zero .entry))) (now (store .entry)) (now (window .entry)) ends) ⌝ }
-    ensures { λ r. ⌜ now (store .exit) ≡ storeBehind s (length (now (zero .entry))) (now (store .entry)) (stepped s (length (now (zero .entry))) (now (store .entry)) (now (window .entry)) ends) ⌝ }
-    ensures { λ r. ⌜ now (out .exit) ≡ sets (now (out .entry)) 0 (writtenBy (stepped s (length (now (zero .entry))) (now (store .entry)) (now (window .entry)) ends)) ⌝ }
-{
-    match look(window) {
-        Stands::Nothing => stop(ends, What::Ended),
-        Stands::Other => still(What::Unmarked),
-        Stands::Cut => stop(ends, What::Torn),
-        Stands::Whole => step_packet(s, store, n, zero, cells::packet_in(window), out),
-    }
-}
-
-// The octets of a buffer from a place up to another go to its front; the rest stays.
-pub fn front(buf: &mut [u8], from: usize, till: usize)
-    requires { ⌜ from ≤ till ⌝ }
-    requires { ⌜ till ≤ length (now buf) ⌝ }
-    ensures { λ r. ⌜ now (buf .exit) ≡ sets (now (buf .entry)) 0 (part (now (buf .entry)) from (till - from)) ⌝ }
-{
-    let n = till - from;
-    let mut i: usize = 0;
-    while i < n {
-        buf[i] = buf[from + i];
-        i += 1;
-    }
-}
-
-// A step with the rest of a recording in hand; what it writes goes to the output from a place on, through a spare buffer.
-fn step_spare(
-    s: Settings,
-    store: &mut [u8],
-    n: usize,
-    zero: &[u8],
-    rest: &[u8],
-    spare: &mut [u8],
-    out: &mut [u8],
-    at: usize,
-) -> Done
-    requires { ⌜ now zero ≡ zeroRow (length (now zero)) ⌝ }
-    requires { ⌜ gate s (length (now zero)) (now store) ≡ 0 ⌝ }
-    requires { ⌜ n ≡ countIn (length (now zero)) (now store) ⌝ }
-    requires { ⌜ 6 + room ≤ length (now spare) ⌝ }
-    ensures { λ r. ⌜ r ≡ doneOf (stepped s (length (now (zero .entry))) (now (store .entry)) (now (rest .entry)) true) ⌝ }
-    ensures { λ r. ⌜ now (store .exit) ≡ storeBehind s (length (now (zero .entry))) (now (store .entry)) (stepped s (length (now (zero .entry))) (now (store .entry)) (now (rest .entry)) true) ⌝ }
-    ensures { λ r. ⌜ now (out .exit) ≡ sets (now (out .entry)) at (writtenBy (stepped s (length (now (zero .entry))) (now (store .entry)) (now (rest .entry)) true)) ⌝ }
-{
-    let d = step(s, store, n, zero, rest, true, spare);
-    let written = d.written;
-    octets::copy(out, at, &spare[0..written]);
-    d
-}
-
-// The same where the output has room for the longest message behind the place.
-fn step_there(
-    s: Settings,
-    store: &mut [u8],
-    n: usize,
-    zero: &[u8],
-    rest: &[u8],
-    out: &mut [u8],
-    at: usize,
-) -> Done
-    requires { ⌜ now zero ≡ zeroRow (length (now zero)) ⌝ }
-    requires { ⌜ gate s (length (now zero)) (now store) ≡ 0 ⌝ }
-    requires { ⌜ n ≡ countIn (length (now zero)) (now store) ⌝ }
-    requires { ⌜ at + (6 + room) ≤ length (now out) ⌝ }
-    ensures { λ r. ⌜ r ≡ doneOf (stepped s (length (now (zero .entry))) (now (store .entry)) (now (rest .entry)) true) ⌝ }
-    ensures { λ r. ⌜ now (store .exit) ≡ storeBehind s (length (now (zero .entry))) (now (store .entry)) (stepped s (length (now (zero .entry))) (now (store .entry)) (now (rest .entry)) true) ⌝ }
-    ensures { λ r. ⌜ now (out .exit) ≡ sets (now (out .entry)) at (writtenBy (stepped s (length (now (zero .entry))) (now (store .entry)) (now (rest .entry)) true)) ⌝ }
-{
-    let to = at + SPACE;
-    step(s, store, n, zero, rest, true, &mut out[at..to])
-}
-
-// Straight into the output, but for the messages that come near its end.
-fn step_at(
-    s: Settings,
-    store: &mut [u8],
-    n: usize,
-    zero: &[u8],
-    rest: &[u8],
-    spare: &mut [u8],
-    out: &mut [u8],
-    at: usize,
-) -> Done
-    requires { ⌜ now zero ≡ zeroRow (length (now zero)) ⌝ }
-    requires { ⌜ gate s (length (now zero)) (now store) ≡ 0 ⌝ }
-    requires { ⌜ n ≡ countIn (length (now zero)) (now store) ⌝ }
-    requires { ⌜ 6 + room ≤ length (now spare) ⌝ }
-    requires { ⌜ at ≤ length (now out) ⌝ }
-    ensures { λ r. ⌜ r ≡ doneOf (stepped s (length (now (zero .entry))) (now (store .entry)) (now (rest .entry)) true) ⌝ }
-    ensures { λ r. ⌜ now (store .exit) ≡ storeBehind s (length (now (zero .entry))) (now (store .entry)) (stepped s (length (now (zero .entry))) (now (store .entry)) (now (rest .entry)) true) ⌝ }
-    ensures { λ r. ⌜ now (out .exit) ≡ sets (now (out .entry)) at (writtenBy (stepped s (length (now (zero .entry))) (now (store .entry)) (now (rest .entry)) true)) ⌝ }
-{
-    if out.len() - at < SPACE {
-        return step_spare(s, store, n, zero, rest, spare, out, at);
-    }
-    step_there(s, store, n, zero, rest, out, at)
-}
-
 // All steps over a recording, from an empty store on, until one uses up no octet.
 fn along(store: &mut [u8], zero: &[u8], x: &[u8], spare: &mut [u8], out: &mut [u8]) -> Reached
     requires { ⌜ now zero ≡ zeroRow cellSize ⌝ }
@@ -411,7 +55,7 @@ fn along(store: &mut [u8], zero: &[u8], x: &[u8], spare: &mut [u8], out: &mut [u
     let mut place: usize = 0;
     let mut written: usize = 0;
     loop {
-        let d = step_at(s, store, CELLS, zero, &x[place..n], spare, out, written);
+        let d = steps::step_at(s, store, CELLS, zero, &x[place..n], spare, out, written);
         let used = d.used;
         let more = d.written;
         if used == 0 {
@@ -429,7 +73,7 @@ fn along(store: &mut [u8], zero: &[u8], x: &[u8], spare: &mut [u8], out: &mut [u
 fn why_at(rest: &[u8]) -> Why
     ensures { λ r. ⌜ r ≡ whyAt (foundIn (now (rest .entry))) ⌝ }
 {
-    match look(rest) {
+    match steps::look(rest) {
         Stands::Nothing => Why::Ended,
         Stands::Other => Why::Unmarked,
         Stands::Cut => Why::Torn,
@@ -454,7 +98,7 @@ pub fn join_all(recording: &[u8], out: &mut [u8]) -> Recorded
     }
     let zero = [0u8; 1024];
     let mut store = [0u8; STORE];
-    let mut spare = [0u8; SPACE];
+    let mut spare = [0u8; steps::SPACE];
     let end = along(&mut store, &zero, recording, &mut spare, out);
     let place = end.place;
     let why = why_at(&recording[place..n]);

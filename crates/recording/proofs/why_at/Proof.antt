@@ -5,7 +5,7 @@ use Rattle.recording.proofs.Leaving.{why-nothing, why-other, why-cut, w
 use borrow.Author.Needs.{needs}
 use Rattle.recording.proofs.why_at.Statement.{statement}
 use Rattle.recording.proofs.why_at.Tie as tie
-use Rattle.recording.specs.Recording.{foundIn}
+use Rattle.steps.specs.Stepping.{foundIn}
 
 look-requires : tie.Need-look-requires
 look-requires c κs = search needs

@@ -1,0 +1,9 @@
+pub mod Frames
+pub mod Places
+pub mod Joins
+pub mod Showing
+pub mod Steps
+pub mod Spare
+pub mod Kept
+mod Calls
+mod Moving

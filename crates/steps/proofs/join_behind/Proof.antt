@@ -1,0 +1,40 @@
+-- `steps::join_behind` meets its contract: joining has the part of the output behind the room for mark and length.
+-- Assumes nothing.
+use denote.Ref.{now}
+use Prim.Native.Nat.{ℕ}
+use mathlib.Core.Path.{ap, _∙_}
+use lib.ListN.{length}
+use Rattle.join.specs.Joining.{joining, storeJoined}
+use Rattle.join.specs.Told.{joinedOf}
+use Rattle.join.proofs.Inner.{joining-open, store-open, out-open}
+use Rattle.steps.proofs.Joins.{lent-long, behind-out}
+use borrow.Author.Needs.{needs}
+use Rattle.steps.proofs.join_behind.Statement.{statement}
+use Rattle.steps.proofs.join_behind.Tie as tie
+
+add-to : tie.Need-add-to
+add-to c = search needs
+
+sub-join-on : tie.Need-sub-join-on
+sub-join-on c = search needs
+
+part-join-on-start : tie.Need-part-join-on-start
+part-join-on-start c = search needs
+
+part-join-on-end : tie.Need-part-join-on-end
+part-join-on-end c = search needs
+
+join-on-requires : tie.Need-join-on-requires
+join-on-requires c κs = c .before .before .before .before .before .before .pre .0
+
+same-length : tie.Need-same-length
+same-length c = search needs
+
+same-length-2 : tie.Need-same-length-2
+same-length-2 c = search needs
+
+returns : tie.Need-returns
+returns c = let l = lent-long (c .before .before .before .before .before .before .before .before .before .before .before .args .s) (length (now (c .before .before .before .before .before .before .before .before .before .before .before .args .zero))) (now (c .before .before .before .before .before .before .before .before .before .before .before .args .store)) (now (c .before .before .before .before .before .before .before .before .before .before .before .args .p)) (now (c .before .before .before .before .before .before .before .before .before .before .before .args .out)) (c .before .before .before .before .before .before .before .before .before .before .before .pre .1 .1 .1) in (c .before .before .before .before .join-on .ensures .0 ∙ ap joinedOf (joining-open (c .before .before .before .before .before .before .before .before .before .before .before .args .s) (length (now (c .before .before .before .before .before .before .before .before .before .before .before .args .zero))) (now (c .before .before .before .before .before .before .before .before .before .before .before .args .store)) (now (c .before .before .before .before .before .before .before .before .before .before .before .args .p)) (c .before .before .before .before .before .before .before .before .before .before .before .pre .1 .0) (c .before .before .before .before .before .before .before .before .before .before .before .pre .1 .1 .0) _ ∙ ap (λ (m : ℕ). joining (c .before .before .before .before .before .before .before .before .before .before .before .args .s) (length (now (c .before .before .before .before .before .before .before .before .before .before .before .args .zero))) (now (c .before .before .before .before .before .before .before .before .before .before .before .args .store)) (now (c .before .before .before .before .before .before .before .before .before .before .before .args .p)) m) l), (c .before .before .before .before .join-on .ensures .1 .0 ∙ store-open (c .before .before .before .before .before .before .before .before .before .before .before .args .s) (length (now (c .before .before .before .before .before .before .before .before .before .before .before .args .zero))) (now (c .before .before .before .before .before .before .before .before .before .before .before .args .store)) (now (c .before .before .before .before .before .before .before .before .before .before .before .args .p)) (c .before .before .before .before .before .before .before .before .before .before .before .pre .1 .0) (c .before .before .before .before .before .before .before .before .before .before .before .pre .1 .1 .0) _ ∙ ap (λ (m : ℕ). storeJoined (c .before .before .before .before .before .before .before .before .before .before .before .args .s) (length (now (c .before .before .before .before .before .before .before .before .before .before .before .args .zero))) (now (c .before .before .before .before .before .before .before .before .before .before .before .args .store)) (now (c .before .before .before .before .before .before .before .before .before .before .before .args .p)) m) l, behind-out (c .before .before .before .before .before .before .before .before .before .before .before .args .s) (length (now (c .before .before .before .before .before .before .before .before .before .before .before .args .zero))) (now (c .before .before .before .before .before .before .before .before .before .before .before .args .store)) (now (c .before .before .before .before .before .before .before .before .before .before .before .args .p)) (now (c .before .before .before .before .before .before .before .before .before .before .before .args .out)) (c .before .before .before .before .before .before .before .before .before .before .before .pre .1 .1 .1) (c .before .before .before .before .join-on .ensures .1 .1 ∙ out-open (c .before .before .before .before .before .before .before .before .before .before .before .args .s) (length (now (c .before .before .before .before .before .before .before .before .before .before .before .args .zero))) (now (c .before .before .before .before .before .before .before .before .before .before .before .args .store)) (now (c .before .before .before .before .before .before .before .before .before .before .before .args .p)) (c .before .before .before .before .before .before .before .before .before .before .before .pre .1 .0) (c .before .before .before .before .before .before .before .before .before .before .before .pre .1 .1 .0) _)))
+
+pub join-behind-spec : {M : Type 1} → statement M
+join-behind-spec = tie.close (tie.spec add-to sub-join-on part-join-on-start part-join-on-end join-on-requires same-length same-length-2 returns)

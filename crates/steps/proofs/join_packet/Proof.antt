@@ -1,0 +1,73 @@
+-- `steps::join_packet` meets its contract: by the buffer that joining names.
+-- Assumes nothing.
+use denote.Ref.{now}
+use mathlib.Core.Path.{_∙_, refl}
+use native.Mathlib.Omega.{arith}
+use lib.ListN.{length}
+use Rattle.join.specs.Joining.{joining}
+use Rattle.steps.specs.Stepping.{room}
+use Rattle.steps.proofs.Frames.{without-long}
+use Rattle.steps.proofs.Joins.{joins-left, joins-whole, joins-message, message-most}
+use borrow.Author.Needs.{needs}
+use Rattle.steps.proofs.join_packet.Statement.{statement}
+use Rattle.steps.proofs.join_packet.Tie as tie
+
+add-used : tie.Need-add-used
+add-used c = search needs
+
+join-behind-requires : tie.Need-join-behind-requires
+join-behind-requires c κs = (c .before .before .before .before .before .before .pre .0, (c .before .before .before .before .before .before .pre .1 .0, (c .before .before .before .before .before .before .pre .1 .1 .0, c .before .before .before .before .before .before .pre .1 .1 .1 .0)))
+
+enum-told : tie.Need-enum-told
+enum-told c = search needs
+
+left-requires : tie.Need-left-requires
+left-requires c κs = search needs
+
+enum-told-2 : tie.Need-enum-told-2
+enum-told-2 c = search needs
+
+put-whole-requires : tie.Need-put-whole-requires
+put-whole-requires c κs = search needs
+
+framed-requires : tie.Need-framed-requires
+framed-requires c κs = omega (arith, c .before .before .before .put-whole .ensures .0, without-long (now (c .before .before .before .before .before .before .before .before .before .before .before .before .before .before .before .before .before .before .before .args .p)), c .before .before .before .before .before .before .before .before .before .before .before .before .before .before .before .before .before .before .before .pre .1 .1 .1 .1)
+
+enum-told-3 : tie.Need-enum-told-3
+enum-told-3 c = search needs
+
+add-framed : tie.Need-add-framed
+add-framed c = omega (arith, message-most (c .before .before .before .before .before .before .before .before .before .before .before .before .before .before .before .args .s) (length (now (c .before .before .before .before .before .before .before .before .before .before .before .before .before .before .before .args .zero))) (now (c .before .before .before .before .before .before .before .before .before .before .before .before .before .before .before .args .store)) (now (c .before .before .before .before .before .before .before .before .before .before .before .before .before .before .before .args .p)) (c .before .before .before .before .before .before .before .before .join-behind .ensures .0) (c .before .enum-told3 .given .1))
+
+framed-requires-2 : tie.Need-framed-requires-2
+framed-requires-2 c κs = message-most (c .before .before .before .before .before .before .before .before .before .before .before .before .before .before .before .args .s) (length (now (c .before .before .before .before .before .before .before .before .before .before .before .before .before .before .before .args .zero))) (now (c .before .before .before .before .before .before .before .before .before .before .before .before .before .before .before .args .store)) (now (c .before .before .before .before .before .before .before .before .before .before .before .before .before .before .before .args .p)) (c .before .before .before .before .before .before .before .before .join-behind .ensures .0) (c .before .enum-told3 .given .1)
+
+same-length : tie.Need-same-length
+same-length c = search needs
+
+same-length-2 : tie.Need-same-length-2
+same-length-2 c = search needs
+
+returns : tie.Need-returns
+returns c = let k = joins-left (now (c .before .before .before .before .before .before .before .before .before .before .before .before .before .before .before .args .p)) (now (c .before .before .before .before .before .before .before .before .before .before .before .before .before .before .before .args .out)) (joining (c .before .before .before .before .before .before .before .before .before .before .before .before .before .before .before .args .s) (length (now (c .before .before .before .before .before .before .before .before .before .before .before .before .before .before .before .args .zero))) (now (c .before .before .before .before .before .before .before .before .before .before .before .before .before .before .before .args .store)) (now (c .before .before .before .before .before .before .before .before .before .before .before .before .before .before .before .args .p)) room) (c .before .before .before .before .before .before .before .before .join-behind .ensures .0) (c .before .before .before .before .before .before .before .before .join-behind .ensures .1 .1) (c .before .enum-told .given .1) (c .left .ensures) in (k .0, (c .before .before .before .before .before .before .before .before .join-behind .ensures .1 .0, k .1))
+
+same-length-3 : tie.Need-same-length-3
+same-length-3 c = search needs
+
+same-length-4 : tie.Need-same-length-4
+same-length-4 c = search needs
+
+returns-2 : tie.Need-returns-2
+returns-2 c = let k = joins-whole (now (c .before .before .before .before .before .before .before .before .before .before .before .before .before .before .before .before .before .before .before .before .before .before .args .p)) (now (c .before .before .before .before .before .before .before .before .before .before .before .before .before .before .before .before .before .before .before .before .before .before .args .out)) (joining (c .before .before .before .before .before .before .before .before .before .before .before .before .before .before .before .before .before .before .before .before .before .before .args .s) (length (now (c .before .before .before .before .before .before .before .before .before .before .before .before .before .before .before .before .before .before .before .before .before .before .args .zero))) (now (c .before .before .before .before .before .before .before .before .before .before .before .before .before .before .before .before .before .before .before .before .before .before .args .store)) (now (c .before .before .before .before .before .before .before .before .before .before .before .before .before .before .before .before .before .before .before .before .before .before .args .p)) room) (c .before .before .before .before .before .before .before .before .before .before .before .before .before .before .before .join-behind .ensures .0) (c .before .before .before .before .before .before .before .before .before .before .before .before .before .before .before .join-behind .ensures .1 .1) (c .before .before .before .before .before .before .before .before .enum-told2 .given .1) (c .before .before .before .before .before .before .put-whole .ensures .0) (c .before .before .before .before .before .before .put-whole .ensures .1) (c .before .before .framed .ensures .1) in (c .before .before .framed .ensures .0 ∙ k .0, (c .before .before .before .before .before .before .before .before .before .before .before .before .before .before .before .join-behind .ensures .1 .0, k .1))
+
+same-length-5 : tie.Need-same-length-5
+same-length-5 c = search needs
+
+same-length-6 : tie.Need-same-length-6
+same-length-6 c = search needs
+
+returns-3 : tie.Need-returns-3
+returns-3 c = let k = joins-message (c .before .before .before .before .before .before .before .before .before .before .before .before .before .before .before .before .before .before .args .s) (length (now (c .before .before .before .before .before .before .before .before .before .before .before .before .before .before .before .before .before .before .args .zero))) (now (c .before .before .before .before .before .before .before .before .before .before .before .before .before .before .before .before .before .before .args .store)) (now (c .before .before .before .before .before .before .before .before .before .before .before .before .before .before .before .before .before .before .args .p)) (now (c .before .before .before .before .before .before .before .before .before .before .before .before .before .before .before .before .before .before .args .out)) (c .before .before .before .before .before .before .before .before .before .before .before .join-behind .ensures .0) (c .before .before .before .before .before .before .before .before .before .before .before .join-behind .ensures .1 .1) (c .before .before .before .before .enum-told3 .given .1) refl (c .before .before .framed2 .ensures .1) in (c .before .before .framed2 .ensures .0 ∙ k .0, (c .before .before .before .before .before .before .before .before .before .before .before .join-behind .ensures .1 .0, k .1))
+
+pub join-packet-spec : {M : Type 1} → statement M
+join-packet-spec = tie.close (tie.spec add-used join-behind-requires enum-told left-requires enum-told-2 put-whole-requires framed-requires enum-told-3 add-framed framed-requires-2 same-length same-length-2 returns same-length-3 same-length-4 returns-2 same-length-5 same-length-6 returns-3)

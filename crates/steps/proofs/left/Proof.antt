@@ -1,0 +1,18 @@
+-- `steps::left` meets its contract.
+-- Assumes nothing.
+use borrow.Author.Tests.{eq-eqb, ne-eqb}
+use Rattle.steps.specs.Inner.{leftAs}
+use Rattle.steps.proofs.left.Statement.{statement}
+use Rattle.steps.proofs.left.Tie as tie
+
+returns : tie.Need-returns
+unfolding leftAs
+returns c = simp (eq-eqb (c .before .before .args .refusal .number) 20 (c .if1 .taken))
+
+returns-2 : tie.Need-returns-2
+unfolding leftAs
+returns-2 c = simp (ne-eqb (c .before .before .args .refusal .number) 20 (c .if1 .left))
+
+pub left-spec : {M : Type 1} → statement M
+left-spec =
+    tie.close (tie.spec returns returns-2)

@@ -1,0 +1,35 @@
+-- What the code hands about: what a joining wrote, a step over a packet, and one that may want more octets.
+-- Assumes nothing: these are definitions.
+use Prim.Native.Nat.{ℕ, _+_}
+use mathlib.Core.Bool.{Bool}
+use mathlib.Core.List.{List, []}
+use lib.Dec.{eqb}
+use Rattle.octets.specs.Octets.{pick}
+use Rattle.walk.specs.declared.Refusal.{Refusal}
+use Rattle.taking.specs.Taking.{writing}
+use Rattle.messages.specs.Told.{refusalOf}
+use Rattle.join.specs.Joining.{Joining, inPacket, inOutput, unjoined}
+use Rattle.steps.specs.declared.What.{What}
+use Rattle.steps.specs.declared.What.the-variants.{More, Refused, Kept}
+use Rattle.steps.specs.declared.Done.{Done}
+use Rattle.steps.specs.Told.{still}
+
+-- the octets of the message that was taken
+abbrev pub takenIn : Joining → List ℕ
+takenIn (inPacket place long) = []
+takenIn (inOutput r) = writing r
+takenIn (unjoined k) = []
+
+-- a packet that neither came whole nor completed a message
+unfoldable pub leftAs : ℕ → ℕ → Done
+leftAs k n =
+    pick (eqb k 20) (record { what = Kept; refusal = refusalOf 0; used = n; written = 0 })
+    (record { what = Refused; refusal = refusalOf k; used = n; written = 0 })
+
+-- a step that writes a message of n octets behind its mark and length
+abbrev pub framedAs : What → Refusal → ℕ → ℕ → Done
+framedAs w r used n = record { what = w; refusal = r; used = used; written = 6 + n }
+
+-- where the recording ends the stop is final
+unfoldable pub stopAs : Bool → What → Done
+stopAs e w = pick e (still w) (still More)

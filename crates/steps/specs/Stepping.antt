@@ -1,0 +1,131 @@
+-- A step along a recording.
+-- Document 01, "What the ground program covers": "A small program joins a recording: packets, each after the mark 4D 50. It .. passes
+-- over refused packets and those above 32,768 octets, and stops where no whole mark and packet, by its length field, follow. For each
+-- message it writes 4D 4D, a four-octet length, then what taking writes (a whole packet likewise)."
+-- Assumes nothing: these are definitions.
+use Prim.Native.Nat.{ℕ, _+_}
+use mathlib.Core.Bool.{Bool}
+use mathlib.Core.List.{List, [], _∷_, _++_}
+use lib.ListN.{length, take, drop}
+use lib.Dec.{leb, eqb}
+use Rattle.octets.specs.Octets.{pick, alike, wide}
+use Rattle.walk.specs.declared.Settings.{Settings}
+use Rattle.cells.specs.Rows.{sizeIn, packetIn}
+use Rattle.messages.specs.Messages.{Run}
+use Rattle.taking.specs.Taking.{writing}
+use Rattle.join.specs.Joining.{Joining, inPacket, inOutput, unjoined, joining, storeJoined}
+
+-- ---- what stands at a place
+
+-- "packets, each after the mark 4D 50"
+abbrev pub packetMark : List ℕ
+packetMark = 0x4d ∷ 0x50 ∷ []
+
+-- what stands where a recording, or a part of one, begins: no octet; other octets than the mark; a mark and a packet that are not
+-- whole; or a packet behind its mark
+pub data Found : Type 0 where
+  nothing : Found
+  other : Found
+  cut : Found
+  whole : List ℕ → Found
+
+-- as much of the mark as there are octets
+abbrev pub begins : List ℕ → Bool
+begins x = alike (take 2 x) (take (length x) packetMark)
+
+-- "whole mark and packet, by its length field": a packet has at least 7 octets, so where its length field is not there, they are
+-- not whole
+unfoldable pub foundIn : List ℕ → Found
+foundIn x =
+    pick (eqb (length x) 0) nothing
+    (pick (begins x) (pick (leb (2 + sizeIn 0 x) (length x)) (whole (packetIn 0 x)) cut) other)
+
+-- ---- what a packet comes to
+
+-- "passes over .. those above 32,768 octets": the packet without its mark
+abbrev pub longest : ℕ
+longest = 32768
+
+-- the output that is lent to joining
+abbrev pub room : ℕ
+room = 65536
+
+pub data Came : Type 0 where
+  over : Came
+  refused : ℕ → Came
+  kept : Came
+  wholly : Came
+  message : Run → Came
+
+-- nothing complete (20) refuses no packet: its segment is stored
+abbrev pub cameBy : Joining → Came
+cameBy (inPacket place long) = wholly
+cameBy (inOutput r) = message r
+cameBy (unjoined k) = pick (eqb k 20) kept (refused k)
+
+unfoldable pub cameOf : Settings → ℕ → List ℕ → List ℕ → Came
+cameOf s Z st p = pick (leb (length p) longest) (cameBy (joining s Z st p room)) over
+
+-- the store behind it
+unfoldable pub storeAfter : Settings → ℕ → List ℕ → List ℕ → List ℕ
+storeAfter s Z st p = pick (leb (length p) longest) (storeJoined s Z st p room) st
+
+-- ---- what is written
+
+-- "4D 4D, a four-octet length"
+unfoldable pub framed : List ℕ → List ℕ
+framed m = 0x4d ∷ 0x4d ∷ (wide 4 (length m) ++ m)
+
+-- a whole packet likewise: its identification, header and body, that is, without its octets 2 to 5
+abbrev pub without : List ℕ → List ℕ
+without p = take 2 p ++ drop 6 p
+
+abbrev pub wrote : List ℕ → Came → List ℕ
+wrote p over = []
+wrote p (refused k) = []
+wrote p kept = []
+wrote p wholly = framed (without p)
+wrote p (message r) = framed (writing r)
+
+-- ---- a step along a recording
+
+-- more octets are wanted; the recording ends; no mark follows; a torn mark or packet follows; a packet, and what it comes to
+pub data Stepped : Type 0 where
+  wanting : Stepped
+  ended : Stepped
+  unmarked : Stepped
+  torn : Stepped
+  came : List ℕ → Came → Stepped
+
+module _ (s : Settings) (Z : ℕ) (st : List ℕ) where
+  -- by what stands there, and whether the recording ends with the octets in hand
+  abbrev pub stepBy : Bool → Found → Stepped
+  stepBy e nothing = pick e ended wanting
+  stepBy e other = unmarked
+  stepBy e cut = pick e torn wanting
+  stepBy e (whole p) = came p (cameOf s Z st p)
+
+  unfoldable pub stepped : List ℕ → Bool → Stepped
+  stepped x e = stepBy e (foundIn x)
+
+  abbrev pub storeBehind : Stepped → List ℕ
+  storeBehind wanting = st
+  storeBehind ended = st
+  storeBehind unmarked = st
+  storeBehind torn = st
+  storeBehind (came p c) = storeAfter s Z st p
+
+-- the octets that a step uses up
+abbrev pub usedBy : Stepped → ℕ
+usedBy wanting = 0
+usedBy ended = 0
+usedBy unmarked = 0
+usedBy torn = 0
+usedBy (came p c) = 2 + length p
+
+abbrev pub writtenBy : Stepped → List ℕ
+writtenBy wanting = []
+writtenBy ended = []
+writtenBy unmarked = []
+writtenBy torn = []
+writtenBy (came p c) = wrote p c

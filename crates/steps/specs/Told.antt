@@ -1,0 +1,49 @@
+-- What a step answers, for what it comes to.
+-- Assumes nothing: these are definitions.
+use Prim.Native.Nat.{ℕ, _+_}
+use mathlib.Core.List.{List}
+use lib.ListN.{length}
+use Rattle.messages.specs.Told.{refusalOf}
+use Rattle.steps.specs.declared.What.{What}
+use Rattle.steps.specs.declared.What.the-variants.{More, Ended, Unmarked, Torn, Passed, Refused, Kept, Whole, Joined}
+use Rattle.steps.specs.declared.Stands.{Stands}
+use Rattle.steps.specs.declared.Stands.the-variants.{Nothing, Other, Cut, Whole as InFull}
+use Rattle.steps.specs.declared.Done.{Done}
+use Rattle.steps.specs.Stepping.{Found, nothing, other, cut, whole, Came, over, refused, kept, wholly, message, wrote, Stepped, wanting, ended, unmarked, torn, came}
+
+abbrev pub standsOf : Found → Stands
+standsOf nothing = Nothing
+standsOf other = Other
+standsOf cut = Cut
+standsOf (whole p) = InFull
+
+abbrev pub whatCame : Came → What
+whatCame over = Passed
+whatCame (refused k) = Refused
+whatCame kept = Kept
+whatCame wholly = Whole
+whatCame (message r) = Joined
+
+-- the refusal of a packet that is passed over for it
+abbrev pub numberCame : Came → ℕ
+numberCame over = 0
+numberCame (refused k) = k
+numberCame kept = 0
+numberCame wholly = 0
+numberCame (message r) = 0
+
+-- a step that uses up no octet and writes none
+abbrev pub still : What → Done
+still w = record { what = w; refusal = refusalOf 0; used = 0; written = 0 }
+
+-- a step over a packet
+abbrev pub doneCame : List ℕ → Came → Done
+doneCame p c =
+    record { what = whatCame c; refusal = refusalOf (numberCame c); used = 2 + length p; written = length (wrote p c) }
+
+abbrev pub doneOf : Stepped → Done
+doneOf wanting = still More
+doneOf ended = still Ended
+doneOf unmarked = still Unmarked
+doneOf torn = still Torn
+doneOf (came p c) = doneCame p c
