@@ -15,7 +15,7 @@ use Rattle.arrival.proofs.Checked.{arrived-open}
 use Rattle.taking.proofs.Checked.{took-open}
 use Rattle.arrival.proofs.Keeps.{arrive-long, arrive-keeps}
 use Rattle.join.specs.declared.Joined.{Joined}
-use Rattle.join.specs.Joining.{Joining, tookAs, joinedBy, storeBy, outBy, joining, storeJoined, outJoined}
+use Rattle.join.specs.Joining.{tookAs, joinedBy, storeBy, outBy, joining, storeJoined, outJoined}
 use Rattle.join.specs.Told.{joinedOf}
 use Rattle.join.specs.Inner.{joinedInBy, storeInBy, outInBy, joiningIn, storeJoinedIn, outJoinedIn}
 use Rattle.join.proofs.Joins.{Joins, JoinsIn}

@@ -18,7 +18,7 @@ use Rattle.arrival.specs.declared.Arrival.{Arrival}
 use Rattle.arrival.specs.declared.Arrival.the-variants.{Answer, Refused}
 use Rattle.taking.specs.declared.Taken.{Taken}
 use Rattle.arrival.proofs.Kind.{the-type}
-use Rattle.arrival.specs.Arriving.{Arrived, whole, stored, again, refused, arrivedIn, arrived, storeWith}
+use Rattle.arrival.specs.Arriving.{Arrived, whole, stored, again, refused, arrivedIn, storeWith}
 use Rattle.taking.specs.Taking.{tookIn, outWith}
 use Rattle.arrival.specs.Told.{arrivalOf}
 use Rattle.taking.specs.Told.{takenOf}

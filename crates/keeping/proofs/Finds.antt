@@ -1,19 +1,15 @@
 -- Where no two cells have equal key and counter, `look` finds each segment that is held.
 -- Assumes nothing.
-use Prim.Native.Nat.{ℕ, zero, suc, _<_}
+use Prim.Native.Nat.{ℕ, _<_}
 use mathlib.Core.Path.{_≡_, refl, ap, sym, _∙_}
-use mathlib.Core.Logic.{⊎-elim, _↔_}
-use mathlib.Core.Bool.{Bool, true, false, not}
+use mathlib.Core.Bool.{true, false}
 use mathlib.Core.List.{List}
 use mathlib.Core.Option.{Option, none, some}
 use native.Mathlib.Omega.{arith}
-use borrow.Author.Tests.{not-true}
-use Rattle.octets.proofs.Lists.{bool, below-or}
 use Rattle.walk.specs.declared.Settings.{Settings}
 use Rattle.cells.specs.Segments.{Seg, carries}
-use Rattle.cells.specs.Rows.{Cell, free, held, broken}
-use Rattle.cells.specs.Order.{carriesIn, cellAt, allTo, newTo, newAt, distinct}
-use Rattle.cells.proofs.Apart.{all-at}
+use Rattle.cells.specs.Rows.{held}
+use Rattle.cells.specs.Order.{carriesIn, cellAt}
 use Rattle.messages.specs.Messages.{cellsOf, look}
 use Rattle.messages.proofs.Listed.{among-below}
 use Rattle.messages.proofs.Looking.{look-none, look-some}

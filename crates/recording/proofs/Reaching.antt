@@ -3,15 +3,14 @@
 -- Assumes nothing.
 use Prim.Native.Nat.{ℕ, zero, suc, _+_, _-_, _*_, _≤_, _<_}
 use mathlib.Core.Path.{_≡_, refl, ap, ap₂, sym, _∙_}
-use mathlib.Core.Logic.{_⊎_, inl, inr}
-use mathlib.Core.Bool.{Bool, true, false}
-use mathlib.Core.List.{List, [], _∷_, _++_, append-nil, append-assoc}
+use mathlib.Core.Logic.{inl, inr}
+use mathlib.Core.Bool.{true}
+use mathlib.Core.List.{List, [], _++_, append-nil, append-assoc}
 use native.Mathlib.Omega.{arith}
 use lib.ListN.{length, take, drop, length-append, length-drop, replicate, length-replicate}
 use lib.Seq.{sets, length-sets, take-all, drop-drop}
-use lib.Dec.{leb}
 use borrow.Author.Tests.{le-leb, lt-leb}
-use Rattle.octets.specs.Octets.{pick, Octets}
+use Rattle.octets.specs.Octets.{Octets}
 use Rattle.octets.proofs.Lists.{sets-append}
 use Rattle.walk.specs.declared.Settings.{Settings}
 use Rattle.cells.specs.Rows.{zeroRow}
@@ -21,8 +20,7 @@ use Rattle.messages.specs.Told.{refusalOf}
 use Rattle.steps.specs.declared.Done.{Done}
 use Rattle.recording.specs.declared.Why.{Why}
 use Rattle.recording.specs.declared.Why.the-variants.{Unsaid}
-use Rattle.recording.specs.declared.Recorded.{Recorded}
-use Rattle.steps.specs.Stepping.{Found, nothing, other, cut, whole, foundIn, room, Stepped, came, stepBy, stepped, storeBehind, usedBy, writtenBy}
+use Rattle.steps.specs.Stepping.{Found, nothing, other, cut, whole, foundIn, room, Stepped, stepBy, stepped, storeBehind, usedBy, writtenBy}
 use Rattle.recording.specs.Recording.{recordedFrom, recorded, settings, cellSize, cellCount, emptyStore}
 use Rattle.steps.specs.Told.{doneOf}
 use Rattle.recording.specs.Ending.{past, reachFrom, reach, whyAt, whyOf, recordedOf, outRecorded}

@@ -1,9 +1,8 @@
 -- What a recording comes to is never longer than the recording: what was written, and what the store weighs, is at most what was used
 -- up.
 -- Assumes nothing.
-use Prim.Native.Nat.{ℕ, zero, suc, _+_, _≤_, _<_}
-use mathlib.Core.Path.{_≡_, refl, ap, sym, _∙_}
-use mathlib.Core.Logic.{_⊎_, inl, inr}
+use Prim.Native.Nat.{ℕ, zero, suc, _+_, _≤_}
+use mathlib.Core.Path.{_≡_, refl, ap, _∙_}
 use mathlib.Core.Bool.{Bool, true, false}
 use mathlib.Core.List.{List}
 use native.Mathlib.Omega.{arith}
@@ -17,12 +16,11 @@ use Rattle.cells.specs.Order.{countIn}
 use Rattle.arrival.specs.Arriving.{Arrived, whole as wholly', stored, again, refused as refused', arrived, storeWith}
 use Rattle.taking.specs.Taking.{Took, message as message', unable, writing, took, storeLess}
 use Rattle.join.specs.Joining.{tookAs, joinedBy, storeBy, joining, storeJoined}
-use Rattle.steps.specs.Stepping.{Found, nothing, other, cut, whole, foundIn, longest, room, over, refused, kept, cameBy, cameOf, storeAfter, without, wrote, Stepped, stepBy, stepped, storeBehind, usedBy, writtenBy}
+use Rattle.steps.specs.Stepping.{Found, nothing, other, cut, whole, foundIn, longest, room, over, refused, kept, cameBy, cameOf, storeAfter, without, wrote, stepBy, stepped, storeBehind, usedBy, writtenBy}
 use Rattle.recording.specs.Recording.{recordedFrom, recorded, settings, cellSize, cellCount, emptyStore}
 use Rattle.steps.proofs.Frames.{framed-long}
 use Rattle.steps.proofs.Showing.{whole-tells}
 use Rattle.steps.proofs.Steps.{used-most}
-use Rattle.recording.proofs.Pieces.{one}
 use Rattle.recording.proofs.Weights.{weighs, weighs-none, arrival-weighs, taking-weighs}
 
 without-less : (p : List ℕ) → 6 ≤ length p → 6 + length (without p) ≤ 2 + length p

@@ -2,7 +2,7 @@
 -- packet has with its mark, and a taking takes off at least what it gives.
 -- Assumes nothing.
 use Prim.Native.Nat.{ℕ, zero, suc, _+_, _≤_, _<_}
-use mathlib.Core.Path.{_≡_, refl, ap, sym, _∙_}
+use mathlib.Core.Path.{_≡_, refl, ap, sym}
 use mathlib.Core.Logic.{_≢_, _⊎_, inl, inr}
 use mathlib.Core.Bool.{Bool, true, false}
 use mathlib.Core.List.{List, [], _∷_, _++_}
@@ -11,14 +11,14 @@ use native.Mathlib.Omega.{arith}
 use lib.ListN.{length, drop, length-append, length-take, length-drop}
 use lib.Dec.{eqb}
 use borrow.Author.Tests.{ne-eqb}
-use Rattle.octets.specs.Octets.{pick, Octets, alike}
+use Rattle.octets.specs.Octets.{pick, Octets}
 use Rattle.walk.specs.declared.Settings.{Settings}
 use Rattle.packet.specs.Reading.{readPacket}
 use Rattle.packet.specs.Format.{identification, headerOctets}
 use Rattle.format.specs.Told.{valuesOf}
 use Rattle.format.proofs.Frame.{identification-long}
 use Rattle.format.proofs.Accepting.{accepted}
-use Rattle.cells.specs.Segments.{Seg, segOf, carries, both}
+use Rattle.cells.specs.Segments.{Seg, segOf, carries}
 use Rattle.cells.specs.Rows.{Cell, free, held, broken}
 use Rattle.cells.specs.Order.{cellAt, countIn}
 use Rattle.messages.specs.Messages.{listed, look, Role, first, middle, last, roleOf, Run, bodies, segments, linkBy, link, chain, or, among, amongIn, top}
@@ -29,7 +29,7 @@ use Rattle.messages.proofs.Listed.{Among, among-cases, among-first, among-more}
 use Rattle.messages.proofs.Looking.{look-some}
 use Rattle.messages.proofs.Order.{cells-inside}
 use Rattle.messages.proofs.Members.{opening}
-use Rattle.arrival.proofs.After.{segment, stored-tells, stored-free, cell-kept, cell-stored}
+use Rattle.arrival.proofs.After.{segment, stored-tells, cell-kept, cell-stored}
 use Rattle.arrival.proofs.Keeps.{arrive-long, arrived-tells}
 use Rattle.taking.proofs.Keeps.{cell-taken, take-long}
 use Rattle.taking.proofs.Tells.{taken-tells}

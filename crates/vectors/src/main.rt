@@ -11,8 +11,8 @@
 // part; then the store, a bar and the output, as they are after the call. Octets are in hex, two or more equal ones as `xx*n,`. Where
 // there is no such call the line has no numbers. The run ends with the input, or at a case that is too long for the buffer.
 //
-// Module case reads a case, print writes; the others have the calls, most of them by way of `flat` and `flat_store`, whose answers
-// are lists of numbers. A new call is a function beside the others, and a line of the function here that has its buffers.
+// Module case reads a case, print writes; the others have the calls, most of them by way of `flat`, `flat_store` and `flat_recording`,
+// whose answers are lists of numbers. A new call is a function beside the others, and a line of the function here that has its buffers.
 mod case;
 mod joins;
 mod packets;

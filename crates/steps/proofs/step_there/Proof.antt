@@ -5,7 +5,6 @@ use Prim.Native.Nat.{_+_, _-_}
 use native.Mathlib.Omega.{arith}
 use lib.ListN.{length, drop, length-drop}
 use lib.Seq.{length-take-le}
-use Rattle.steps.specs.Stepping.{room}
 use Rattle.steps.proofs.Spare.{there-out}
 use borrow.Author.Needs.{needs}
 use Rattle.steps.proofs.step_there.Statement.{statement}
