@@ -127,30 +127,20 @@ fn test_message(
     s: Settings,
     p: usize,
     v: HeaderValues,
-    timestamp: &[u8],
+    time: &[u8],
     zone: &[u8],
     name: &[u8],
     domain: &[u8],
     lengths: &[u64],
-    authentication: &[u8],
+    id: &[u8],
     sender: Sender,
 ) -> Refusal
-    ensures { λ q. ⌜ q ≡ partsTest (lent (now (timestamp .entry)) (now (zone .entry)) (now (name .entry)) (now (domain .entry)) (now (lengths .entry)) (now (authentication .entry))) (valueTests s v (lent (now (timestamp .entry)) (now (zone .entry)) (now (name .entry)) (now (domain .entry)) (now (lengths .entry)) (now (authentication .entry))) sender (limitTest s p noRefusal)) ⌝ }
+    ensures { λ q. ⌜ q ≡ partsTest (lent (now (time .entry)) (now (zone .entry)) (now (name .entry)) (now (domain .entry)) (now (lengths .entry)) (now (id .entry))) (valueTests s v (lent (now (time .entry)) (now (zone .entry)) (now (name .entry)) (now (domain .entry)) (now (lengths .entry)) (now (id .entry))) sender (limitTest s p noRefusal)) ⌝ }
 {
     let none = Refusal { number: 0 };
     let count = sender.count;
     let a = test_limit(s, p, none);
-    let b = write::test_header(
-        s,
-        v,
-        timestamp,
-        zone,
-        name,
-        domain,
-        lengths,
-        authentication,
-        a,
-    );
+    let b = write::test_header(s, v, time, zone, name, domain, lengths, id, a);
     let c = walk::unless(b, count.0 <= packet::COUNT_MOST, 22);
     write::test_parts(lengths.len(), c)
 }
@@ -361,30 +351,19 @@ pub fn count(
     s: Settings,
     p: usize,
     v: HeaderValues,
-    timestamp: &[u8],
+    time: &[u8],
     zone: &[u8],
     name: &[u8],
     domain: &[u8],
     lengths: &[u64],
-    authentication: &[u8],
+    id: &[u8],
     body: usize,
     sender: Sender,
 ) -> Counted
-    ensures { λ r. ⌜ r ≡ countAnswer s p v (lent (now (timestamp .entry)) (now (zone .entry)) (now (name .entry)) (now (domain .entry)) (now (lengths .entry)) (now (authentication .entry))) body sender ⌝ }
+    ensures { λ r. ⌜ r ≡ countAnswer s p v (lent (now (time .entry)) (now (zone .entry)) (now (name .entry)) (now (domain .entry)) (now (lengths .entry)) (now (id .entry))) body sender ⌝ }
 {
-    let values = test_message(
-        s,
-        p,
-        v,
-        timestamp,
-        zone,
-        name,
-        domain,
-        lengths,
-        authentication,
-        sender,
-    );
-    let h = write::header_size(s, v, timestamp, zone, name, domain, lengths, authentication);
+    let values = test_message(s, p, v, time, zone, name, domain, lengths, id, sender);
+    let h = write::header_size(s, v, time, zone, name, domain, lengths, id);
     let plan = plan_of(p, h, body, sender, values);
     let refusal = plan.refusal;
     if refusal.number != 0 {
@@ -418,33 +397,22 @@ pub fn packet(
     s: Settings,
     p: usize,
     v: HeaderValues,
-    timestamp: &[u8],
+    time: &[u8],
     zone: &[u8],
     name: &[u8],
     domain: &[u8],
     lengths: &[u64],
-    authentication: &[u8],
+    id: &[u8],
     body: &[u8],
     sender: Sender,
     i: usize,
     out: &mut [u8],
 ) -> Cut
-    ensures answer { λ r. ⌜ r ≡ packetAnswer s p v (lent (now (timestamp .entry)) (now (zone .entry)) (now (name .entry)) (now (domain .entry)) (now (lengths .entry)) (now (authentication .entry))) (now (body .entry)) sender i (length (now (out .entry))) ⌝ }
-    ensures octets { λ r. ⌜ now (out .exit) ≡ packetOutput s p v (lent (now (timestamp .entry)) (now (zone .entry)) (now (name .entry)) (now (domain .entry)) (now (lengths .entry)) (now (authentication .entry))) (now (body .entry)) sender i (now (out .entry)) ⌝ }
+    ensures answer { λ r. ⌜ r ≡ packetAnswer s p v (lent (now (time .entry)) (now (zone .entry)) (now (name .entry)) (now (domain .entry)) (now (lengths .entry)) (now (id .entry))) (now (body .entry)) sender i (length (now (out .entry))) ⌝ }
+    ensures octets { λ r. ⌜ now (out .exit) ≡ packetOutput s p v (lent (now (time .entry)) (now (zone .entry)) (now (name .entry)) (now (domain .entry)) (now (lengths .entry)) (now (id .entry))) (now (body .entry)) sender i (now (out .entry)) ⌝ }
 {
-    let values = test_message(
-        s,
-        p,
-        v,
-        timestamp,
-        zone,
-        name,
-        domain,
-        lengths,
-        authentication,
-        sender,
-    );
-    let h = write::header_size(s, v, timestamp, zone, name, domain, lengths, authentication);
+    let values = test_message(s, p, v, time, zone, name, domain, lengths, id, sender);
+    let h = write::header_size(s, v, time, zone, name, domain, lengths, id);
     let plan = plan_of(p, h, body.len(), sender, values);
     let o = values_at(plan.single, plan.count, sender, i);
     let from = from_of(plan.single, plan.chunk, i, body.len());
@@ -456,20 +424,8 @@ pub fn packet(
     if r.number != 0 {
         return refused(r, sender);
     }
-    write::put_packet(
-        s,
-        out,
-        v,
-        o,
-        size - 7,
-        timestamp,
-        zone,
-        name,
-        domain,
-        lengths,
-        authentication,
-        part,
-    );
+    let n = size - 7;
+    write::put_packet(s, out, v, o, n, time, zone, name, domain, lengths, id, part);
     Cut {
         refusal: r,
         length: size,

@@ -3,6 +3,7 @@
 // `write` takes any settings, values, texts, body and output. It answers the octets written, from the output's first octet on, or
 // one refusal, and then the output is as it was. A number that document 01 limits is held in a type wide enough for a bad value,
 // which is 22 and never cut off. The domain is one lent text and the lengths of its parts.
+// As parameters, `time` is the timestamp, `zone` the network zone, `name` the session name and `id` the authentication id.
 //
 // Every test is made on the values as they are given; sizes are told up to one above the largest packet, so nothing overflows.
 // The pieces of the packet are then laid one after another. `cut` uses the parts marked inner.
@@ -195,53 +196,43 @@ fn test_ids(v: HeaderValues, r: Refusal) -> Refusal
 fn test_texts(
     s: Settings,
     v: HeaderValues,
-    timestamp: &[u8],
+    time: &[u8],
     zone: &[u8],
     name: &[u8],
     domain: &[u8],
     lengths: &[u64],
-    authentication: &[u8],
+    id: &[u8],
     r: Refusal,
 ) -> Refusal
-    ensures { λ q. ⌜ q ≡ unlessAll (textChecks s v (lent (now (timestamp .entry)) (now (zone .entry)) (now (name .entry)) (now (domain .entry)) (now (lengths .entry)) (now (authentication .entry)))) 22 r ⌝ }
+    ensures { λ q. ⌜ q ≡ unlessAll (textChecks s v (lent (now (time .entry)) (now (zone .entry)) (now (name .entry)) (now (domain .entry)) (now (lengths .entry)) (now (id .entry)))) 22 r ⌝ }
 {
     let has = v.has;
-    let a = walk::unless(r, exact_fits(has.timestamp, timestamp.len(), s.t), 22);
+    let a = walk::unless(r, exact_fits(has.timestamp, time.len(), s.t), 22);
     let b = walk::unless(a, text_fits(has.zone, zone.len()), 22);
     let c = walk::unless(b, text_fits(has.session, name.len()), 22);
     let d = walk::unless(c, text_fits(has.domain, domain.len()), 22);
     let e = walk::unless(d, lengths_fit(has.domain, lengths, domain.len()), 22);
-    walk::unless(e, text_fits(has.authentication, authentication.len()), 22)
+    walk::unless(e, text_fits(has.authentication, id.len()), 22)
 }
 
 // 22, as far as a header's values go: the one list of its checks.
 pub fn test_header(
     s: Settings,
     v: HeaderValues,
-    timestamp: &[u8],
+    time: &[u8],
     zone: &[u8],
     name: &[u8],
     domain: &[u8],
     lengths: &[u64],
-    authentication: &[u8],
+    id: &[u8],
     r: Refusal,
 ) -> Refusal
-    ensures { λ q. ⌜ q ≡ unlessAll (headerChecks s v (lent (now (timestamp .entry)) (now (zone .entry)) (now (name .entry)) (now (domain .entry)) (now (lengths .entry)) (now (authentication .entry)))) 22 r ⌝ }
+    ensures { λ q. ⌜ q ≡ unlessAll (headerChecks s v (lent (now (time .entry)) (now (zone .entry)) (now (name .entry)) (now (domain .entry)) (now (lengths .entry)) (now (id .entry)))) 22 r ⌝ }
 {
     let a = test_names(v, r);
     let b = test_routing(v, a);
     let c = test_ids(v, b);
-    test_texts(
-        s,
-        v,
-        timestamp,
-        zone,
-        name,
-        domain,
-        lengths,
-        authentication,
-        c,
-    )
+    test_texts(s, v, time, zone, name, domain, lengths, id, c)
 }
 
 // Whether the sequence flags aren't 11.
@@ -293,12 +284,12 @@ fn front_size(has: Present) -> usize
 }
 
 // Priority, timestamp, zone.
-fn middle_size(s: Settings, v: HeaderValues, timestamp: usize, zone: usize) -> usize
-    ensures { λ r. ⌜ r ≡ middleSize s v timestamp zone ⌝ }
+fn middle_size(s: Settings, v: HeaderValues, time: usize, zone: usize) -> usize
+    ensures { λ r. ⌜ r ≡ middleSize s v time zone ⌝ }
 {
     let has = v.has;
     let a = size_if(has.priority, fields::number_size(s, v.priority));
-    let b = size_if(has.timestamp, timestamp);
+    let b = size_if(has.timestamp, time);
     let c = size_if(has.zone, fields::text_size(s, zone));
     fields::plus(a, fields::plus(b, c))
 }
@@ -310,13 +301,13 @@ fn end_size(
     name: usize,
     domain: &[u8],
     lengths: &[u64],
-    authentication: usize,
+    id: usize,
 ) -> usize
-    ensures { λ r. ⌜ r ≡ endSize s has name (now (domain .entry)) (now (lengths .entry)) authentication ⌝ }
+    ensures { λ r. ⌜ r ≡ endSize s has name (now (domain .entry)) (now (lengths .entry)) id ⌝ }
 {
     let a = size_if(has.session, fields::text_size(s, name));
     let b = size_if(has.domain, fields::domain_size(s, domain, lengths));
-    let c = size_if(has.authentication, fields::text_size(s, authentication));
+    let c = size_if(has.authentication, fields::text_size(s, id));
     fields::plus(a, fields::plus(b, c))
 }
 
@@ -324,19 +315,19 @@ fn end_size(
 pub fn header_size(
     s: Settings,
     v: HeaderValues,
-    timestamp: &[u8],
+    time: &[u8],
     zone: &[u8],
     name: &[u8],
     domain: &[u8],
     lengths: &[u64],
-    authentication: &[u8],
+    id: &[u8],
 ) -> usize
-    ensures { λ r. ⌜ r ≡ capped (length (headerOctets s (headOf v (lent (now (timestamp .entry)) (now (zone .entry)) (now (name .entry)) (now (domain .entry)) (now (lengths .entry)) (now (authentication .entry)))))) ⌝ }
+    ensures { λ r. ⌜ r ≡ capped (length (headerOctets s (headOf v (lent (now (time .entry)) (now (zone .entry)) (now (name .entry)) (now (domain .entry)) (now (lengths .entry)) (now (id .entry)))))) ⌝ }
 {
     let has = v.has;
     let a = 21 + front_size(has);
-    let b = middle_size(s, v, timestamp.len(), zone.len());
-    let c = end_size(s, has, name.len(), domain, lengths, authentication.len());
+    let b = middle_size(s, v, time.len(), zone.len());
+    let c = end_size(s, has, name.len(), domain, lengths, id.len());
     fields::plus(a, fields::plus(b, c))
 }
 
@@ -479,14 +470,14 @@ fn put_middle(
     out: &mut [u8],
     at: usize,
     v: HeaderValues,
-    timestamp: &[u8],
+    time: &[u8],
     zone: &[u8],
 ) -> usize
-    ensures { λ r. ⌜ Lays (laid (now (out .entry)) at) (middlePieces s v (now (timestamp .entry)) (now (zone .entry))) (now (out .exit)) r ⌝ }
+    ensures { λ r. ⌜ Lays (laid (now (out .entry)) at) (middlePieces s v (now (time .entry)) (now (zone .entry))) (now (out .exit)) r ⌝ }
 {
     let has = v.has;
     let a = number_if(has.priority, s, out, at, v.priority);
-    let b = block_if(has.timestamp, out, a, timestamp);
+    let b = block_if(has.timestamp, out, a, time);
     text_if(has.zone, s, out, b, zone)
 }
 
@@ -499,13 +490,13 @@ fn put_end(
     name: &[u8],
     domain: &[u8],
     lengths: &[u64],
-    authentication: &[u8],
+    id: &[u8],
 ) -> usize
-    ensures { λ r. ⌜ Lays (laid (now (out .entry)) at) (endPieces s has (now (name .entry)) (now (domain .entry)) (now (lengths .entry)) (now (authentication .entry))) (now (out .exit)) r ⌝ }
+    ensures { λ r. ⌜ Lays (laid (now (out .entry)) at) (endPieces s has (now (name .entry)) (now (domain .entry)) (now (lengths .entry)) (now (id .entry))) (now (out .exit)) r ⌝ }
 {
     let a = text_if(has.session, s, out, at, name);
     let b = domain_if(has.domain, s, out, a, domain, lengths);
-    blob_if(has.authentication, s, out, b, authentication)
+    blob_if(has.authentication, s, out, b, id)
 }
 
 // The whole packet from the first octet on; n is its length field. The place behind it.
@@ -515,23 +506,23 @@ pub fn put_packet(
     v: HeaderValues,
     o: PacketValues,
     n: usize,
-    timestamp: &[u8],
+    time: &[u8],
     zone: &[u8],
     name: &[u8],
     domain: &[u8],
     lengths: &[u64],
-    authentication: &[u8],
+    id: &[u8],
     body: &[u8],
 ) -> usize
-    ensures { λ r. ⌜ Lays (laid (now (out .entry)) 0) (packetPieces s v o (lent (now (timestamp .entry)) (now (zone .entry)) (now (name .entry)) (now (domain .entry)) (now (lengths .entry)) (now (authentication .entry))) n (now (body .entry))) (now (out .exit)) r ⌝ }
+    ensures { λ r. ⌜ Lays (laid (now (out .entry)) 0) (packetPieces s v o (lent (now (time .entry)) (now (zone .entry)) (now (name .entry)) (now (domain .entry)) (now (lengths .entry)) (now (id .entry))) n (now (body .entry))) (now (out .exit)) r ⌝ }
 {
     let has = v.has;
     let a = put_primary(out, v, o, n);
     let b = put_names(out, a, v);
     let c = put_routing(out, b, v);
     let d = put_front(out, c, v, o);
-    let e = put_middle(s, out, d, v, timestamp, zone);
-    let f = put_end(s, out, e, has, name, domain, lengths, authentication);
+    let e = put_middle(s, out, d, v, time, zone);
+    let f = put_end(s, out, e, has, name, domain, lengths, id);
     octets::lay(out, f, body)
 }
 
@@ -580,28 +571,18 @@ fn test_values(
     s: Settings,
     v: HeaderValues,
     o: PacketValues,
-    timestamp: &[u8],
+    time: &[u8],
     zone: &[u8],
     name: &[u8],
     domain: &[u8],
     lengths: &[u64],
-    authentication: &[u8],
+    id: &[u8],
 ) -> Refusal
-    ensures { λ q. ⌜ q ≡ valueRefusal s v o (lent (now (timestamp .entry)) (now (zone .entry)) (now (name .entry)) (now (domain .entry)) (now (lengths .entry)) (now (authentication .entry))) ⌝ }
+    ensures { λ q. ⌜ q ≡ valueRefusal s v o (lent (now (time .entry)) (now (zone .entry)) (now (name .entry)) (now (domain .entry)) (now (lengths .entry)) (now (id .entry))) ⌝ }
 {
     let none = Refusal { number: 0 };
     let a = test_settings(s, none);
-    let b = test_header(
-        s,
-        v,
-        timestamp,
-        zone,
-        name,
-        domain,
-        lengths,
-        authentication,
-        a,
-    );
+    let b = test_header(s, v, time, zone, name, domain, lengths, id, a);
     let c = test_packet(o, b);
     test_parts(lengths.len(), c)
 }
@@ -611,30 +592,20 @@ pub fn write(
     s: Settings,
     v: HeaderValues,
     o: PacketValues,
-    timestamp: &[u8],
+    time: &[u8],
     zone: &[u8],
     name: &[u8],
     domain: &[u8],
     lengths: &[u64],
-    authentication: &[u8],
+    id: &[u8],
     body: &[u8],
     out: &mut [u8],
 ) -> Written
-    ensures answer { λ r. ⌜ r ≡ writeAnswer s v o (lent (now (timestamp .entry)) (now (zone .entry)) (now (name .entry)) (now (domain .entry)) (now (lengths .entry)) (now (authentication .entry))) (now (body .entry)) (length (now (out .entry))) ⌝ }
-    ensures octets { λ r. ⌜ now (out .exit) ≡ writeOutput s v o (lent (now (timestamp .entry)) (now (zone .entry)) (now (name .entry)) (now (domain .entry)) (now (lengths .entry)) (now (authentication .entry))) (now (body .entry)) (now (out .entry)) ⌝ }
+    ensures answer { λ r. ⌜ r ≡ writeAnswer s v o (lent (now (time .entry)) (now (zone .entry)) (now (name .entry)) (now (domain .entry)) (now (lengths .entry)) (now (id .entry))) (now (body .entry)) (length (now (out .entry))) ⌝ }
+    ensures octets { λ r. ⌜ now (out .exit) ≡ writeOutput s v o (lent (now (time .entry)) (now (zone .entry)) (now (name .entry)) (now (domain .entry)) (now (lengths .entry)) (now (id .entry))) (now (body .entry)) (now (out .entry)) ⌝ }
 {
-    let values = test_values(
-        s,
-        v,
-        o,
-        timestamp,
-        zone,
-        name,
-        domain,
-        lengths,
-        authentication,
-    );
-    let h = header_size(s, v, timestamp, zone, name, domain, lengths, authentication);
+    let values = test_values(s, v, o, time, zone, name, domain, lengths, id);
+    let h = header_size(s, v, time, zone, name, domain, lengths, id);
     let second = secondary_size(h, o.flags);
     let size = packet_size(second, body.len());
     let r = test_sizes(second, size, o.flags, body.len(), out.len(), values);
@@ -644,20 +615,8 @@ pub fn write(
             length: 0,
         };
     }
-    put_packet(
-        s,
-        out,
-        v,
-        o,
-        size - 7,
-        timestamp,
-        zone,
-        name,
-        domain,
-        lengths,
-        authentication,
-        body,
-    );
+    let n = size - 7;
+    put_packet(s, out, v, o, n, time, zone, name, domain, lengths, id, body);
     Written {
         refusal: r,
         length: size,
