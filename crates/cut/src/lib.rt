@@ -18,7 +18,6 @@ ghost use Rattle.write.specs.Given.{lent};
 ghost use Rattle.cut.specs.Sending.{afterPacket, afterSegment, afterSegments, nextCounter, countersFit};
 ghost use Rattle.cut.specs.Cutting.{limitTest, valueTests, chunk as chunkOf, rounded, flagsAt, countAnswer, packetAnswer, packetOutput};
 ghost use Rattle.cut.specs.Inner.{packetsOf, planOf, counterAfter, counterOf, fromOf, toOf, countOf, valuesOf};
-ghost use mathlib.Core.Bool.{true};
 ghost use Rattle.write.specs.Writing.{partsTest};
 ghost use Rattle.walk.specs.Walk.{noRefusal};
 use packet::SegmentCounter;
@@ -180,21 +179,11 @@ fn counters_fit(next: Next, n: usize) -> bool
 {
     match next {
         Next::At(c) => {
-            let left = 4294967296 - write::wide32(c.0);
+            let left = 4294967296 - c.0 as u64;
             n as u64 <= left
         }
         Next::NoneLeft => false,
     }
-}
-
-// Held by one packet, or else by a test.
-fn or_single(single: bool, ok: bool) -> bool
-    ensures { λ r. ⌜ r ≡ pick single true ok ⌝ }
-{
-    if single {
-        return true;
-    }
-    ok
 }
 
 // The secondary header as it will stand in a packet.
@@ -217,8 +206,8 @@ fn plan_of(p: usize, h: usize, b: usize, sender: Sender, r: Refusal) -> Plan
     let next = sender.next;
     let a = walk::unless(r, b <= BODY_MOST, 23);
     let c = walk::unless(a, header_of(single, h) <= write::HEADER_MOST, 12);
-    let d = walk::unless(c, or_single(single, 1 <= chunk), 24);
-    let e = walk::unless(d, or_single(single, counters_fit(next, count)), 25);
+    let d = walk::unless(c, octets::either(single, 1 <= chunk), 24);
+    let e = walk::unless(d, octets::either(single, counters_fit(next, count)), 25);
     Plan {
         refusal: e,
         single: single,
@@ -236,7 +225,7 @@ fn counter_after(next: Next, n: usize) -> Next
     match next {
         Next::At(c) => {
             let x = c.0;
-            let left = write::wide32(COUNTER_MOST - x);
+            let left = (COUNTER_MOST - x) as u64;
             if n as u64 <= left {
                 return Next::At(SegmentCounter(x + n as u32));
             }
@@ -261,7 +250,7 @@ fn counter_at(single: bool, next: Next, i: usize) -> SegmentCounter
     match next {
         Next::At(c) => {
             let x = c.0;
-            let left = write::wide32(COUNTER_MOST - x);
+            let left = (COUNTER_MOST - x) as u64;
             if single {
                 return SegmentCounter(0);
             }

@@ -9,14 +9,13 @@ use native.Mathlib.Omega.{arith}
 use lib.ListN.{length}
 use lib.Dec.{eqb}
 use lib.Seq.{length-sets}
-use borrow.Author.Tests.{eqb-true, eqb-false}
 use Rattle.octets.specs.Octets.{pick}
-use Rattle.octets.proofs.Lists.{bool}
 use Rattle.walk.specs.declared.Settings.{Settings}
 use Rattle.walk.specs.Walk.{begun}
 use Rattle.cells.specs.Segments.{Seg, carries}
 use Rattle.cells.specs.Rows.{Cell, free, held, heldRow}
 use Rattle.cells.specs.Order.{isSound, carriesIn, cellAt, countIn, inOrder}
+use Rattle.cells.proofs.Lowest.{same-or}
 use Rattle.messages.specs.Messages.{Run, segments, amongIn}
 use Rattle.arrival.specs.Arriving.{Arrived, whole, stored, again, refused, arrivedIn, arrived, storeWith}
 use Rattle.taking.specs.Taking.{Took, message, unable, took, storeLess}
@@ -29,13 +28,6 @@ use Rattle.keeping.proofs.Looking.{look-none}
 use Rattle.messages.proofs.Distinct.{Apart}
 use Rattle.keeping.proofs.Order.{cells-inside, Ordered, order-tells, order-same}
 use Rattle.keeping.proofs.After.{segment, Stored, not-refused, stored-tells, cell-kept, cell-stored, cell-taken}
-
-same-or : (i j : ℕ) → (i ≡ j) ⊎ (i ≢ j)
-same-or i j = go (bool (eqb i j))
-  where
-    go : (eqb i j ≡ true) ⊎ (eqb i j ≡ false) → (i ≡ j) ⊎ (i ≢ j)
-    go (inl e) = inl (eqb-true i j e)
-    go (inr e) = inr (eqb-false i j e)
 
 -- ---- no call changes the length
 

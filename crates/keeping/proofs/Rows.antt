@@ -9,11 +9,12 @@ use mathlib.Core.List.{List, [], _∷_, _++_, append-assoc}
 use native.Mathlib.Omega.{arith}
 use native.Mathlib.Nat.{mul-le-mul-right, suc-mul}
 use lib.ListN.{length, take, drop, set, length-replicate}
-use lib.Seq.{sets, sets-eq, length-sets, length-take-le, take-at, drop-at, take-set-le, drop-set-lt, drop-set-add}
+use lib.Seq.{sets, sets-eq, length-sets, length-take-le, take-at, drop-at, take-set-le, drop-set-add}
 use Rattle.octets.specs.Octets.{pick, part}
 use Rattle.octets.proofs.Lists.{below-or}
 use Rattle.cells.specs.Rows.{rowAt, zeroRow}
 use Rattle.taking.specs.Taking.{clearedTo}
+use Rattle.taking.proofs.Clearing.{drop-behind}
 
 -- ---- a part of a list over which another was laid
 
@@ -33,10 +34,6 @@ part-set l at v a n h =
 part-before : (l : List ℕ) (at : ℕ) (x : List ℕ) (a n : ℕ) → a + n ≤ at → part (sets l at x) a n ≡ part l a n
 part-before l at [] a n h = refl
 part-before l at (v ∷ x) a n h = part-before (set l at v) (suc at) x a n (omega arith) ∙ part-set l at v a n h
-
-drop-behind : (l : List ℕ) (at : ℕ) (x : List ℕ) (a : ℕ) → at + length x ≤ a → drop a (sets l at x) ≡ drop a l
-drop-behind l at [] a h = refl
-drop-behind l at (v ∷ x) a h = drop-behind (set l at v) (suc at) x a (omega arith) ∙ drop-set-lt a l at v (omega arith)
 
 -- ---- a row written
 

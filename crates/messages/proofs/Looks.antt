@@ -16,11 +16,11 @@ use Rattle.messages.specs.Messages.{listed, orElse, heldAs, look}
 
 -- ---- the lowest
 
-lowest-here : (f : ℕ → Bool) (n i : ℕ) → f i ≡ true → lowest f (suc n) i ≡ i
+pub lowest-here : (f : ℕ → Bool) (n i : ℕ) → f i ≡ true → lowest f (suc n) i ≡ i
 unfolding lowest
 lowest-here f n i e = ap (λ (b : Bool). pick b i (lowest f n (suc i))) e
 
-lowest-on : (f : ℕ → Bool) (n i : ℕ) → f i ≡ false → lowest f (suc n) i ≡ lowest f n (suc i)
+pub lowest-on : (f : ℕ → Bool) (n i : ℕ) → f i ≡ false → lowest f (suc n) i ≡ lowest f n (suc i)
 unfolding lowest
 lowest-on f n i e = ap (λ (b : Bool). pick b i (lowest f n (suc i))) e
 

@@ -7,12 +7,12 @@ use mathlib.Core.Logic.{inl}
 use mathlib.Core.List.{List, [], _∷_, _++_, append-nil}
 use Rattle.octets.specs.Octets.{number, alike, wide}
 use Rattle.format.proofs.Figure14.{packet, reads}
-use Rattle.cells.specs.Order.{countIn}
+use Rattle.cells.specs.Order.{countIn, cellSize}
 use Rattle.arrival.specs.Arriving.{Arrived, whole, arrivedIn, arrived}
 use Rattle.store.specs.Inner.{gate}
 use Rattle.store.proofs.Opening.{arrived-open}
 use Rattle.join.specs.Joining.{joinedBy, joining}
-use Rattle.recording.specs.Recording.{room, wholly, cameBy, cameOf, framed, without, foundIn, came, stepped, storeBehind, recordedFrom, recorded, settings, cellSize, emptyStore}
+use Rattle.recording.specs.Recording.{room, wholly, cameBy, cameOf, framed, without, foundIn, came, stepped, storeBehind, recordedFrom, recorded, settings, emptyStore}
 use Rattle.recording.proofs.Kept.{begin-gate}
 use Rattle.recording.proofs.Pieces.{one, stops, nothing-ends, goOn}
 

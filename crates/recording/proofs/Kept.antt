@@ -1,21 +1,21 @@
 -- A step keeps the store in order and as long as it was, so that the next step may follow; and a program begins with such a store.
 -- Assumes nothing.
-use Prim.Native.Nat.{ℕ, _/_}
+use Prim.Native.Nat.{ℕ, _+_, _/_, _≤_}
 use mathlib.Core.Path.{_≡_, refl, ap, sym, _∙_}
 use mathlib.Core.Bool.{Bool, true, false}
 use mathlib.Core.List.{List}
 use native.Mathlib.Omega.{arith}
-use lib.ListN.{length}
+use lib.ListN.{length, replicate, length-replicate}
 use lib.Dec.{leb}
 use Rattle.octets.specs.Octets.{pick}
 use Rattle.walk.specs.declared.Settings.{Settings}
 use Rattle.walk.specs.Walk.{begun, check}
-use Rattle.cells.specs.Order.{countIn}
+use Rattle.cells.specs.Order.{countIn, cellSize}
 use Rattle.store.specs.Inner.{gate}
 use Rattle.keeping.proofs.Empty.{empty-order, empty-count}
 use Rattle.join.specs.Joining.{storeJoined}
 use Rattle.join.proofs.Kept.{join-gate, join-long}
-use Rattle.recording.specs.Recording.{longest, room, storeAfter, Stepped, wanting, ended, unmarked, torn, came, storeBehind, settings, cellSize, cellCount, emptyStore}
+use Rattle.recording.specs.Recording.{longest, room, storeAfter, Stepped, wanting, ended, unmarked, torn, came, storeBehind, settings, cellCount, emptyStore}
 
 module _ (s : Settings) (Z : ℕ) (st : List ℕ) where
   after-gate : (p : List ℕ) → gate s Z st ≡ 0 → gate s Z (storeAfter s Z st p) ≡ 0
@@ -61,3 +61,7 @@ begin-count = sym (empty-count settings cellSize cellCount (omega arith))
 pub begin-gate : gate settings cellSize emptyStore ≡ 0
 unfolding gate begun check
 begin-gate = rw (empty-order settings cellSize cellCount (omega arith) (omega arith) (omega arith)) refl
+
+-- the room for a message and its frame
+pub spare-begins : {l : List ℕ} → l ≡ replicate 65542 0 → 6 + room ≤ length l
+spare-begins e = omega (arith, ap length e, length-replicate {A = ℕ} 65542 0)

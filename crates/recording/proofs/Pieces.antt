@@ -18,7 +18,8 @@ use Rattle.octets.proofs.Numbers.{number-top}
 use Rattle.walk.specs.declared.Settings.{Settings}
 use Rattle.cells.specs.Rows.{sizeIn}
 use Rattle.cells.proofs.Held.{both-true}
-use Rattle.recording.specs.Recording.{Found, nothing, other, cut, whole, begins, foundIn, Came, cameOf, wrote, Stepped, wanting, ended, unmarked, torn, came, stepBy, stepped, storeBehind, usedBy, writtenBy, recordedFrom, recorded, settings, cellSize, emptyStore}
+use Rattle.cells.specs.Order.{cellSize}
+use Rattle.recording.specs.Recording.{Found, nothing, other, cut, whole, begins, foundIn, Came, cameOf, wrote, Stepped, wanting, ended, unmarked, torn, came, stepBy, stepped, storeBehind, usedBy, writtenBy, recordedFrom, recorded, settings, emptyStore}
 use Rattle.recording.specs.Handing.{Hand, inHand, endsWith, Outcome, onward, handed}
 use Rattle.recording.proofs.Places.{found-nothing, found-cut}
 use Rattle.recording.proofs.Showing.{other-more, whole-more, cut-tells, nothing-tells}

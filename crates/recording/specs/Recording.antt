@@ -11,6 +11,7 @@ use lib.Dec.{leb, eqb}
 use Rattle.octets.specs.Octets.{pick, alike, wide}
 use Rattle.walk.specs.declared.Settings.{Settings}
 use Rattle.cells.specs.Rows.{sizeIn, packetIn}
+use Rattle.cells.specs.Order.{cellSize}
 use Rattle.messages.specs.Messages.{Run}
 use Rattle.taking.specs.Taking.{writing}
 use Rattle.join.specs.Joining.{Joining, inPacket, inOutput, unjoined, joining, storeJoined}
@@ -143,9 +144,6 @@ recordedFrom s Z (suc f) st x =
 -- "T 8 and 32 cells"
 abbrev pub settings : Settings
 settings = record { t = 8 }
-
-abbrev pub cellSize : ℕ
-cellSize = 1024
 
 abbrev pub cellCount : ℕ
 cellCount = 32

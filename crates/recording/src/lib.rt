@@ -15,14 +15,15 @@ ghost use lib.ListN.{length};
 ghost use lib.Seq.{sets};
 ghost use Rattle.octets.specs.Octets.{part, wide};
 ghost use Rattle.cells.specs.Rows.{zeroRow};
-ghost use Rattle.cells.specs.Order.{countIn};
+ghost use Rattle.cells.specs.Order.{countIn, cellSize};
 ghost use Rattle.store.specs.Inner.{gate};
 ghost use Rattle.join.specs.Joining.{joining, storeJoined};
 ghost use Rattle.join.specs.Told.{joinedOf};
-ghost use Rattle.recording.specs.Recording.{foundIn, begins, room, longest, cameOf, cameBy, storeAfter, without, wrote, stepped, storeBehind, writtenBy, recorded, cellSize, emptyStore};
+ghost use Rattle.recording.specs.Recording.{foundIn, begins, room, longest, cameOf, cameBy, storeAfter, without, wrote, stepped, storeBehind, writtenBy, recorded, emptyStore};
 ghost use Rattle.recording.specs.Told.{standsOf, still as stillAs, doneCame, doneOf};
 ghost use Rattle.recording.specs.Inner.{takenIn, leftAs, framedAs, stopAs};
 ghost use Rattle.recording.specs.Ending.{reach, whyAt, recordedOf, outRecorded};
+use cells::CELL;
 use join::Joined;
 use join::Which;
 use walk::Refusal;
@@ -38,12 +39,12 @@ pub const ROOM: usize = 65536;
 pub const FRAME: usize = 6;
 
 // The room for a message with its mark and length.
-const SPACE: usize = 65542;
+pub const SPACE: usize = 65542;
 
-// The cells of the store that a recording in hand is joined with, and the octets of them all.
-const CELLS: usize = 32;
+// The cells of the store that a recording is joined with, and the octets of them all.
+pub const CELLS: usize = 32;
 
-const STORE: usize = 32768;
+pub const STORE: usize = 32768;
 
 // What a step comes to: more octets are wanted; the recording ends; no mark follows; a torn mark or packet follows; the packet is
 // passed over as too long; it is refused; it is stored or held already, and nothing is complete; it came whole; a message is joined.
@@ -452,7 +453,7 @@ pub fn join_all(recording: &[u8], out: &mut [u8]) -> Recorded
             written: 0,
         };
     }
-    let zero = [0u8; 1024];
+    let zero = [0u8; CELL];
     let mut store = [0u8; STORE];
     let mut spare = [0u8; SPACE];
     let end = along(&mut store, &zero, recording, &mut spare, out);

@@ -13,12 +13,10 @@ ghost use Rattle.arrival.specs.Told.{arrivalOf};
 ghost use Rattle.taking.specs.Told.{takenOf};
 ghost use Rattle.store.specs.Inner.{openedOf};
 use arrival::Arrival;
+use cells::CELL;
 use taking::Taken;
 use walk::Refusal;
 use walk::Settings;
-
-// The octets of a cell.
-pub const CELL: usize = 1024;
 
 // A store whose settings and order were checked: 15 or 16, or how many cells it has.
 pub struct Opened {

@@ -51,7 +51,7 @@ cleared-length f Z (suc i) st = ⊎-elim (here (cleared-length f Z i st)) (on (c
     on rest e = ap length (cleared-not f Z i st e) ∙ rest
 
 -- what is written lies before
-drop-behind : (l : List ℕ) (at : ℕ) (x : List ℕ) (a : ℕ) → at + length x ≤ a → drop a (sets l at x) ≡ drop a l
+pub drop-behind : (l : List ℕ) (at : ℕ) (x : List ℕ) (a : ℕ) → at + length x ≤ a → drop a (sets l at x) ≡ drop a l
 drop-behind l at [] a h = refl
 drop-behind l at (v ∷ x) a h = drop-behind (set l at v) (suc at) x a (omega arith) ∙ drop-set-lt a l at v (omega arith)
 

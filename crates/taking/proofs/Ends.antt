@@ -20,6 +20,7 @@ use Rattle.cells.proofs.Transactions.{part-octet}
 use Rattle.cells.proofs.Carries.{Holding, held-is}
 use Rattle.cells.proofs.Lowest.{same-or}
 use Rattle.messages.specs.Messages.{Role, first, middle, last, roleOf, Run, orElse, listed, heldAs, look, cellsOf, linkBy, link, opensBy, chain, runFrom, runIn, pickIn, picked, top}
+use Rattle.messages.proofs.Looks.{lowest-on, lowest-here}
 use Rattle.taking.specs.Follow.{segAt, endsAt}
 
 -- ---- the flags in a row
@@ -98,14 +99,6 @@ module _ (cs : List Cell) (no : (k : List ℕ) (c : ℕ) (t : Seg) → look cs k
   pick-nothing (x ∷ xs) = ap (λ (o : Option Run). orElse o (pickIn suc top cs xs)) (run-nothing x) ∙ pick-nothing xs
 
 -- ---- over the store
-
-lowest-here : (f : ℕ → Bool) (n i : ℕ) → f i ≡ true → lowest f (suc n) i ≡ i
-unfolding lowest
-lowest-here f n i e = ap (λ (b : Bool). pick b i (lowest f n (suc i))) e
-
-lowest-on : (f : ℕ → Bool) (n i : ℕ) → f i ≡ false → lowest f (suc n) i ≡ lowest f n (suc i)
-unfolding lowest
-lowest-on f n i e = ap (λ (b : Bool). pick b i (lowest f n (suc i))) e
 
 -- none was found: the test holds of none
 lowest-misses : (f : ℕ → Bool) (n i : ℕ) → i + n ≤ lowest f n i → (j : ℕ) → i ≤ j → j < i + n → f j ≡ false

@@ -10,7 +10,7 @@
 ghost use mathlib.Core.Path.{_≡_};
 ghost use mathlib.Core.Bool.{Bool};
 ghost use mathlib.Core.List.{[], _∷_, _++_};
-ghost use Prim.Native.Nat.{_+_, _≤_};
+ghost use Prim.Native.Nat.{_+_};
 ghost use lib.ListN.{length};
 ghost use lib.Dec.{eqb, leb};
 ghost use Rattle.octets.specs.Octets.{pick, wide};
@@ -19,15 +19,16 @@ ghost use Rattle.walk.specs.Walk.{unless};
 ghost use Rattle.fields.specs.Fields.{partsMost};
 ghost use Rattle.fields.specs.Form.{numberOctets, split};
 ghost use Rattle.fields.specs.Inner.{blobPieces, textPieces, domainPieces, capped};
-ghost use Rattle.packet.specs.Format.{segment, bit, headerOctets, headerMost, packetMost};
+ghost use Rattle.packet.specs.Format.{segment, headerOctets, headerMost, packetMost, when};
 ghost use Rattle.write.specs.Given.{Lent, lent, headOf, packetOf, numberFits, textFits, exactFits, lengthsFit, sum, nameChecks, routingChecks, idChecks, textChecks, headerChecks, packetChecks, unlessAll};
 ghost use Rattle.write.specs.Writing.{settingsTest, bodyFits, valueRefusal, writeAnswer, writeOutput};
-ghost use Rattle.write.specs.Inner.{ifPieces, primaryPieces, namePieces, routingPieces, presentOctet, frontPieces, middlePieces, endPieces, packetPieces, middleSize, endSize};
+ghost use Rattle.write.specs.Inner.{primaryPieces, namePieces, routingPieces, presentOctet, frontPieces, middlePieces, endPieces, packetPieces, middleSize, endSize};
 use packet::Apid;
 use packet::Present;
 use packet::SecondaryApid;
 use packet::SegmentCounter;
 use packet::SequenceCount;
+use varint::MOST_32;
 use walk::Refusal;
 use walk::Settings;
 
@@ -40,8 +41,6 @@ pub const PACKET_MOST: usize = 65542;
 const MOST_8: u64 = 255;
 
 const MOST_16: u32 = 65535;
-
-const MOST_32: u64 = 4294967295;
 
 // The values that all packets of a message share, but for its texts.
 pub struct HeaderValues {
@@ -75,25 +74,6 @@ pub struct PacketValues {
 pub struct Written {
     pub refusal: Refusal,
     pub length: usize,
-}
-
-// Numbers widened.
-fn wide8(x: u8) -> u64
-    ensures { λ r. ⌜ r ≡ x ⌝ }
-{
-    x as u64
-}
-
-fn wide16(x: u16) -> u64
-    ensures { λ r. ⌜ r ≡ x ⌝ }
-{
-    x as u64
-}
-
-pub fn wide32(x: u32) -> u64
-    ensures { λ r. ⌜ r ≡ x ⌝ }
-{
-    x as u64
 }
 
 // ---- the tests
@@ -186,8 +166,8 @@ fn test_ids(v: HeaderValues, r: Refusal) -> Refusal
     ensures { λ q. ⌜ q ≡ unlessAll (idChecks v) 22 r ⌝ }
 {
     let has = v.has;
-    let source = wide16(v.source);
-    let destination = wide16(v.destination);
+    let source = v.source as u64;
+    let destination = v.destination as u64;
     let a = walk::unless(r, number_fits(has.source, source, MOST_8), 22);
     let b = walk::unless(a, number_fits(has.destination, destination, MOST_8), 22);
     walk::unless(b, number_fits(has.priority, v.priority, MOST_32), 22)
@@ -252,7 +232,7 @@ fn test_packet(o: PacketValues, r: Refusal) -> Refusal
     let b = walk::unless(a, count.0 <= packet::COUNT_MOST, 22);
     walk::unless(
         b,
-        number_fits(segmented(o.flags), wide32(counter.0), MOST_32),
+        number_fits(segmented(o.flags), counter.0 as u64, MOST_32),
         22,
     )
 }
@@ -338,8 +318,8 @@ fn put_primary(out: &mut [u8], v: HeaderValues, o: PacketValues, n: usize) -> us
 {
     let apid = v.apid;
     let count = o.count;
-    let id = wide8(v.kind) * 4096 + 2048 + wide16(apid.0);
-    let sequence = wide8(o.flags) * 16384 + wide16(count.0);
+    let id = v.kind as u64 * 4096 + 2048 + apid.0 as u64;
+    let sequence = o.flags as u64 * 16384 + count.0 as u64;
     let a = octets::lay_number(out, 0, 2, id);
     let b = octets::lay_number(out, a, 2, sequence);
     octets::lay_number(out, b, 2, n as u64)
@@ -348,34 +328,24 @@ fn put_primary(out: &mut [u8], v: HeaderValues, o: PacketValues, n: usize) -> us
 fn put_names(out: &mut [u8], at: usize, v: HeaderValues) -> usize
     ensures { λ r. ⌜ Lays (laid (now (out .entry)) at) (namePieces v) (now (out .exit)) r ⌝ }
 {
-    let a = octets::lay_number(out, at, 1, wide8(v.sdu));
-    let b = octets::lay_number(out, a, 2, wide32(v.area));
-    let c = octets::lay_number(out, b, 2, wide32(v.service));
-    let d = octets::lay_number(out, c, 2, wide32(v.operation));
-    octets::lay_number(out, d, 1, wide16(v.version))
-}
-
-fn bit_of(b: bool) -> u64
-    ensures bit { λ r. ⌜ r ≡ bit b ⌝ }
-    ensures small { λ r. ⌜ r ≤ 1 ⌝ }
-{
-    if b {
-        return 1;
-    }
-    0
+    let a = octets::lay_number(out, at, 1, v.sdu as u64);
+    let b = octets::lay_number(out, a, 2, v.area as u64);
+    let c = octets::lay_number(out, b, 2, v.service as u64);
+    let d = octets::lay_number(out, c, 2, v.operation as u64);
+    octets::lay_number(out, d, 1, v.version as u64)
 }
 
 fn present_octet(has: Present) -> u64
     ensures { λ r. ⌜ r ≡ presentOctet has ⌝ }
 {
-    128 * bit_of(has.source)
-        + 64 * bit_of(has.destination)
-        + 32 * bit_of(has.priority)
-        + 16 * bit_of(has.timestamp)
-        + 8 * bit_of(has.zone)
-        + 4 * bit_of(has.session)
-        + 2 * bit_of(has.domain)
-        + bit_of(has.authentication)
+    128 * octets::bit_of(has.source)
+        + 64 * octets::bit_of(has.destination)
+        + 32 * octets::bit_of(has.priority)
+        + 16 * octets::bit_of(has.timestamp)
+        + 8 * octets::bit_of(has.zone)
+        + 4 * octets::bit_of(has.session)
+        + 2 * octets::bit_of(has.domain)
+        + octets::bit_of(has.authentication)
 }
 
 fn put_routing(out: &mut [u8], at: usize, v: HeaderValues) -> usize
@@ -383,17 +353,17 @@ fn put_routing(out: &mut [u8], at: usize, v: HeaderValues) -> usize
 {
     let second = v.second;
     let has = v.has;
-    let high = wide8(v.error) * 32768 + wide8(v.qos) * 8192;
-    let low = wide8(v.session) * 2048 + wide16(second.0);
+    let high = v.error as u64 * 32768 + v.qos as u64 * 8192;
+    let low = v.session as u64 * 2048 + second.0 as u64;
     let a = octets::lay_number(out, at, 2, high + low);
-    let b = octets::lay_number(out, a, 2, wide32(v.qualifier));
+    let b = octets::lay_number(out, a, 2, v.qualifier as u64);
     let c = octets::lay_number(out, b, 8, v.transaction);
     octets::lay_number(out, c, 1, present_octet(has))
 }
 
 // A number of n octets if it is there.
 fn wide_if(there: bool, out: &mut [u8], at: usize, n: usize, x: u64) -> usize
-    ensures { λ r. ⌜ Lays (laid (now (out .entry)) at) (ifPieces there (wide n x ∷ [])) (now (out .exit)) r ⌝ }
+    ensures { λ r. ⌜ Lays (laid (now (out .entry)) at) (when there (wide n x ∷ [])) (now (out .exit)) r ⌝ }
 {
     if there {
         return octets::lay_number(out, at, n, x);
@@ -407,13 +377,13 @@ fn put_front(out: &mut [u8], at: usize, v: HeaderValues, o: PacketValues) -> usi
 {
     let has = v.has;
     let counter = o.counter;
-    let a = wide_if(has.source, out, at, 1, wide16(v.source));
-    let b = wide_if(has.destination, out, a, 1, wide16(v.destination));
-    wide_if(segmented(o.flags), out, b, 4, wide32(counter.0))
+    let a = wide_if(has.source, out, at, 1, v.source as u64);
+    let b = wide_if(has.destination, out, a, 1, v.destination as u64);
+    wide_if(segmented(o.flags), out, b, 4, counter.0 as u64)
 }
 
 fn number_if(there: bool, s: Settings, out: &mut [u8], at: usize, n: u64) -> usize
-    ensures { λ r. ⌜ Lays (laid (now (out .entry)) at) (ifPieces there (numberOctets s n ∷ [])) (now (out .exit)) r ⌝ }
+    ensures { λ r. ⌜ Lays (laid (now (out .entry)) at) (when there (numberOctets s n ∷ [])) (now (out .exit)) r ⌝ }
 {
     if there {
         return fields::put_number(s, out, at, n);
@@ -422,7 +392,7 @@ fn number_if(there: bool, s: Settings, out: &mut [u8], at: usize, n: u64) -> usi
 }
 
 fn block_if(there: bool, out: &mut [u8], at: usize, x: &[u8]) -> usize
-    ensures { λ r. ⌜ Lays (laid (now (out .entry)) at) (ifPieces there (now (x .entry) ∷ [])) (now (out .exit)) r ⌝ }
+    ensures { λ r. ⌜ Lays (laid (now (out .entry)) at) (when there (now (x .entry) ∷ [])) (now (out .exit)) r ⌝ }
 {
     if there {
         return octets::lay(out, at, x);
@@ -431,7 +401,7 @@ fn block_if(there: bool, out: &mut [u8], at: usize, x: &[u8]) -> usize
 }
 
 fn text_if(there: bool, s: Settings, out: &mut [u8], at: usize, x: &[u8]) -> usize
-    ensures { λ r. ⌜ Lays (laid (now (out .entry)) at) (ifPieces there (textPieces s (now (x .entry)))) (now (out .exit)) r ⌝ }
+    ensures { λ r. ⌜ Lays (laid (now (out .entry)) at) (when there (textPieces s (now (x .entry)))) (now (out .exit)) r ⌝ }
 {
     if there {
         return fields::put_text(s, out, at, x);
@@ -440,7 +410,7 @@ fn text_if(there: bool, s: Settings, out: &mut [u8], at: usize, x: &[u8]) -> usi
 }
 
 fn blob_if(there: bool, s: Settings, out: &mut [u8], at: usize, x: &[u8]) -> usize
-    ensures { λ r. ⌜ Lays (laid (now (out .entry)) at) (ifPieces there (blobPieces s (now (x .entry)))) (now (out .exit)) r ⌝ }
+    ensures { λ r. ⌜ Lays (laid (now (out .entry)) at) (when there (blobPieces s (now (x .entry)))) (now (out .exit)) r ⌝ }
 {
     if there {
         return fields::put_blob(s, out, at, x);
@@ -456,7 +426,7 @@ fn domain_if(
     x: &[u8],
     lengths: &[u64],
 ) -> usize
-    ensures { λ r. ⌜ Lays (laid (now (out .entry)) at) (ifPieces there (domainPieces s (split (now (lengths .entry)) (now (x .entry))))) (now (out .exit)) r ⌝ }
+    ensures { λ r. ⌜ Lays (laid (now (out .entry)) at) (when there (domainPieces s (split (now (lengths .entry)) (now (x .entry))))) (now (out .exit)) r ⌝ }
 {
     if there {
         return fields::put_domain(s, out, at, x, lengths);

@@ -3,7 +3,8 @@
 use borrow.Author.Needs.{needs}
 use denote.Ref.{now}
 use native.Mathlib.Omega.{arith}
-use Rattle.write.proofs.Sizes.{bit-top, header-size}
+use Rattle.octets.proofs.Lists.{bit-top}
+use Rattle.write.proofs.Sizes.{header-size}
 use Rattle.write.proofs.header_size.Statement.{statement}
 use Rattle.write.proofs.header_size.Tie as tie
 use Rattle.write.specs.Given.{lent}
