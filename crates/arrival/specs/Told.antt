@@ -2,7 +2,7 @@
 -- Document 01, "Refusal numbers": "A refusal answers its number, every other answer zero".
 -- Assumes nothing: these are definitions.
 use Prim.Native.Nat.{ℕ}
-use Rattle.messages.specs.Told.{refusalOf}
+use Rattle.walk.specs.Walk.{refusal}
 use Rattle.arrival.specs.declared.Kind.{Kind}
 use Rattle.arrival.specs.declared.Kind.the-variants.{Whole, Stored, Held}
 use Rattle.arrival.specs.declared.Arrival.{Arrival}
@@ -35,7 +35,7 @@ abbrev pub arrivalOf : Arrived → Arrival
 arrivalOf whole = Answer Whole
 arrivalOf (stored i) = Answer Stored
 arrivalOf again = Answer Held
-arrivalOf (refused k) = Refused (refusalOf k)
+arrivalOf (refused k) = Refused (refusal k)
 
 -- document 01's number and word for what an arrival comes to
 abbrev pub saidOf : Arrived → Said

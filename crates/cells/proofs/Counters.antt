@@ -2,7 +2,7 @@
 -- Assumes nothing.
 use Prim.Native.Nat.{ℕ, _+_, _-_, _*_, _/_, _%_, _^_, _≤_, _<_}
 use mathlib.Core.Path.{_≡_, refl, ap, sym, _∙_, subst}
-use mathlib.Core.Bool.{Bool, true, false}
+use mathlib.Core.Bool.{Bool, true}
 use mathlib.Core.List.{List, [], _∷_, _++_}
 use native.Mathlib.Omega.{arith}
 use native.Mathlib.Nat.{add-zero}
@@ -10,9 +10,10 @@ use lib.ListN.{length}
 use Rattle.octets.specs.Octets.{pick, Octets, octetAt, part, number, wide}
 use Rattle.octets.proofs.Has.{Has, has-self, has-first, has-second, has-at, has-part}
 use Rattle.octets.proofs.Numbers.{wide-length, number-back}
+use Rattle.octets.proofs.Lists.{bit-top}
 use Rattle.walk.specs.declared.Settings.{Settings}
 use Rattle.packet.specs.declared.Header.{Header}
-use Rattle.packet.specs.Format.{Head, Values, InRange, Opt, segment, bit, presence, identification, fixedOctets, frontOctets, counterOctets, backOctets, secondaryOctets, dataOctets, octetsOf}
+use Rattle.packet.specs.Format.{Head, Values, InRange, Opt, segment, presence, identification, fixedOctets, frontOctets, counterOctets, backOctets, secondaryOctets, dataOctets, octetsOf}
 use Rattle.packet.specs.Reading.{readPacket, segmented, counterSize}
 use Rattle.packet.specs.Key.{counterPlace}
 use Rattle.format.specs.Told.{valuesOf, headOf}
@@ -51,10 +52,6 @@ presence-octet x h = rw add-zero at (has-at (x % 256 ∷ []) 0 h (omega arith))
 
 opt-true : {b : Bool} {x : ℕ} → b ≡ true → Opt b (λ y. y < 4294967296) 0 x → x < 4294967296
 opt-true {b} {x} e k = subst (λ (c : Bool). Opt c (λ y. y < 4294967296) 0 x) e k
-
-bit-top : (b : Bool) → bit b ≤ 1
-bit-top true = omega arith
-bit-top false = omega arith
 
 source-bit : (a b c d e f g h : ℕ) → a ≤ 1 → b ≤ 1 → c ≤ 1 → d ≤ 1 → e ≤ 1 → f ≤ 1 → g ≤ 1 → h ≤ 1 →
     (128 * a + 64 * b + 32 * c + 16 * d + 8 * e + 4 * f + 2 * g + h) % 256 / 128 % 2 ≡ a

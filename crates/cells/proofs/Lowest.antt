@@ -62,12 +62,12 @@ lowest-le f (suc k) a j l m e = go (bool (f a)) (same-or a j) (λ q. lowest-le f
 
 -- ---- none is found exactly if the test fails for each
 
-all-each : (f : ℕ → Bool) (n : ℕ) → ((j : ℕ) → j < n → f j ≡ true) → allTo f n ≡ true
+pub all-each : (f : ℕ → Bool) (n : ℕ) → ((j : ℕ) → j < n → f j ≡ true) → allTo f n ≡ true
 unfolding allTo
 all-each f zero h = refl
 all-each f (suc n) h = rw (all-each f n (λ j l. h j (omega arith)), h n (omega arith)) refl
 
-not-is : (b : Bool) → not b ≡ true → b ≡ false
+pub not-is : (b : Bool) → not b ≡ true → b ≡ false
 not-is true e = let z : _≡_ {A = ℕ} 0 1 = cc in absurd (omega arith)
 not-is false e = refl
 

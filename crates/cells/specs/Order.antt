@@ -12,6 +12,10 @@ use Rattle.walk.specs.declared.Settings.{Settings}
 use Rattle.cells.specs.Segments.{Seg, carries, both}
 use Rattle.cells.specs.Rows.{Cell, free, held, broken, rowAt, cellOf}
 
+-- "Cells of 1,024 octets"
+abbrev pub cellSize : ℕ
+cellSize = 1024
+
 -- 1 to 4,096 cells
 abbrev pub cellsMost : ℕ
 cellsMost = 4096

@@ -24,6 +24,9 @@ ghost use Rattle.cells.specs.Order.{cellsMost, lowest, lengthFits, sound
 ghost use Rattle.cells.specs.Chains.{mixIn, mixed, chainIn, bucketOf, keyIn, chainsAll, bucketAt, Chained};
 use walk::Settings;
 
+// The octets of a cell.
+pub const CELL: usize = 1024;
+
 // The most cells that a store has.
 pub const CELLS_MOST: usize = 4096;
 
@@ -82,24 +85,14 @@ pub fn same_key(p: &[u8], end: usize, q: &[u8], stop: usize) -> bool
 {
     let c = counter_place(p);
     let d = counter_place(q);
-    let long = and(c == d, end == stop);
+    let long = octets::both(c == d, end == stop);
     let ids = octets::same(span(p, 0, 2), span(q, 0, 2));
     let fore = octets::same(span(p, 6, c - 6), span(q, 6, d - 6));
     let aft = octets::same(
         span(p, c + 4, octets::less(end, c + 4)),
         span(q, d + 4, octets::less(stop, d + 4)),
     );
-    and(long, and(ids, and(fore, aft)))
-}
-
-// Both tests hold.
-fn and(a: bool, b: bool) -> bool
-    ensures { λ r. ⌜ r ≡ both a b ⌝ }
-{
-    if a {
-        return b;
-    }
-    false
+    octets::both(long, octets::both(ids, octets::both(fore, aft)))
 }
 
 // What is left of a slice from a place on.
@@ -119,7 +112,7 @@ fn is_held_row(row: &[u8], n: usize, zero: &[u8]) -> bool
     let second = octets::octet(row, 1) == 0x53;
     let long = row.len() == zero.len();
     let rest = octets::same(tail(row, n), tail(zero, n));
-    and(first, and(second, and(long, rest)))
+    octets::both(first, octets::both(second, octets::both(long, rest)))
 }
 
 // What a row is: 0 free, 1 held, 2 broken; of a held one where the body begins, and the segment counter.
@@ -159,7 +152,10 @@ pub fn judge(s: Settings, row: &[u8], zero: &[u8]) -> Judged
     let ids = h.ids;
     let counter = ids.counter;
     let marked = is_held_row(row, 2 + p.len(), zero);
-    if and(marked, and(refusal.number == 0, primary.flags != 3)) {
+    if octets::both(
+        marked,
+        octets::both(refusal.number == 0, primary.flags != 3),
+    ) {
         return Judged {
             kind: 1,
             at: body.at,
@@ -243,7 +239,7 @@ fn is_key(k: &[u8], p: &[u8], end: usize) -> bool
     let first = octets::same(span(k, 0, ids.len()), ids);
     let second = octets::same(span(k, ids.len(), fore.len()), fore);
     let third = octets::same(tail(k, ids.len() + fore.len()), aft);
-    and(first, and(second, third))
+    octets::both(first, octets::both(second, third))
 }
 
 // Whether a cell holds a segment with this key and a counter from one number on and below another. The cheap tests come first.
@@ -307,7 +303,7 @@ pub fn same_rest(
 ) -> bool
     ensures { λ r. ⌜ r ≡ both (eqb flags marks) (alike (part (now (p .entry)) at long) (part (now (q .entry)) from wide)) ⌝ }
 {
-    and(
+    octets::both(
         flags == marks,
         octets::same(span(p, at, long), span(q, from, wide)),
     )
@@ -330,13 +326,6 @@ fn mix_in(m: u32, x: u32) -> u32
     ((m as u64 * 16777619 + x as u64) % 4294967296) as u32
 }
 
-// An octet as a wide number.
-fn widened(x: u8) -> u32
-    ensures { λ r. ⌜ r ≡ x ⌝ }
-{
-    x as u32
-}
-
 // The octets of a slice mixed into a number, one after the other.
 fn mix(start: u32, x: &[u8]) -> u32
     ensures { λ r. ⌜ r ≡ mixed start (now (x .entry)) ⌝ }
@@ -344,7 +333,7 @@ fn mix(start: u32, x: &[u8]) -> u32
     let mut m = start;
     let mut i: usize = 0;
     while i < x.len() {
-        m = mix_in(m, widened(x[i]));
+        m = mix_in(m, x[i] as u32);
         i += 1;
     }
     m
@@ -482,7 +471,7 @@ pub fn sound_by(
     while i < n {
         let t = judge(s, row(store, zero.len(), i), zero);
         bodies[i] = t.at as u16;
-        all = and(all, t.kind != 2);
+        all = octets::both(all, t.kind != 2);
         i += 1;
     }
     all
@@ -617,6 +606,6 @@ pub fn in_order(s: Settings, store: &[u8], zero: &[u8]) -> usize
 pub fn order(s: Settings, store: &[u8]) -> usize
     ensures { λ r. ⌜ r ≡ pick (inOrder s 1024 (now (store .entry))) (countIn 1024 (now (store .entry))) 0 ⌝ }
 {
-    let zero = [0u8; 1024];
+    let zero = [0u8; CELL];
     in_order(s, store, &zero)
 }

@@ -18,7 +18,6 @@ ghost use Rattle.write.specs.Given.{lent};
 ghost use Rattle.sender.specs.Sending.{afterPacket};
 ghost use Rattle.cut.specs.Cutting.{afterSegments, countersFit, limitTest, valueTests, chunk as chunkOf, rounded, flagsAt, countAnswer, packetAnswer, packetOutput};
 ghost use Rattle.cut.specs.Inner.{packetsOf, planOf, counterAfter, counterOf, fromOf, toOf, countOf, valuesOf};
-ghost use mathlib.Core.Bool.{true};
 ghost use Rattle.write.specs.Writing.{partsTest};
 ghost use Rattle.walk.specs.Walk.{noRefusal};
 use packet::SegmentCounter;
@@ -73,30 +72,20 @@ fn test_message(
     s: Settings,
     p: usize,
     v: HeaderValues,
-    timestamp: &[u8],
+    time: &[u8],
     zone: &[u8],
     name: &[u8],
     domain: &[u8],
     lengths: &[u64],
-    authentication: &[u8],
+    id: &[u8],
     sender: Sender,
 ) -> Refusal
-    ensures { λ q. ⌜ q ≡ partsTest (lent (now (timestamp .entry)) (now (zone .entry)) (now (name .entry)) (now (domain .entry)) (now (lengths .entry)) (now (authentication .entry))) (valueTests s v (lent (now (timestamp .entry)) (now (zone .entry)) (now (name .entry)) (now (domain .entry)) (now (lengths .entry)) (now (authentication .entry))) sender (limitTest s p noRefusal)) ⌝ }
+    ensures { λ q. ⌜ q ≡ partsTest (lent (now (time .entry)) (now (zone .entry)) (now (name .entry)) (now (domain .entry)) (now (lengths .entry)) (now (id .entry))) (valueTests s v (lent (now (time .entry)) (now (zone .entry)) (now (name .entry)) (now (domain .entry)) (now (lengths .entry)) (now (id .entry))) sender (limitTest s p noRefusal)) ⌝ }
 {
     let none = Refusal { number: 0 };
     let count = sender.count;
     let a = test_limit(s, p, none);
-    let b = write::test_header(
-        s,
-        v,
-        timestamp,
-        zone,
-        name,
-        domain,
-        lengths,
-        authentication,
-        a,
-    );
+    let b = write::test_header(s, v, time, zone, name, domain, lengths, id, a);
     let c = walk::unless(b, count.0 <= packet::COUNT_MOST, 22);
     write::test_parts(lengths.len(), c)
 }
@@ -136,21 +125,11 @@ fn counters_fit(next: Next, n: usize) -> bool
 {
     match next {
         Next::At(c) => {
-            let left = 4294967296 - write::wide32(c.0);
+            let left = 4294967296 - c.0 as u64;
             n as u64 <= left
         }
         Next::NoneLeft => false,
     }
-}
-
-// Held by one packet, or else by a test.
-fn or_single(single: bool, ok: bool) -> bool
-    ensures { λ r. ⌜ r ≡ pick single true ok ⌝ }
-{
-    if single {
-        return true;
-    }
-    ok
 }
 
 // The secondary header as it will stand in a packet.
@@ -173,8 +152,8 @@ fn plan_of(p: usize, h: usize, b: usize, sender: Sender, r: Refusal) -> Plan
     let next = sender.next;
     let a = walk::unless(r, b <= BODY_MOST, 23);
     let c = walk::unless(a, header_of(single, h) <= write::HEADER_MOST, 12);
-    let d = walk::unless(c, or_single(single, 1 <= chunk), 24);
-    let e = walk::unless(d, or_single(single, counters_fit(next, count)), 25);
+    let d = walk::unless(c, octets::either(single, 1 <= chunk), 24);
+    let e = walk::unless(d, octets::either(single, counters_fit(next, count)), 25);
     Plan {
         refusal: e,
         single: single,
@@ -192,7 +171,7 @@ fn counter_after(next: Next, n: usize) -> Next
     match next {
         Next::At(c) => {
             let x = c.0;
-            let left = write::wide32(COUNTER_MOST - x);
+            let left = (COUNTER_MOST - x) as u64;
             if n as u64 <= left {
                 return Next::At(SegmentCounter(x + n as u32));
             }
@@ -217,7 +196,7 @@ fn counter_at(single: bool, next: Next, i: usize) -> SegmentCounter
     match next {
         Next::At(c) => {
             let x = c.0;
-            let left = write::wide32(COUNTER_MOST - x);
+            let left = (COUNTER_MOST - x) as u64;
             if single {
                 return SegmentCounter(0);
             }
@@ -307,30 +286,19 @@ pub fn count(
     s: Settings,
     p: usize,
     v: HeaderValues,
-    timestamp: &[u8],
+    time: &[u8],
     zone: &[u8],
     name: &[u8],
     domain: &[u8],
     lengths: &[u64],
-    authentication: &[u8],
+    id: &[u8],
     body: usize,
     sender: Sender,
 ) -> Counted
-    ensures { λ r. ⌜ r ≡ countAnswer s p v (lent (now (timestamp .entry)) (now (zone .entry)) (now (name .entry)) (now (domain .entry)) (now (lengths .entry)) (now (authentication .entry))) body sender ⌝ }
+    ensures { λ r. ⌜ r ≡ countAnswer s p v (lent (now (time .entry)) (now (zone .entry)) (now (name .entry)) (now (domain .entry)) (now (lengths .entry)) (now (id .entry))) body sender ⌝ }
 {
-    let values = test_message(
-        s,
-        p,
-        v,
-        timestamp,
-        zone,
-        name,
-        domain,
-        lengths,
-        authentication,
-        sender,
-    );
-    let h = write::header_size(s, v, timestamp, zone, name, domain, lengths, authentication);
+    let values = test_message(s, p, v, time, zone, name, domain, lengths, id, sender);
+    let h = write::header_size(s, v, time, zone, name, domain, lengths, id);
     let plan = plan_of(p, h, body, sender, values);
     let refusal = plan.refusal;
     if refusal.number != 0 {
@@ -364,33 +332,22 @@ pub fn packet(
     s: Settings,
     p: usize,
     v: HeaderValues,
-    timestamp: &[u8],
+    time: &[u8],
     zone: &[u8],
     name: &[u8],
     domain: &[u8],
     lengths: &[u64],
-    authentication: &[u8],
+    id: &[u8],
     body: &[u8],
     sender: Sender,
     i: usize,
     out: &mut [u8],
 ) -> Cut
-    ensures answer { λ r. ⌜ r ≡ packetAnswer s p v (lent (now (timestamp .entry)) (now (zone .entry)) (now (name .entry)) (now (domain .entry)) (now (lengths .entry)) (now (authentication .entry))) (now (body .entry)) sender i (length (now (out .entry))) ⌝ }
-    ensures octets { λ r. ⌜ now (out .exit) ≡ packetOutput s p v (lent (now (timestamp .entry)) (now (zone .entry)) (now (name .entry)) (now (domain .entry)) (now (lengths .entry)) (now (authentication .entry))) (now (body .entry)) sender i (now (out .entry)) ⌝ }
+    ensures answer { λ r. ⌜ r ≡ packetAnswer s p v (lent (now (time .entry)) (now (zone .entry)) (now (name .entry)) (now (domain .entry)) (now (lengths .entry)) (now (id .entry))) (now (body .entry)) sender i (length (now (out .entry))) ⌝ }
+    ensures octets { λ r. ⌜ now (out .exit) ≡ packetOutput s p v (lent (now (time .entry)) (now (zone .entry)) (now (name .entry)) (now (domain .entry)) (now (lengths .entry)) (now (id .entry))) (now (body .entry)) sender i (now (out .entry)) ⌝ }
 {
-    let values = test_message(
-        s,
-        p,
-        v,
-        timestamp,
-        zone,
-        name,
-        domain,
-        lengths,
-        authentication,
-        sender,
-    );
-    let h = write::header_size(s, v, timestamp, zone, name, domain, lengths, authentication);
+    let values = test_message(s, p, v, time, zone, name, domain, lengths, id, sender);
+    let h = write::header_size(s, v, time, zone, name, domain, lengths, id);
     let plan = plan_of(p, h, body.len(), sender, values);
     let o = values_at(plan.single, plan.count, sender, i);
     let from = from_of(plan.single, plan.chunk, i, body.len());
@@ -402,20 +359,8 @@ pub fn packet(
     if r.number != 0 {
         return refused(r, sender);
     }
-    write::put_packet(
-        s,
-        out,
-        v,
-        o,
-        size - 7,
-        timestamp,
-        zone,
-        name,
-        domain,
-        lengths,
-        authentication,
-        part,
-    );
+    let n = size - 7;
+    write::put_packet(s, out, v, o, n, time, zone, name, domain, lengths, id, part);
     Cut {
         refusal: r,
         length: size,

@@ -11,9 +11,10 @@ use Rattle.octets.proofs.Lists.{bool}
 use Rattle.cells.specs.Segments.{Seg, carries}
 use Rattle.cells.specs.Rows.{Cell}
 use Rattle.messages.specs.Messages.{first, Run, segments, look, chain, among, or}
+use Rattle.messages.proofs.Distinct.{carries-yes, carries-true}
 use Rattle.keeping.specs.Cells.{put, hasFree, clear}
 use Rattle.demand3.specs.Complete.{Held, Single}
-use Rattle.demand3.proofs.Looks.{carries-true, carries-yes, carries-no, look-held, look-at, look-same, put-same, put-other, put-full, put-held, clear-kept, clear-held}
+use Rattle.demand3.proofs.Looks.{carries-no, look-held, look-at, look-same, put-same, put-other, put-full, put-held, clear-kept, clear-held}
 use Rattle.demand3.proofs.Links.{Mem, roleIn, first-middle, first-last, Opened, linked-key, linked-first, opened-key, opened-before}
 use Rattle.demand3.proofs.Finds.{Only, Joint, link-inv, look-own, chain-linked, chain-only, Found}
 

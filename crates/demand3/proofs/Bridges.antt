@@ -15,7 +15,7 @@ use lib.ListN.{length, take, drop}
 use lib.Dec.{leb, eqb}
 use Rattle.octets.specs.Octets.{pick}
 use Rattle.walk.specs.declared.Settings.{Settings}
-use Rattle.walk.specs.Walk.{begun}
+use Rattle.walk.specs.Walk.{begun, refusal}
 use Rattle.sender.specs.declared.Sender.{Sender}
 use Rattle.write.specs.declared.HeaderValues.{HeaderValues}
 use Rattle.write.specs.Given.{Lent, lent}
@@ -24,12 +24,11 @@ use Rattle.cut.specs.Cutting.{countAnswer}
 use Rattle.cut.proofs.count.Reads as counts
 use Rattle.cut.proofs.packet.Reads as cuts
 use Rattle.fewest.proofs.Calls.{packet-wrote}
-use Rattle.cells.specs.Order.{inOrder, countIn}
+use Rattle.cells.specs.Order.{inOrder, countIn, cellSize}
 use Rattle.messages.specs.Messages.{Run, cellsOf, picked, top}
 use Rattle.arrival.specs.Arriving.{Arrived, whole, stored, again, refused, arrived, storeWith}
 use Rattle.taking.specs.Taking.{Took, message, unable, writing, drawn, tookIn, took}
 use Rattle.taking.specs.declared.Taken.{Taken}
-use Rattle.messages.specs.Told.{refusalOf}
 use Rattle.arrival.specs.Told.{arrivalOf}
 use Rattle.taking.specs.Told.{takenOf}
 use Rattle.store.proofs.arrive.Reads as arrives
@@ -40,7 +39,7 @@ use Rattle.join.proofs.join.Reads as joins
 use Rattle.demand3.specs.Calls.{arrival, taking, joining, goesOn, storeBy, tookBy, outBy}
 use Rattle.demand3.specs.Sendings.{Sending, wholeBody, identificationOf, headerOf, headerSize, bodySize, startOf}
 use Rattle.demand3.specs.Cutter.{Cutting, countOf, packetOf}
-use Rattle.demand3.specs.Whole.{cellSize, Delivers}
+use Rattle.demand3.specs.Whole.{Delivers}
 
 -- `store::arrive`
 pub arrive-answers : (κs : L.Lfts 2) (a : _) (r : _) (x : _) → arrives.Post κs a r x →
@@ -163,7 +162,7 @@ joined-tells s Z st p out x z = by (arrived s Z st p)
 module _ (s : Settings) (m : Sending) where
   -- H, B and c
   abbrev pub itsAnswer : Taken
-  itsAnswer = record { refusal = refusalOf 0; header = headerSize s m; body = bodySize s m; counter = record { 0 = startOf s m } }
+  itsAnswer = record { refusal = refusal 0; header = headerSize s m; body = bodySize s m; counter = record { 0 = startOf s m } }
 
   -- "the original identification, header and body", and behind them the output as it was
   abbrev pub itsOutput : List ℕ → List ℕ

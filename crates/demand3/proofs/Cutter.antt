@@ -13,8 +13,9 @@ use lib.Dec.{eqb}
 use borrow.Author.Tests.{eq-eqb}
 use Rattle.octets.specs.Octets.{pick}
 use Rattle.octets.proofs.Lists.{bool}
+use Rattle.octets.specs.Laying.{together}
 use Rattle.walk.specs.declared.Settings.{Settings}
-use Rattle.fields.specs.Form.{joined as joinedBy}
+use Rattle.fields.specs.Form.{joined}
 use Rattle.packet.specs.Format.{identification, headerOctets, octetsOf, InRange}
 use Rattle.write.specs.Given.{headOf}
 use Rattle.cut.specs.Cutting.{counterAt, countAt, single, packets, headerLength, countRefusal, countAnswer, flagsAt, bodyAt, packetAt, givenAt}
@@ -23,19 +24,18 @@ use Rattle.fewest.specs.Runs.{place}
 use Rattle.fewest.proofs.Lists.{first-length, first-at}
 use Rattle.fewest.proofs.Parts.{packets-one, parts-joined}
 use Rattle.fewest.proofs.Numbers.{Starts, counter-of, counters, packet-range, cuts-well}
-use Rattle.messages.specs.Told.{refusalOf}
+use Rattle.walk.specs.Walk.{refusal}
 use Rattle.taking.specs.Told.{takenOf}
-use Rattle.demand3.specs.Traffic.{joined}
 use Rattle.demand3.specs.Calls.{Call, outOf, tookBy, outBy}
 use Rattle.demand3.specs.Sendings.{Sending, wholeBody, flagsIn, ReadsAs, manyOf, valuesAt, packetWith, segmentAt, IsCut}
 use Rattle.demand3.specs.Cutter.{Cutting, countOf, packetOf, sendingOf, Succeeds}
 use Rattle.demand3.specs.Whole.{Delivers}
 use Rattle.demand3.proofs.ReadAs.{recounted-long, recounted-range, repeat-reads}
 
-joined-same : (l : List (List ℕ)) → joined l ≡ joinedBy (λ (x : List ℕ). x) l
-unfolding joined joinedBy
-joined-same [] = refl
-joined-same (p ∷ l) = ap (λ (x : List ℕ). p ++ x) (joined-same l)
+together-joined : (l : List (List ℕ)) → together l ≡ joined (λ (x : List ℕ). x) l
+unfolding together joined
+together-joined [] = refl
+together-joined (p ∷ l) = ap (λ (x : List ℕ). p ++ x) (together-joined l)
 
 module _ (s : Settings) (Z : ℕ) (m : Cutting) (k : Succeeds s Z m) where
   abbrev P : ℕ
@@ -77,8 +77,8 @@ module _ (s : Settings) (Z : ℕ) (m : Cutting) (k : Succeeds s Z m) where
   -- their bodies joined are the body that was given
   pub cutter-body : wholeBody (sendingOf s m) ≡ m .body
   cutter-body =
-      ap (λ (n : ℕ). joined (firstOf (bodyAt P H (m .body)) n)) many-is
-      ∙ joined-same (firstOf (bodyAt P H (m .body)) (packets P H B))
+      ap (λ (n : ℕ). together (firstOf (bodyAt P H (m .body)) n)) many-is
+      ∙ together-joined (firstOf (bodyAt P H (m .body)) (packets P H B))
       ∙ parts-joined P H (m .body) (cuts-well s P (m .values) (m .texts) (m .body) (m .sender) no-refusal .some)
 
   flags-are : (i : ℕ) → flagsAt P H B i ≡ flagsIn (manyOf s (sendingOf s m)) i
@@ -144,12 +144,12 @@ module _ (s : Settings) (Z : ℕ) (m : Cutting) (k : Succeeds s Z m) where
   -- and what a call hands out is what the cutter was given: H, B and the first counter, the header's octets, the body
   pub cutter-hands-out : (n : ℕ) (st : List ℕ) (c : Call) → Delivers s Z n (sendingOf s m) st c →
       (Option·map takenOf (tookBy s Z st c)
-      ≡ some (record { refusal = refusalOf 0; header = H; body = B; counter = record { 0 = place (m .sender .next) } }))
+      ≡ some (record { refusal = refusal 0; header = H; body = B; counter = record { 0 = place (m .sender .next) } }))
       × (outBy s Z st c
       ≡ identification (headOf (m .values) (m .texts)) ++ headerOctets s (headOf (m .values) (m .texts)) ++ m .body ++ drop (2 + H + B) (outOf c))
   cutter-hands-out n st c d = (
     d .told
-        ∙ ap (λ (b : List ℕ). some (record { refusal = refusalOf 0; header = H; body = length b; counter = record { 0 = place (m .sender .next) } }))
+        ∙ ap (λ (b : List ℕ). some (record { refusal = refusal 0; header = H; body = length b; counter = record { 0 = place (m .sender .next) } }))
         cutter-body,
     d .written
         ∙ ap

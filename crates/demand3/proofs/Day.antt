@@ -34,10 +34,10 @@ use Rattle.fewest.proofs.Numbers.{cuts-well}
 use Rattle.cells.specs.Segments.{Seg, segOf, both}
 use Rattle.cells.specs.Rows.{mayHold}
 use Rattle.cells.proofs.Held.{both-true}
+use Rattle.cells.specs.Order.{cellSize}
 use Rattle.demand3.specs.Traffic.{arrives, passes}
 use Rattle.demand3.specs.Sendings.{Sending, flagsIn, manyOf, valuesAt, packetWith, segmentAt, headerSize, bodySize, IsCut}
 use Rattle.demand3.specs.Cutter.{Cutting, countOf, packetOf, sendingOf, Succeeds}
-use Rattle.demand3.specs.Whole.{cellSize}
 use Rattle.demand3.proofs.AnyCut.{partOf, any-cut}
 use Rattle.demand3.proofs.Cutter.{cutter-many, cutter-body, cutter-cut}
 use Rattle.demand3.proofs.Steps.{eventOf}

@@ -16,9 +16,9 @@ use Rattle.packet.specs.Key.{counterPlace, keyOf}
 use Rattle.write.specs.Given.{headOf}
 use Rattle.cut.specs.Cutting.{packets}
 use Rattle.fewest.specs.Runs.{place}
+use Rattle.cells.specs.Order.{cellSize}
 use Rattle.demand3.specs.Sendings.{Sending, manyOf, segmentAt, keyIn, startOf}
 use Rattle.demand3.specs.Presupposed.{MayCome, own, unsegmented, malformed, over-long, other-keyed}
-use Rattle.demand3.specs.Whole.{cellSize}
 use Rattle.demand3.proofs.ReadAs.{repeat-reads, repeat-octets}
 use Rattle.demand3.proofs.Day.{settings, three, two, messages, of-three, of-two, header, theKey, single, stub, huge, other, single-octets, stub-octets, huge-octets, other-octets, three-many, two-many, three-cut, two-cut}
 

@@ -16,6 +16,7 @@ use Rattle.write.specs.Given.{headOf}
 use Rattle.fewest.specs.Runs.{place}
 use Rattle.cells.specs.Segments.{carries, sameRest}
 use Rattle.cells.specs.Rows.{Cell, free, held}
+use Rattle.cells.specs.Order.{cellSize}
 use Rattle.messages.specs.Messages.{Run, look, roleOf, bodies, chain, runFrom, pickIn, among, top}
 use Rattle.taking.specs.Taking.{message, unable}
 use Rattle.keeping.specs.Cells.{put, hasFree}
@@ -24,7 +25,7 @@ use Rattle.demand3.specs.Promise.{Untaken as CellUntaken}
 use Rattle.demand3.specs.Calls.{arrival, taking, joining, Brings, Handed, tookBy, outBy}
 use Rattle.demand3.specs.Sendings.{segmentAt, keyIn, startOf}
 use Rattle.demand3.specs.Presupposed.{Came, AllCame, MayCome, Traffic, Untaken, storeBehind, cellsIn, Anew, fresh, retaken}
-use Rattle.demand3.specs.Whole.{cellSize, IsComplete, Delivers, Promise}
+use Rattle.demand3.specs.Whole.{IsComplete, Delivers, Promise}
 use Rattle.demand3.proofs.ReadAs.{repeat-reads}
 use Rattle.demand3.proofs.Sents.{sentOf}
 use Rattle.demand3.proofs.Checks.{leftIn, untaken-by}

@@ -13,6 +13,7 @@ use lib.ListN.{length, replicate}
 use Rattle.octets.specs.Octets.{alike}
 use Rattle.cells.specs.Segments.{carries, sameRest}
 use Rattle.cells.specs.Rows.{Cell, free}
+use Rattle.cells.specs.Order.{cellSize}
 use Rattle.messages.specs.Messages.{look, roleOf, bodies, chain, runFrom, pickIn, among, top}
 use Rattle.taking.specs.Taking.{message}
 use Rattle.keeping.specs.Cells.{put, hasFree}
@@ -21,7 +22,6 @@ use Rattle.demand3.specs.Traffic.{Event, arrives, passes, takes, empty, 
 use Rattle.demand3.specs.Calls.{Call, arrival, taking, joining, draws, tookBy}
 use Rattle.demand3.specs.Sendings.{Sending, manyOf, segmentAt, keyIn, IsCut}
 use Rattle.demand3.specs.Presupposed.{Traffic, InUse, emptyStore, storeBehind, cellsIn, Given}
-use Rattle.demand3.specs.Whole.{cellSize}
 use Rattle.demand3.proofs.Checks.{roomIn, room-by}
 use Rattle.demand3.proofs.Steps.{eventOf}
 use Rattle.demand3.proofs.Events.{before, eventsIn}

@@ -17,7 +17,7 @@ use Rattle.cells.specs.Order.{countIn, cellAt}
 use Rattle.taking.specs.declared.Taken.{Taken}
 use Rattle.messages.specs.Messages.{Run, bodyOf, segments, picked, top}
 use Rattle.taking.specs.Taking.{Took, message, unable, writing, took, outWith, storeLess}
-use Rattle.messages.specs.Told.{refusalOf}
+use Rattle.walk.specs.Walk.{refusal}
 use Rattle.taking.specs.Told.{takenOf}
 use Rattle.messages.proofs.Picking.{pick-yes}
 use Rattle.taking.proofs.Tells.{taken-tells, segment-held}
@@ -57,9 +57,9 @@ written-out out w r e l =
     ∙ ap (λ (x : List ℕ). x ++ drop (length x) out) e
 
 same-taken : {h k b d c e : ℕ} → h ≡ k → b ≡ d → c ≡ e →
-    _≡_ {A = Taken} (record { refusal = refusalOf 0; header = h; body = b; counter = record { 0 = c } })
-    (record { refusal = refusalOf 0; header = k; body = d; counter = record { 0 = e } })
-same-taken p q r = λ i. record { refusal = refusalOf 0; header = p i; body = q i; counter = record { 0 = r i } }
+    _≡_ {A = Taken} (record { refusal = refusal 0; header = h; body = b; counter = record { 0 = c } })
+    (record { refusal = refusal 0; header = k; body = d; counter = record { 0 = e } })
+same-taken p q r = λ i. record { refusal = refusal 0; header = p i; body = q i; counter = record { 0 = r i } }
 
 module _ (s : Settings) (Z n : ℕ) (m : Sending) (k : IsCut s Z m) where
   -- ---- what is handed out
@@ -88,7 +88,7 @@ module _ (s : Settings) (Z n : ℕ) (m : Sending) (k : IsCut s Z m) where
         all-same = ap (λ (x : List ℕ). x ++ bodyOf r) (o .key) ∙ ap (λ (x : List ℕ). keyIn s m ++ x) body-same
 
         tells : Option·map takenOf (tookBy s Z st c) ≡
-            some (record { refusal = refusalOf 0; header = headerSize s m; body = bodySize s m; counter = record { 0 = startOf s m } })
+            some (record { refusal = refusal 0; header = headerSize s m; body = bodySize s m; counter = record { 0 = startOf s m } })
         tells =
             let l : length (r .head .key) ≡ 2 + headerSize s m = ap length (o .key) ∙ key-long s Z m k in
             let h : length (r .head .key) - 2 ≡ headerSize s m = omega arith in

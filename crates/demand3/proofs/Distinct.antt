@@ -3,7 +3,7 @@
 use Prim.Native.Nat.{ℕ, zero, suc, _+_, _≤_, _<_}
 use mathlib.Core.Path.{_≡_, refl, sym, _∙_, ap}
 use mathlib.Core.Logic.{_⊎_, inl, inr}
-use mathlib.Core.Bool.{Bool, true, false, not, true≢false}
+use mathlib.Core.Bool.{true, false, not, true≢false}
 use mathlib.Core.Option.{some}
 use mathlib.Core.List.{List, [], _∷_, List·Memᴰ, List·Memᴰ·cases-cons, List·Memᴰ·not-nil}
 use native.Mathlib.Omega.{arith}
@@ -13,9 +13,11 @@ use Rattle.cells.specs.Segments.{Seg, carries}
 use Rattle.cells.specs.Rows.{Cell, free, held, broken}
 use Rattle.cells.specs.Order.{carriesIn, cellAt, allTo, newTo, newAt, distinct}
 use Rattle.cells.proofs.Apart.{all-at}
+use Rattle.cells.proofs.Lowest.{not-is}
 use Rattle.messages.specs.Messages.{listed, cellsOf, look}
+use Rattle.messages.proofs.Distinct.{carries-yes, carries-true}
 use Rattle.demand3.specs.Complete.{Held, Distinct, Single}
-use Rattle.demand3.proofs.Looks.{carries-true, carries-yes, look-hit, look-miss}
+use Rattle.demand3.proofs.Looks.{look-hit, look-miss}
 
 -- ---- lists of cells
 
@@ -81,10 +83,6 @@ listed-distinct f (suc n) i h [] q t u e m k c =
 listed-distinct f (suc n) i h (x ∷ p) q t u e m k c =
     listed-distinct f n (suc i) (λ a b v w l o g. h a b v w (omega arith) o (omega arith)) p q t u (cc e) m k c
 
-not-true : (b : Bool) → not b ≡ true → b ≡ false
-not-true true e = sym e
-not-true false e = refl
-
 -- no two cells of a store in order have equal key and counter
 pub order-distinct : (s : Settings) (Z : ℕ) (st : List ℕ) (n : ℕ) → distinct s Z st n ≡ true → Distinct (cellsOf s Z st n)
 unfolding distinct newAt newTo
@@ -97,7 +95,7 @@ order-distinct s Z st n e = listed-distinct (cellAt s Z st) n 0 two-cells
         let g : allTo (λ j. not (carriesIn (u .key) (u .counter) (cellAt s Z st j))) b ≡ true = ap (newAt s Z st b) (sym q) ∙ f in
         let h : not (carriesIn (u .key) (u .counter) (cellAt s Z st a)) ≡ true =
         all-at (λ j. not (carriesIn (u .key) (u .counter) (cellAt s Z st j))) b a g l in
-        not-true (carries (u .key) (u .counter) t) (ap (λ (x : Cell). not (carriesIn (u .key) (u .counter) x)) (sym p) ∙ h)
+        not-is (carries (u .key) (u .counter) t) (ap (λ (x : Cell). not (carriesIn (u .key) (u .counter) x)) (sym p) ∙ h)
 
 pub order-single : (s : Settings) (Z : ℕ) (st : List ℕ) (n : ℕ) → distinct s Z st n ≡ true → Single (cellsOf s Z st n)
 order-single s Z st n e = distinct-single (cellsOf s Z st n) (order-distinct s Z st n e)

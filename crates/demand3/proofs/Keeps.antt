@@ -11,10 +11,11 @@ use Rattle.octets.proofs.Lists.{bool}
 use Rattle.cells.specs.Segments.{Seg, carries}
 use Rattle.cells.specs.Rows.{Cell}
 use Rattle.messages.specs.Messages.{Run, segments, look}
+use Rattle.messages.proofs.Distinct.{carries-true}
 use Rattle.taking.specs.Taking.{Took, message, unable}
 use Rattle.keeping.specs.Cells.{put, hasFree, clear}
 use Rattle.demand3.specs.Traffic.{Event, arrives, passes, takes, stowed, lessened, empty, takenFrom, stepped, after, Room}
-use Rattle.demand3.proofs.Looks.{carries-true, carries-no, look-same, put-same, put-other, clear-gone, clear-kept}
+use Rattle.demand3.proofs.Looks.{carries-no, look-same, put-same, put-other, clear-gone, clear-kept}
 use Rattle.demand3.proofs.Links.{Mem, Opened}
 use Rattle.demand3.proofs.Beside.{among-mem, among-none, among-carried, Beside, Agrees, Off, put-beside, clear-beside}
 use Rattle.demand3.proofs.Takings.{Fair, taken-apart, beside-empty, look-empty}

@@ -7,10 +7,11 @@ use mathlib.Core.Logic.{_⊎_, inl, inr}
 use mathlib.Core.List.{List, [], _∷_, _++_, List·Memᴰ, List·Memᴰ·head, List·Memᴰ·tail, List·Memᴰ·cases-cons, List·Memᴰ·not-nil}
 use native.Mathlib.Omega.{arith}
 use lib.ListN.{length}
+use Rattle.octets.specs.Laying.{together}
 use Rattle.cells.specs.Segments.{Seg}
 use Rattle.messages.specs.Messages.{Role, first, middle, last, roleOf, Run, bodies, bodyOf, segments}
 use Rattle.demand3.specs.Complete.{steps}
-use Rattle.demand3.specs.Traffic.{Sent, joined, bodyIn, stepsIn, later, runOf}
+use Rattle.demand3.specs.Traffic.{Sent, bodyIn, stepsIn, later, runOf}
 use Rattle.demand3.specs.Promise.{Original}
 
 abbrev pub Mem : Seg → List Seg → Type 0
@@ -179,8 +180,8 @@ module _ (next : ℕ → ℕ) where
   unfolding runOf
   sent-length m = later-length (m .key) (next (m .start)) (m .two ∷ m .more)
 
-  later-bodies : (k : List ℕ) (c : ℕ) (ps : List (List ℕ)) → bodies (later next k c ps) ≡ joined ps
-  unfolding bodies later joined
+  later-bodies : (k : List ℕ) (c : ℕ) (ps : List (List ℕ)) → bodies (later next k c ps) ≡ together ps
+  unfolding bodies later together
   later-bodies k c [] = refl
   later-bodies k c (p ∷ ps) = ap (λ (x : List ℕ). p ++ x) (later-bodies k (next c) ps)
 
@@ -193,7 +194,7 @@ module _ (next : ℕ → ℕ) where
   sent-start m = refl
 
   pub sent-body : (m : Sent) → bodyOf (runOf next m) ≡ bodyIn m
-  unfolding runOf bodies joined
+  unfolding runOf bodies together
   sent-body m = ap (λ (x : List ℕ). m .one ++ x) (later-bodies (m .key) (next (m .start)) (m .two ∷ m .more))
 
   -- the run of the message is the message

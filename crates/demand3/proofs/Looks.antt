@@ -7,31 +7,21 @@ use mathlib.Core.Bool.{true, false, true≢false, false≢true}
 use mathlib.Core.Option.{none, some, Option·none-ne-some, Option·some-ne-none, Option·some-injective}
 use mathlib.Core.List.{List, [], _∷_, List·Memᴰ·head, List·Memᴰ·tail, List·Memᴰ·cases-cons, List·Memᴰ·not-nil}
 use native.Mathlib.Omega.{arith}
-use lib.Dec.{eqb}
-use borrow.Author.Tests.{eqb-true, eq-eqb}
-use Rattle.octets.specs.Octets.{pick, alike}
-use Rattle.octets.proofs.Lists.{bool, alike-self, alike-true}
+use borrow.Author.Tests.{eq-eqb}
+use Rattle.octets.specs.Octets.{pick}
+use Rattle.octets.proofs.Lists.{bool, alike-self}
 use Rattle.cells.specs.Segments.{Seg, carries}
 use Rattle.cells.specs.Rows.{Cell, free, held, broken}
-use Rattle.cells.proofs.Held.{both-true}
 use Rattle.messages.specs.Messages.{orElse, heldAs, look, among}
+use Rattle.messages.proofs.Distinct.{carries-true}
 use Rattle.keeping.specs.Cells.{put, hasFree, freed, clear}
 use Rattle.demand3.specs.Complete.{Held}
 
 -- ---- the test on a segment
 
-pub carries-true : (k : List ℕ) (c : ℕ) (t : Seg) → carries k c t ≡ true → (k ≡ t .key) × (c ≡ t .counter)
-unfolding carries
-carries-true k c t e =
-    let h = both-true (eqb c (t .counter)) (alike k (t .key)) e in
-    (alike-true k (t .key) (h .1), eqb-true c (t .counter) (h .0))
-
 pub carries-self : (t : Seg) → carries (t .key) (t .counter) t ≡ true
 unfolding carries
 carries-self t = rw (eq-eqb (t .counter) (t .counter) refl, alike-self (t .key))
-
-pub carries-yes : (k : List ℕ) (c : ℕ) (t : Seg) → k ≡ t .key → c ≡ t .counter → carries k c t ≡ true
-carries-yes k c t p q = rw (p, q) (carries-self t)
 
 pub carries-no : (k : List ℕ) (c : ℕ) (t : Seg) → (k ≡ t .key → c ≡ t .counter → ⊥) → carries k c t ≡ false
 carries-no k c t h = go (bool (carries k c t))

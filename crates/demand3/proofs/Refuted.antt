@@ -17,10 +17,11 @@ use Rattle.packet.specs.Format.{presence, identification, fixedOctets, frontOct
 use Rattle.write.specs.Given.{headOf}
 use Rattle.fewest.specs.Runs.{place}
 use Rattle.cells.specs.Segments.{carries, sameRest}
+use Rattle.cells.specs.Order.{cellSize}
 use Rattle.taking.specs.declared.Taken.{Taken}
 use Rattle.messages.specs.Messages.{Run, look, roleOf, bodies, bodyOf, chain, runFrom, pickIn, picked, among, top}
 use Rattle.taking.specs.Taking.{Took, message, unable}
-use Rattle.messages.specs.Told.{refusalOf}
+use Rattle.walk.specs.Walk.{refusal}
 use Rattle.taking.specs.Told.{takenOf}
 use Rattle.keeping.specs.Cells.{put, hasFree}
 use Rattle.messages.proofs.Empty.{empty-cells}
@@ -29,7 +30,7 @@ use Rattle.demand3.specs.Traffic.{Event, passes, empty, after}
 use Rattle.demand3.specs.Calls.{Call, arrival, taking, joining, Brings, Handed, tookBy, storeAfter}
 use Rattle.demand3.specs.Sendings.{segmentAt, headerSize}
 use Rattle.demand3.specs.Presupposed.{Came, AllCame, Its, MayCome, Traffic, Untaken, emptyStore, storeBehind, cellsIn, fresh, RoomIn}
-use Rattle.demand3.specs.Whole.{cellSize, IsComplete}
+use Rattle.demand3.specs.Whole.{IsComplete}
 use Rattle.demand3.proofs.Takings.{held-empty}
 use Rattle.demand3.proofs.Whole.{demand3·whole, soundness·whole}
 use Rattle.demand3.proofs.Acts.{EachPacket, each-packet, Act, comes, draw, meets, actOf}
@@ -122,7 +123,7 @@ no-empty run e f =
 
 -- what is told of the first message: H, B and c
 abbrev pub told : Taken
-told = record { refusal = refusalOf 0; header = 21; body = 8; counter = record { 0 = 7 } }
+told = record { refusal = refusal 0; header = 21; body = 8; counter = record { 0 = 7 } }
 
 -- at the end of the run the first message, taken at noon, is complete anew: a taking with 31 octets or more tells it
 abbrev pub TakesAgain : (List Call → Call → Option Took) → Type 0

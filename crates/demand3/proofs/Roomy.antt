@@ -8,10 +8,11 @@ use mathlib.Core.List.{List, [], _∷_, _++_}
 use native.Mathlib.Omega.{arith}
 use Rattle.walk.specs.declared.Settings.{Settings}
 use Rattle.messages.specs.Messages.{top}
+use Rattle.cells.specs.Order.{cellSize}
 use Rattle.demand3.specs.Traffic.{Event, arrives, passes, takes}
 use Rattle.demand3.specs.Calls.{Call, arrival, taking, joining, packetsIn, draws, storeBy}
 use Rattle.demand3.specs.Presupposed.{emptyStore}
-use Rattle.demand3.specs.Whole.{cellSize, WholeRoom}
+use Rattle.demand3.specs.Whole.{WholeRoom}
 use Rattle.demand3.proofs.Rooms.{arrivals, roomy}
 use Rattle.demand3.proofs.Steps.{eventOf}
 use Rattle.demand3.proofs.Events.{before, drawing, eventsBy, eventsIn}

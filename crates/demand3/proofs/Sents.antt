@@ -9,11 +9,12 @@ use native.Mathlib.Nat.{add-zero}
 use lib.ListN.{length, getD, length-append}
 use borrow.Author.Tests.{eq-eqb, ne-eqb}
 use Rattle.octets.proofs.Lists.{below-or}
+use Rattle.octets.specs.Laying.{together}
 use Rattle.walk.specs.declared.Settings.{Settings}
 use Rattle.format.proofs.Frame.{identification-long}
 use Rattle.cells.specs.Segments.{Seg}
 use Rattle.messages.specs.Messages.{listed, segments, top}
-use Rattle.demand3.specs.Traffic.{Sent, joined, bodyIn, flagsBefore, later, runOf, segmentsOf}
+use Rattle.demand3.specs.Traffic.{Sent, bodyIn, flagsBefore, later, runOf, segmentsOf}
 use Rattle.demand3.specs.Base.{final}
 use Rattle.demand3.specs.Sendings.{Sending, wholeBody, flagsIn, manyOf, segmentAt, identificationOf, headerOf, keyIn, headerSize, startOf, endOf, IsCut}
 use Rattle.demand3.proofs.ReadAs.{same-seg, counters-fit}
@@ -120,7 +121,7 @@ module _ (s : Settings) (Z : ℕ) (m : Sending) (k : IsCut s Z m) where
   -- their bodies joined are the message's
   pub body-is : bodyIn (sentOf s m) ≡ wholeBody m
   unfolding listed
-  body-is = ap (λ (n : ℕ). joined (listed (partOf s m) n 0)) twice ∙ ap joined (listed-all [] (m .bodies))
+  body-is = ap (λ (n : ℕ). together (listed (partOf s m) n 0)) twice ∙ ap together (listed-all [] (m .bodies))
 
   pub end-is : final (sentOf s m) ≡ endOf s m
   end-is = omega (arith, twice, listed-long (partOf s m) q 2)

@@ -9,6 +9,7 @@ use native.Mathlib.Omega.{arith}
 use lib.ListN.{length}
 use Rattle.cells.specs.Segments.{Seg}
 use Rattle.cells.specs.Rows.{Cell}
+use Rattle.cells.specs.Order.{cellSize}
 use Rattle.messages.specs.Messages.{top}
 use Rattle.taking.specs.Taking.{message, took}
 use Rattle.demand3.specs.Traffic.{Sent, Event, arrives, empty, takenFrom, after}
@@ -17,7 +18,7 @@ use Rattle.demand3.specs.Base.{Done01, Traffic01}
 use Rattle.demand3.specs.Calls.{outOf, storeAt, storeBy, draws}
 use Rattle.demand3.specs.Sendings.{IsCut}
 use Rattle.demand3.specs.Presupposed.{emptyStore, storeBehind, cellsIn}
-use Rattle.demand3.specs.Whole.{cellSize, WholeDemand3, WholeSoundness, WholeGenuine}
+use Rattle.demand3.specs.Whole.{WholeDemand3, WholeSoundness, WholeGenuine}
 use Rattle.demand3.proofs.Keeps.{after-append}
 use Rattle.demand3.proofs.Base.{genuine01}
 use Rattle.demand3.proofs.Sents.{sentOf}

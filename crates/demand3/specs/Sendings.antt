@@ -9,11 +9,11 @@ use mathlib.Core.List.{List, [], _++_}
 use lib.ListN.{length, getD}
 use lib.Dec.{eqb}
 use Rattle.octets.specs.Octets.{pick}
+use Rattle.octets.specs.Laying.{together}
 use Rattle.walk.specs.declared.Settings.{Settings}
 use Rattle.packet.specs.Format.{Head, Values, identification, headerOctets, octetsOf, InRange}
 use Rattle.packet.specs.Reading.{readPacket, segmented}
 use Rattle.cells.specs.Segments.{Seg, segOf}
-use Rattle.demand3.specs.Traffic.{joined}
 
 -- a message as it was cut: what all its packets share, its first counter, and the bodies of its segments
 pub record Sending : Type 0 where
@@ -23,7 +23,7 @@ pub record Sending : Type 0 where
 
 -- the message's body
 abbrev pub wholeBody : Sending → List ℕ
-wholeBody m = joined (m .bodies)
+wholeBody m = together (m .bodies)
 
 -- the sequence flags of segment i of n: 01 the first, 10 the last, 00 between
 unfoldable pub flagsIn : ℕ → ℕ → ℕ

@@ -8,6 +8,7 @@ use mathlib.Core.Bool.{true}
 use mathlib.Core.Option.{Option, none, some}
 use mathlib.Core.List.{List, [], _∷_, _++_, List·Memᴰ}
 use lib.ListN.{length, replicate}
+use Rattle.octets.specs.Laying.{together}
 use Rattle.cells.specs.Segments.{Seg}
 use Rattle.cells.specs.Rows.{Cell, free}
 use Rattle.messages.specs.Messages.{Run, segments, look, picked}
@@ -24,13 +25,9 @@ pub record Sent : Type 0 where
   pub two : List ℕ
   pub more : List (List ℕ)
 
-unfoldable pub joined : List (List ℕ) → List ℕ
-joined [] = []
-joined (p ∷ ps) = p ++ joined ps
-
 -- the message's body
 abbrev pub bodyIn : Sent → List ℕ
-bodyIn m = joined (m .one ∷ m .two ∷ m .more)
+bodyIn m = together (m .one ∷ m .two ∷ m .more)
 
 -- the steps from its first to its last
 abbrev pub stepsIn : Sent → ℕ

@@ -16,16 +16,12 @@ use Rattle.cells.specs.Rows.{held, rowAt, zeroRow}
 use Rattle.cells.specs.Order.{cellAt}
 use Rattle.messages.specs.Messages.{Run, picked, top}
 use Rattle.taking.specs.Taking.{message, unable, writing}
-use Rattle.messages.specs.Told.{refusalOf}
+use Rattle.walk.specs.Walk.{refusal}
 use Rattle.taking.specs.Told.{takenOf}
 use Rattle.demand3.specs.Base.{CompleteFrom}
 use Rattle.demand3.specs.Calls.{Call, taking, Brings, packetsIn, outOf, draws, storeAt, tookBy, storeBy, outBy, storeAfter, outsAfter}
 use Rattle.demand3.specs.Sendings.{Sending, wholeBody, manyOf, segmentAt, identificationOf, headerOf, keyIn, headerSize, bodySize, startOf, endOf}
 use Rattle.demand3.specs.Presupposed.{InUse, emptyStore, storeBehind, cellsIn, AllCame, MayCome, Traffic, Given, Its, Untaken, Anew, Room}
-
--- "Cells of 1,024 octets"
-abbrev pub cellSize : ℕ
-cellSize = 1024
 
 module _ (s : Settings) (Z n : ℕ) where
   -- "complete": "for one key, there is a first at counter c, a last at d, c < d, and continuations at each number between", here for
@@ -41,7 +37,7 @@ module _ (s : Settings) (Z n : ℕ) where
   pub record Delivers (m : Sending) (st : List ℕ) (c : Call) : Type 0 where
     -- it tells H, B and c
     pub told : Option·map takenOf (tookBy s Z st c) ≡
-        some (record { refusal = refusalOf 0; header = headerSize s m; body = bodySize s m; counter = record { 0 = startOf s m } })
+        some (record { refusal = refusal 0; header = headerSize s m; body = bodySize s m; counter = record { 0 = startOf s m } })
     -- the output is "the original identification, header and body", and behind them as it was
     pub written : outBy s Z st c ≡
         identificationOf s m ++ headerOf s m ++ wholeBody m ++ drop (2 + headerSize s m + bodySize s m) (outOf c)

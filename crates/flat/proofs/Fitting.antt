@@ -10,9 +10,9 @@ use native.Mathlib.Numerals.{add-one}
 use lib.ListN.{length}
 use lib.Dec.{leb}
 use borrow.Author.Tests.{leb-true}
-use Rattle.octets.specs.Octets.{pick}
+use Rattle.octets.specs.Octets.{pick, octetAt as numberAt}
 use Rattle.octets.proofs.Lists.{below-or}
-use Rattle.flat.specs.Given.{numberAt, fitsTo}
+use Rattle.flat.specs.Given.{fitsTo}
 
 -- two tests, both of which hold
 pub both-held : (a b : Bool) → pick a b false ≡ true → (a ≡ true) × (b ≡ true)

@@ -5,7 +5,7 @@ use Prim.Native.Nat.{ℕ}
 use mathlib.Core.Bool.{Bool, false}
 use mathlib.Core.List.{List, [], _∷_}
 use lib.Dec.{leb}
-use Rattle.octets.specs.Octets.{pick, most16}
+use Rattle.octets.specs.Octets.{pick, most16, octetAt as numberAt}
 use Rattle.walk.specs.declared.Settings.{Settings}
 use Rattle.walk.specs.declared.Refusal.{Refusal}
 use Rattle.walk.specs.Walk.{settingsOf, noRefusal, unless}
@@ -15,7 +15,7 @@ use Rattle.sender.specs.Sending.{afterPacket, afterSegment}
 use Rattle.write.specs.Given.{Lent}
 use Rattle.write.specs.Writing.{settingsTest, writeAnswer, writeOutput}
 use Rattle.cut.specs.Cutting.{limitTest, countAnswer, packetAnswer, packetOutput}
-use Rattle.flat.specs.Given.{numberAt, headerFits, headerOf, packetFits, packetOf, senderFits, senderOf}
+use Rattle.flat.specs.Given.{headerFits, headerOf, packetFits, packetOf, senderFits, senderOf}
 use Rattle.flat.specs.Told.{writtenNumbers, senderNumbers, countedNumbers, cutNumbers}
 
 -- a number does not fit: 22, unless it is refused already

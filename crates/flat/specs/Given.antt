@@ -4,18 +4,13 @@
 use Prim.Native.Nat.{ℕ, zero, suc}
 use mathlib.Core.Bool.{Bool, true, false}
 use mathlib.Core.List.{List, [], _∷_}
-use lib.ListN.{getD}
 use lib.Dec.{leb, eqb}
-use Rattle.octets.specs.Octets.{pick, most8, most16, most32}
+use Rattle.octets.specs.Octets.{pick, most8, most16, most32, octetAt as numberAt}
 use Rattle.packet.specs.declared.Present.{Present}
 use Rattle.sender.specs.declared.Sender.{Sender}
 use Rattle.sender.specs.declared.Next.the-variants.{At, NoneLeft}
 use Rattle.write.specs.declared.HeaderValues.{HeaderValues}
 use Rattle.write.specs.declared.PacketValues.{PacketValues}
-
--- the number at a place
-abbrev pub numberAt : List ℕ → ℕ → ℕ
-numberAt l k = getD l k 0
 
 -- whether each of the first k numbers is at most the one at its place among the widths
 unfoldable pub fitsTo : ℕ → List ℕ → List ℕ → Bool

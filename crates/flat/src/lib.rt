@@ -6,11 +6,8 @@ ghost use mathlib.Core.Path.{_≡_};
 ghost use mathlib.Core.Bool.{true, false};
 ghost use Prim.Native.Nat.{_+_, _≤_};
 ghost use lib.ListN.{length};
-ghost use lib.Dec.{eqb};
 ghost use lib.Seq.{sets};
-ghost use Rattle.octets.specs.Octets.{pick};
 ghost use Rattle.walk.specs.Walk.{settingsOf, noRefusal};
-ghost use Rattle.packet.specs.Format.{bit};
 ghost use Rattle.packet.specs.Reading.{readPacket};
 ghost use Rattle.write.specs.Given.{lent};
 ghost use Rattle.flat.specs.Given.{fitsTo, headerFits, presentOf, headerOf, packetFits, packetOf, senderFits, senderOf};
@@ -31,6 +28,8 @@ use packet::SequenceCount;
 use packet::Texts;
 use sender::Next;
 use sender::Sender;
+use varint::MOST_16;
+use varint::MOST_32;
 use walk::Refusal;
 use walk::Settings;
 use write::HeaderValues;
@@ -41,10 +40,6 @@ use write::Written;
 pub const READ: usize = 72;
 
 // The largest number of 16 and of 32 bits.
-const MOST_16: u64 = 65535;
-
-const MOST_32: u64 = 4294967295;
-
 // How many numbers a sender has, and how many its calls and those of cutting answer.
 pub const SENDER: usize = 3;
 
@@ -87,15 +82,6 @@ const HEADER_WIDTHS: [u64; HEADER] = [
 
 // ---- the answer of reading
 
-fn bit_of(b: bool) -> u64
-    ensures { λ r. ⌜ r ≡ bit b ⌝ }
-{
-    if b {
-        return 1;
-    }
-    0
-}
-
 fn put_primary(answer: &mut [u64; READ], p: Primary)
     ensures { λ r. ⌜ now (answer .exit) ≡ sets (now (answer .entry)) 1 (primaryNumbers p) ⌝ }
 {
@@ -134,14 +120,14 @@ fn put_routing(answer: &mut [u64; READ], f: Fixed)
 fn put_present(answer: &mut [u64; READ], has: Present)
     ensures { λ r. ⌜ now (answer .exit) ≡ sets (now (answer .entry)) 16 (presentNumbers has) ⌝ }
 {
-    answer[16] = bit_of(has.source);
-    answer[17] = bit_of(has.destination);
-    answer[18] = bit_of(has.priority);
-    answer[19] = bit_of(has.timestamp);
-    answer[20] = bit_of(has.zone);
-    answer[21] = bit_of(has.session);
-    answer[22] = bit_of(has.domain);
-    answer[23] = bit_of(has.authentication);
+    answer[16] = octets::bit_of(has.source);
+    answer[17] = octets::bit_of(has.destination);
+    answer[18] = octets::bit_of(has.priority);
+    answer[19] = octets::bit_of(has.timestamp);
+    answer[20] = octets::bit_of(has.zone);
+    answer[21] = octets::bit_of(has.session);
+    answer[22] = octets::bit_of(has.domain);
+    answer[23] = octets::bit_of(has.authentication);
 }
 
 fn put_ids(answer: &mut [u64; READ], ids: Ids)
@@ -214,15 +200,6 @@ pub fn read(t: u64, packet: &[u8]) -> [u64; READ]
 
 // ---- numbers to values
 
-fn also(ok: bool, next: bool) -> bool
-    ensures { λ r. ⌜ r ≡ pick ok next false ⌝ }
-{
-    if ok {
-        return next;
-    }
-    false
-}
-
 // Whether each number is at most the width beside it.
 fn fits(list: &[u64], widths: &[u64]) -> bool
     requires { ⌜ length (now widths) ≤ length (now list) ⌝ }
@@ -231,7 +208,7 @@ fn fits(list: &[u64], widths: &[u64]) -> bool
     let mut ok = true;
     let mut k: usize = 0;
     while k < widths.len() {
-        ok = also(ok, list[k] <= widths[k]);
+        ok = octets::both(ok, list[k] <= widths[k]);
         k += 1;
     }
     ok
@@ -311,16 +288,7 @@ fn sender_fits(d: &[u64; SENDER]) -> bool
     ensures { λ r. ⌜ r ≡ senderFits (now (d .entry)) ⌝ }
 {
     let widths = [MOST_16, 1, MOST_32];
-    also(fits(d, &widths), left_fits(d[1] == 1, d[2]))
-}
-
-fn left_fits(left: bool, counter: u64) -> bool
-    ensures { λ r. ⌜ r ≡ pick left true (eqb counter 0) ⌝ }
-{
-    if left {
-        return true;
-    }
-    counter == 0
+    octets::both(fits(d, &widths), octets::either(d[1] == 1, d[2] == 0))
 }
 
 // The sender, whose numbers fit.
@@ -445,7 +413,7 @@ pub fn write(
     ensures octets { λ r. ⌜ now (out .exit) ≡ writeOut t (now (header .entry)) (lent (now (timestamp .entry)) (now (zone .entry)) (now (name .entry)) (now (domain .entry)) (now (lengths .entry)) (now (authentication .entry))) flags seq counter (now (body .entry)) (now (out .entry)) ⌝ }
 {
     let s = Settings { t: t as usize };
-    let ok = also(header_fits(header), packet_fits(flags, seq, counter));
+    let ok = octets::both(header_fits(header), packet_fits(flags, seq, counter));
     if !ok {
         return write_too_wide(s);
     }
@@ -512,7 +480,7 @@ pub fn cut_count(
     ensures { λ r. ⌜ r ≡ countNumbers t p (now (header .entry)) (lent (now (timestamp .entry)) (now (zone .entry)) (now (name .entry)) (now (domain .entry)) (now (lengths .entry)) (now (authentication .entry))) body (now (sender .entry)) ⌝ }
 {
     let s = Settings { t: t as usize };
-    let ok = also(header_fits(header), sender_fits(sender));
+    let ok = octets::both(header_fits(header), sender_fits(sender));
     if !ok {
         return cut_too_wide(t, p, sender);
     }
@@ -551,7 +519,7 @@ pub fn cut_packet(
     ensures octets { λ r. ⌜ now (out .exit) ≡ packetOut t p (now (header .entry)) (lent (now (timestamp .entry)) (now (zone .entry)) (now (name .entry)) (now (domain .entry)) (now (lengths .entry)) (now (authentication .entry))) (now (body .entry)) (now (sender .entry)) i (now (out .entry)) ⌝ }
 {
     let s = Settings { t: t as usize };
-    let ok = also(header_fits(header), sender_fits(sender));
+    let ok = octets::both(header_fits(header), sender_fits(sender));
     if !ok {
         return cut_too_wide(t, p, sender);
     }

@@ -14,7 +14,7 @@ use borrow.Author.Tests.{eqb-true, leb-true, eq-eqb, ne-eqb}
 use Rattle.octets.specs.Octets.{pick, Octets}
 use Rattle.octets.proofs.Lists.{bool}
 use Rattle.walk.specs.declared.Settings.{Settings}
-use Rattle.walk.specs.Walk.{begun}
+use Rattle.walk.specs.Walk.{begun, refusal}
 use Rattle.packet.specs.Reading.{readPacket, segmented, counterSize}
 use Rattle.format.proofs.Accepting.{accepted}
 use Rattle.cells.specs.Segments.{Seg, segOf, sameRest}
@@ -23,7 +23,6 @@ use Rattle.messages.specs.Messages.{Run, bodyOf, cellsOf, look, picked, top}
 use Rattle.arrival.specs.Arriving.{whole, stored, again, refused, placed, beside, lowestFree, segmentArrived, arrivedIn, arrived}
 use Rattle.taking.specs.Taking.{message, unable, writing, drawn, tookIn}
 use Rattle.taking.specs.declared.Taken.{Taken}
-use Rattle.messages.specs.Told.{refusalOf}
 use Rattle.taking.specs.Told.{takenOf}
 use Rattle.join.specs.declared.Which.the-variants.{Joined as InJoined}
 use Rattle.join.specs.Joining.{bodyFrom, tookAs, unjoined}
@@ -98,7 +97,7 @@ module _ (t : Taken) where
       ≡ takenAs t
   unfolding takenAs
   as-taken e =
-      ap (λ (k : ℕ). record { refusal = refusalOf k; which = InJoined; place = 2 + t .header; length = t .body; header = t .header; body = t .body; counter = t .counter }) e
+      ap (λ (k : ℕ). record { refusal = refusal k; which = InJoined; place = 2 + t .header; length = t .body; header = t .header; body = t .body; counter = t .counter }) e
       ∙ ap (λ (b : Bool). pick b (taken t) (joinedOf (unjoined (t .refusal .number)))) (sym (eq-eqb (t .refusal .number) 0 e))
 
 module _ (long : ℕ) where

@@ -76,7 +76,7 @@ key-seg : (s : Settings) (p : List ℕ) → readPacket s p .refusal .number ≡ 
 unfolding segOf
 key-seg s p z = key-two s p z
 
-held-two : (s : Settings) (Z : ℕ) (r : List ℕ) (t : Seg) → cellOf s Z r ≡ held t → 2 ≤ length (t .key)
+pub held-two : (s : Settings) (Z : ℕ) (r : List ℕ) (t : Seg) → cellOf s Z r ≡ held t → 2 ≤ length (t .key)
 held-two s Z r t e =
     let h = holding s Z r (ap isSound e) (⊎-elim free-it (λ x. x) (bool (alike r (zeroRow Z)))) in
     let d : held (segOf (packetIn Z r) (readPacket s (packetIn Z r))) ≡ held t = sym (h .cell) ∙ e in

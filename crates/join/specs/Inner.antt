@@ -14,14 +14,14 @@ use Rattle.arrival.specs.declared.Arrival.the-variants.{Answer, Refused}
 use Rattle.taking.specs.declared.Taken.{Taken}
 use Rattle.arrival.specs.Arriving.{Arrived, whole, stored, again, refused, arrivedIn, storeWith}
 use Rattle.taking.specs.Taking.{tookIn, storeLess, outWith}
-use Rattle.messages.specs.Told.{refusalOf}
+use Rattle.walk.specs.Walk.{refusal}
 use Rattle.join.specs.declared.Joined.{Joined}
 use Rattle.join.specs.Joining.{Joining, inPacket, unjoined, bodyFrom, tookAs}
 use Rattle.join.specs.Told.{taken, joinedOf}
 
 -- the refusal of an arrival; 0 where it is answered
 abbrev pub refusalIn : Arrival → Refusal
-refusalIn (Answer k) = refusalOf 0
+refusalIn (Answer k) = refusal 0
 refusalIn (Refused r) = r
 
 -- the body that reading tells of

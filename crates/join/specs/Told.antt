@@ -6,7 +6,7 @@ use Prim.Native.Nat.{ℕ, _+_}
 use Rattle.packet.specs.declared.SegmentCounter.{SegmentCounter}
 use Rattle.taking.specs.declared.Taken.{Taken}
 use Rattle.taking.specs.Taking.{message}
-use Rattle.messages.specs.Told.{refusalOf}
+use Rattle.walk.specs.Walk.{refusal}
 use Rattle.taking.specs.Told.{takenOf}
 use Rattle.join.specs.declared.Which.{Which}
 use Rattle.join.specs.declared.Which.the-variants.{Packet, Joined as InJoined, Nothing}
@@ -53,7 +53,7 @@ noCounter = record { 0 = 0 }
 abbrev pub taken : Taken → Joined
 taken t =
     record {
-      refusal = refusalOf 0;
+      refusal = refusal 0;
       which = InJoined;
       place = 2 + t .header;
       length = t .body;
@@ -66,7 +66,7 @@ taken t =
 abbrev pub joinedOf : Joining → Joined
 joinedOf (inPacket place long) =
     record {
-      refusal = refusalOf 0;
+      refusal = refusal 0;
       which = Packet;
       place = place;
       length = long;
@@ -76,4 +76,4 @@ joinedOf (inPacket place long) =
     }
 joinedOf (inOutput r) = taken (takenOf (message r))
 joinedOf (unjoined k) =
-    record { refusal = refusalOf k; which = Nothing; place = 0; length = 0; header = 0; body = 0; counter = noCounter }
+    record { refusal = refusal k; which = Nothing; place = 0; length = 0; header = 0; body = 0; counter = noCounter }

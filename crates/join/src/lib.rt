@@ -15,13 +15,11 @@ ghost use Rattle.join.specs.Beside.{joiningBeside, storeBeside, outBesid
 ghost use Rattle.join.specs.Inner.{refusalIn, bodyIn, takenAs, joiningIn, storeJoinedIn, outJoinedIn};
 use arrival::Arrival;
 use arrival::Kind;
+use cells::CELL;
 use packet::SegmentCounter;
 use taking::Taken;
 use walk::Refusal;
 use walk::Settings;
-
-// The octets of a cell.
-const CELL: usize = 1024;
 
 // Which buffer holds a body: the packet as it arrived, or the one where it was joined; nothing where there is no body.
 pub enum Which {

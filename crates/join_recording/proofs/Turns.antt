@@ -69,6 +69,3 @@ begins-cells ez es = begin-count ∙ sym (ap₂ (λ (n : ℕ) (x : List ℕ). co
 
 pub begins-zero : {zero : List ℕ} → zero ≡ replicate 1024 0 → zero ≡ zeroRow (length zero)
 begins-zero ez = ez ∙ sym (ap (λ (n : ℕ). replicate n 0) (ap length ez ∙ length-replicate {A = ℕ} 1024 0))
-
-pub begins-room : {out : List ℕ} → out ≡ replicate 65542 0 → 6 + room ≤ length out
-begins-room eo = omega (arith, ap length eo ∙ length-replicate {A = ℕ} 65542 0)

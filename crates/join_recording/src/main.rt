@@ -21,20 +21,16 @@ ghost use Rattle.cells.specs.Order.{countIn};
 ghost use Rattle.opening.specs.Inner.{gate};
 ghost use Rattle.steps.specs.Stepping.{room};
 ghost use Rattle.recording.specs.Recording.{settings, cellCount};
+use cells::CELL;
 use counts::COUNTS;
+use recording::CELLS;
+use recording::STORE;
+use steps::SPACE;
 use steps::What;
 use walk::Settings;
 
-// 32 cells, and the octets of them all.
-const CELLS: usize = 32;
-
-const STORE: usize = 32768;
-
 // The window: more than a mark and the longest packet.
 const WINDOW: usize = 131072;
-
-// The room for the longest message, its mark and its length.
-const OUTPUT: usize = 65542;
 
 // The octets in hand, from a place of the window up to another; whether the recording ends with them; why it stops, 0 where it goes on.
 struct Hand {
@@ -193,10 +189,10 @@ fn end(store: &[u8], counts: &mut [u64; COUNTS], stop: u8) {
 
 // Joins the recording that is open.
 fn join(fd: i32) {
-    let zero = [0u8; 1024];
+    let zero = [0u8; CELL];
     let mut store = [0u8; STORE];
     let mut buf = [0u8; WINDOW];
-    let mut out = [0u8; OUTPUT];
+    let mut out = [0u8; SPACE];
     let mut counts = [0u64; COUNTS];
     let stop = run(fd, &mut store, &zero, &mut buf, &mut out, &mut counts);
     end(&store, &mut counts, stop);

@@ -10,6 +10,7 @@ use lib.Dec.{eqb}
 use borrow.Author.Tests.{eqb-true}
 use Rattle.octets.specs.Octets.{pick, blank}
 use Rattle.cells.specs.Rows.{zeroRow}
+use Rattle.cells.proofs.Lowest.{not-is}
 
 pub blank-zeros : (n : ℕ) → blank (zeroRow n) ≡ true
 unfolding blank
@@ -30,15 +31,11 @@ not-false : (b : Bool) → not b ≡ false → b ≡ true
 not-false true h = refl
 not-false false h = let c : _≡_ {A = ℕ} 0 1 = cc in absurd (omega arith)
 
-not-true : (b : Bool) → not b ≡ true → b ≡ false
-not-true true h = let c : _≡_ {A = ℕ} 0 1 = cc in absurd (omega arith)
-not-true false h = refl
-
 pub zero-told : (z : List ℕ) {b : Bool} → b ≡ blank z → not b ≡ false → z ≡ zeroRow (length z)
 zero-told z {b} e h = blank-true z (sym e ∙ not-false b h)
 
 pub other-told : (z : List ℕ) {b : Bool} → b ≡ blank z → not b ≡ true → blank z ≡ false
-other-told z {b} e h = sym e ∙ not-true b h
+other-told z {b} e h = sym e ∙ not-is b h
 
 pub blank-is : (z : List ℕ) → z ≡ zeroRow (length z) → blank z ≡ true
 blank-is z e = ap blank e ∙ blank-zeros (length z)

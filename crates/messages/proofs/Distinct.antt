@@ -1,6 +1,6 @@
 -- Cells apart (S-4): `distinct` holds exactly if no two different cells hold segments with equal key and counter.
 -- Assumes nothing.
-use Prim.Native.Nat.{ℕ, zero, suc, _<_}
+use Prim.Native.Nat.{ℕ, _<_}
 use mathlib.Core.Path.{_≡_, refl, ap, sym, _∙_}
 use mathlib.Core.Logic.{⊎-elim, _↔_}
 use mathlib.Core.Bool.{Bool, true, false, not}
@@ -13,9 +13,10 @@ use Rattle.octets.proofs.Lists.{bool, below-or, alike-true, alike-self}
 use Rattle.walk.specs.declared.Settings.{Settings}
 use Rattle.cells.specs.Segments.{Seg, carries}
 use Rattle.cells.specs.Rows.{Cell, free, held, broken}
-use Rattle.cells.specs.Order.{carriesIn, cellAt, allTo, newTo, newAt, distinct}
+use Rattle.cells.specs.Order.{carriesIn, cellAt, newTo, newAt, distinct}
 use Rattle.cells.proofs.Held.{both-true}
 use Rattle.cells.proofs.Apart.{all-at}
+use Rattle.cells.proofs.Lowest.{all-each}
 
 -- ---- a key and a counter
 
@@ -30,12 +31,6 @@ unfolding carries
 carries-yes k c t e d = rw (eq-eqb c (t .counter) d, e) (alike-self (t .key))
 
 -- ---- cells apart
-
--- what holds of each holds of all
-pub all-to : (f : ℕ → Bool) (n : ℕ) → ((i : ℕ) → i < n → f i ≡ true) → allTo f n ≡ true
-unfolding allTo
-all-to f zero h = refl
-all-to f (suc n) h = rw (all-to f n (λ i l. h i (omega arith))) (h n (omega arith))
 
 -- no two different cells of the first n hold segments with equal key and counter
 abbrev pub Apart : Settings → ℕ → List ℕ → ℕ → Type 0
@@ -69,7 +64,7 @@ module _ (s : Settings) (Z : ℕ) (st : List ℕ) where
 
   pub apart-distinct : (n : ℕ) → Apart s Z st n → distinct s Z st n ≡ true
   unfolding distinct newAt newTo
-  apart-distinct n h = all-to (λ i. newAt s Z st i (cellAt s Z st i)) n (λ i l. one i l (cellAt s Z st i) refl)
+  apart-distinct n h = all-each (λ i. newAt s Z st i (cellAt s Z st i)) n (λ i l. one i l (cellAt s Z st i) refl)
     where
       other : (i j : ℕ) (u : Seg) → i < n → j < i → cellAt s Z st i ≡ held u → (x : Cell) → cellAt s Z st j ≡ x → not (carriesIn (u .key) (u .counter) x) ≡ true
       other i j u l m e free d = refl
@@ -85,7 +80,7 @@ module _ (s : Settings) (Z : ℕ) (st : List ℕ) where
       one : (i : ℕ) → i < n → (x : Cell) → cellAt s Z st i ≡ x → newAt s Z st i x ≡ true
       one i l free e = refl
       one i l broken e = refl
-      one i l (held u) e = all-to (λ j. not (carriesIn (u .key) (u .counter) (cellAt s Z st j))) i (λ j m. other i j u l m e (cellAt s Z st j) refl)
+      one i l (held u) e = all-each (λ j. not (carriesIn (u .key) (u .counter) (cellAt s Z st j))) i (λ j m. other i j u l m e (cellAt s Z st j) refl)
 
   -- exactly
   pub distinct-exactly : (n : ℕ) → distinct s Z st n ≡ true ↔ Apart s Z st n

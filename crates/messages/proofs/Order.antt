@@ -11,7 +11,8 @@ use Rattle.cells.specs.Segments.{both}
 use Rattle.cells.specs.Order.{lengthFits, countIn, isSound, cellAt, sound, distinct, inOrder}
 use Rattle.cells.proofs.Held.{both-true}
 use Rattle.cells.proofs.Apart.{all-at}
-use Rattle.messages.proofs.Distinct.{all-to, Apart, distinct-apart, apart-distinct}
+use Rattle.cells.proofs.Lowest.{all-each}
+use Rattle.messages.proofs.Distinct.{Apart, distinct-apart, apart-distinct}
 
 -- the cells there are lie inside the store
 pub cells-inside : (Z : ℕ) (st : List ℕ) → countIn Z st * Z ≤ length st
@@ -19,7 +20,7 @@ cells-inside Z st = div-mul-le-self (length st) Z
 
 sound-all : (s : Settings) (Z : ℕ) (st : List ℕ) (n : ℕ) → ((i : ℕ) → i < n → isSound (cellAt s Z st i) ≡ true) → sound s Z st n ≡ true
 unfolding sound
-sound-all s Z st n h = all-to (λ i. isSound (cellAt s Z st i)) n h
+sound-all s Z st n h = all-each (λ i. isSound (cellAt s Z st i)) n h
 
 pub record Ordered (s : Settings) (Z : ℕ) (st : List ℕ) : Type 0 where
   pub fits : lengthFits Z (length st) ≡ true

@@ -72,9 +72,9 @@ abbrev pub bodyOf : Run → List ℕ
 bodyOf r = bodies (segments r)
 
 -- a run goes on from a continuation and ends at a last; no run passes over a first, or over a counter that is not there
-abbrev pub linkBy : Role → Seg → Option (List Seg) → Option (List Seg)
+abbrev pub linkBy : {A : Type 0} → Role → A → Option (List A) → Option (List A)
 linkBy first t r = none
-linkBy middle t r = Option·map (λ (ts : List Seg). t ∷ ts) r
+linkBy {A} middle t r = Option·map (λ (ts : List A). t ∷ ts) r
 linkBy last t r = some (t ∷ [])
 
 abbrev pub link : Option Seg → Option (List Seg) → Option (List Seg)

@@ -2,7 +2,7 @@
 -- call that can refuse: the number in its answer is 0 or one of the call's own list.
 -- Assumes nothing.
 use Prim.Native.Nat.{ℕ}
-use mathlib.Core.Path.{_≡_, refl, ap, sym, _∙_, subst}
+use mathlib.Core.Path.{ap, sym, _∙_, subst}
 use contract.Lifetimes as L
 use denote.Ref.{now}
 use lib.ListN.{length}
@@ -18,10 +18,11 @@ use Rattle.cut.proofs.count.Reads as counts
 use Rattle.cut.proofs.packet.Reads as cuts
 use Rattle.arrival.specs.declared.Arrival.{Arrival}
 use Rattle.taking.specs.declared.Taken.{Taken}
-use Rattle.arrival.specs.Arriving.{Arrived, whole, stored, again, refused, arrived}
-use Rattle.arrival.specs.Told.{Said, said, arrivalOf, saidOf}
+use Rattle.arrival.specs.Arriving.{arrived}
+use Rattle.arrival.specs.Told.{Said, said}
 use Rattle.store.proofs.arrive.Reads as arrives
 use Rattle.store.proofs.take.Reads as takes
+use Rattle.store.proofs.Saying.{said-is}
 use Rattle.join.specs.declared.Joined.{Joined}
 use Rattle.join.proofs.join.Reads as joins
 use Rattle.numbers.specs.Lists.{Numbered, ofReading, ofArrival, ofTaking, ofJoining, ofWriting, ofCount, ofCutting}
@@ -44,15 +45,9 @@ pub packet-numbered : (κs : L.Lfts 8) (a : _) (r : _) (x : _) → cuts.Post κs
 unfolding packetAnswer
 packet-numbered κs a r x k = subst (λ (h : Cut). Numbered ofCutting (h .refusal .number)) (sym (k .0)) (cutting _ _ _ _ _ _ _ _)
 
-said-of : (a : Arrived) → said (arrivalOf a) ≡ saidOf a
-said-of whole = refl
-said-of (stored i) = refl
-said-of again = refl
-said-of (refused k) = refl
-
 pub arrive-numbered : (κs : L.Lfts 2) (a : _) (r : _) (x : _) → arrives.Post κs a r x → Numbered ofArrival (said r .number)
 arrive-numbered κs a r x k =
-    subst (λ (h : Said). Numbered ofArrival (h .number)) (sym (ap said (k .0) ∙ said-of (arrived (a .0) 1024 (now (a .1 .0)) (now (a .1 .1 .0)))))
+    subst (λ (h : Said). Numbered ofArrival (h .number)) (sym (ap said (k .0) ∙ said-is (arrived (a .0) 1024 (now (a .1 .0)) (now (a .1 .1 .0)))))
     (arrival (a .0) 1024 (now (a .1 .0)) (now (a .1 .1 .0)))
 
 pub take-numbered : (κs : L.Lfts 2) (a : _) (r : _) (x : _) → takes.Post κs a r x → Numbered ofTaking (r .refusal .number)

@@ -18,6 +18,11 @@ pub pick-false : (b : Bool) → pick b false false ≡ false
 pick-false true = refl
 pick-false false = refl
 
+-- a test as a number
+pub bit-top : (b : Bool) → pick b 1 0 ≤ 1
+bit-top true = omega arith
+bit-top false = omega arith
+
 pub bool : (b : Bool) → (b ≡ true) ⊎ (b ≡ false)
 bool true = inl refl
 bool false = inr refl

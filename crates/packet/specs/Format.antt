@@ -56,8 +56,8 @@ pub record Values : Type 0 where
 abbrev pub segment : ℕ → Bool
 segment flags = not (eqb flags 3)
 
--- octets that are there only if the flag says so
-abbrev pub when : Bool → List ℕ → List ℕ
+-- what is there only if the flag says so: octets, or pieces of them
+abbrev pub when : {A : Type 0} → Bool → List A → List A
 when b l = pick b l []
 
 abbrev pub bit : Bool → ℕ

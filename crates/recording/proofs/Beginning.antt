@@ -1,12 +1,16 @@
--- A recording begins with a store in order.
+-- A recording begins with a store in order, and with room for a message and its frame.
 -- Assumes nothing.
-use mathlib.Core.Path.{_≡_, refl, sym}
+use Prim.Native.Nat.{ℕ, _+_, _≤_}
+use mathlib.Core.Path.{_≡_, refl, ap, sym}
+use mathlib.Core.List.{List}
 use native.Mathlib.Omega.{arith}
+use lib.ListN.{length, replicate, length-replicate}
 use Rattle.walk.specs.Walk.{begun, check}
-use Rattle.cells.specs.Order.{countIn}
+use Rattle.cells.specs.Order.{countIn, cellSize}
 use Rattle.messages.proofs.Empty.{empty-order, empty-count}
 use Rattle.opening.specs.Inner.{gate}
-use Rattle.recording.specs.Recording.{settings, cellSize, cellCount, emptyStore}
+use Rattle.steps.specs.Stepping.{room}
+use Rattle.recording.specs.Recording.{settings, cellCount, emptyStore}
 
 pub begin-count : cellCount ≡ countIn cellSize emptyStore
 begin-count = sym (empty-count settings cellSize cellCount (omega arith))
@@ -14,3 +18,6 @@ begin-count = sym (empty-count settings cellSize cellCount (omega arith))
 pub begin-gate : gate settings cellSize emptyStore ≡ 0
 unfolding gate begun check
 begin-gate = rw (empty-order settings cellSize cellCount (omega arith) (omega arith) (omega arith)) refl
+
+pub spare-begins : {l : List ℕ} → l ≡ replicate 65542 0 → 6 + room ≤ length l
+spare-begins e = omega (arith, ap length e, length-replicate {A = ℕ} 65542 0)

@@ -14,14 +14,14 @@ use Rattle.octets.specs.Octets.{Octets}
 use Rattle.octets.proofs.Lists.{sets-append}
 use Rattle.walk.specs.declared.Settings.{Settings}
 use Rattle.cells.specs.Rows.{zeroRow}
-use Rattle.cells.specs.Order.{countIn}
+use Rattle.cells.specs.Order.{countIn, cellSize}
 use Rattle.opening.specs.Inner.{gate}
-use Rattle.messages.specs.Told.{refusalOf}
+use Rattle.walk.specs.Walk.{refusal}
 use Rattle.steps.specs.declared.Done.{Done}
 use Rattle.recording.specs.declared.Why.{Why}
 use Rattle.recording.specs.declared.Why.the-variants.{Unsaid}
 use Rattle.steps.specs.Stepping.{Found, nothing, other, cut, whole, foundIn, room, Stepped, stepBy, stepped, storeBehind, usedBy, writtenBy}
-use Rattle.recording.specs.Recording.{recordedFrom, recorded, settings, cellSize, cellCount, emptyStore}
+use Rattle.recording.specs.Recording.{recordedFrom, recorded, settings, cellCount, emptyStore}
 use Rattle.steps.specs.Told.{doneOf}
 use Rattle.recording.specs.Ending.{past, reachFrom, reach, whyAt, whyOf, recordedOf, outRecorded}
 use Rattle.steps.proofs.Steps.{used-most, done-used, done-written}
@@ -240,13 +240,10 @@ module _ {x out₀ : List ℕ} {Z : ℕ} {st out : List ℕ} {place written : �
 pub store-begins : {l : List ℕ} → l ≡ replicate 32768 0 → l ≡ emptyStore
 store-begins e = let k : 32768 ≡ cellCount * cellSize = omega arith in e ∙ ap (λ (n : ℕ). replicate n 0) k
 
-pub spare-begins : {l : List ℕ} → l ≡ replicate 65542 0 → 6 + room ≤ length l
-spare-begins e = omega (arith, ap length e, length-replicate {A = ℕ} 65542 0)
-
 -- ---- what is told
 
 module _ (x out : List ℕ) where
-  pub told-short : length out < length x → record { refusal = refusalOf 21; why = Unsaid; place = 0; written = 0 } ≡ recordedOf (length out) x
+  pub told-short : length out < length x → record { refusal = refusal 21; why = Unsaid; place = 0; written = 0 } ≡ recordedOf (length out) x
   unfolding recordedOf
   told-short h = rw (lt-leb (length x) (length out) h) refl
 
@@ -260,7 +257,7 @@ module _ (x out : List ℕ) where
 
   pub told-all :
       length x ≤ length out → {r : List ℕ} {w : Why} {n m : ℕ} → n ≡ reach x → m ≡ length (recorded x) → r ≡ take (length x - n) (drop n x) →
-      w ≡ whyAt (foundIn r) → record { refusal = refusalOf 0; why = w; place = n; written = m } ≡ recordedOf (length out) x
+      w ≡ whyAt (foundIn r) → record { refusal = refusal 0; why = w; place = n; written = m } ≡ recordedOf (length out) x
   unfolding recordedOf
   told-all h {r} {w} {n} {m} en em er ew =
       let a : r ≡ drop (reach x) x =

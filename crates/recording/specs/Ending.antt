@@ -9,7 +9,7 @@ use lib.ListN.{length, drop}
 use lib.Seq.{sets}
 use lib.Dec.{leb}
 use Rattle.octets.specs.Octets.{pick}
-use Rattle.messages.specs.Told.{refusalOf}
+use Rattle.walk.specs.Walk.{refusal}
 use Rattle.recording.specs.declared.Why.{Why}
 use Rattle.recording.specs.declared.Why.the-variants.{Unsaid, Ended, Unmarked, Torn}
 use Rattle.recording.specs.declared.Recorded.{Recorded}
@@ -48,8 +48,8 @@ whyOf x = whyAt (foundIn (drop (reach x) x))
 -- what is told of a recording with an output of some length
 unfoldable pub recordedOf : ℕ → List ℕ → Recorded
 recordedOf long x =
-    pick (leb (length x) long) (record { refusal = refusalOf 0; why = whyOf x; place = reach x; written = length (recorded x) })
-    (record { refusal = refusalOf 21; why = Unsaid; place = 0; written = 0 })
+    pick (leb (length x) long) (record { refusal = refusal 0; why = whyOf x; place = reach x; written = length (recorded x) })
+    (record { refusal = refusal 21; why = Unsaid; place = 0; written = 0 })
 
 -- the output behind it
 unfoldable pub outRecorded : List ℕ → List ℕ → List ℕ

@@ -7,6 +7,7 @@ use mathlib.Core.Bool.{true}
 use mathlib.Core.List.{List, [], _++_}
 use lib.ListN.{length, drop, replicate}
 use Rattle.walk.specs.declared.Settings.{Settings}
+use Rattle.cells.specs.Order.{cellSize}
 use Rattle.steps.specs.Stepping.{stepped, storeBehind, usedBy, writtenBy}
 
 -- what f steps write over the rest x of a recording, from a store st on; where it stops, no step goes on
@@ -20,9 +21,6 @@ recordedFrom s Z (suc f) st x =
 -- "T 8 and 32 cells"
 abbrev pub settings : Settings
 settings = record { t = 8 }
-
-abbrev pub cellSize : ℕ
-cellSize = 1024
 
 abbrev pub cellCount : ℕ
 cellCount = 32

@@ -6,17 +6,19 @@ ghost use Prim.Native.Nat.{_+_, _≤_};
 ghost use lib.ListN.{length};
 ghost use lib.Seq.{sets};
 ghost use Rattle.cells.specs.Rows.{zeroRow};
+ghost use Rattle.cells.specs.Order.{cellSize};
 ghost use Rattle.steps.specs.Stepping.{foundIn, room};
-ghost use Rattle.recording.specs.Recording.{recorded, cellSize, emptyStore};
+ghost use Rattle.recording.specs.Recording.{recorded, emptyStore};
 ghost use Rattle.recording.specs.Ending.{reach, whyAt, recordedOf, outRecorded};
+use cells::CELL;
 use steps::Stands;
 use walk::Refusal;
 use walk::Settings;
 
 // The cells of the store that a recording in hand is joined with, and the octets of them all.
-const CELLS: usize = 32;
+pub const CELLS: usize = 32;
 
-const STORE: usize = 32768;
+pub const STORE: usize = 32768;
 
 // Why a recording in hand was left: not said where it is refused; it ends there; no mark follows; a torn mark or packet follows.
 pub enum Why {
@@ -96,7 +98,7 @@ pub fn join_all(recording: &[u8], out: &mut [u8]) -> Recorded
             written: 0,
         };
     }
-    let zero = [0u8; 1024];
+    let zero = [0u8; CELL];
     let mut store = [0u8; STORE];
     let mut spare = [0u8; steps::SPACE];
     let end = along(&mut store, &zero, recording, &mut spare, out);

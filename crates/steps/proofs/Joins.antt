@@ -13,6 +13,7 @@ use Rattle.octets.specs.Octets.{pick, part, alike, wide}
 use Rattle.octets.proofs.Lists.{bool}
 use Rattle.walk.specs.declared.Settings.{Settings}
 use Rattle.walk.specs.declared.Refusal.{Refusal}
+use Rattle.walk.specs.Walk.{refusal}
 use Rattle.packet.specs.Reading.{readPacket, counterSize}
 use Rattle.packet.specs.declared.Header.{Header}
 use Rattle.packet.specs.Key.{keyOf, counterPlace}
@@ -23,13 +24,12 @@ use Rattle.cells.proofs.Carries.{free-cell, Holding, holding}
 use Rattle.messages.specs.Messages.{Run, bodyOf}
 use Rattle.arrival.specs.Arriving.{Arrived, whole, stored, again, refused, arrived, storeWith}
 use Rattle.taking.specs.Taking.{Took, message, unable, writing, took, outWith}
-use Rattle.messages.specs.Told.{refusalOf}
-use Rattle.messages.proofs.Opens.{opens}
 use Rattle.taking.proofs.Tells.{taken-tells, segment-held}
 use Rattle.join.specs.declared.Joined.{Joined}
 use Rattle.join.specs.declared.Which.the-variants.{Packet, Joined as InJoined, Nothing}
 use Rattle.join.specs.Joining.{Joining, inPacket, inOutput, unjoined, tookAs, joinedBy, outBy, joining, outJoined}
 use Rattle.join.specs.Told.{joinedOf}
+use Rattle.join.proofs.Views.{held-two}
 use Rattle.steps.specs.declared.What.the-variants.{Refused, Kept, Whole, Joined as Made}
 use Rattle.steps.specs.declared.Done.{Done}
 use Rattle.steps.specs.Stepping.{room, refused as passed, kept, cameBy, without, wrote}
@@ -62,15 +62,6 @@ held-is s Z r t e = ⊎-elim is-free is-held (bool (alike r (zeroRow Z)))
         let d : held (segOf (packetIn Z r) (readPacket s (packetIn Z r))) ≡ held t = sym (h .cell) ∙ e in
         (h, cc d)
 
--- its key has the two octets of identification
-held-key : (s : Settings) (Z : ℕ) (r : List ℕ) (t : Seg) → cellOf s Z r ≡ held t → 2 ≤ length (t .key)
-unfolding segOf
-held-key s Z r t e =
-    let h = held-is s Z r t e in
-    let p : List ℕ = packetIn Z r in
-    let l = key-least p (readPacket s p) (opens s p (h .0 .accepted) .six) in
-    omega (arith, l, ap (λ (u : Seg). length (u .key)) (h .1))
-
 module _ (s : Settings) (Z : ℕ) (st p : List ℕ) where
   -- ---- the output
 
@@ -101,7 +92,7 @@ module _ (s : Settings) (Z : ℕ) (st p : List ℕ) where
       let f : q ≡ r = cc d in
       let g : took s Z x long ≡ message r = e ∙ ap message f in
       let h = segment-held s Z x long r g (r .head) (List·Memᴰ·head refl) in
-      record { key = held-key s Z (rowAt Z x (h .0)) (r .head) (h .2); fits = taken-tells s Z x long r g .fits }
+      record { key = held-two s Z (rowAt Z x (h .0)) (r .head) (h .2); fits = taken-tells s Z x long r g .fits }
   took-fits x long (unable k) r e d = let z : _≡_ {A = ℕ} 0 1 = cc d in absurd (omega arith)
 
   fits-by : (long : ℕ) (r : Run) (b : Arrived) → joinedBy s Z st p long b ≡ inOutput r → Fitting long r
@@ -154,8 +145,8 @@ module _ (p out : List ℕ) where
       where
         answer :
             (b : Bool) →
-            pick b (record { what = Kept; refusal = refusalOf 0; used = 2 + length p; written = 0 })
-            (record { what = Refused; refusal = refusalOf k; used = 2 + length p; written = 0 })
+            pick b (record { what = Kept; refusal = refusal 0; used = 2 + length p; written = 0 })
+            (record { what = Refused; refusal = refusal k; used = 2 + length p; written = 0 })
             ≡ doneCame p (pick b kept (passed k))
         answer true = refl
         answer false = refl

@@ -7,7 +7,7 @@ use lib.Dec.{eqb}
 use Rattle.octets.specs.Octets.{pick}
 use Rattle.walk.specs.declared.Refusal.{Refusal}
 use Rattle.taking.specs.Taking.{writing}
-use Rattle.messages.specs.Told.{refusalOf}
+use Rattle.walk.specs.Walk.{refusal}
 use Rattle.join.specs.Joining.{Joining, inPacket, inOutput, unjoined}
 use Rattle.steps.specs.declared.What.{What}
 use Rattle.steps.specs.declared.What.the-variants.{More, Refused, Kept}
@@ -23,8 +23,8 @@ takenIn (unjoined k) = []
 -- a packet that neither came whole nor completed a message
 unfoldable pub leftAs : ℕ → ℕ → Done
 leftAs k n =
-    pick (eqb k 20) (record { what = Kept; refusal = refusalOf 0; used = n; written = 0 })
-    (record { what = Refused; refusal = refusalOf k; used = n; written = 0 })
+    pick (eqb k 20) (record { what = Kept; refusal = refusal 0; used = n; written = 0 })
+    (record { what = Refused; refusal = refusal k; used = n; written = 0 })
 
 -- a step that writes a message of n octets behind its mark and length
 abbrev pub framedAs : What → Refusal → ℕ → ℕ → Done

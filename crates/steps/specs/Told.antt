@@ -3,7 +3,7 @@
 use Prim.Native.Nat.{ℕ, _+_}
 use mathlib.Core.List.{List}
 use lib.ListN.{length}
-use Rattle.messages.specs.Told.{refusalOf}
+use Rattle.walk.specs.Walk.{refusal}
 use Rattle.steps.specs.declared.What.{What}
 use Rattle.steps.specs.declared.What.the-variants.{More, Ended, Unmarked, Torn, Passed, Refused, Kept, Whole, Joined}
 use Rattle.steps.specs.declared.Stands.{Stands}
@@ -34,12 +34,12 @@ numberCame (message r) = 0
 
 -- a step that uses up no octet and writes none
 abbrev pub still : What → Done
-still w = record { what = w; refusal = refusalOf 0; used = 0; written = 0 }
+still w = record { what = w; refusal = refusal 0; used = 0; written = 0 }
 
 -- a step over a packet
 abbrev pub doneCame : List ℕ → Came → Done
 doneCame p c =
-    record { what = whatCame c; refusal = refusalOf (numberCame c); used = 2 + length p; written = length (wrote p c) }
+    record { what = whatCame c; refusal = refusal (numberCame c); used = 2 + length p; written = length (wrote p c) }
 
 abbrev pub doneOf : Stepped → Done
 doneOf wanting = still More

@@ -11,11 +11,9 @@ ghost use Rattle.taking.specs.Taking.{took, outWith, storeLess};
 ghost use Rattle.arrival.specs.Told.{arrivalOf};
 ghost use Rattle.taking.specs.Told.{takenOf};
 use arrival::Arrival;
+use cells::CELL;
 use taking::Taken;
 use walk::Settings;
-
-// The octets of a cell.
-pub const CELL: usize = 1024;
 
 // A packet arrives.
 pub fn arrive(s: Settings, store: &mut [u8], p: &[u8]) -> Arrival

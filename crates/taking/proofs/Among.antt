@@ -17,8 +17,8 @@ use Rattle.cells.specs.Segments.{Seg, carries, both}
 use Rattle.cells.specs.Rows.{Cell, free, held, broken}
 use Rattle.cells.specs.Order.{carriesIn, foundIn}
 use Rattle.cells.specs.Inner.{withinIn}
-use Rattle.messages.specs.Messages.{Role, first, middle, last, roleOf, or, among, amongIn}
-use Rattle.taking.specs.Follow.{segAt, onBy, follow}
+use Rattle.messages.specs.Messages.{Role, first, middle, last, roleOf, linkBy, or, among, amongIn}
+use Rattle.taking.specs.Follow.{segAt, follow}
 use Rattle.messages.proofs.Found.{found-carries, found-held}
 use Rattle.taking.proofs.Following.{follow-none, follow-by}
 use Rattle.messages.proofs.Distinct.{carries-true}
@@ -86,7 +86,7 @@ module _ (s : Settings) (Z : ℕ) (st : List ℕ) (n : ℕ) (k : List ℕ) (t : 
 
   on-among :
       (x : Role) (c j : ℕ) (o : Option (List ℕ)) (js : List ℕ) → carries (seg j .key) (seg j .counter) t ≡ carries k c t →
-      ((ks : List ℕ) → o ≡ some ks → among (map seg ks) t ≡ between k t (suc c) (suc c + length ks)) → onBy x j o ≡ some js →
+      ((ks : List ℕ) → o ≡ some ks → among (map seg ks) t ≡ between k t (suc c) (suc c + length ks)) → linkBy x j o ≡ some js →
       among (map seg js) t ≡ between k t c (c + length js)
   unfolding among
   on-among first c j o js h rest e = let z : _≡_ {A = ℕ} 0 1 = cc in absurd (omega arith)

@@ -20,9 +20,9 @@ use Rattle.cells.specs.Segments.{segOf}
 use Rattle.cells.specs.Rows.{rowAt, packetIn}
 use Rattle.cells.specs.Order.{foundIn}
 use Rattle.messages.specs.declared.Piece.{Piece}
-use Rattle.messages.specs.Messages.{first, middle, last, roleOf}
+use Rattle.messages.specs.Messages.{first, middle, last, roleOf, linkBy}
 use Rattle.messages.specs.Inner.{segIn, pieceOf}
-use Rattle.taking.specs.Follow.{segAt, onBy, onAt, follow, placesFrom, bodiesAt, Ready}
+use Rattle.taking.specs.Follow.{segAt, onAt, follow, placesFrom, bodiesAt, Ready}
 
 -- ---- the next cell of a run
 
@@ -38,17 +38,17 @@ some-same : (a b : List ℕ) → _≡_ {A = Option (List ℕ)} (some a) (some b)
 some-same a b e = cc
 
 -- a last ends the run
-role-last : (f j : ℕ) (r : Option (List ℕ)) (ks : List ℕ) → f ≡ 2 → onBy (roleOf f) j r ≡ some ks → ks ≡ j ∷ []
+role-last : (f j : ℕ) (r : Option (List ℕ)) (ks : List ℕ) → f ≡ 2 → linkBy (roleOf f) j r ≡ some ks → ks ≡ j ∷ []
 unfolding roleOf
-role-last f j r ks e h = some-same (j ∷ []) ks (ap (λ (x : ℕ). onBy (roleOf x) j r) (sym e) ∙ h)
+role-last f j r ks e h = some-same (j ∷ []) ks (ap (λ (x : ℕ). linkBy (roleOf x) j r) (sym e) ∙ h)
 
 -- any other goes on
-role-on : (f j : ℕ) (r : Option (List ℕ)) (ks : List ℕ) → (f ≡ 2 → ⊥) → onBy (roleOf f) j r ≡ some ks → (js : List ℕ) × (ks ≡ j ∷ js) × (r ≡ some js)
+role-on : (f j : ℕ) (r : Option (List ℕ)) (ks : List ℕ) → (f ≡ 2 → ⊥) → linkBy (roleOf f) j r ≡ some ks → (js : List ℕ) × (ks ≡ j ∷ js) × (r ≡ some js)
 unfolding roleOf
 role-on f j r ks no2 h = go (eqb f 1) (eqb f 2) (ne-eqb f 2 no2) h
   where
     go :
-        (a b : Bool) → b ≡ false → onBy (pick a first (pick b last middle)) j r ≡ some ks →
+        (a b : Bool) → b ≡ false → linkBy (pick a first (pick b last middle)) j r ≡ some ks →
         (js : List ℕ) × (ks ≡ j ∷ js) × (r ≡ some js)
     go true b e u = let z : _≡_ {A = ℕ} 0 1 = cc in absurd (omega arith)
     go false true e u = let z : _≡_ {A = ℕ} 0 1 = cc in absurd (omega arith)
@@ -71,9 +71,9 @@ module _ (s : Settings) (Z : ℕ) (st : List ℕ) (n : ℕ) (k : List ℕ) where
       omega arith
 
   module _ (f c : ℕ) (ks : List ℕ) (h : 0 < f) (e : follow s Z st n k f c ≡ some ks) {j : ℕ} (ej : j ≡ foundIn s Z st n k c) where
-    stepped : (ltb j n ≡ true) × (onBy (roleOf (segAt s Z st j .flags)) j (follow s Z st n k (f - 1) (c + 1)) ≡ some ks)
+    stepped : (ltb j n ≡ true) × (linkBy (roleOf (segAt s Z st j .flags)) j (follow s Z st n k (f - 1) (c + 1)) ≡ some ks)
     stepped =
-        taken (ltb j n) (onBy (roleOf (segAt s Z st j .flags)) j (follow s Z st n k (f - 1) (c + 1))) ks
+        taken (ltb j n) (linkBy (roleOf (segAt s Z st j .flags)) j (follow s Z st n k (f - 1) (c + 1))) ks
         (ap (λ (i : ℕ). onAt s Z st n i (follow s Z st n k (f - 1) (c + 1))) ej ∙ sym (follow-step f c h) ∙ e)
 
     pub next-inside : j < n

@@ -9,7 +9,7 @@ use lib.ListN.{length}
 use lib.Seq.{sets}
 use Rattle.octets.specs.Octets.{pick, part}
 use Rattle.octets.specs.Laying.{laid, together, Lays}
-use Rattle.octets.proofs.Laying.{lays-as, lays-both, lays-all}
+use Rattle.octets.proofs.Laying.{lays-as, lays-both, lays-all, one-together}
 use Rattle.walk.specs.declared.Settings.{Settings}
 use Rattle.packet.specs.declared.Header.{Header}
 use Rattle.packet.specs.Reading.{readPacket, counterSize}
@@ -21,15 +21,11 @@ use Rattle.cells.proofs.Counters.{place-told}
 
 -- ---- a list that has room is laid whole
 
-alone : (x : List ℕ) → together (x ∷ []) ≡ x
-unfolding together
-alone x = append-nil x
-
 pub laid-there :
     {out x y l : List ℕ} {at r : ℕ} → y ≡ x → Lays (laid out at) (y ∷ []) l r → at + length x ≤ length out →
     (r ≡ at + length x) × (l ≡ sets out at x)
 laid-there {out} {x} {y} {l} {at} {r} e a h =
-    let n = alone x in
+    let n = one-together x in
     let m : at + length (together (x ∷ [])) ≤ length out = omega (arith, ap length n) in
     let b = lays-all (lays-as e a) m in
     (b .0 ∙ ap (λ (w : List ℕ). at + length w) n, b .1 ∙ ap (sets out at) n)

@@ -18,9 +18,9 @@ use Rattle.cells.specs.Segments.{Seg, segOf}
 use Rattle.cells.specs.Rows.{rowAt, packetIn}
 use Rattle.cells.specs.Order.{foundIn}
 use Rattle.messages.specs.declared.Piece.{Piece}
-use Rattle.messages.specs.Messages.{Role, first, middle, last, roleOf}
+use Rattle.messages.specs.Messages.{Role, first, middle, last, roleOf, linkBy}
 use Rattle.messages.specs.Inner.{pieceOf}
-use Rattle.taking.specs.Follow.{segAt, onBy, follow, total}
+use Rattle.taking.specs.Follow.{segAt, follow, total}
 use Rattle.messages.proofs.Found.{found-held, body-long, part-most}
 use Rattle.taking.proofs.Following.{role-first, role-last, role-middle, follow-none, follow-by, total-on, total-last}
 
@@ -71,7 +71,7 @@ module _ (s : Settings) (Z : ℕ) (st : List ℕ) (n : ℕ) (k : List ℕ) (b fr
     role-is : {x : Role} → roleOf (u .flags) ≡ x → roleOf (segAt s Z st j .flags) ≡ x
     role-is e = ap roleOf (sym (piece-flags s Z st n k c ej h er eu)) ∙ e
 
-    by : {x : Role} → roleOf (u .flags) ≡ x → total s Z st sum (onBy x j (follow s Z st n k (left - 1) (suc c))) ≡ total s Z st b (follow s Z st n k 4294967295 from)
+    by : {x : Role} → roleOf (u .flags) ≡ x → total s Z st sum (linkBy x j (follow s Z st n k (left - 1) (suc c))) ≡ total s Z st b (follow s Z st n k 4294967295 from)
     by e = whole-is (follow-by s Z st n k (left - 1) c ej h (role-is e))
 
     module _ (o : Octets st) (d : b ≤ 65542) where

@@ -17,7 +17,7 @@ use Rattle.cells.specs.Segments.{Seg}
 use Rattle.cells.specs.Rows.{Cell, held}
 use Rattle.cells.specs.Order.{cellAt, foundIn}
 use Rattle.messages.specs.Messages.{Role, first, middle, last, roleOf, bodies, cellsOf, look, link, linkBy, chain, top}
-use Rattle.taking.specs.Follow.{segAt, onBy, onAt, follow, bodiesAt, total}
+use Rattle.taking.specs.Follow.{segAt, onAt, follow, bodiesAt, total}
 use Rattle.messages.proofs.Looks.{look-found, look-none}
 use Rattle.messages.proofs.Found.{found-held}
 
@@ -61,20 +61,20 @@ module _ (s : Settings) (Z : ℕ) (st : List ℕ) (n : ℕ) (k : List ℕ) where
     on-none : n ≤ j → (r : Option (List ℕ)) → onAt s Z st n (foundIn s Z st n k c) r ≡ none
     on-none h r =
         let m : n < suc (foundIn s Z st n k c) = omega arith in
-        ap (λ (b : Bool). pick b (onBy (roleOf (segAt s Z st (foundIn s Z st n k c) .flags)) (foundIn s Z st n k c) r) none) (lt-leb (suc (foundIn s Z st n k c)) n m)
+        ap (λ (b : Bool). pick b (linkBy (roleOf (segAt s Z st (foundIn s Z st n k c) .flags)) (foundIn s Z st n k c) r) none) (lt-leb (suc (foundIn s Z st n k c)) n m)
 
-    on-by : {x : Role} → j < n → roleOf (segAt s Z st j .flags) ≡ x → (r : Option (List ℕ)) → onAt s Z st n (foundIn s Z st n k c) r ≡ onBy x j r
+    on-by : {x : Role} → j < n → roleOf (segAt s Z st j .flags) ≡ x → (r : Option (List ℕ)) → onAt s Z st n (foundIn s Z st n k c) r ≡ linkBy x j r
     on-by {x} h w r =
         let m : suc j ≤ n = h in
         ap (λ (i : ℕ). onAt s Z st n i r) (sym e)
-        ∙ ap (λ (b : Bool). pick b (onBy (roleOf (segAt s Z st j .flags)) j r) none) (le-leb (suc j) n m)
-        ∙ ap (λ (y : Role). onBy y j r) w
+        ∙ ap (λ (b : Bool). pick b (linkBy (roleOf (segAt s Z st j .flags)) j r) none) (le-leb (suc j) n m)
+        ∙ ap (λ (y : Role). linkBy y j r) w
 
     pub follow-none : n ≤ j → follow s Z st n k (suc f) c ≡ none
     unfolding follow
     follow-none h = on-none h (follow s Z st n k f (suc c))
 
-    pub follow-by : {x : Role} → j < n → roleOf (segAt s Z st j .flags) ≡ x → follow s Z st n k (suc f) c ≡ onBy x j (follow s Z st n k f (suc c))
+    pub follow-by : {x : Role} → j < n → roleOf (segAt s Z st j .flags) ≡ x → follow s Z st n k (suc f) c ≡ linkBy x j (follow s Z st n k f (suc c))
     unfolding follow
     follow-by h w = on-by h w (follow s Z st n k f (suc c))
 
@@ -86,7 +86,7 @@ module _ (s : Settings) (Z : ℕ) (st : List ℕ) (n : ℕ) (k : List ℕ) where
   abbrev segs : Option (List ℕ) → Option (List Seg)
   segs r = Option·map (map at) r
 
-  link-by : (x : Role) (j : ℕ) (r : Option (List ℕ)) → linkBy x (at j) (segs r) ≡ segs (onBy x j r)
+  link-by : (x : Role) (j : ℕ) (r : Option (List ℕ)) → linkBy x (at j) (segs r) ≡ segs (linkBy x j r)
   link-by first j r = refl
   link-by middle j none = refl
   link-by middle j (some js) = refl
@@ -116,12 +116,12 @@ module _ (s : Settings) (Z : ℕ) (st : List ℕ) (n : ℕ) (k : List ℕ) where
   bodies-places [] = refl
   bodies-places (j ∷ js) = ap (λ (b : List ℕ). at j .body ++ b) (bodies-places js)
 
-  pub total-on : (b j : ℕ) (r : Option (List ℕ)) → total s Z st b (onBy middle j r) ≡ total s Z st (b + length (at j .body)) r
+  pub total-on : (b j : ℕ) (r : Option (List ℕ)) → total s Z st b (linkBy middle j r) ≡ total s Z st (b + length (at j .body)) r
   unfolding bodiesAt
   total-on b j none = refl
   total-on b j (some js) = let e : b + length (at j .body ++ bodiesAt s Z st js) ≡ b + length (at j .body) + length (bodiesAt s Z st js) = omega (arith, length-append (at j .body) (bodiesAt s Z st js)) in ap suc e
 
-  pub total-last : (b j : ℕ) (r : Option (List ℕ)) → total s Z st b (onBy last j r) ≡ b + length (at j .body) + 1
+  pub total-last : (b j : ℕ) (r : Option (List ℕ)) → total s Z st b (linkBy last j r) ≡ b + length (at j .body) + 1
   unfolding bodiesAt
   total-last b j r =
       let e : suc (b + length (at j .body ++ [])) ≡ b + length (at j .body) + 1 = omega (arith, length-append (at j .body) []) in

@@ -4,7 +4,7 @@ use Prim.Native.Nat.{ℕ, zero, suc, _+_, _-_, _/_, _≤_}
 use mathlib.Core.Path.{_≡_}
 use mathlib.Core.Bool.{Bool, true, false}
 use mathlib.Core.List.{List, [], _∷_, _++_}
-use mathlib.Core.Option.{Option, none, some, Option·map}
+use mathlib.Core.Option.{Option, none, some}
 use lib.ListN.{length}
 use lib.Dec.{ltb, eqb}
 use Rattle.octets.specs.Octets.{pick, octetAt}
@@ -15,7 +15,7 @@ use Rattle.cells.specs.Order.{cellAt, foundIn, lowest}
 use Rattle.cells.specs.Chains.{Chained, bucketAt}
 use Rattle.taking.specs.declared.Picked.{Picked}
 use Rattle.taking.specs.declared.Copied.{Copied}
-use Rattle.messages.specs.Messages.{Role, first, middle, last, roleOf, Run, bodyOf, cellsOf, runIn, picked, top}
+use Rattle.messages.specs.Messages.{roleOf, linkBy, Run, bodyOf, cellsOf, runIn, picked, top}
 use Rattle.messages.specs.Inner.{segIn}
 
 -- the segment in cell j, where it holds one
@@ -24,14 +24,9 @@ segAt s Z st j = segIn s Z (rowAt Z st j)
 
 -- ---- the places of a run
 
-abbrev pub onBy : Role → ℕ → Option (List ℕ) → Option (List ℕ)
-onBy first j r = none
-onBy middle j r = Option·map (λ (js : List ℕ). j ∷ js) r
-onBy last j r = some (j ∷ [])
-
 -- cell j below n goes on with a run
 abbrev pub onAt : Settings → ℕ → List ℕ → ℕ → ℕ → Option (List ℕ) → Option (List ℕ)
-onAt s Z st n j r = pick (ltb j n) (onBy (roleOf (segAt s Z st j .flags)) j r) none
+onAt s Z st n j r = pick (ltb j n) (linkBy (roleOf (segAt s Z st j .flags)) j r) none
 
 -- the cells with the key k from the counter c on, up to a last, f of them at the most
 unfoldable pub follow : Settings → ℕ → List ℕ → ℕ → List ℕ → ℕ → ℕ → Option (List ℕ)

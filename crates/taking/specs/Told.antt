@@ -4,7 +4,7 @@
 use Prim.Native.Nat.{ℕ, _-_}
 use lib.ListN.{length}
 use Rattle.messages.specs.Messages.{Run, bodyOf}
-use Rattle.messages.specs.Told.{refusalOf}
+use Rattle.walk.specs.Walk.{refusal}
 use Rattle.taking.specs.declared.Taken.{Taken}
 use Rattle.taking.specs.Taking.{Took, message, unable}
 
@@ -12,9 +12,9 @@ use Rattle.taking.specs.Taking.{Took, message, unable}
 abbrev pub takenOf : Took → Taken
 takenOf (message r) =
     record {
-      refusal = refusalOf 0;
+      refusal = refusal 0;
       header = length (r .head .key) - 2;
       body = length (bodyOf r);
       counter = record { 0 = r .head .counter };
     }
-takenOf (unable k) = record { refusal = refusalOf k; header = 0; body = 0; counter = record { 0 = 0 } }
+takenOf (unable k) = record { refusal = refusal k; header = 0; body = 0; counter = record { 0 = 0 } }

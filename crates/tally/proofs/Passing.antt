@@ -2,13 +2,14 @@
 -- Assumes nothing.
 use Prim.Native.Nat.{ℕ, zero, suc, _+_, _*_, _≤_, _<_}
 use mathlib.Core.Path.{_≡_, refl, ap, ap₂, sym, _∙_}
-use mathlib.Core.Bool.{Bool, true, false, not}
+use mathlib.Core.Bool.{Bool, true, not}
 use mathlib.Core.List.{List}
 use native.Mathlib.Numerals.{add-one}
 use native.Mathlib.Omega.{arith}
 use native.Mathlib.Nat.{mul-le-mul-right, le-trans}
 use lib.ListN.{length}
 use Rattle.octets.specs.Octets.{pick}
+use Rattle.octets.proofs.Lists.{bit-top}
 use Rattle.cells.specs.Segments.{both}
 use Rattle.walk.specs.declared.Settings.{Settings}
 use Rattle.cells.specs.Order.{cellsMost, allTo}
@@ -16,14 +17,10 @@ use Rattle.cells.proofs.Ordered.{cells-most}
 use Rattle.tally.specs.declared.Tallied.{Tallied}
 use Rattle.tally.specs.Counting.{countTo, segmentsIn, keysIn, cellsIn, leftIn}
 
-one-most : (b : Bool) → pick b 1 0 ≤ 1
-one-most true = omega arith
-one-most false = omega arith
-
 pub count-most : (f : ℕ → Bool) (n : ℕ) → countTo f n ≤ n
 unfolding countTo
 count-most f zero = omega arith
-count-most f (suc n) = omega (arith, count-most f n, one-most (f n))
+count-most f (suc n) = omega (arith, count-most f n, bit-top (f n))
 
 -- the loop that counts: i cells are passed, and m of them counted
 pub record Counted (f : ℕ → Bool) (n m i : ℕ) : Type 0 where

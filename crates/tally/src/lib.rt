@@ -4,7 +4,6 @@
 // that is neither free nor held counts for nothing, and a store whose length does not fit has no cells. Each held cell is looked for
 // among those below it, so the time grows with the square of the cells: this is for a store of a few dozen, looked at once.
 ghost use mathlib.Core.Path.{_≡_};
-ghost use mathlib.Core.Bool.{not};
 ghost use Prim.Native.Nat.{_+_, _*_, _≤_, _<_};
 ghost use lib.ListN.{length};
 ghost use Rattle.octets.specs.Octets.{pick};
@@ -32,16 +31,6 @@ fn more(n: usize, one: bool) -> usize
         return n + 1;
     }
     n
-}
-
-// The first test holds, and the second does not.
-fn without(a: bool, b: bool) -> bool
-    ensures { λ r. ⌜ r ≡ both a (not b) ⌝ }
-{
-    if a {
-        return !b;
-    }
-    false
 }
 
 // Whether a row is that of a held cell.
@@ -76,7 +65,7 @@ fn new_key(s: Settings, store: &[u8], n: usize, zero: &[u8], q: &[u8], stop: usi
     let mut is_new = true;
     let mut j: usize = 0;
     while j < n {
-        is_new = without(is_new, keyed(s, cells::row(store, z, j), zero, q, stop));
+        is_new = octets::both(is_new, !keyed(s, cells::row(store, z, j), zero, q, stop));
         j += 1;
     }
     is_new
@@ -130,7 +119,7 @@ fn keys(s: Settings, store: &[u8], n: usize, zero: &[u8]) -> usize
 pub fn left(s: Settings, store: &[u8]) -> Tallied
     ensures { λ r. ⌜ r ≡ leftIn s 1024 (now (store .entry)) ⌝ }
 {
-    let zero = [0u8; 1024];
+    let zero = [0u8; cells::CELL];
     let n = cells::count(store.len(), zero.len());
     let all = segments(s, store, n, &zero);
     let different = keys(s, store, n, &zero);

@@ -8,12 +8,13 @@ use native.Mathlib.Omega.{arith}
 use lib.ListN.{length}
 use borrow.Author.Tests.{leb-true, eqb-true, le-leb, eq-eqb}
 use Rattle.octets.specs.Octets.{Octets}
+use Rattle.octets.proofs.Laying.{empty}
 use Rattle.fields.specs.Fields.{partsMost}
 use Rattle.fields.specs.Form.{split}
 use Rattle.fields.proofs.Written.{length-split}
 use Rattle.packet.specs.Format.{Opt, Each, textMost}
 use Rattle.write.specs.Given.{numberFits, textFits, exactFits, lengthsFit, sum}
-use Rattle.two_way.proofs.Lists.{sum-none, list-none}
+use Rattle.two_way.proofs.Lists.{sum-none}
 
 -- ---- from the test to the range
 
@@ -23,19 +24,19 @@ number-opt false x most top e h = eqb-true x 0 h
 
 pub text-opt : (b : Bool) (x : List ℕ) → (b ≡ true → Octets x) → textFits b (length x) ≡ true → Opt b Octets [] x
 text-opt true x o h = o refl
-text-opt false x o h = list-none x (eqb-true (length x) 0 h)
+text-opt false x o h = empty x (eqb-true (length x) 0 h)
 
 pub exact-opt :
     (b : Bool) (x : List ℕ) (n : ℕ) → (b ≡ true → Octets x) → exactFits b (length x) n ≡ true →
     Opt b (λ y. (length y ≡ n) × Octets y) [] x
 exact-opt true x n o h = (eqb-true (length x) n h, o refl)
-exact-opt false x n o h = list-none x (eqb-true (length x) 0 h)
+exact-opt false x n o h = empty x (eqb-true (length x) 0 h)
 
 pub domain-opt :
     (b : Bool) (ns x : List ℕ) → (b ≡ true → Each Octets (split ns x)) → length ns ≤ partsMost → lengthsFit b ns (length x) ≡ true →
     Opt b (λ y. (length y ≤ partsMost) × Each Octets y) [] (split ns x)
 domain-opt true ns x o l h = (omega (arith, length-split ns x), o refl)
-domain-opt false ns x o l h = list-none (split ns x) (length-split ns x ∙ eqb-true (length ns) 0 h)
+domain-opt false ns x o l h = empty (split ns x) (length-split ns x ∙ eqb-true (length ns) 0 h)
 
 -- the domain's lengths add up, also where there is none
 pub fits-sum : (b : Bool) (ns x : List ℕ) → textFits b (length x) ≡ true → lengthsFit b ns (length x) ≡ true → sum ns ≡ length x

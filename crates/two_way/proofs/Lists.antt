@@ -8,6 +8,7 @@ use lib.ListN.{length, getD, take, drop, length-append, length-drop, take-append
 use lib.Seq.{take-at, drop-at, length-take-le}
 use Rattle.octets.specs.Octets.{Octets}
 use Rattle.octets.proofs.Has.{octets-nil, octets-append, octets-take, octets-drop, octets-part, part-length}
+use Rattle.octets.proofs.Laying.{empty}
 use Rattle.walk.specs.declared.Settings.{Settings}
 use Rattle.fields.specs.declared.Place.{Place}
 use Rattle.fields.specs.Fields.{nowhere}
@@ -15,10 +16,6 @@ use Rattle.fields.specs.Form.{numberOctets, blobOctets, textOctets, partOctets,
 use Rattle.packet.specs.Format.{Each}
 use Rattle.write.specs.Given.{sum}
 use Rattle.format.specs.Told.{content}
-
-pub list-none : {A : Type 0} (x : List A) → length x ≡ 0 → x ≡ []
-list-none [] h = refl
-list-none (a ∷ x) h = absurd (omega arith)
 
 -- ---- octets of what two lists make, and of each
 
@@ -108,7 +105,7 @@ lengths-split (n ∷ ns) x h =
 
 pub joined-split : (ns x : List ℕ) → sum ns ≡ length x → joined (λ (y : List ℕ). y) (split ns x) ≡ x
 unfolding sum split joined
-joined-split [] x h = sym (list-none x (sym h))
+joined-split [] x h = sym (empty x (sym h))
 joined-split (n ∷ ns) x h =
     ap (λ (y : List ℕ). take n x ++ y) (joined-split ns (drop n x) (omega (arith, length-drop n x))) ∙ take-append-drop n x
 

@@ -3,8 +3,6 @@ use crate::case;
 use crate::print;
 use join::Which;
 
-const BLANK: u8 = 32;
-
 // Number 1 is T, part 1 the packet. Answers: the refusal, the buffer, place and length, H, the octets of the body, the first's counter.
 pub fn join(c: &[u8], store: &mut [u8], out: &mut [u8]) {
     let answer = flat_store::join(case::number(c, 1), store, case::part(c, 1), out);
@@ -30,5 +28,5 @@ pub fn view(c: &[u8]) {
         case::number(c, 3) as usize,
     );
     print::numbers(&[part.len() as u64]);
-    print::buffer(part, BLANK);
+    print::buffer(part, print::BLANK);
 }

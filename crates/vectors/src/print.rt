@@ -4,7 +4,7 @@
 ghost use Prim.Native.Nat.{_≤_, _<_};
 ghost use lib.ListN.{length};
 
-const BLANK: u8 = 32;
+pub const BLANK: u8 = 32;
 
 const COMMA: u8 = 44;
 

@@ -4,9 +4,6 @@ use crate::print;
 use varint::Found;
 use varint::Wrote;
 
-// The largest value of 32 bits.
-const MOST: u64 = 0xffff_ffff;
-
 // The refusals.
 const ENDS_INSIDE: u64 = 6;
 
@@ -40,7 +37,7 @@ fn wrote_numbers(wrote: Wrote) -> [u64; 2] {
 
 // A value that fits is written at the start of the output.
 fn written(v: u64, out: &mut [u8]) -> [u64; 2] {
-    if MOST < v {
+    if varint::MOST_32 < v {
         return [TOO_WIDE, 0];
     }
     wrote_numbers(varint::put(out, 0, v))

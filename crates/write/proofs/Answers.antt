@@ -21,7 +21,9 @@ use Rattle.walk.specs.declared.Refusal.{Refusal}
 use Rattle.walk.specs.Walk.{unless}
 use Rattle.fields.specs.Inner.{capped, sizeMost}
 use Rattle.fields.proofs.Sized.{cap-right}
-use Rattle.packet.specs.Format.{Head, Values, segment, identification, fixedOctets, frontOctets, counterOctets, backOctets, headerOctets, secondaryOctets, dataOctets, octetsOf, headerMost, packetMost}
+use Rattle.packet.specs.Format.{Head, Values, segment, identification, fixedOctets, frontOctets, backOctets, headerOctets, secondaryOctets, dataOctets, octetsOf, headerMost, packetMost}
+use Rattle.format.proofs.Back.{data-long}
+use Rattle.format.proofs.Stretches.{counter-long}
 use Rattle.write.specs.declared.HeaderValues.{HeaderValues}
 use Rattle.write.specs.declared.PacketValues.{PacketValues}
 use Rattle.write.specs.declared.Written.{Written}
@@ -29,29 +31,21 @@ use Rattle.write.specs.Given.{Lent, headOf, packetOf}
 use Rattle.write.specs.Writing.{bodyFits, givenPacket, sizeTests, valueRefusal, writeRefusal, fine, writeAnswer, writeOutput}
 use Rattle.write.specs.Inner.{packetPieces}
 use Rattle.write.proofs.Tests.{unless-fine}
-use Rattle.write.proofs.Sizes.{when-length, fixed-length, header-length}
+use Rattle.write.proofs.Sizes.{fixed-length, header-length}
 use Rattle.write.proofs.Pieces.{packet-together}
 
 -- ---- lengths
-
-pub counter-length : (v : Values) → length (counterOctets v) ≡ pick (segment (v .flags)) 4 0
-unfolding counterOctets
-counter-length v = simp (when-length, wide-length)
 
 between : (a b c d : ℕ) → a + (b + (c + d)) ≡ a + (b + d) + c
 between a b c d = omega arith
 
 pub secondary-length : (s : Settings) (v : Values) → length (secondaryOctets s v) ≡ length (headerOctets s (v .head)) + pick (segment (v .flags)) 4 0
 unfolding secondaryOctets headerOctets
-secondary-length s v = simp (length-append, counter-length v) (between _ _ _ _)
+secondary-length s v = simp (length-append, counter-long v) (between _ _ _ _)
 
 pub packet-length : (s : Settings) (v : Values) → length (octetsOf s v) ≡ 6 + length (secondaryOctets s v) + length (v .body)
 unfolding octetsOf identification dataOctets
 packet-length s v = simp (length-append, wide-length) (omega arith)
-
-pub data-length : (s : Settings) (v : Values) → length (dataOctets s v) ≡ length (secondaryOctets s v) + length (v .body)
-unfolding dataOctets
-data-length s v = length-append (secondaryOctets s v) (v .body)
 
 pub packet-least : (s : Settings) (v : Values) → 27 ≤ length (octetsOf s v)
 packet-least s v = omega (arith, packet-length s v, secondary-length s v, header-length s (v .head))
@@ -92,7 +86,7 @@ pub packet-laid :
 unfolding packetOf
 packet-laid s v o t body out {size} e room a =
     let w = givenPacket v o t body in
-    let n : size - 7 ≡ length (dataOctets s w) - 1 = omega (arith, packet-length s w, data-length s w) in
+    let n : size - 7 ≡ length (dataOctets s w) - 1 = omega (arith, packet-length s w, data-long s w) in
     let p : together (packetPieces s v o t (size - 7) body) ≡ octetsOf s w =
     ap (λ (j : ℕ). together (packetPieces s v o t j body)) n ∙ packet-together s v o t body in
     let c = lays-all a (omega (arith, ap length p)) .1 in

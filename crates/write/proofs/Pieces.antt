@@ -7,8 +7,8 @@ use mathlib.Core.List.{List, [], _∷_, _++_, append-assoc, append-nil}
 use native.Mathlib.Omega.{arith}
 use lib.ListN.{length}
 use Rattle.octets.specs.Octets.{pick, wide}
-use Rattle.octets.specs.Laying.{Laid, together, Lays}
-use Rattle.octets.proofs.Laying.{together-append}
+use Rattle.octets.specs.Laying.{together}
+use Rattle.octets.proofs.Laying.{together-append, one-together}
 use Rattle.walk.specs.declared.Settings.{Settings}
 use Rattle.fields.specs.Form.{numberOctets, blobOctets, textOctets, partOctets, joined, domainOctets}
 use Rattle.fields.specs.Inner.{blobPieces, textPieces, partPieces, partsPieces, domainPieces}
@@ -17,32 +17,21 @@ use Rattle.write.specs.declared.HeaderValues.{HeaderValues}
 use Rattle.write.specs.declared.PacketValues.{PacketValues}
 use Rattle.write.specs.Given.{Lent, headOf, packetOf}
 use Rattle.write.specs.Writing.{givenPacket}
-use Rattle.write.specs.Inner.{ifPieces, primaryPieces, namePieces, presentOctet, routingPieces, frontPieces, middlePieces, endPieces, packetPieces}
+use Rattle.write.specs.Inner.{primaryPieces, namePieces, presentOctet, routingPieces, frontPieces, middlePieces, endPieces, packetPieces}
 
 -- ---- as the code has them
 
-pub routing-word :
-    {a b c d e q s x : ℕ} → a ≡ e → b ≡ q → c ≡ s → d ≡ x →
-    wide 2 (a * 32768 + b * 8192 + (c * 2048 + d)) ≡ wide 2 (e * 32768 + q * 8192 + s * 2048 + x)
-routing-word {a} {b} {c} {d} {e} {q} {s} {x} h i j k =
-    let n : a * 32768 + b * 8192 + (c * 2048 + d) ≡ e * 32768 + q * 8192 + s * 2048 + x = omega arith in
+pub routing-word : (a b c d : ℕ) → wide 2 (a * 32768 + b * 8192 + (c * 2048 + d)) ≡ wide 2 (a * 32768 + b * 8192 + c * 2048 + d)
+routing-word a b c d =
+    let n : a * 32768 + b * 8192 + (c * 2048 + d) ≡ a * 32768 + b * 8192 + c * 2048 + d = omega arith in
     ap (wide 2) n
-
-pub wide-as :
-    (n : ℕ) (b : Bool) {m : Laid} {l : List ℕ} {r : ℕ} {c : Bool} {x y : ℕ} → b ≡ c → x ≡ y → Lays m (ifPieces b (wide n x ∷ [])) l r →
-    Lays m (ifPieces c (wide n y ∷ [])) l r
-wide-as n b e f a = rw (← e, ← f) a
 
 -- ---- the fields with a length
 
-if-together : (b : Bool) (xs : List (List ℕ)) → together (ifPieces b xs) ≡ when b (together xs)
+if-together : (b : Bool) (xs : List (List ℕ)) → together (when b xs) ≡ when b (together xs)
 unfolding together
 if-together true xs = refl
 if-together false xs = refl
-
-one-together : (x : List ℕ) → together (x ∷ []) ≡ x
-unfolding together
-one-together x = append-nil x
 
 blob-together : (s : Settings) (x : List ℕ) → together (blobPieces s x) ≡ blobOctets s x
 unfolding blobPieces blobOctets together

@@ -1,6 +1,6 @@
 -- The lengths of a packet's parts, and the sizes that the code tells of them.
 -- Assumes nothing.
-use Prim.Native.Nat.{ℕ, _+_, _-_, _≤_, _<_, min}
+use Prim.Native.Nat.{ℕ, _+_, _-_, _<_, min}
 use mathlib.Core.Path.{_≡_, refl, ap, ap₂, sym, _∙_}
 use mathlib.Core.Bool.{Bool, true, false}
 use mathlib.Core.List.{List, [], _∷_, _++_}
@@ -13,13 +13,10 @@ use Rattle.fields.specs.Form.{numberOctets, blobOctets, textOctets, domainOctet
 use Rattle.fields.specs.Inner.{capped}
 use Rattle.fields.proofs.Sized.{text-long, blob-long, cap-right, cap-both}
 use Rattle.packet.specs.Format.{Head, Values, segment, when, identification, presence, fixedOctets, frontOctets, counterOctets, backOctets, headerOctets, secondaryOctets, dataOctets, octetsOf}
+use Rattle.format.proofs.Stretches.{front-long}
 use Rattle.write.specs.declared.HeaderValues.{HeaderValues}
 use Rattle.write.specs.Given.{Lent, headOf}
 use Rattle.write.specs.Inner.{middleSize, endSize}
-
-pub bit-top : (b : Bool) → pick b 1 0 ≤ 1
-bit-top true = omega arith
-bit-top false = omega arith
 
 -- the length of what may be absent
 pub when-length : (b : Bool) (x : List ℕ) → length (when b x) ≡ pick b (length x) 0
@@ -33,10 +30,6 @@ cap-pick false n = omega arith
 pub fixed-length : (h : Head) → length (fixedOctets h) ≡ 21
 unfolding fixedOctets
 fixed-length h = simp (length-append, wide-length)
-
-pub front-length : (h : Head) → length (frontOctets h) ≡ pick (h .has-source) 1 0 + pick (h .has-destination) 1 0
-unfolding frontOctets
-front-length h = simp (length-append, when-length, wide-length)
 
 cap-three : (a b c : ℕ) → capped (capped a + capped (capped b + capped c)) ≡ capped (a + (b + c))
 cap-three a b c = ap (λ (n : ℕ). capped (capped a + n)) (cap-both b c) ∙ cap-both a (b + c)
@@ -70,7 +63,7 @@ header-length s h =
       length-append (fixedOctets h) (frontOctets h ++ backOctets s h),
       length-append (frontOctets h) (backOctets s h),
       fixed-length h,
-      front-length h,
+      front-long h,
       back-length s h,
     )
 

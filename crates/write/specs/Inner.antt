@@ -2,21 +2,16 @@
 -- Assumes nothing: these are definitions.
 use Prim.Native.Nat.{ℕ, _+_, _*_}
 use mathlib.Core.List.{List, [], _∷_, _++_}
-use mathlib.Core.Bool.{Bool}
 use lib.ListN.{length}
 use Rattle.octets.specs.Octets.{pick, wide}
 use Rattle.walk.specs.declared.Settings.{Settings}
 use Rattle.fields.specs.Form.{numberOctets, domainOctets, split}
 use Rattle.fields.specs.Inner.{blobPieces, textPieces, domainPieces, capped}
 use Rattle.packet.specs.declared.Present.{Present}
-use Rattle.packet.specs.Format.{segment, bit}
+use Rattle.packet.specs.Format.{segment, bit, when}
 use Rattle.write.specs.declared.HeaderValues.{HeaderValues}
 use Rattle.write.specs.declared.PacketValues.{PacketValues}
 use Rattle.write.specs.Given.{Lent}
-
--- pieces that are there only if the flag says so
-abbrev pub ifPieces : Bool → List (List ℕ) → List (List ℕ)
-ifPieces b xs = pick b xs []
 
 -- identification; sequence flags and count; length field
 unfoldable pub primaryPieces : HeaderValues → PacketValues → ℕ → List (List ℕ)
@@ -42,18 +37,18 @@ routingPieces v =
 
 unfoldable pub frontPieces : HeaderValues → PacketValues → List (List ℕ)
 frontPieces v o =
-    ifPieces (v .has .source) (wide 1 (v .source) ∷ [])
-    ++ (ifPieces (v .has .destination) (wide 1 (v .destination) ∷ []) ++ ifPieces (segment (o .flags)) (wide 4 (o .counter .0) ∷ []))
+    when (v .has .source) (wide 1 (v .source) ∷ [])
+    ++ (when (v .has .destination) (wide 1 (v .destination) ∷ []) ++ when (segment (o .flags)) (wide 4 (o .counter .0) ∷ []))
 
 unfoldable pub middlePieces : Settings → HeaderValues → List ℕ → List ℕ → List (List ℕ)
 middlePieces s v timestamp zone =
-    ifPieces (v .has .priority) (numberOctets s (v .priority) ∷ [])
-    ++ (ifPieces (v .has .timestamp) (timestamp ∷ []) ++ ifPieces (v .has .zone) (textPieces s zone))
+    when (v .has .priority) (numberOctets s (v .priority) ∷ [])
+    ++ (when (v .has .timestamp) (timestamp ∷ []) ++ when (v .has .zone) (textPieces s zone))
 
 unfoldable pub endPieces : Settings → Present → List ℕ → List ℕ → List ℕ → List ℕ → List (List ℕ)
 endPieces s has name domain lengths authentication =
-    ifPieces (has .session) (textPieces s name)
-    ++ (ifPieces (has .domain) (domainPieces s (split lengths domain)) ++ ifPieces (has .authentication) (blobPieces s authentication))
+    when (has .session) (textPieces s name)
+    ++ (when (has .domain) (domainPieces s (split lengths domain)) ++ when (has .authentication) (blobPieces s authentication))
 
 -- the packet; n is its length field
 unfoldable pub packetPieces : Settings → HeaderValues → PacketValues → Lent → ℕ → List ℕ → List (List ℕ)

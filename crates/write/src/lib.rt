@@ -3,13 +3,14 @@
 // `write` takes any settings, values, texts, body and output. It answers the octets written, from the output's first octet on, or
 // one refusal, and then the output is as it was. A number that document 01 limits is held in a type wide enough for a bad value,
 // which is 22 and never cut off. The domain is one lent text and the lengths of its parts.
+// As parameters, `time` is the timestamp, `zone` the network zone, `name` the session name and `id` the authentication id.
 //
 // Every test is made on the values as they are given; sizes are told up to one above the largest packet, so nothing overflows.
 // The pieces of the packet are then laid one after another. `cut` uses the parts marked inner.
 ghost use mathlib.Core.Path.{_≡_};
 ghost use mathlib.Core.Bool.{Bool};
 ghost use mathlib.Core.List.{[], _∷_, _++_};
-ghost use Prim.Native.Nat.{_+_, _≤_};
+ghost use Prim.Native.Nat.{_+_};
 ghost use lib.ListN.{length};
 ghost use lib.Dec.{eqb, leb};
 ghost use Rattle.octets.specs.Octets.{pick, wide};
@@ -18,15 +19,16 @@ ghost use Rattle.walk.specs.Walk.{unless};
 ghost use Rattle.fields.specs.Fields.{partsMost};
 ghost use Rattle.fields.specs.Form.{numberOctets, split};
 ghost use Rattle.fields.specs.Inner.{blobPieces, textPieces, domainPieces, capped};
-ghost use Rattle.packet.specs.Format.{segment, bit, headerOctets, headerMost, packetMost};
+ghost use Rattle.packet.specs.Format.{segment, headerOctets, headerMost, packetMost, when};
 ghost use Rattle.write.specs.Given.{Lent, lent, headOf, packetOf, numberFits, textFits, exactFits, lengthsFit, sum, nameChecks, routingChecks, idChecks, textChecks, headerChecks, packetChecks, unlessAll};
 ghost use Rattle.write.specs.Writing.{settingsTest, bodyFits, valueRefusal, writeAnswer, writeOutput};
-ghost use Rattle.write.specs.Inner.{ifPieces, primaryPieces, namePieces, routingPieces, presentOctet, frontPieces, middlePieces, endPieces, packetPieces, middleSize, endSize};
+ghost use Rattle.write.specs.Inner.{primaryPieces, namePieces, routingPieces, presentOctet, frontPieces, middlePieces, endPieces, packetPieces, middleSize, endSize};
 use packet::Apid;
 use packet::Present;
 use packet::SecondaryApid;
 use packet::SegmentCounter;
 use packet::SequenceCount;
+use varint::MOST_32;
 use walk::Refusal;
 use walk::Settings;
 
@@ -39,8 +41,6 @@ pub const PACKET_MOST: usize = 65542;
 const MOST_8: u64 = 255;
 
 const MOST_16: u32 = 65535;
-
-const MOST_32: u64 = 4294967295;
 
 // The values that all packets of a message share, but for its texts.
 pub struct HeaderValues {
@@ -74,25 +74,6 @@ pub struct PacketValues {
 pub struct Written {
     pub refusal: Refusal,
     pub length: usize,
-}
-
-// Numbers widened.
-fn wide8(x: u8) -> u64
-    ensures { λ r. ⌜ r ≡ x ⌝ }
-{
-    x as u64
-}
-
-fn wide16(x: u16) -> u64
-    ensures { λ r. ⌜ r ≡ x ⌝ }
-{
-    x as u64
-}
-
-pub fn wide32(x: u32) -> u64
-    ensures { λ r. ⌜ r ≡ x ⌝ }
-{
-    x as u64
 }
 
 // ---- the tests
@@ -185,8 +166,8 @@ fn test_ids(v: HeaderValues, r: Refusal) -> Refusal
     ensures { λ q. ⌜ q ≡ unlessAll (idChecks v) 22 r ⌝ }
 {
     let has = v.has;
-    let source = wide16(v.source);
-    let destination = wide16(v.destination);
+    let source = v.source as u64;
+    let destination = v.destination as u64;
     let a = walk::unless(r, number_fits(has.source, source, MOST_8), 22);
     let b = walk::unless(a, number_fits(has.destination, destination, MOST_8), 22);
     walk::unless(b, number_fits(has.priority, v.priority, MOST_32), 22)
@@ -195,53 +176,43 @@ fn test_ids(v: HeaderValues, r: Refusal) -> Refusal
 fn test_texts(
     s: Settings,
     v: HeaderValues,
-    timestamp: &[u8],
+    time: &[u8],
     zone: &[u8],
     name: &[u8],
     domain: &[u8],
     lengths: &[u64],
-    authentication: &[u8],
+    id: &[u8],
     r: Refusal,
 ) -> Refusal
-    ensures { λ q. ⌜ q ≡ unlessAll (textChecks s v (lent (now (timestamp .entry)) (now (zone .entry)) (now (name .entry)) (now (domain .entry)) (now (lengths .entry)) (now (authentication .entry)))) 22 r ⌝ }
+    ensures { λ q. ⌜ q ≡ unlessAll (textChecks s v (lent (now (time .entry)) (now (zone .entry)) (now (name .entry)) (now (domain .entry)) (now (lengths .entry)) (now (id .entry)))) 22 r ⌝ }
 {
     let has = v.has;
-    let a = walk::unless(r, exact_fits(has.timestamp, timestamp.len(), s.t), 22);
+    let a = walk::unless(r, exact_fits(has.timestamp, time.len(), s.t), 22);
     let b = walk::unless(a, text_fits(has.zone, zone.len()), 22);
     let c = walk::unless(b, text_fits(has.session, name.len()), 22);
     let d = walk::unless(c, text_fits(has.domain, domain.len()), 22);
     let e = walk::unless(d, lengths_fit(has.domain, lengths, domain.len()), 22);
-    walk::unless(e, text_fits(has.authentication, authentication.len()), 22)
+    walk::unless(e, text_fits(has.authentication, id.len()), 22)
 }
 
 // 22, as far as a header's values go: the one list of its checks.
 pub fn test_header(
     s: Settings,
     v: HeaderValues,
-    timestamp: &[u8],
+    time: &[u8],
     zone: &[u8],
     name: &[u8],
     domain: &[u8],
     lengths: &[u64],
-    authentication: &[u8],
+    id: &[u8],
     r: Refusal,
 ) -> Refusal
-    ensures { λ q. ⌜ q ≡ unlessAll (headerChecks s v (lent (now (timestamp .entry)) (now (zone .entry)) (now (name .entry)) (now (domain .entry)) (now (lengths .entry)) (now (authentication .entry)))) 22 r ⌝ }
+    ensures { λ q. ⌜ q ≡ unlessAll (headerChecks s v (lent (now (time .entry)) (now (zone .entry)) (now (name .entry)) (now (domain .entry)) (now (lengths .entry)) (now (id .entry)))) 22 r ⌝ }
 {
     let a = test_names(v, r);
     let b = test_routing(v, a);
     let c = test_ids(v, b);
-    test_texts(
-        s,
-        v,
-        timestamp,
-        zone,
-        name,
-        domain,
-        lengths,
-        authentication,
-        c,
-    )
+    test_texts(s, v, time, zone, name, domain, lengths, id, c)
 }
 
 // Whether the sequence flags aren't 11.
@@ -261,7 +232,7 @@ fn test_packet(o: PacketValues, r: Refusal) -> Refusal
     let b = walk::unless(a, count.0 <= packet::COUNT_MOST, 22);
     walk::unless(
         b,
-        number_fits(segmented(o.flags), wide32(counter.0), MOST_32),
+        number_fits(segmented(o.flags), counter.0 as u64, MOST_32),
         22,
     )
 }
@@ -293,12 +264,12 @@ fn front_size(has: Present) -> usize
 }
 
 // Priority, timestamp, zone.
-fn middle_size(s: Settings, v: HeaderValues, timestamp: usize, zone: usize) -> usize
-    ensures { λ r. ⌜ r ≡ middleSize s v timestamp zone ⌝ }
+fn middle_size(s: Settings, v: HeaderValues, time: usize, zone: usize) -> usize
+    ensures { λ r. ⌜ r ≡ middleSize s v time zone ⌝ }
 {
     let has = v.has;
     let a = size_if(has.priority, fields::number_size(s, v.priority));
-    let b = size_if(has.timestamp, timestamp);
+    let b = size_if(has.timestamp, time);
     let c = size_if(has.zone, fields::text_size(s, zone));
     fields::plus(a, fields::plus(b, c))
 }
@@ -310,13 +281,13 @@ fn end_size(
     name: usize,
     domain: &[u8],
     lengths: &[u64],
-    authentication: usize,
+    id: usize,
 ) -> usize
-    ensures { λ r. ⌜ r ≡ endSize s has name (now (domain .entry)) (now (lengths .entry)) authentication ⌝ }
+    ensures { λ r. ⌜ r ≡ endSize s has name (now (domain .entry)) (now (lengths .entry)) id ⌝ }
 {
     let a = size_if(has.session, fields::text_size(s, name));
     let b = size_if(has.domain, fields::domain_size(s, domain, lengths));
-    let c = size_if(has.authentication, fields::text_size(s, authentication));
+    let c = size_if(has.authentication, fields::text_size(s, id));
     fields::plus(a, fields::plus(b, c))
 }
 
@@ -324,19 +295,19 @@ fn end_size(
 pub fn header_size(
     s: Settings,
     v: HeaderValues,
-    timestamp: &[u8],
+    time: &[u8],
     zone: &[u8],
     name: &[u8],
     domain: &[u8],
     lengths: &[u64],
-    authentication: &[u8],
+    id: &[u8],
 ) -> usize
-    ensures { λ r. ⌜ r ≡ capped (length (headerOctets s (headOf v (lent (now (timestamp .entry)) (now (zone .entry)) (now (name .entry)) (now (domain .entry)) (now (lengths .entry)) (now (authentication .entry)))))) ⌝ }
+    ensures { λ r. ⌜ r ≡ capped (length (headerOctets s (headOf v (lent (now (time .entry)) (now (zone .entry)) (now (name .entry)) (now (domain .entry)) (now (lengths .entry)) (now (id .entry)))))) ⌝ }
 {
     let has = v.has;
     let a = 21 + front_size(has);
-    let b = middle_size(s, v, timestamp.len(), zone.len());
-    let c = end_size(s, has, name.len(), domain, lengths, authentication.len());
+    let b = middle_size(s, v, time.len(), zone.len());
+    let c = end_size(s, has, name.len(), domain, lengths, id.len());
     fields::plus(a, fields::plus(b, c))
 }
 
@@ -347,8 +318,8 @@ fn put_primary(out: &mut [u8], v: HeaderValues, o: PacketValues, n: usize) -> us
 {
     let apid = v.apid;
     let count = o.count;
-    let id = wide8(v.kind) * 4096 + 2048 + wide16(apid.0);
-    let sequence = wide8(o.flags) * 16384 + wide16(count.0);
+    let id = v.kind as u64 * 4096 + 2048 + apid.0 as u64;
+    let sequence = o.flags as u64 * 16384 + count.0 as u64;
     let a = octets::lay_number(out, 0, 2, id);
     let b = octets::lay_number(out, a, 2, sequence);
     octets::lay_number(out, b, 2, n as u64)
@@ -357,34 +328,24 @@ fn put_primary(out: &mut [u8], v: HeaderValues, o: PacketValues, n: usize) -> us
 fn put_names(out: &mut [u8], at: usize, v: HeaderValues) -> usize
     ensures { λ r. ⌜ Lays (laid (now (out .entry)) at) (namePieces v) (now (out .exit)) r ⌝ }
 {
-    let a = octets::lay_number(out, at, 1, wide8(v.sdu));
-    let b = octets::lay_number(out, a, 2, wide32(v.area));
-    let c = octets::lay_number(out, b, 2, wide32(v.service));
-    let d = octets::lay_number(out, c, 2, wide32(v.operation));
-    octets::lay_number(out, d, 1, wide16(v.version))
-}
-
-fn bit_of(b: bool) -> u64
-    ensures bit { λ r. ⌜ r ≡ bit b ⌝ }
-    ensures small { λ r. ⌜ r ≤ 1 ⌝ }
-{
-    if b {
-        return 1;
-    }
-    0
+    let a = octets::lay_number(out, at, 1, v.sdu as u64);
+    let b = octets::lay_number(out, a, 2, v.area as u64);
+    let c = octets::lay_number(out, b, 2, v.service as u64);
+    let d = octets::lay_number(out, c, 2, v.operation as u64);
+    octets::lay_number(out, d, 1, v.version as u64)
 }
 
 fn present_octet(has: Present) -> u64
     ensures { λ r. ⌜ r ≡ presentOctet has ⌝ }
 {
-    128 * bit_of(has.source)
-        + 64 * bit_of(has.destination)
-        + 32 * bit_of(has.priority)
-        + 16 * bit_of(has.timestamp)
-        + 8 * bit_of(has.zone)
-        + 4 * bit_of(has.session)
-        + 2 * bit_of(has.domain)
-        + bit_of(has.authentication)
+    128 * octets::bit_of(has.source)
+        + 64 * octets::bit_of(has.destination)
+        + 32 * octets::bit_of(has.priority)
+        + 16 * octets::bit_of(has.timestamp)
+        + 8 * octets::bit_of(has.zone)
+        + 4 * octets::bit_of(has.session)
+        + 2 * octets::bit_of(has.domain)
+        + octets::bit_of(has.authentication)
 }
 
 fn put_routing(out: &mut [u8], at: usize, v: HeaderValues) -> usize
@@ -392,17 +353,17 @@ fn put_routing(out: &mut [u8], at: usize, v: HeaderValues) -> usize
 {
     let second = v.second;
     let has = v.has;
-    let high = wide8(v.error) * 32768 + wide8(v.qos) * 8192;
-    let low = wide8(v.session) * 2048 + wide16(second.0);
+    let high = v.error as u64 * 32768 + v.qos as u64 * 8192;
+    let low = v.session as u64 * 2048 + second.0 as u64;
     let a = octets::lay_number(out, at, 2, high + low);
-    let b = octets::lay_number(out, a, 2, wide32(v.qualifier));
+    let b = octets::lay_number(out, a, 2, v.qualifier as u64);
     let c = octets::lay_number(out, b, 8, v.transaction);
     octets::lay_number(out, c, 1, present_octet(has))
 }
 
 // A number of n octets if it is there.
 fn wide_if(there: bool, out: &mut [u8], at: usize, n: usize, x: u64) -> usize
-    ensures { λ r. ⌜ Lays (laid (now (out .entry)) at) (ifPieces there (wide n x ∷ [])) (now (out .exit)) r ⌝ }
+    ensures { λ r. ⌜ Lays (laid (now (out .entry)) at) (when there (wide n x ∷ [])) (now (out .exit)) r ⌝ }
 {
     if there {
         return octets::lay_number(out, at, n, x);
@@ -416,13 +377,13 @@ fn put_front(out: &mut [u8], at: usize, v: HeaderValues, o: PacketValues) -> usi
 {
     let has = v.has;
     let counter = o.counter;
-    let a = wide_if(has.source, out, at, 1, wide16(v.source));
-    let b = wide_if(has.destination, out, a, 1, wide16(v.destination));
-    wide_if(segmented(o.flags), out, b, 4, wide32(counter.0))
+    let a = wide_if(has.source, out, at, 1, v.source as u64);
+    let b = wide_if(has.destination, out, a, 1, v.destination as u64);
+    wide_if(segmented(o.flags), out, b, 4, counter.0 as u64)
 }
 
 fn number_if(there: bool, s: Settings, out: &mut [u8], at: usize, n: u64) -> usize
-    ensures { λ r. ⌜ Lays (laid (now (out .entry)) at) (ifPieces there (numberOctets s n ∷ [])) (now (out .exit)) r ⌝ }
+    ensures { λ r. ⌜ Lays (laid (now (out .entry)) at) (when there (numberOctets s n ∷ [])) (now (out .exit)) r ⌝ }
 {
     if there {
         return fields::put_number(s, out, at, n);
@@ -431,7 +392,7 @@ fn number_if(there: bool, s: Settings, out: &mut [u8], at: usize, n: u64) -> usi
 }
 
 fn block_if(there: bool, out: &mut [u8], at: usize, x: &[u8]) -> usize
-    ensures { λ r. ⌜ Lays (laid (now (out .entry)) at) (ifPieces there (now (x .entry) ∷ [])) (now (out .exit)) r ⌝ }
+    ensures { λ r. ⌜ Lays (laid (now (out .entry)) at) (when there (now (x .entry) ∷ [])) (now (out .exit)) r ⌝ }
 {
     if there {
         return octets::lay(out, at, x);
@@ -440,7 +401,7 @@ fn block_if(there: bool, out: &mut [u8], at: usize, x: &[u8]) -> usize
 }
 
 fn text_if(there: bool, s: Settings, out: &mut [u8], at: usize, x: &[u8]) -> usize
-    ensures { λ r. ⌜ Lays (laid (now (out .entry)) at) (ifPieces there (textPieces s (now (x .entry)))) (now (out .exit)) r ⌝ }
+    ensures { λ r. ⌜ Lays (laid (now (out .entry)) at) (when there (textPieces s (now (x .entry)))) (now (out .exit)) r ⌝ }
 {
     if there {
         return fields::put_text(s, out, at, x);
@@ -449,7 +410,7 @@ fn text_if(there: bool, s: Settings, out: &mut [u8], at: usize, x: &[u8]) -> usi
 }
 
 fn blob_if(there: bool, s: Settings, out: &mut [u8], at: usize, x: &[u8]) -> usize
-    ensures { λ r. ⌜ Lays (laid (now (out .entry)) at) (ifPieces there (blobPieces s (now (x .entry)))) (now (out .exit)) r ⌝ }
+    ensures { λ r. ⌜ Lays (laid (now (out .entry)) at) (when there (blobPieces s (now (x .entry)))) (now (out .exit)) r ⌝ }
 {
     if there {
         return fields::put_blob(s, out, at, x);
@@ -465,7 +426,7 @@ fn domain_if(
     x: &[u8],
     lengths: &[u64],
 ) -> usize
-    ensures { λ r. ⌜ Lays (laid (now (out .entry)) at) (ifPieces there (domainPieces s (split (now (lengths .entry)) (now (x .entry))))) (now (out .exit)) r ⌝ }
+    ensures { λ r. ⌜ Lays (laid (now (out .entry)) at) (when there (domainPieces s (split (now (lengths .entry)) (now (x .entry))))) (now (out .exit)) r ⌝ }
 {
     if there {
         return fields::put_domain(s, out, at, x, lengths);
@@ -479,14 +440,14 @@ fn put_middle(
     out: &mut [u8],
     at: usize,
     v: HeaderValues,
-    timestamp: &[u8],
+    time: &[u8],
     zone: &[u8],
 ) -> usize
-    ensures { λ r. ⌜ Lays (laid (now (out .entry)) at) (middlePieces s v (now (timestamp .entry)) (now (zone .entry))) (now (out .exit)) r ⌝ }
+    ensures { λ r. ⌜ Lays (laid (now (out .entry)) at) (middlePieces s v (now (time .entry)) (now (zone .entry))) (now (out .exit)) r ⌝ }
 {
     let has = v.has;
     let a = number_if(has.priority, s, out, at, v.priority);
-    let b = block_if(has.timestamp, out, a, timestamp);
+    let b = block_if(has.timestamp, out, a, time);
     text_if(has.zone, s, out, b, zone)
 }
 
@@ -499,13 +460,13 @@ fn put_end(
     name: &[u8],
     domain: &[u8],
     lengths: &[u64],
-    authentication: &[u8],
+    id: &[u8],
 ) -> usize
-    ensures { λ r. ⌜ Lays (laid (now (out .entry)) at) (endPieces s has (now (name .entry)) (now (domain .entry)) (now (lengths .entry)) (now (authentication .entry))) (now (out .exit)) r ⌝ }
+    ensures { λ r. ⌜ Lays (laid (now (out .entry)) at) (endPieces s has (now (name .entry)) (now (domain .entry)) (now (lengths .entry)) (now (id .entry))) (now (out .exit)) r ⌝ }
 {
     let a = text_if(has.session, s, out, at, name);
     let b = domain_if(has.domain, s, out, a, domain, lengths);
-    blob_if(has.authentication, s, out, b, authentication)
+    blob_if(has.authentication, s, out, b, id)
 }
 
 // The whole packet from the first octet on; n is its length field. The place behind it.
@@ -515,23 +476,23 @@ pub fn put_packet(
     v: HeaderValues,
     o: PacketValues,
     n: usize,
-    timestamp: &[u8],
+    time: &[u8],
     zone: &[u8],
     name: &[u8],
     domain: &[u8],
     lengths: &[u64],
-    authentication: &[u8],
+    id: &[u8],
     body: &[u8],
 ) -> usize
-    ensures { λ r. ⌜ Lays (laid (now (out .entry)) 0) (packetPieces s v o (lent (now (timestamp .entry)) (now (zone .entry)) (now (name .entry)) (now (domain .entry)) (now (lengths .entry)) (now (authentication .entry))) n (now (body .entry))) (now (out .exit)) r ⌝ }
+    ensures { λ r. ⌜ Lays (laid (now (out .entry)) 0) (packetPieces s v o (lent (now (time .entry)) (now (zone .entry)) (now (name .entry)) (now (domain .entry)) (now (lengths .entry)) (now (id .entry))) n (now (body .entry))) (now (out .exit)) r ⌝ }
 {
     let has = v.has;
     let a = put_primary(out, v, o, n);
     let b = put_names(out, a, v);
     let c = put_routing(out, b, v);
     let d = put_front(out, c, v, o);
-    let e = put_middle(s, out, d, v, timestamp, zone);
-    let f = put_end(s, out, e, has, name, domain, lengths, authentication);
+    let e = put_middle(s, out, d, v, time, zone);
+    let f = put_end(s, out, e, has, name, domain, lengths, id);
     octets::lay(out, f, body)
 }
 
@@ -580,28 +541,18 @@ fn test_values(
     s: Settings,
     v: HeaderValues,
     o: PacketValues,
-    timestamp: &[u8],
+    time: &[u8],
     zone: &[u8],
     name: &[u8],
     domain: &[u8],
     lengths: &[u64],
-    authentication: &[u8],
+    id: &[u8],
 ) -> Refusal
-    ensures { λ q. ⌜ q ≡ valueRefusal s v o (lent (now (timestamp .entry)) (now (zone .entry)) (now (name .entry)) (now (domain .entry)) (now (lengths .entry)) (now (authentication .entry))) ⌝ }
+    ensures { λ q. ⌜ q ≡ valueRefusal s v o (lent (now (time .entry)) (now (zone .entry)) (now (name .entry)) (now (domain .entry)) (now (lengths .entry)) (now (id .entry))) ⌝ }
 {
     let none = Refusal { number: 0 };
     let a = test_settings(s, none);
-    let b = test_header(
-        s,
-        v,
-        timestamp,
-        zone,
-        name,
-        domain,
-        lengths,
-        authentication,
-        a,
-    );
+    let b = test_header(s, v, time, zone, name, domain, lengths, id, a);
     let c = test_packet(o, b);
     test_parts(lengths.len(), c)
 }
@@ -611,30 +562,20 @@ pub fn write(
     s: Settings,
     v: HeaderValues,
     o: PacketValues,
-    timestamp: &[u8],
+    time: &[u8],
     zone: &[u8],
     name: &[u8],
     domain: &[u8],
     lengths: &[u64],
-    authentication: &[u8],
+    id: &[u8],
     body: &[u8],
     out: &mut [u8],
 ) -> Written
-    ensures answer { λ r. ⌜ r ≡ writeAnswer s v o (lent (now (timestamp .entry)) (now (zone .entry)) (now (name .entry)) (now (domain .entry)) (now (lengths .entry)) (now (authentication .entry))) (now (body .entry)) (length (now (out .entry))) ⌝ }
-    ensures octets { λ r. ⌜ now (out .exit) ≡ writeOutput s v o (lent (now (timestamp .entry)) (now (zone .entry)) (now (name .entry)) (now (domain .entry)) (now (lengths .entry)) (now (authentication .entry))) (now (body .entry)) (now (out .entry)) ⌝ }
+    ensures answer { λ r. ⌜ r ≡ writeAnswer s v o (lent (now (time .entry)) (now (zone .entry)) (now (name .entry)) (now (domain .entry)) (now (lengths .entry)) (now (id .entry))) (now (body .entry)) (length (now (out .entry))) ⌝ }
+    ensures octets { λ r. ⌜ now (out .exit) ≡ writeOutput s v o (lent (now (time .entry)) (now (zone .entry)) (now (name .entry)) (now (domain .entry)) (now (lengths .entry)) (now (id .entry))) (now (body .entry)) (now (out .entry)) ⌝ }
 {
-    let values = test_values(
-        s,
-        v,
-        o,
-        timestamp,
-        zone,
-        name,
-        domain,
-        lengths,
-        authentication,
-    );
-    let h = header_size(s, v, timestamp, zone, name, domain, lengths, authentication);
+    let values = test_values(s, v, o, time, zone, name, domain, lengths, id);
+    let h = header_size(s, v, time, zone, name, domain, lengths, id);
     let second = secondary_size(h, o.flags);
     let size = packet_size(second, body.len());
     let r = test_sizes(second, size, o.flags, body.len(), out.len(), values);
@@ -644,20 +585,8 @@ pub fn write(
             length: 0,
         };
     }
-    put_packet(
-        s,
-        out,
-        v,
-        o,
-        size - 7,
-        timestamp,
-        zone,
-        name,
-        domain,
-        lengths,
-        authentication,
-        body,
-    );
+    let n = size - 7;
+    put_packet(s, out, v, o, n, time, zone, name, domain, lengths, id, body);
     Written {
         refusal: r,
         length: size,

@@ -20,18 +20,18 @@ tail-requires-2 c κs = search needs
 same-requires : tie.Need-same-requires
 same-requires c κs = search needs
 
-and-requires : tie.Need-and-requires
-and-requires c κs = search needs
+both-requires : tie.Need-both-requires
+both-requires c κs = search needs
 
-and-requires-2 : tie.Need-and-requires-2
-and-requires-2 c κs = search needs
+both-requires-2 : tie.Need-both-requires-2
+both-requires-2 c κs = search needs
 
-and-requires-3 : tie.Need-and-requires-3
-and-requires-3 c κs = search needs
+both-requires-3 : tie.Need-both-requires-3
+both-requires-3 c κs = search needs
 
 returns : tie.Need-returns
 unfolding heldRowTest
-returns c = simp (c .and3 .ensures, c .before .and2 .ensures, c .before .before .and .ensures, c .before .before .before .same .ensures, c .before .before .before .before .tail2 .ensures, c .before .before .before .before .before .tail .ensures, c .before .before .before .before .before .before .octet2 .ensures, c .before .before .before .before .before .before .before .octet .ensures)
+returns c = simp (c .both3 .ensures, c .before .both2 .ensures, c .before .before .both .ensures, c .before .before .before .same .ensures, c .before .before .before .before .tail2 .ensures, c .before .before .before .before .before .tail .ensures, c .before .before .before .before .before .before .octet2 .ensures, c .before .before .before .before .before .before .before .octet .ensures)
 
 pub is-held-row-spec : {M : Type 1} → statement M
 is-held-row-spec =
@@ -42,7 +42,7 @@ is-held-row-spec =
     tail-requires
     tail-requires-2
     same-requires
-    and-requires
-    and-requires-2
-    and-requires-3
+    both-requires
+    both-requires-2
+    both-requires-3
     returns)

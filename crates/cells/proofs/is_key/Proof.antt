@@ -53,14 +53,14 @@ tail-requires c κs = search needs
 same-requires-3 : tie.Need-same-requires-3
 same-requires-3 c κs = search needs
 
-and-requires : tie.Need-and-requires
-and-requires c κs = search needs
+both-requires : tie.Need-both-requires
+both-requires c κs = search needs
 
-and-requires-2 : tie.Need-and-requires-2
-and-requires-2 c κs = search needs
+both-requires-2 : tie.Need-both-requires-2
+both-requires-2 c κs = search needs
 
 returns : tie.Need-returns
-returns c = key-tested (now (c .before .before .before .before .before .before .before .before .before .before .before .before .before .before .before .args .k)) (now (c .before .before .before .before .before .before .before .before .before .before .before .before .before .before .before .args .p)) (c .before .before .before .before .before .before .before .before .before .before .before .before .before .before .before .args .end) (c .before .before .before .before .before .before .before .before .before .before .before .before .counter-place .ensures) (c .before .before .before .before .before .before .before .before .before .before .before .span .ensures) (c .before .before .before .before .before .before .before .before .before .before .span2 .ensures) (rw (c .before .before .before .before .before .before .before .before .before .less .ensures) at (c .before .before .before .before .before .before .before .before .span3 .ensures)) (c .before .before .before .before .before .before .before .span4 .ensures) (c .before .before .before .before .before .before .same .ensures) (c .before .before .before .before .before .span5 .ensures) (c .before .before .before .before .same2 .ensures) (c .before .before .before .tail .ensures) (c .before .before .same3 .ensures) (c .before .and .ensures) (c .and2 .ensures)
+returns c = key-tested (now (c .before .before .before .before .before .before .before .before .before .before .before .before .before .before .before .args .k)) (now (c .before .before .before .before .before .before .before .before .before .before .before .before .before .before .before .args .p)) (c .before .before .before .before .before .before .before .before .before .before .before .before .before .before .before .args .end) (c .before .before .before .before .before .before .before .before .before .before .before .before .counter-place .ensures) (c .before .before .before .before .before .before .before .before .before .before .before .span .ensures) (c .before .before .before .before .before .before .before .before .before .before .span2 .ensures) (rw (c .before .before .before .before .before .before .before .before .before .less .ensures) at (c .before .before .before .before .before .before .before .before .span3 .ensures)) (c .before .before .before .before .before .before .before .span4 .ensures) (c .before .before .before .before .before .before .same .ensures) (c .before .before .before .before .before .span5 .ensures) (c .before .before .before .before .same2 .ensures) (c .before .before .before .tail .ensures) (c .before .before .same3 .ensures) (c .before .both .ensures) (c .both2 .ensures)
 
 pub is-key-spec : {M : Type 1} → statement M
-is-key-spec = tie.close (tie.spec counter-place-requires span-requires sub-span span-requires-2 add-span add-less less-requires span-requires-3 span-requires-4 same-requires span-requires-5 same-requires-2 add-tail tail-requires same-requires-3 and-requires and-requires-2 returns)
+is-key-spec = tie.close (tie.spec counter-place-requires span-requires sub-span span-requires-2 add-span add-less less-requires span-requires-3 span-requires-4 same-requires span-requires-5 same-requires-2 add-tail tail-requires same-requires-3 both-requires both-requires-2 returns)

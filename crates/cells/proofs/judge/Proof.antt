@@ -29,17 +29,17 @@ add-is-held-row c = record { fits = part-room (now (c .before .before .before .b
 is-held-row-requires : tie.Need-is-held-row-requires
 is-held-row-requires c κs = search needs
 
-and-requires : tie.Need-and-requires
-and-requires c κs = search needs
+both-requires : tie.Need-both-requires
+both-requires c κs = search needs
 
-and-requires-2 : tie.Need-and-requires-2
-and-requires-2 c κs = search needs
+both-requires-2 : tie.Need-both-requires-2
+both-requires-2 c κs = search needs
 
 returns-2 : tie.Need-returns-2
-returns-2 c = told-held (c .before .before .before .before .before .before .before .before .before .before .before .before .before .before .before .before .before .args .s) (now (c .before .before .before .before .before .before .before .before .before .before .before .before .before .before .before .before .before .args .row)) (now (c .before .before .before .before .before .before .before .before .before .before .before .before .before .before .before .before .before .args .zero)) (c .before .before .before .before .before .before .before .before .before .before .before .before .before .before .before .before .before .pre) (c .before .before .before .before .before .before .before .before .before .before .before .before .before .before .is-free .ensures) (c .before .before .before .before .before .before .before .before .before .before .before .before .before .if1 .left) (c .before .before .before .before .before .before .before .before .before .before .before .before .packet-in .ensures) (c .before .before .before .before .before .before .before .before .before .before .before .read .ensures .0) (c .before .before .before .before .before .is-held-row .ensures) (rw (c .before .before .and .ensures) at (c .before .and2 .ensures)) (c .if2 .taken)
+returns-2 c = told-held (c .before .before .before .before .before .before .before .before .before .before .before .before .before .before .before .before .before .args .s) (now (c .before .before .before .before .before .before .before .before .before .before .before .before .before .before .before .before .before .args .row)) (now (c .before .before .before .before .before .before .before .before .before .before .before .before .before .before .before .before .before .args .zero)) (c .before .before .before .before .before .before .before .before .before .before .before .before .before .before .before .before .before .pre) (c .before .before .before .before .before .before .before .before .before .before .before .before .before .before .is-free .ensures) (c .before .before .before .before .before .before .before .before .before .before .before .before .before .if1 .left) (c .before .before .before .before .before .before .before .before .before .before .before .before .packet-in .ensures) (c .before .before .before .before .before .before .before .before .before .before .before .read .ensures .0) (c .before .before .before .before .before .is-held-row .ensures) (rw (c .before .before .both .ensures) at (c .before .both2 .ensures)) (c .if2 .taken)
 
 returns-3 : tie.Need-returns-3
-returns-3 c = told-broken (c .before .before .before .before .before .before .before .before .before .before .before .before .before .before .before .before .before .args .s) (now (c .before .before .before .before .before .before .before .before .before .before .before .before .before .before .before .before .before .args .row)) (now (c .before .before .before .before .before .before .before .before .before .before .before .before .before .before .before .before .before .args .zero)) (c .before .before .before .before .before .before .before .before .before .before .before .before .before .before .before .before .before .pre) (c .before .before .before .before .before .before .before .before .before .before .before .before .before .before .is-free .ensures) (c .before .before .before .before .before .before .before .before .before .before .before .before .before .if1 .left) (c .before .before .before .before .before .before .before .before .before .before .before .before .packet-in .ensures) (c .before .before .before .before .before .before .before .before .before .before .before .read .ensures .0) (c .before .before .before .before .before .is-held-row .ensures) (rw (c .before .before .and .ensures) at (c .before .and2 .ensures)) (c .if2 .left)
+returns-3 c = told-broken (c .before .before .before .before .before .before .before .before .before .before .before .before .before .before .before .before .before .args .s) (now (c .before .before .before .before .before .before .before .before .before .before .before .before .before .before .before .before .before .args .row)) (now (c .before .before .before .before .before .before .before .before .before .before .before .before .before .before .before .before .before .args .zero)) (c .before .before .before .before .before .before .before .before .before .before .before .before .before .before .before .before .before .pre) (c .before .before .before .before .before .before .before .before .before .before .before .before .before .before .is-free .ensures) (c .before .before .before .before .before .before .before .before .before .before .before .before .before .if1 .left) (c .before .before .before .before .before .before .before .before .before .before .before .before .packet-in .ensures) (c .before .before .before .before .before .before .before .before .before .before .before .read .ensures .0) (c .before .before .before .before .before .is-held-row .ensures) (rw (c .before .before .both .ensures) at (c .before .both2 .ensures)) (c .if2 .left)
 
 pub judge-spec : {M : Type 1} → statement M
-judge-spec = tie.close (tie.spec is-free-requires returns packet-in-requires read-requires add-is-held-row is-held-row-requires and-requires and-requires-2 returns-2 returns-3)
+judge-spec = tie.close (tie.spec is-free-requires returns packet-in-requires read-requires add-is-held-row is-held-row-requires both-requires both-requires-2 returns-2 returns-3)

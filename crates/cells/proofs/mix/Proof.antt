@@ -16,11 +16,11 @@ abbrev μ-loop : tie.MeasureT-loop
 loop-holds : tie.Need-loop-holds Inv-loop μ-loop
 loop-holds c = mixing-first _ _
 
-shared-slice-read-widened : tie.Need-shared-slice-read-widened Inv-loop μ-loop
-shared-slice-read-widened c = search needs
+shared-slice-read-mix-in : tie.Need-shared-slice-read-mix-in Inv-loop μ-loop
+shared-slice-read-mix-in c = search needs
 
-widened-requires : tie.Need-widened-requires Inv-loop μ-loop
-widened-requires c κs = search needs
+cast-mix-in : tie.Need-cast-mix-in Inv-loop μ-loop
+cast-mix-in c = search (needs, c .shared-slice-known2 .given (c .before .before .loop .i))
 
 mix-in-requires : tie.Need-mix-in-requires Inv-loop μ-loop
 mix-in-requires c κs = search needs
@@ -32,7 +32,7 @@ loop-less : tie.Need-loop-less Inv-loop μ-loop
 loop-less c = search needs
 
 loop-again : tie.Need-loop-again Inv-loop μ-loop
-loop-again c = rw (c .mix-in .ensures, c .before .widened .ensures) (mixing-turn (c .before .before .before .before .loop .inv) (c .before .before .before .loop-test .taken))
+loop-again c = rw (c .mix-in .ensures) (mixing-turn (c .before .before .before .loop .inv) (c .before .before .loop-test .taken))
 
 returns : tie.Need-returns Inv-loop μ-loop
 returns c = mixing-done (c .before .loop .inv) (c .loop-test .left)
@@ -44,8 +44,8 @@ mix-spec =
     Inv-loop
     μ-loop
     loop-holds
-    shared-slice-read-widened
-    widened-requires
+    shared-slice-read-mix-in
+    cast-mix-in
     mix-in-requires
     add-i
     loop-less

@@ -14,8 +14,8 @@ counter-place-requires c κs = search needs
 counter-place-requires-2 : tie.Need-counter-place-requires-2
 counter-place-requires-2 c κs = search needs
 
-and-requires : tie.Need-and-requires
-and-requires c κs = search needs
+both-requires : tie.Need-both-requires
+both-requires c κs = search needs
 
 span-requires : tie.Need-span-requires
 span-requires c κs = search needs
@@ -68,18 +68,18 @@ span-requires-6 c κs = search needs
 same-requires-3 : tie.Need-same-requires-3
 same-requires-3 c κs = search needs
 
-and-requires-2 : tie.Need-and-requires-2
-and-requires-2 c κs = search needs
+both-requires-2 : tie.Need-both-requires-2
+both-requires-2 c κs = search needs
 
-and-requires-3 : tie.Need-and-requires-3
-and-requires-3 c κs = search needs
+both-requires-3 : tie.Need-both-requires-3
+both-requires-3 c κs = search needs
 
-and-requires-4 : tie.Need-and-requires-4
-and-requires-4 c κs = search needs
+both-requires-4 : tie.Need-both-requires-4
+both-requires-4 c κs = search needs
 
 returns : tie.Need-returns
 unfolding spansAlike
-returns c = simp (c .and4 .ensures, c .before .and3 .ensures, c .before .before .and2 .ensures, c .before .before .before .same3 .ensures, c .before .before .before .before .span6 .ensures, c .before .before .before .before .before .less2 .ensures, c .before .before .before .before .before .before .span5 .ensures, c .before .before .before .before .before .before .before .less .ensures, c .before .before .before .before .before .before .before .before .same2 .ensures, c .before .before .before .before .before .before .before .before .before .span4 .ensures, c .before .before .before .before .before .before .before .before .before .before .span3 .ensures, c .before .before .before .before .before .before .before .before .before .before .before .same .ensures, c .before .before .before .before .before .before .before .before .before .before .before .before .span2 .ensures, c .before .before .before .before .before .before .before .before .before .before .before .before .before .span .ensures, c .before .before .before .before .before .before .before .before .before .before .before .before .before .before .and .ensures, c .before .before .before .before .before .before .before .before .before .before .before .before .before .before .before .counter-place2 .ensures, c .before .before .before .before .before .before .before .before .before .before .before .before .before .before .before .before .counter-place .ensures)
+returns c = simp (c .both4 .ensures, c .before .both3 .ensures, c .before .before .both2 .ensures, c .before .before .before .same3 .ensures, c .before .before .before .before .span6 .ensures, c .before .before .before .before .before .less2 .ensures, c .before .before .before .before .before .before .span5 .ensures, c .before .before .before .before .before .before .before .less .ensures, c .before .before .before .before .before .before .before .before .same2 .ensures, c .before .before .before .before .before .before .before .before .before .span4 .ensures, c .before .before .before .before .before .before .before .before .before .before .span3 .ensures, c .before .before .before .before .before .before .before .before .before .before .before .same .ensures, c .before .before .before .before .before .before .before .before .before .before .before .before .span2 .ensures, c .before .before .before .before .before .before .before .before .before .before .before .before .before .span .ensures, c .before .before .before .before .before .before .before .before .before .before .before .before .before .before .both .ensures, c .before .before .before .before .before .before .before .before .before .before .before .before .before .before .before .counter-place2 .ensures, c .before .before .before .before .before .before .before .before .before .before .before .before .before .before .before .before .counter-place .ensures)
 
 pub same-key-spec : {M : Type 1} → statement M
 same-key-spec =
@@ -87,7 +87,7 @@ same-key-spec =
     (tie.spec
     counter-place-requires
     counter-place-requires-2
-    and-requires
+    both-requires
     span-requires
     span-requires-2
     same-requires
@@ -105,7 +105,7 @@ same-key-spec =
     less-requires-2
     span-requires-6
     same-requires-3
-    and-requires-2
-    and-requires-3
-    and-requires-4
+    both-requires-2
+    both-requires-3
+    both-requires-4
     returns)

@@ -13,12 +13,12 @@ span-requires-2 c κs = search needs
 same-requires : tie.Need-same-requires
 same-requires c κs = search needs
 
-and-requires : tie.Need-and-requires
-and-requires c κs = search needs
+both-requires : tie.Need-both-requires
+both-requires c κs = search needs
 
 returns : tie.Need-returns
-returns c = simp (c .and .ensures, c .before .same .ensures, c .before .before .span2 .ensures, c .before .before .before .span .ensures)
+returns c = simp (c .both .ensures, c .before .same .ensures, c .before .before .span2 .ensures, c .before .before .before .span .ensures)
 
 pub same-rest-spec : {M : Type 1} → statement M
 same-rest-spec =
-    tie.close (tie.spec span-requires span-requires-2 same-requires and-requires returns)
+    tie.close (tie.spec span-requires span-requires-2 same-requires both-requires returns)

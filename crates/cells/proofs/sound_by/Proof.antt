@@ -32,8 +32,8 @@ mul-bodies c = omega (arith, c .before .before .before .loop-test .taken, c .bef
 element-write-bodies : tie.Need-element-write-bodies Inv-loop μ-loop
 element-write-bodies c = omega (arith, c .before .before .before .loop-test .taken, c .before .before .before .before .before .before .before .pre .1)
 
-and-requires : tie.Need-and-requires Inv-loop μ-loop
-and-requires c κs = search needs
+both-requires : tie.Need-both-requires Inv-loop μ-loop
+both-requires c κs = search needs
 
 add-i : tie.Need-add-i Inv-loop μ-loop
 add-i c = search needs
@@ -42,10 +42,10 @@ loop-less : tie.Need-loop-less Inv-loop μ-loop
 loop-less c = search needs
 
 loop-again : tie.Need-loop-again Inv-loop μ-loop
-loop-again c = sounding-turn (c .before .before .before .before .before .before .loop .inv) (c .before .before .before .before .row .ensures) (c .before .before .before .judge .ensures) (c .before .before .before .before .before .loop-test .taken) (c .and .ensures)
+loop-again c = sounding-turn (c .before .before .before .before .before .before .loop .inv) (c .before .before .before .before .row .ensures) (c .before .before .before .judge .ensures) (c .before .before .before .before .before .loop-test .taken) (c .both .ensures)
 
 returns : tie.Need-returns Inv-loop μ-loop
 returns c = (sounding-sound (c .before .loop .inv) (c .loop-test .left), sounding-bodies (c .before .loop .inv) (c .loop-test .left))
 
 pub sound-by-spec : {M : Type 1} → statement M
-sound-by-spec = tie.close (tie.spec Inv-loop μ-loop loop-holds row-requires judge-requires cast-bodies mul-bodies element-write-bodies and-requires add-i loop-less loop-again returns)
+sound-by-spec = tie.close (tie.spec Inv-loop μ-loop loop-holds row-requires judge-requires cast-bodies mul-bodies element-write-bodies both-requires add-i loop-less loop-again returns)

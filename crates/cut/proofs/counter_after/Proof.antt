@@ -9,11 +9,11 @@ use Rattle.cut.proofs.counter_after.Tie as tie
 enum-known-next : tie.Need-enum-known-next
 enum-known-next c = search needs
 
-sub-wide : tie.Need-sub-wide32
-sub-wide c = search needs
+sub-left : tie.Need-sub-left
+sub-left c = search needs
 
-wide-requires : tie.Need-wide32-requires
-wide-requires c κs = search needs
+cast-left : tie.Need-cast-left
+cast-left c = search needs
 
 cast-t10 : tie.Need-cast-t10
 cast-t10 c = search needs
@@ -22,13 +22,13 @@ add-t11 : tie.Need-add-t11
 add-t11 c = search needs
 
 returns : tie.Need-returns
-returns c = after-at (c .before .before .before .next .given .1) _ (omega (arith, c .before .wide32 .ensures))
+returns c = after-at (c .before .before .next .given .1) _ (omega arith)
 
 enum-told : tie.Need-enum-told
 enum-told c = search needs
 
 returns-2 : tie.Need-returns-2
-returns-2 c = after-over (c .before .before .before .next .given .1) _ (omega arith) (omega (arith, c .before .wide32 .ensures))
+returns-2 c = after-over (c .before .before .next .given .1) _ (omega arith) (omega arith)
 
 returns-3 : tie.Need-returns-3
 returns-3 c = after-still (c .enum-told .given .1) _
@@ -38,8 +38,8 @@ counter-after-spec =
     tie.close
     (tie.spec
     enum-known-next
-    sub-wide
-    wide-requires
+    sub-left
+    cast-left
     cast-t10
     add-t11
     returns

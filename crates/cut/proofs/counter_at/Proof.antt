@@ -9,14 +9,14 @@ use Rattle.cut.proofs.counter_at.Tie as tie
 enum-known-next : tie.Need-enum-known-next
 enum-known-next c = search needs
 
-sub-wide : tie.Need-sub-wide32
-sub-wide c = search needs
+sub-left : tie.Need-sub-left
+sub-left c = search needs
 
-wide-requires : tie.Need-wide32-requires
-wide-requires c κs = search needs
+cast-left : tie.Need-cast-left
+cast-left c = search needs
 
 returns : tie.Need-returns
-returns c = counter-single (c .before .before .before .next .given .1) _ _ (c .if1 .taken)
+returns c = counter-single (c .before .before .next .given .1) _ _ (c .if1 .taken)
 
 cast-t11 : tie.Need-cast-t11
 cast-t11 c = search needs
@@ -25,13 +25,13 @@ add-t12 : tie.Need-add-t12
 add-t12 c = search needs
 
 returns-2 : tie.Need-returns-2
-returns-2 c = counter-fits (c .before .before .before .before .next .given .1) _ _ (c .before .if1 .left) (omega (arith, c .before .before .wide32 .ensures))
+returns-2 c = counter-fits (c .before .before .before .next .given .1) _ _ (c .before .if1 .left) (omega arith)
 
 enum-told : tie.Need-enum-told
 enum-told c = search needs
 
 returns-3 : tie.Need-returns-3
-returns-3 c = counter-over (c .before .before .before .before .next .given .1) _ _ (c .before .if1 .left) (omega (arith, c .before .before .wide32 .ensures))
+returns-3 c = counter-over (c .before .before .before .next .given .1) _ _ (c .before .if1 .left) (omega arith)
 
 returns-4 : tie.Need-returns-4
 returns-4 c = counter-none (c .enum-told .given .1) _ _
@@ -41,8 +41,8 @@ counter-at-spec =
     tie.close
     (tie.spec
     enum-known-next
-    sub-wide
-    wide-requires
+    sub-left
+    cast-left
     returns
     cast-t11
     add-t12

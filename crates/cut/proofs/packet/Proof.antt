@@ -63,12 +63,12 @@ refused-requires c κs = search needs
 returns : tie.Need-returns
 returns c =
     let g = c .before .before .before .before .before .before .before .before .before .before .before .before .before .before .before .before .before .before .before .before .before .before .before .args in
-    (rw (c .refused .ensures) (refused-packet (g .s) (g .p) (g .v) (lent (now (g .timestamp)) (now (g .zone)) (now (g .name)) (now (g .domain)) (now (g .lengths)) (now (g .authentication))) (now (g .body)) (g .sender) (g .i) (c .before .before .before .before .before .before .before .before .before .before .before .before .before .before .test-message .ensures) (c .before .before .before .before .before .before .before .before .before .before .before .before .before .header-size .ensures) (c .before .before .before .before .before .before .before .before .before .before .before .before .plan-of .ensures) (c .before .before .before .before .before .before .before .before .before .before .before .values-at .ensures) (c .before .before .before .before .before .before .before .before .before .before .from-of .ensures) (c .before .before .before .before .before .before .before .before .before .to-of .ensures) (c .before .before .before .before .before .before .before .secondary-size .ensures) (c .before .before .before .before .before .before .packet-size .ensures) (length (now (g .out))) (c .before .before .before .before .unless .ensures) (c .before .before .before .unless2 .ensures) (c .before .if1 .taken)), refused-output (g .s) (g .p) (g .v) (lent (now (g .timestamp)) (now (g .zone)) (now (g .name)) (now (g .domain)) (now (g .lengths)) (now (g .authentication))) (now (g .body)) (g .sender) (g .i) (c .before .before .before .before .before .before .before .before .before .before .before .before .before .before .test-message .ensures) (c .before .before .before .before .before .before .before .before .before .before .before .before .before .header-size .ensures) (c .before .before .before .before .before .before .before .before .before .before .before .before .plan-of .ensures) (c .before .before .before .before .before .before .before .before .before .before .before .values-at .ensures) (c .before .before .before .before .before .before .before .before .before .before .from-of .ensures) (c .before .before .before .before .before .before .before .before .before .to-of .ensures) (c .before .before .before .before .before .before .before .secondary-size .ensures) (c .before .before .before .before .before .before .packet-size .ensures) (now (g .out)) (c .before .before .before .before .unless .ensures) (c .before .before .before .unless2 .ensures) (c .before .if1 .taken))
+    (rw (c .refused .ensures) (refused-packet (g .s) (g .p) (g .v) (lent (now (g .time)) (now (g .zone)) (now (g .name)) (now (g .domain)) (now (g .lengths)) (now (g .id))) (now (g .body)) (g .sender) (g .i) (c .before .before .before .before .before .before .before .before .before .before .before .before .before .before .test-message .ensures) (c .before .before .before .before .before .before .before .before .before .before .before .before .before .header-size .ensures) (c .before .before .before .before .before .before .before .before .before .before .before .before .plan-of .ensures) (c .before .before .before .before .before .before .before .before .before .before .before .values-at .ensures) (c .before .before .before .before .before .before .before .before .before .before .from-of .ensures) (c .before .before .before .before .before .before .before .before .before .to-of .ensures) (c .before .before .before .before .before .before .before .secondary-size .ensures) (c .before .before .before .before .before .before .packet-size .ensures) (length (now (g .out))) (c .before .before .before .before .unless .ensures) (c .before .before .before .unless2 .ensures) (c .before .if1 .taken)), refused-output (g .s) (g .p) (g .v) (lent (now (g .time)) (now (g .zone)) (now (g .name)) (now (g .domain)) (now (g .lengths)) (now (g .id))) (now (g .body)) (g .sender) (g .i) (c .before .before .before .before .before .before .before .before .before .before .before .before .before .before .test-message .ensures) (c .before .before .before .before .before .before .before .before .before .before .before .before .before .header-size .ensures) (c .before .before .before .before .before .before .before .before .before .before .before .before .plan-of .ensures) (c .before .before .before .before .before .before .before .before .before .before .before .values-at .ensures) (c .before .before .before .before .before .before .before .before .before .before .from-of .ensures) (c .before .before .before .before .before .before .before .before .before .to-of .ensures) (c .before .before .before .before .before .before .before .secondary-size .ensures) (c .before .before .before .before .before .before .packet-size .ensures) (now (g .out)) (c .before .before .before .before .unless .ensures) (c .before .before .before .unless2 .ensures) (c .before .if1 .taken))
 
-sub-put-packet : tie.Need-sub-put-packet
-sub-put-packet c =
-    let g = c .before .before .before .before .before .before .before .before .before .before .before .before .before .before .before .before .before .before .before .before .before .before .before .args in
-    omega (arith, done (g .s) (g .p) (g .v) (lent (now (g .timestamp)) (now (g .zone)) (now (g .name)) (now (g .domain)) (now (g .lengths)) (now (g .authentication))) (now (g .body)) (g .sender) (g .i) (c .before .before .before .before .before .before .before .before .before .before .before .before .before .before .test-message .ensures) (c .before .before .before .before .before .before .before .before .before .before .before .before .before .header-size .ensures) (c .before .before .before .before .before .before .before .before .before .before .before .before .plan-of .ensures) (c .before .before .before .before .before .before .before .before .before .before .before .values-at .ensures) (c .before .before .before .before .before .before .before .before .before .before .from-of .ensures) (c .before .before .before .before .before .before .before .before .before .to-of .ensures) (c .before .before .before .before .before .before .before .secondary-size .ensures) (c .before .before .before .before .before .before .packet-size .ensures) (length (now (g .out))) (c .before .before .before .before .unless .ensures) (c .before .before .before .unless2 .ensures) (c .before .if1 .left) .least)
+sub-n : tie.Need-sub-n
+sub-n c =
+    let g = c .before .before .before .before .before .before .before .before .before .before .before .before .before .before .before .before .before .before .before .before .before .before .args in
+    omega (arith, done (g .s) (g .p) (g .v) (lent (now (g .time)) (now (g .zone)) (now (g .name)) (now (g .domain)) (now (g .lengths)) (now (g .id))) (now (g .body)) (g .sender) (g .i) (c .before .before .before .before .before .before .before .before .before .before .before .before .before .test-message .ensures) (c .before .before .before .before .before .before .before .before .before .before .before .before .header-size .ensures) (c .before .before .before .before .before .before .before .before .before .before .before .plan-of .ensures) (c .before .before .before .before .before .before .before .before .before .before .values-at .ensures) (c .before .before .before .before .before .before .before .before .before .from-of .ensures) (c .before .before .before .before .before .before .before .before .to-of .ensures) (c .before .before .before .before .before .before .secondary-size .ensures) (c .before .before .before .before .before .packet-size .ensures) (length (now (g .out))) (c .before .before .before .unless .ensures) (c .before .before .unless2 .ensures) (c .if1 .left) .least)
 
 put-packet-requires : tie.Need-put-packet-requires
 put-packet-requires c κs = search needs
@@ -79,7 +79,7 @@ same-length c = search needs
 returns-2 : tie.Need-returns-2
 returns-2 c =
     let g = c .before .before .before .before .before .before .before .before .before .before .before .before .before .before .before .before .before .before .before .before .before .before .before .before .before .before .args in
-    (made-packet (g .s) (g .p) (g .v) (lent (now (g .timestamp)) (now (g .zone)) (now (g .name)) (now (g .domain)) (now (g .lengths)) (now (g .authentication))) (now (g .body)) (g .sender) (g .i) (c .before .before .before .before .before .before .before .before .before .before .before .before .before .before .before .before .before .test-message .ensures) (c .before .before .before .before .before .before .before .before .before .before .before .before .before .before .before .before .header-size .ensures) (c .before .before .before .before .before .before .before .before .before .before .before .before .before .before .before .plan-of .ensures) (c .before .before .before .before .before .before .before .before .before .before .before .before .before .before .values-at .ensures) (c .before .before .before .before .before .before .before .before .before .before .before .before .before .from-of .ensures) (c .before .before .before .before .before .before .before .before .before .before .before .before .to-of .ensures) (c .before .before .before .before .before .before .before .before .before .before .secondary-size .ensures) (c .before .before .before .before .before .before .before .before .before .packet-size .ensures) (length (now (g .out))) (c .before .before .before .before .before .before .before .unless .ensures) (c .before .before .before .before .before .before .unless2 .ensures) (c .before .before .before .before .if1 .left), made-output (g .s) (g .p) (g .v) (lent (now (g .timestamp)) (now (g .zone)) (now (g .name)) (now (g .domain)) (now (g .lengths)) (now (g .authentication))) (now (g .body)) (g .sender) (g .i) (c .before .before .before .before .before .before .before .before .before .before .before .before .before .before .before .before .before .test-message .ensures) (c .before .before .before .before .before .before .before .before .before .before .before .before .before .before .before .before .header-size .ensures) (c .before .before .before .before .before .before .before .before .before .before .before .before .before .before .before .plan-of .ensures) (c .before .before .before .before .before .before .before .before .before .before .before .before .before .before .values-at .ensures) (c .before .before .before .before .before .before .before .before .before .before .before .before .before .from-of .ensures) (c .before .before .before .before .before .before .before .before .before .before .before .before .to-of .ensures) (c .before .before .before .before .before .before .before .before .before .before .secondary-size .ensures) (c .before .before .before .before .before .before .before .before .before .packet-size .ensures) (now (g .out)) (c .before .before .before .before .before .before .before .unless .ensures) (c .before .before .before .before .before .before .unless2 .ensures) (c .before .before .before .before .if1 .left) (c .before .before .put-packet .ensures))
+    (made-packet (g .s) (g .p) (g .v) (lent (now (g .time)) (now (g .zone)) (now (g .name)) (now (g .domain)) (now (g .lengths)) (now (g .id))) (now (g .body)) (g .sender) (g .i) (c .before .before .before .before .before .before .before .before .before .before .before .before .before .before .before .before .before .test-message .ensures) (c .before .before .before .before .before .before .before .before .before .before .before .before .before .before .before .before .header-size .ensures) (c .before .before .before .before .before .before .before .before .before .before .before .before .before .before .before .plan-of .ensures) (c .before .before .before .before .before .before .before .before .before .before .before .before .before .before .values-at .ensures) (c .before .before .before .before .before .before .before .before .before .before .before .before .before .from-of .ensures) (c .before .before .before .before .before .before .before .before .before .before .before .before .to-of .ensures) (c .before .before .before .before .before .before .before .before .before .before .secondary-size .ensures) (c .before .before .before .before .before .before .before .before .before .packet-size .ensures) (length (now (g .out))) (c .before .before .before .before .before .before .before .unless .ensures) (c .before .before .before .before .before .before .unless2 .ensures) (c .before .before .before .before .if1 .left), made-output (g .s) (g .p) (g .v) (lent (now (g .time)) (now (g .zone)) (now (g .name)) (now (g .domain)) (now (g .lengths)) (now (g .id))) (now (g .body)) (g .sender) (g .i) (c .before .before .before .before .before .before .before .before .before .before .before .before .before .before .before .before .before .test-message .ensures) (c .before .before .before .before .before .before .before .before .before .before .before .before .before .before .before .before .header-size .ensures) (c .before .before .before .before .before .before .before .before .before .before .before .before .before .before .before .plan-of .ensures) (c .before .before .before .before .before .before .before .before .before .before .before .before .before .before .values-at .ensures) (c .before .before .before .before .before .before .before .before .before .before .before .before .before .from-of .ensures) (c .before .before .before .before .before .before .before .before .before .before .before .before .to-of .ensures) (c .before .before .before .before .before .before .before .before .before .before .secondary-size .ensures) (c .before .before .before .before .before .before .before .before .before .packet-size .ensures) (now (g .out)) (c .before .before .before .before .before .before .before .unless .ensures) (c .before .before .before .before .before .before .unless2 .ensures) (c .before .before .before .before .if1 .left) (c .before .before .put-packet .ensures))
 
 pub packet-spec : {M : Type 1} → statement M
 packet-spec =
@@ -100,7 +100,7 @@ packet-spec =
     unless-requires-2
     refused-requires
     returns
-    sub-put-packet
+    sub-n
     put-packet-requires
     same-length
     returns-2)

@@ -23,8 +23,8 @@ header-of-requires c κs = search needs
 unless-requires-2 : tie.Need-unless-requires-2
 unless-requires-2 c κs = search needs
 
-or-single-requires : tie.Need-or-single-requires
-or-single-requires c κs = search needs
+either-requires : tie.Need-either-requires
+either-requires c κs = search needs
 
 unless-requires-3 : tie.Need-unless-requires-3
 unless-requires-3 c κs = search needs
@@ -32,15 +32,15 @@ unless-requires-3 c κs = search needs
 counters-fit-requires : tie.Need-counters-fit-requires
 counters-fit-requires c κs = search needs
 
-or-single-requires-2 : tie.Need-or-single-requires-2
-or-single-requires-2 c κs = search needs
+either-requires-2 : tie.Need-either-requires-2
+either-requires-2 c κs = search needs
 
 unless-requires-4 : tie.Need-unless-requires-4
 unless-requires-4 c κs = search needs
 
 returns : tie.Need-returns
 unfolding planOf planRefusal
-returns c = simp (c .unless4 .ensures, c .before .or-single2 .ensures, c .before .before .counters-fit .ensures, c .before .before .before .unless3 .ensures, c .before .before .before .before .or-single .ensures, c .before .before .before .before .before .unless2 .ensures, c .before .before .before .before .before .before .header-of .ensures, c .before .before .before .before .before .before .before .unless .ensures, c .before .before .before .before .before .before .before .before .count-of .ensures, c .before .before .before .before .before .before .before .before .before .chunk-of .ensures, c .before .before .before .before .before .before .before .before .before .before .packet-size .ensures)
+returns c = simp (c .unless4 .ensures, c .before .either2 .ensures, c .before .before .counters-fit .ensures, c .before .before .before .unless3 .ensures, c .before .before .before .before .either .ensures, c .before .before .before .before .before .unless2 .ensures, c .before .before .before .before .before .before .header-of .ensures, c .before .before .before .before .before .before .before .unless .ensures, c .before .before .before .before .before .before .before .before .count-of .ensures, c .before .before .before .before .before .before .before .before .before .chunk-of .ensures, c .before .before .before .before .before .before .before .before .before .before .packet-size .ensures)
 
 pub plan-of-spec : {M : Type 1} → statement M
 plan-of-spec =
@@ -52,9 +52,9 @@ plan-of-spec =
     unless-requires
     header-of-requires
     unless-requires-2
-    or-single-requires
+    either-requires
     unless-requires-3
     counters-fit-requires
-    or-single-requires-2
+    either-requires-2
     unless-requires-4
     returns)

@@ -12,24 +12,24 @@ header-fits-requires c κs = search needs
 sender-fits-requires : tie.Need-sender-fits-requires
 sender-fits-requires c κs = search needs
 
-also-requires : tie.Need-also-requires
-also-requires c κs = search needs
+both-requires : tie.Need-both-requires
+both-requires c κs = search needs
 
 cut-too-wide-requires : tie.Need-cut-too-wide-requires
 cut-too-wide-requires c κs = search needs
 
 returns : tie.Need-returns
 returns c =
-    let e = together _ _ _ _ _ (c .before .before .before .before .header-fits .ensures) (c .before .before .before .sender-fits .ensures) (c .before .before .also .ensures) in
+    let e = together _ _ _ _ _ (c .before .before .before .before .header-fits .ensures) (c .before .before .before .sender-fits .ensures) (c .before .before .both .ensures) in
     count-refused _ _ _ _ _ _ e (not-true _ (c .before .if1 .taken)) _ (c .cut-too-wide .ensures) _
 
 header-of-requires : tie.Need-header-of-requires
 header-of-requires c κs =
-    first-held _ _ _ _ _ (c .before .before .before .header-fits .ensures) (c .before .before .sender-fits .ensures) (c .before .also .ensures) (not-false _ (c .if1 .left))
+    first-held _ _ _ _ _ (c .before .before .before .header-fits .ensures) (c .before .before .sender-fits .ensures) (c .before .both .ensures) (not-false _ (c .if1 .left))
 
 sender-of-requires : tie.Need-sender-of-requires
 sender-of-requires c κs =
-    second-held _ _ _ _ _ (c .before .before .before .before .header-fits .ensures) (c .before .before .before .sender-fits .ensures) (c .before .before .also .ensures) (not-false _ (c .before .if1 .left))
+    second-held _ _ _ _ _ (c .before .before .before .before .header-fits .ensures) (c .before .before .before .sender-fits .ensures) (c .before .before .both .ensures) (not-false _ (c .before .if1 .left))
 
 count-requires : tie.Need-count-requires
 count-requires c κs = search needs
@@ -39,7 +39,7 @@ counted-numbers-requires c κs = search needs
 
 returns-2 : tie.Need-returns-2
 returns-2 c =
-    let e = together _ _ _ _ _ (c .before .before .before .before .before .before .before .header-fits .ensures) (c .before .before .before .before .before .before .sender-fits .ensures) (c .before .before .before .before .before .also .ensures) in
+    let e = together _ _ _ _ _ (c .before .before .before .before .before .before .before .header-fits .ensures) (c .before .before .before .before .before .before .sender-fits .ensures) (c .before .before .before .before .before .both .ensures) in
     let f = not-false _ (c .before .before .before .before .if1 .left) in
     count-told _ _ _ _ _ _ e f _ _ (c .before .before .before .header-of .ensures) (c .before .before .sender-of .ensures) _ _ _
     (c .before .count .ensures) (c .counted-numbers .ensures)
@@ -50,7 +50,7 @@ cut-count-spec =
     (tie.spec
     header-fits-requires
     sender-fits-requires
-    also-requires
+    both-requires
     cut-too-wide-requires
     returns
     header-of-requires

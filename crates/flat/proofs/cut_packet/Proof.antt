@@ -12,25 +12,25 @@ header-fits-requires c κs = search needs
 sender-fits-requires : tie.Need-sender-fits-requires
 sender-fits-requires c κs = search needs
 
-also-requires : tie.Need-also-requires
-also-requires c κs = search needs
+both-requires : tie.Need-both-requires
+both-requires c κs = search needs
 
 cut-too-wide-requires : tie.Need-cut-too-wide-requires
 cut-too-wide-requires c κs = search needs
 
 returns : tie.Need-returns
 returns c =
-    let e = together _ _ _ _ _ (c .before .before .before .before .header-fits .ensures) (c .before .before .before .sender-fits .ensures) (c .before .before .also .ensures) in
+    let e = together _ _ _ _ _ (c .before .before .before .before .header-fits .ensures) (c .before .before .before .sender-fits .ensures) (c .before .before .both .ensures) in
     let f = not-true _ (c .before .if1 .taken) in
     (packet-refused _ _ _ _ _ _ e f _ (c .cut-too-wide .ensures) _ _ _, packet-kept _ _ _ _ _ _ e f _ _ _)
 
 header-of-requires : tie.Need-header-of-requires
 header-of-requires c κs =
-    first-held _ _ _ _ _ (c .before .before .before .header-fits .ensures) (c .before .before .sender-fits .ensures) (c .before .also .ensures) (not-false _ (c .if1 .left))
+    first-held _ _ _ _ _ (c .before .before .before .header-fits .ensures) (c .before .before .sender-fits .ensures) (c .before .both .ensures) (not-false _ (c .if1 .left))
 
 sender-of-requires : tie.Need-sender-of-requires
 sender-of-requires c κs =
-    second-held _ _ _ _ _ (c .before .before .before .before .header-fits .ensures) (c .before .before .before .sender-fits .ensures) (c .before .before .also .ensures) (not-false _ (c .before .if1 .left))
+    second-held _ _ _ _ _ (c .before .before .before .before .header-fits .ensures) (c .before .before .before .sender-fits .ensures) (c .before .before .both .ensures) (not-false _ (c .before .if1 .left))
 
 packet-requires : tie.Need-packet-requires
 packet-requires c κs = search needs
@@ -43,7 +43,7 @@ same-length c = search needs
 
 returns-2 : tie.Need-returns-2
 returns-2 c =
-    let e = together _ _ _ _ _ (c .before .before .before .before .before .before .before .before .before .before .header-fits .ensures) (c .before .before .before .before .before .before .before .before .before .sender-fits .ensures) (c .before .before .before .before .before .before .before .before .also .ensures) in
+    let e = together _ _ _ _ _ (c .before .before .before .before .before .before .before .before .before .before .header-fits .ensures) (c .before .before .before .before .before .before .before .before .before .sender-fits .ensures) (c .before .before .before .before .before .before .before .before .both .ensures) in
     let f = not-false _ (c .before .before .before .before .before .before .before .if1 .left) in
     let v = c .before .before .before .before .before .before .header-of .ensures in
     let d = c .before .before .before .before .before .sender-of .ensures in
@@ -58,7 +58,7 @@ cut-packet-spec =
     (tie.spec
     header-fits-requires
     sender-fits-requires
-    also-requires
+    both-requires
     cut-too-wide-requires
     returns
     header-of-requires

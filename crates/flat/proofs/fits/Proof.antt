@@ -17,20 +17,20 @@ abbrev μ-loop : tie.MeasureT-loop
 loop-holds : tie.Need-loop-holds Inv-loop μ-loop
 loop-holds c = tested-none _ _
 
-mul-also : tie.Need-mul-also Inv-loop μ-loop
-mul-also c = search needs
+mul-both : tie.Need-mul-both Inv-loop μ-loop
+mul-both c = search needs
 
-shared-slice-read-also : tie.Need-shared-slice-read-also Inv-loop μ-loop
-shared-slice-read-also c = search needs
+shared-slice-read-both : tie.Need-shared-slice-read-both Inv-loop μ-loop
+shared-slice-read-both c = search needs
 
-mul-also-2 : tie.Need-mul-also-2 Inv-loop μ-loop
-mul-also-2 c = search needs
+mul-both-2 : tie.Need-mul-both-2 Inv-loop μ-loop
+mul-both-2 c = search needs
 
-shared-slice-read-also-2 : tie.Need-shared-slice-read-also-2 Inv-loop μ-loop
-shared-slice-read-also-2 c = search needs
+shared-slice-read-both-2 : tie.Need-shared-slice-read-both-2 Inv-loop μ-loop
+shared-slice-read-both-2 c = search needs
 
-also-requires : tie.Need-also-requires Inv-loop μ-loop
-also-requires c κs = search needs
+both-requires : tie.Need-both-requires Inv-loop μ-loop
+both-requires c κs = search needs
 
 add-k : tie.Need-add-k Inv-loop μ-loop
 add-k c = search needs
@@ -40,7 +40,7 @@ loop-less c = omega arith
 
 loop-again : tie.Need-loop-again Inv-loop μ-loop
 loop-again c =
-    tested-next _ _ _ _ _ (c .before .before .before .before .loop .inv) (omega arith) (c .also .ensures)
+    tested-next _ _ _ _ _ (c .before .before .before .before .loop .inv) (omega arith) (c .both .ensures)
 
 returns : tie.Need-returns Inv-loop μ-loop
 returns c = tested-all _ _ _ _ (c .before .loop .inv) (omega arith)
@@ -52,11 +52,11 @@ fits-spec =
     Inv-loop
     μ-loop
     loop-holds
-    mul-also
-    shared-slice-read-also
-    mul-also-2
-    shared-slice-read-also-2
-    also-requires
+    mul-both
+    shared-slice-read-both
+    mul-both-2
+    shared-slice-read-both-2
+    both-requires
     add-k
     loop-less
     loop-again

@@ -3,86 +3,66 @@
 use borrow.Author.Needs.{needs}
 use Rattle.flat.proofs.put_present.Statement.{statement}
 use Rattle.flat.proofs.put_present.Tie as tie
-use Rattle.flat.proofs.put_present.Reads as reads
-use Rattle.flat.proofs.put_present.Lts as lts
-use Rattle.flat.proofs.bit_of.Reads as bit-of-reads
 
--- src/lib.rt:69:18
 bit-of-requires : tie.Need-bit-of-requires
 bit-of-requires c κs = search needs
 
--- src/lib.rt:69:5
 element-write-answer : tie.Need-element-write-answer
 element-write-answer c = search needs
 
--- src/lib.rt:70:18
 bit-of-requires-2 : tie.Need-bit-of-requires-2
 bit-of-requires-2 c κs = search needs
 
--- src/lib.rt:70:5
 element-write-answer-2 : tie.Need-element-write-answer-2
 element-write-answer-2 c = search needs
 
--- src/lib.rt:71:18
 bit-of-requires-3 : tie.Need-bit-of-requires-3
 bit-of-requires-3 c κs = search needs
 
--- src/lib.rt:71:5
 element-write-answer-3 : tie.Need-element-write-answer-3
 element-write-answer-3 c = search needs
 
--- src/lib.rt:72:18
 bit-of-requires-4 : tie.Need-bit-of-requires-4
 bit-of-requires-4 c κs = search needs
 
--- src/lib.rt:72:5
 element-write-answer-4 : tie.Need-element-write-answer-4
 element-write-answer-4 c = search needs
 
--- src/lib.rt:73:18
 bit-of-requires-5 : tie.Need-bit-of-requires-5
 bit-of-requires-5 c κs = search needs
 
--- src/lib.rt:73:5
 element-write-answer-5 : tie.Need-element-write-answer-5
 element-write-answer-5 c = search needs
 
--- src/lib.rt:74:18
 bit-of-requires-6 : tie.Need-bit-of-requires-6
 bit-of-requires-6 c κs = search needs
 
--- src/lib.rt:74:5
 element-write-answer-6 : tie.Need-element-write-answer-6
 element-write-answer-6 c = search needs
 
--- src/lib.rt:75:18
 bit-of-requires-7 : tie.Need-bit-of-requires-7
 bit-of-requires-7 c κs = search needs
 
--- src/lib.rt:75:5
 element-write-answer-7 : tie.Need-element-write-answer-7
 element-write-answer-7 c = search needs
 
--- src/lib.rt:76:18
 bit-of-requires-8 : tie.Need-bit-of-requires-8
 bit-of-requires-8 c κs = search needs
 
--- src/lib.rt:76:5
 element-write-answer-8 : tie.Need-element-write-answer-8
 element-write-answer-8 c = search needs
 
--- src/lib.rt:66:1
 returns : tie.Need-returns
 returns c =
     simp (
-      c .bit-of8 .ensures,
-      c .before .bit-of7 .ensures,
-      c .before .before .bit-of6 .ensures,
-      c .before .before .before .bit-of5 .ensures,
-      c .before .before .before .before .bit-of4 .ensures,
-      c .before .before .before .before .before .bit-of3 .ensures,
-      c .before .before .before .before .before .before .bit-of2 .ensures,
-      c .before .before .before .before .before .before .before .bit-of .ensures,
+      c .bit-of8 .ensures .0,
+      c .before .bit-of7 .ensures .0,
+      c .before .before .bit-of6 .ensures .0,
+      c .before .before .before .bit-of5 .ensures .0,
+      c .before .before .before .before .bit-of4 .ensures .0,
+      c .before .before .before .before .before .bit-of3 .ensures .0,
+      c .before .before .before .before .before .before .bit-of2 .ensures .0,
+      c .before .before .before .before .before .before .before .bit-of .ensures .0,
     )
 
 pub put-present-spec : {M : Type 1} → statement M

@@ -11,20 +11,20 @@ slice-aggregate-fits c = search needs
 fits-requires : tie.Need-fits-requires
 fits-requires c κs = search needs
 
-element-copy-out-left-fits : tie.Need-element-copy-out-left-fits
-element-copy-out-left-fits c = search needs
+element-copy-out-either : tie.Need-element-copy-out-either
+element-copy-out-either c = search needs
 
-element-copy-out-left-fits-2 : tie.Need-element-copy-out-left-fits-2
-element-copy-out-left-fits-2 c = search needs
+element-copy-out-either-2 : tie.Need-element-copy-out-either-2
+element-copy-out-either-2 c = search needs
 
-left-fits-requires : tie.Need-left-fits-requires
-left-fits-requires c κs = search needs
+either-requires : tie.Need-either-requires
+either-requires c κs = search needs
 
-also-requires : tie.Need-also-requires
-also-requires c κs = search needs
+both-requires : tie.Need-both-requires
+both-requires c κs = search needs
 
 returns : tie.Need-returns
-returns c = together _ _ _ _ _ (c .before .before .before .before .fits2 .ensures) (c .before .left-fits .ensures) (c .also .ensures)
+returns c = together _ _ _ _ _ (c .before .before .before .before .fits2 .ensures) (c .before .either .ensures) (c .both .ensures)
 
 pub sender-fits-spec : {M : Type 1} → statement M
 sender-fits-spec =
@@ -32,8 +32,8 @@ sender-fits-spec =
     (tie.spec
     slice-aggregate-fits
     fits-requires
-    element-copy-out-left-fits
-    element-copy-out-left-fits-2
-    left-fits-requires
-    also-requires
+    element-copy-out-either
+    element-copy-out-either-2
+    either-requires
+    both-requires
     returns)

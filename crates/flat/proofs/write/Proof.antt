@@ -7,7 +7,6 @@ use Rattle.flat.proofs.write.Statement.{statement}
 use Rattle.flat.proofs.write.Tie as tie
 use Rattle.flat.proofs.write.Reads as reads
 use Rattle.flat.proofs.write.Lts as lts
-use Rattle.flat.proofs.also.Reads as also-reads
 use Rattle.flat.proofs.header_fits.Reads as header-fits-reads
 use Rattle.flat.proofs.header_of.Reads as header-of-reads
 use Rattle.flat.proofs.packet_fits.Reads as packet-fits-reads
@@ -22,25 +21,25 @@ header-fits-requires c κs = search needs
 packet-fits-requires : tie.Need-packet-fits-requires
 packet-fits-requires c κs = search needs
 
-also-requires : tie.Need-also-requires
-also-requires c κs = search needs
+both-requires : tie.Need-both-requires
+both-requires c κs = search needs
 
 write-too-wide-requires : tie.Need-write-too-wide-requires
 write-too-wide-requires c κs = search needs
 
 returns : tie.Need-returns
 returns c =
-    let e = together _ _ _ _ _ (c .before .before .before .before .header-fits .ensures) (c .before .before .before .packet-fits .ensures) (c .before .before .also .ensures) in
+    let e = together _ _ _ _ _ (c .before .before .before .before .header-fits .ensures) (c .before .before .before .packet-fits .ensures) (c .before .before .both .ensures) in
     let f = not-true _ (c .before .if1 .taken) in
     (write-refused _ _ _ _ _ _ _ _ e f _ _ (c .write-too-wide .ensures), write-kept _ _ _ _ _ _ _ _ e f _)
 
 header-of-requires : tie.Need-header-of-requires
 header-of-requires c κs =
-    first-held _ _ _ _ _ (c .before .before .before .header-fits .ensures) (c .before .before .packet-fits .ensures) (c .before .also .ensures) (not-false _ (c .if1 .left))
+    first-held _ _ _ _ _ (c .before .before .before .header-fits .ensures) (c .before .before .packet-fits .ensures) (c .before .both .ensures) (not-false _ (c .if1 .left))
 
 packet-of-requires : tie.Need-packet-of-requires
 packet-of-requires c κs =
-    second-held _ _ _ _ _ (c .before .before .before .before .header-fits .ensures) (c .before .before .before .packet-fits .ensures) (c .before .before .also .ensures) (not-false _ (c .before .if1 .left))
+    second-held _ _ _ _ _ (c .before .before .before .before .header-fits .ensures) (c .before .before .before .packet-fits .ensures) (c .before .before .both .ensures) (not-false _ (c .before .if1 .left))
 
 write-requires : tie.Need-write-requires
 write-requires c κs = search needs
@@ -53,7 +52,7 @@ same-length c = search needs
 
 returns-2 : tie.Need-returns-2
 returns-2 c =
-    let e = together _ _ _ _ _ (c .before .before .before .before .before .before .before .before .before .before .header-fits .ensures) (c .before .before .before .before .before .before .before .before .before .packet-fits .ensures) (c .before .before .before .before .before .before .before .before .also .ensures) in
+    let e = together _ _ _ _ _ (c .before .before .before .before .before .before .before .before .before .before .header-fits .ensures) (c .before .before .before .before .before .before .before .before .before .packet-fits .ensures) (c .before .before .before .before .before .before .before .before .both .ensures) in
     let f = not-false _ (c .before .before .before .before .before .before .before .if1 .left) in
     let v = c .before .before .before .before .before .before .header-of .ensures in
     let o = c .before .before .before .before .before .packet-of .ensures in
@@ -68,7 +67,7 @@ write-spec =
     (tie.spec
     header-fits-requires
     packet-fits-requires
-    also-requires
+    both-requires
     write-too-wide-requires
     returns
     header-of-requires

@@ -3,10 +3,11 @@
 use denote.Ref.{now}
 use mathlib.Core.Path.{refl, ap}
 use native.Mathlib.Omega.{arith}
-use Rattle.recording.proofs.Reaching.{reach-most, store-begins, spare-begins, told-short, out-short, told-all, out-all}
+use Rattle.recording.proofs.Reaching.{reach-most, store-begins, told-short, out-short, told-all, out-all}
 use borrow.Author.Needs.{needs}
 use Rattle.recording.proofs.join_all.Statement.{statement}
 use Rattle.recording.proofs.join_all.Tie as tie
+use Rattle.recording.proofs.Beginning.{spare-begins}
 
 returns : tie.Need-returns
 returns c = (told-short (now (c .before .before .before .args .recording)) (now (c .before .before .before .args .out)) (c .if1 .taken), out-short (now (c .before .before .before .args .recording)) (now (c .before .before .before .args .out)) (c .if1 .taken))

@@ -30,8 +30,8 @@ row-requires c κs = search needs
 keyed-requires : tie.Need-keyed-requires Inv-loop μ-loop
 keyed-requires c κs = (c .before .before .before .before .before .before .pre .0, c .before .before .before .before .before .before .pre .1)
 
-without-requires : tie.Need-without-requires Inv-loop μ-loop
-without-requires c κs = search needs
+both-requires : tie.Need-both-requires Inv-loop μ-loop
+both-requires c κs = search needs
 
 add-j : tie.Need-add-j Inv-loop μ-loop
 add-j c = search needs
@@ -40,11 +40,11 @@ loop-less : tie.Need-loop-less Inv-loop μ-loop
 loop-less c = search needs
 
 loop-again : tie.Need-loop-again Inv-loop μ-loop
-loop-again c = tested-turn (c .before .before .before .before .loop .inv) (c .before .before .before .loop-test .taken) (c .before .keyed .ensures ∙ ap (λ (r : List ℕ). keyed (keyOf (now (c .before .before .before .before .before .before .before .before .args .q)) (readPacket (c .before .before .before .before .before .before .before .before .args .s) (now (c .before .before .before .before .before .before .before .before .args .q)))) (cellOf (c .before .before .before .before .before .before .before .before .args .s) (length (now (c .before .before .before .before .before .before .before .before .args .zero))) r)) (c .before .before .row .ensures)) (c .without .ensures)
+loop-again c = tested-turn (c .before .before .before .before .loop .inv) (c .before .before .before .loop-test .taken) (c .before .keyed .ensures ∙ ap (λ (r : List ℕ). keyed (keyOf (now (c .before .before .before .before .before .before .before .before .args .q)) (readPacket (c .before .before .before .before .before .before .before .before .args .s) (now (c .before .before .before .before .before .before .before .before .args .q)))) (cellOf (c .before .before .before .before .before .before .before .before .args .s) (length (now (c .before .before .before .before .before .before .before .before .args .zero))) r)) (c .before .before .row .ensures)) (c .both .ensures)
 
 returns : tie.Need-returns Inv-loop μ-loop
 unfolding newKeyTo
 returns c = tested-done (c .before .loop .inv) (c .loop-test .left)
 
 pub new-key-spec : {M : Type 1} → statement M
-new-key-spec = tie.close (tie.spec Inv-loop μ-loop loop-holds row-requires keyed-requires without-requires add-j loop-less loop-again returns)
+new-key-spec = tie.close (tie.spec Inv-loop μ-loop loop-holds row-requires keyed-requires both-requires add-j loop-less loop-again returns)

@@ -2,7 +2,7 @@
 -- Assumes nothing.
 use borrow.Author.Needs.{needs}
 use native.Mathlib.Omega.{arith}
-use Rattle.write.proofs.Sizes.{bit-top}
+use Rattle.octets.proofs.Lists.{bit-top}
 use Rattle.write.proofs.front_size.Statement.{statement}
 use Rattle.write.proofs.front_size.Tie as tie
 

@@ -3,7 +3,8 @@
 use borrow.Author.Needs.{needs}
 use denote.Ref.{now}
 use native.Mathlib.Omega.{arith}
-use Rattle.write.proofs.Sizes.{bit-top, header-size}
+use Rattle.octets.proofs.Lists.{bit-top}
+use Rattle.write.proofs.Sizes.{header-size}
 use Rattle.write.proofs.header_size.Statement.{statement}
 use Rattle.write.proofs.header_size.Tie as tie
 use Rattle.write.specs.Given.{lent}
@@ -29,7 +30,7 @@ plus-requires-2 c κs = search needs
 returns : tie.Need-returns
 returns c =
     let g = c .before .before .before .before .before .before .before .before .before .before .before .before .args in
-    header-size (g .s) (g .v) (lent (now (g .timestamp)) (now (g .zone)) (now (g .name)) (now (g .domain)) (now (g .lengths)) (now (g .authentication))) (c .before .before .before .before .front-size .ensures) (c .before .before .before .middle-size .ensures) (c .before .before .end-size .ensures) (c .before .plus .ensures) (c .plus2 .ensures)
+    header-size (g .s) (g .v) (lent (now (g .time)) (now (g .zone)) (now (g .name)) (now (g .domain)) (now (g .lengths)) (now (g .id))) (c .before .before .before .before .front-size .ensures) (c .before .before .before .middle-size .ensures) (c .before .before .end-size .ensures) (c .before .plus .ensures) (c .plus2 .ensures)
 
 pub header-size-spec : {M : Type 1} → statement M
 header-size-spec =

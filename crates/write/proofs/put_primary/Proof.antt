@@ -1,16 +1,13 @@
 -- `write::put_primary` meets its contract: three numbers, one after another.
 -- Assumes nothing.
-use Prim.Native.Nat.{ℕ, _+_, _*_}
 use borrow.Author.Needs.{needs}
-use mathlib.Core.Path.{ap₂}
-use Rattle.octets.proofs.Laying.{lays-both, lays-as}
-use Rattle.octets.specs.Octets.{wide}
+use Rattle.octets.proofs.Laying.{lays-both}
 use Rattle.write.proofs.put_primary.Statement.{statement}
 use Rattle.write.proofs.put_primary.Tie as tie
 use Rattle.write.specs.Inner.{primaryPieces}
 
-wide8-requires : tie.Need-wide8-requires
-wide8-requires c κs = search needs
+cast-id : tie.Need-cast-id
+cast-id c = search needs
 
 mul-id : tie.Need-mul-id
 mul-id c = search needs
@@ -18,20 +15,20 @@ mul-id c = search needs
 add-id : tie.Need-add-id
 add-id c = search needs
 
-wide16-requires : tie.Need-wide16-requires
-wide16-requires c κs = search needs
+cast-id-2 : tie.Need-cast-id-2
+cast-id-2 c = search needs
 
 add-id-2 : tie.Need-add-id-2
 add-id-2 c = search needs
 
-wide8-requires-2 : tie.Need-wide8-requires-2
-wide8-requires-2 c κs = search needs
+cast-sequence : tie.Need-cast-sequence
+cast-sequence c = search needs
 
 mul-sequence : tie.Need-mul-sequence
 mul-sequence c = search needs
 
-wide16-requires-2 : tie.Need-wide16-requires-2
-wide16-requires-2 c κs = search needs
+cast-sequence-2 : tie.Need-cast-sequence-2
+cast-sequence-2 c = search needs
 
 add-sequence : tie.Need-add-sequence
 add-sequence c = search needs
@@ -51,22 +48,24 @@ same-length c = search needs
 returns : tie.Need-returns
 unfolding primaryPieces
 returns c =
-    let id = ap₂ (λ (a b : ℕ). wide 2 (a * 4096 + 2048 + b)) (c .before .before .before .before .before .before .before .before .before .before .before .before .before .before .before .wide8 .ensures) (c .before .before .before .before .before .before .before .before .before .before .before .before .before .before .wide16 .ensures) in
-    let sequence = ap₂ (λ (a b : ℕ). wide 2 (a * 16384 + b)) (c .before .before .before .before .before .before .before .before .before .before .before .before .before .wide82 .ensures) (c .before .before .before .before .before .before .before .before .before .before .before .before .wide162 .ensures) in
-    lays-both (lays-both (lays-as id (c .before .before .before .before .before .before .before .before .before .before .lay-number .ensures)) (lays-as sequence (c .before .before .before .before .before .before .lay-number2 .ensures))) (c .before .before .lay-number3 .ensures)
+    lays-both
+    (lays-both
+    (c .before .before .before .before .before .before .before .before .before .before .lay-number .ensures)
+    (c .before .before .before .before .before .before .lay-number2 .ensures))
+    (c .before .before .lay-number3 .ensures)
 
 pub put-primary-spec : {M : Type 1} → statement M
 put-primary-spec =
     tie.close
     (tie.spec
-    wide8-requires
+    cast-id
     mul-id
     add-id
-    wide16-requires
+    cast-id-2
     add-id-2
-    wide8-requires-2
+    cast-sequence
     mul-sequence
-    wide16-requires-2
+    cast-sequence-2
     add-sequence
     lay-number-requires
     lay-number-requires-2

@@ -9,14 +9,14 @@ use Rattle.write.proofs.put_routing.Statement.{statement}
 use Rattle.write.proofs.put_routing.Tie as tie
 use Rattle.write.specs.Inner.{routingPieces}
 
-wide8-requires : tie.Need-wide8-requires
-wide8-requires c κs = search needs
+cast-high : tie.Need-cast-high
+cast-high c = search needs
 
 mul-high : tie.Need-mul-high
 mul-high c = search needs
 
-wide8-requires-2 : tie.Need-wide8-requires-2
-wide8-requires-2 c κs = search needs
+cast-high-2 : tie.Need-cast-high-2
+cast-high-2 c = search needs
 
 mul-high-2 : tie.Need-mul-high-2
 mul-high-2 c = search needs
@@ -24,14 +24,14 @@ mul-high-2 c = search needs
 add-high : tie.Need-add-high
 add-high c = search needs
 
-wide8-requires-3 : tie.Need-wide8-requires-3
-wide8-requires-3 c κs = search needs
+cast-low : tie.Need-cast-low
+cast-low c = search needs
 
 mul-low : tie.Need-mul-low
 mul-low c = search needs
 
-wide16-requires : tie.Need-wide16-requires
-wide16-requires c κs = search needs
+cast-low-2 : tie.Need-cast-low-2
+cast-low-2 c = search needs
 
 add-low : tie.Need-add-low
 add-low c = search needs
@@ -42,8 +42,8 @@ add-lay-number c = search needs
 lay-number-requires : tie.Need-lay-number-requires
 lay-number-requires c κs = search needs
 
-wide32-requires : tie.Need-wide32-requires
-wide32-requires c κs = search needs
+cast-lay-number : tie.Need-cast-lay-number
+cast-lay-number c = search needs
 
 lay-number-requires-2 : tie.Need-lay-number-requires-2
 lay-number-requires-2 c κs = search needs
@@ -63,27 +63,27 @@ same-length c = search needs
 returns : tie.Need-returns
 unfolding routingPieces
 returns c =
-    let a = lays-as (routing-word (c .before .before .before .before .before .before .before .before .before .before .before .before .before .before .before .before .before .before .before .before .before .wide8 .ensures) (c .before .before .before .before .before .before .before .before .before .before .before .before .before .before .before .before .before .before .before .before .wide82 .ensures) (c .before .before .before .before .before .before .before .before .before .before .before .before .before .before .before .before .before .before .before .wide83 .ensures) (c .before .before .before .before .before .before .before .before .before .before .before .before .before .before .before .before .before .before .wide16 .ensures)) (c .before .before .before .before .before .before .before .before .before .before .before .before .before .before .before .before .lay-number .ensures) in
-    let b = lays-as (ap (wide 2) (c .before .before .before .before .before .before .before .before .before .before .before .before .wide32 .ensures)) (c .before .before .before .before .before .before .before .before .before .before .before .lay-number2 .ensures) in
+    let v = c .before .before .before .before .before .before .before .before .before .before .before .before .before .before .before .before .before .before .before .before .before .before .before .before .before .args .v in
+    let a = lays-as (routing-word (v .error) (v .qos) (v .session) (v .second .0)) (c .before .before .before .before .before .before .before .before .before .before .before .before .before .before .before .before .lay-number .ensures) in
     let d = lays-as (ap (wide 1) (c .before .before .before .present-octet .ensures)) (c .before .before .lay-number4 .ensures) in
-    lays-both a (lays-both b (lays-both (c .before .before .before .before .before .before .before .lay-number3 .ensures) d))
+    lays-both a (lays-both (c .before .before .before .before .before .before .before .before .before .before .before .lay-number2 .ensures) (lays-both (c .before .before .before .before .before .before .before .lay-number3 .ensures) d))
 
 pub put-routing-spec : {M : Type 1} → statement M
 put-routing-spec =
     tie.close
     (tie.spec
-    wide8-requires
+    cast-high
     mul-high
-    wide8-requires-2
+    cast-high-2
     mul-high-2
     add-high
-    wide8-requires-3
+    cast-low
     mul-low
-    wide16-requires
+    cast-low-2
     add-low
     add-lay-number
     lay-number-requires
-    wide32-requires
+    cast-lay-number
     lay-number-requires-2
     lay-number-requires-3
     present-octet-requires

@@ -14,8 +14,8 @@ unless-requires-2 c κs = search needs
 segmented-requires : tie.Need-segmented-requires
 segmented-requires c κs = search needs
 
-wide32-requires : tie.Need-wide32-requires
-wide32-requires c κs = search needs
+cast-number-fits : tie.Need-cast-number-fits
+cast-number-fits c = search needs
 
 number-fits-requires : tie.Need-number-fits-requires
 number-fits-requires c κs = search needs
@@ -25,7 +25,7 @@ unless-requires-3 c κs = search needs
 
 returns : tie.Need-returns
 unfolding packetChecks unlessAll
-returns c = simp (c .unless3 .ensures, c .before .number-fits .ensures, c .before .before .wide32 .ensures, c .before .before .before .segmented .ensures, c .before .before .before .before .unless2 .ensures, c .before .before .before .before .before .before .unless .ensures)
+returns c = simp (c .unless3 .ensures, c .before .number-fits .ensures, c .before .before .before .segmented .ensures, c .before .before .before .before .unless2 .ensures, c .before .before .before .before .before .before .unless .ensures)
 
 pub test-packet-spec : {M : Type 1} → statement M
 test-packet-spec =
@@ -34,7 +34,7 @@ test-packet-spec =
     unless-requires
     unless-requires-2
     segmented-requires
-    wide32-requires
+    cast-number-fits
     number-fits-requires
     unless-requires-3
     returns)

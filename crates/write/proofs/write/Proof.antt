@@ -27,12 +27,12 @@ test-sizes-requires c κs = search needs
 returns : tie.Need-returns
 returns c =
     let g = c .before .before .before .before .before .before .before .before .before .before .before .before .before .before .before .args in
-    (refused-answer (g .s) (g .v) (g .o) (lent (now (g .timestamp)) (now (g .zone)) (now (g .name)) (now (g .domain)) (now (g .lengths)) (now (g .authentication))) (now (g .body)) (c .before .before .before .before .before .header-size .ensures) (c .before .before .before .before .secondary-size .ensures) (c .before .before .before .packet-size .ensures) (length (now (g .out))) (c .before .before .before .before .before .before .test-values .ensures) (c .before .before .test-sizes .ensures) (c .if1 .taken), refused-output (g .s) (g .v) (g .o) (lent (now (g .timestamp)) (now (g .zone)) (now (g .name)) (now (g .domain)) (now (g .lengths)) (now (g .authentication))) (now (g .body)) (c .before .before .before .before .before .header-size .ensures) (c .before .before .before .before .secondary-size .ensures) (c .before .before .before .packet-size .ensures) (now (g .out)) (c .before .before .before .before .before .before .test-values .ensures) (c .before .before .test-sizes .ensures) (c .if1 .taken))
+    (refused-answer (g .s) (g .v) (g .o) (lent (now (g .time)) (now (g .zone)) (now (g .name)) (now (g .domain)) (now (g .lengths)) (now (g .id))) (now (g .body)) (c .before .before .before .before .before .header-size .ensures) (c .before .before .before .before .secondary-size .ensures) (c .before .before .before .packet-size .ensures) (length (now (g .out))) (c .before .before .before .before .before .before .test-values .ensures) (c .before .before .test-sizes .ensures) (c .if1 .taken), refused-output (g .s) (g .v) (g .o) (lent (now (g .time)) (now (g .zone)) (now (g .name)) (now (g .domain)) (now (g .lengths)) (now (g .id))) (now (g .body)) (c .before .before .before .before .before .header-size .ensures) (c .before .before .before .before .secondary-size .ensures) (c .before .before .before .packet-size .ensures) (now (g .out)) (c .before .before .before .before .before .before .test-values .ensures) (c .before .before .test-sizes .ensures) (c .if1 .taken))
 
-sub-put-packet : tie.Need-sub-put-packet
-sub-put-packet c =
-    let g = c .before .before .before .before .before .before .before .before .before .before .before .before .before .before .before .before .args in
-    omega (arith, fits (g .s) (g .v) (g .o) (lent (now (g .timestamp)) (now (g .zone)) (now (g .name)) (now (g .domain)) (now (g .lengths)) (now (g .authentication))) (now (g .body)) (c .before .before .before .before .before .before .header-size .ensures) (c .before .before .before .before .before .secondary-size .ensures) (c .before .before .before .before .packet-size .ensures) (length (now (g .out))) (c .before .before .before .before .before .before .before .test-values .ensures) (c .before .before .before .test-sizes .ensures) (c .before .if1 .left) .least)
+sub-n : tie.Need-sub-n
+sub-n c =
+    let g = c .before .before .before .before .before .before .before .before .before .before .before .before .before .before .before .args in
+    omega (arith, fits (g .s) (g .v) (g .o) (lent (now (g .time)) (now (g .zone)) (now (g .name)) (now (g .domain)) (now (g .lengths)) (now (g .id))) (now (g .body)) (c .before .before .before .before .before .header-size .ensures) (c .before .before .before .before .secondary-size .ensures) (c .before .before .before .packet-size .ensures) (length (now (g .out))) (c .before .before .before .before .before .before .test-values .ensures) (c .before .before .test-sizes .ensures) (c .if1 .left) .least)
 
 put-packet-requires : tie.Need-put-packet-requires
 put-packet-requires c κs = search needs
@@ -43,7 +43,7 @@ same-length c = search needs
 returns-2 : tie.Need-returns-2
 returns-2 c =
     let g = c .before .before .before .before .before .before .before .before .before .before .before .before .before .before .before .before .before .before .before .args in
-    (written-answer (g .s) (g .v) (g .o) (lent (now (g .timestamp)) (now (g .zone)) (now (g .name)) (now (g .domain)) (now (g .lengths)) (now (g .authentication))) (now (g .body)) (c .before .before .before .before .before .before .before .before .before .header-size .ensures) (c .before .before .before .before .before .before .before .before .secondary-size .ensures) (c .before .before .before .before .before .before .before .packet-size .ensures) (length (now (g .out))) (c .before .before .before .before .before .before .before .before .before .before .test-values .ensures) (c .before .before .before .before .before .before .test-sizes .ensures) (c .before .before .before .before .if1 .left), written-output (g .s) (g .v) (g .o) (lent (now (g .timestamp)) (now (g .zone)) (now (g .name)) (now (g .domain)) (now (g .lengths)) (now (g .authentication))) (now (g .body)) (c .before .before .before .before .before .before .before .before .before .header-size .ensures) (c .before .before .before .before .before .before .before .before .secondary-size .ensures) (c .before .before .before .before .before .before .before .packet-size .ensures) (now (g .out)) (c .before .before .before .before .before .before .before .before .before .before .test-values .ensures) (c .before .before .before .before .before .before .test-sizes .ensures) (c .before .before .before .before .if1 .left) (c .before .before .put-packet .ensures))
+    (written-answer (g .s) (g .v) (g .o) (lent (now (g .time)) (now (g .zone)) (now (g .name)) (now (g .domain)) (now (g .lengths)) (now (g .id))) (now (g .body)) (c .before .before .before .before .before .before .before .before .before .header-size .ensures) (c .before .before .before .before .before .before .before .before .secondary-size .ensures) (c .before .before .before .before .before .before .before .packet-size .ensures) (length (now (g .out))) (c .before .before .before .before .before .before .before .before .before .before .test-values .ensures) (c .before .before .before .before .before .before .test-sizes .ensures) (c .before .before .before .before .if1 .left), written-output (g .s) (g .v) (g .o) (lent (now (g .time)) (now (g .zone)) (now (g .name)) (now (g .domain)) (now (g .lengths)) (now (g .id))) (now (g .body)) (c .before .before .before .before .before .before .before .before .before .header-size .ensures) (c .before .before .before .before .before .before .before .before .secondary-size .ensures) (c .before .before .before .before .before .before .before .packet-size .ensures) (now (g .out)) (c .before .before .before .before .before .before .before .before .before .before .test-values .ensures) (c .before .before .before .before .before .before .test-sizes .ensures) (c .before .before .before .before .if1 .left) (c .before .before .put-packet .ensures))
 
 pub write-spec : {M : Type 1} → statement M
 write-spec =
@@ -55,7 +55,7 @@ write-spec =
     packet-size-requires
     test-sizes-requires
     returns
-    sub-put-packet
+    sub-n
     put-packet-requires
     same-length
     returns-2)
