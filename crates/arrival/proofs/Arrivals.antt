@@ -1,14 +1,14 @@
 -- What an arrival comes to, case by case as the code tells them apart.
 -- Assumes nothing.
-use Prim.Native.Nat.{ℕ, zero, suc, _+_, _*_, _/_, _≤_, _<_}
-use mathlib.Core.Path.{_≡_, refl, ap, ap₂, sym, _∙_, subst}
+use Prim.Native.Nat.{ℕ, suc, _+_, _*_, _/_, _≤_, _<_}
+use mathlib.Core.Path.{_≡_, refl, ap, ap₂, sym, _∙_}
 use mathlib.Core.Bool.{Bool, true, false, not}
-use mathlib.Core.List.{List, [], _∷_}
-use mathlib.Core.Option.{Option, none, some}
+use mathlib.Core.List.{List, _∷_}
+use mathlib.Core.Option.{Option}
 use native.Mathlib.Omega.{arith}
 use lib.ListN.{length, drop, length-take, length-drop}
 use lib.Seq.{sets}
-use lib.Dec.{leb, ltb, eqb}
+use lib.Dec.{eqb}
 use borrow.Author.Tests.{le-leb, lt-leb, eq-eqb, ne-eqb}
 use Rattle.octets.specs.Octets.{pick, Octets, octetAt, part, alike}
 use Rattle.octets.proofs.Lists.{alike-true}
@@ -17,14 +17,13 @@ use Rattle.packet.specs.declared.Header.{Header}
 use Rattle.packet.specs.Reading.{readPacket, segmented}
 use Rattle.packet.specs.Key.{keyOf}
 use Rattle.cells.specs.Segments.{Seg, segOf, sameRest, both}
-use Rattle.cells.specs.Rows.{Cell, free, held, broken, rowAt, zeroRow, heldRow, packetIn, cellOf}
+use Rattle.cells.specs.Rows.{rowAt, zeroRow, heldRow, packetIn}
 use Rattle.cells.specs.Inner.{Asked}
-use Rattle.cells.specs.Order.{isFree, isSound, carriesIn, lowest, cellAt, foundIn}
+use Rattle.cells.specs.Order.{isFree, lowest, cellAt, foundIn}
 use Rattle.cells.proofs.Scans.{free-is}
 use Rattle.cells.proofs.Held.{flags-same}
 use Rattle.cells.proofs.Laid.{held-laid}
-use Rattle.messages.specs.Messages.{cellsOf, look}
-use Rattle.arrival.specs.Arriving.{Arrived, whole, stored, again, refused, placed, beside, lowestFree, segmentArrived, arrivedIn}
+use Rattle.arrival.specs.Arriving.{whole, stored, again, refused, placed, beside, lowestFree, segmentArrived, arrivedIn}
 use Rattle.messages.specs.declared.Piece.{Piece}
 use Rattle.messages.specs.Inner.{segIn, pieceOf}
 use Rattle.arrival.specs.Inner.{segWith}

@@ -1,21 +1,20 @@
 -- Whether a cell carries a key and a counter, as the code tests it.
 -- Assumes nothing.
-use Prim.Native.Nat.{ℕ, zero, suc, _+_, _≤_}
+use Prim.Native.Nat.{ℕ, _+_, _≤_}
 use mathlib.Core.Path.{_≡_, refl, ap, ap₂, sym, _∙_}
 use mathlib.Core.Logic.{_⊎_, inl, inr, ⊎-elim}
 use mathlib.Core.Bool.{Bool, true, false}
-use mathlib.Core.List.{List, [], _∷_}
+use mathlib.Core.List.{List}
 use native.Mathlib.Omega.{arith}
 use lib.ListN.{length}
 use lib.Dec.{eqb, leb}
 use borrow.Author.Tests.{eqb-true, leb-true, eq-eqb, ne-eqb}
-use Rattle.octets.specs.Octets.{pick, Octets, octetAt, part, number, alike}
+use Rattle.octets.specs.Octets.{Octets, octetAt, number, alike}
 use Rattle.octets.proofs.Has.{octets-part}
 use Rattle.octets.proofs.Lists.{bool, pick-false, alike-true}
 use Rattle.walk.specs.declared.Settings.{Settings}
-use Rattle.packet.specs.declared.Header.{Header}
 use Rattle.packet.specs.Reading.{readPacket, segmented}
-use Rattle.packet.specs.Key.{keyOf, sameKey}
+use Rattle.packet.specs.Key.{keyOf}
 use Rattle.cells.specs.Segments.{Seg, segOf, carries, both}
 use Rattle.cells.specs.Rows.{Cell, free, held, broken, zeroRow, heldRow, packetIn, mayHold, holds, cellOf}
 use Rattle.cells.specs.Order.{isSound, carriesIn}

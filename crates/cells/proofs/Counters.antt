@@ -1,23 +1,22 @@
 -- The counter of an accepted segment stands where its presence octet says, so it can be read without reading the header.
 -- Assumes nothing.
-use Prim.Native.Nat.{ℕ, _+_, _-_, _*_, _/_, _%_, _^_, _≤_, _<_}
-use mathlib.Core.Path.{_≡_, refl, ap, sym, _∙_, subst}
+use Prim.Native.Nat.{ℕ, _+_, _-_, _*_, _/_, _%_, _≤_, _<_}
+use mathlib.Core.Path.{_≡_, refl, ap, _∙_, subst}
 use mathlib.Core.Bool.{Bool, true}
-use mathlib.Core.List.{List, [], _∷_, _++_}
+use mathlib.Core.List.{List, [], _∷_}
 use native.Mathlib.Omega.{arith}
 use native.Mathlib.Nat.{add-zero}
 use lib.ListN.{length}
-use Rattle.octets.specs.Octets.{pick, Octets, octetAt, part, number, wide}
+use Rattle.octets.specs.Octets.{pick, Octets, octetAt, number, wide}
 use Rattle.octets.proofs.Has.{Has, has-self, has-first, has-second, has-at, has-part}
 use Rattle.octets.proofs.Numbers.{wide-length, number-back}
 use Rattle.octets.proofs.Lists.{bit-top}
 use Rattle.walk.specs.declared.Settings.{Settings}
 use Rattle.packet.specs.declared.Header.{Header}
-use Rattle.packet.specs.Format.{Head, Values, InRange, Opt, segment, presence, identification, fixedOctets, frontOctets, counterOctets, backOctets, secondaryOctets, dataOctets, octetsOf}
+use Rattle.packet.specs.Format.{Values, Opt, presence, identification, fixedOctets, secondaryOctets, dataOctets, octetsOf}
 use Rattle.packet.specs.Reading.{readPacket, segmented, counterSize}
 use Rattle.packet.specs.Key.{counterPlace}
 use Rattle.format.specs.Told.{valuesOf, headOf}
-use Rattle.format.specs.Accepted.{Accepted}
 use Rattle.format.proofs.TwoWay.{only-writing}
 use Rattle.format.proofs.Accepting.{accepted}
 

@@ -1,7 +1,7 @@
 -- A row tested as the code does is the row of its packet; and what a row is.
 -- Assumes nothing.
-use Prim.Native.Nat.{ℕ, zero, suc, _+_, _-_, _/_, _≤_, _<_, min}
-use mathlib.Core.Path.{_≡_, refl, ap, ap₂, sym, _∙_}
+use Prim.Native.Nat.{ℕ, zero, suc, _+_, _-_, _/_, _≤_, _<_}
+use mathlib.Core.Path.{_≡_, refl, ap, sym, _∙_}
 use mathlib.Core.Logic.{⊎-elim}
 use mathlib.Core.Bool.{Bool, true, false, not}
 use mathlib.Core.List.{List, [], _∷_, _++_}
@@ -10,16 +10,16 @@ use native.Mathlib.Nat.{sub-zero}
 use lib.ListN.{length, take, drop, replicate, length-append, length-replicate, length-take, length-drop, drop-of-length-le}
 use lib.Seq.{take-all, take-nil}
 use lib.Dec.{leb, eqb}
-use borrow.Author.Tests.{le-leb, lt-leb, leb-true, eq-eqb, ne-eqb, eqb-true, eqb-false}
-use Rattle.octets.specs.Octets.{pick, octetAt, part, number, roomOf, alike}
+use borrow.Author.Tests.{le-leb, leb-true, eq-eqb, ne-eqb, eqb-true, eqb-false}
+use Rattle.octets.specs.Octets.{octetAt, part, number, roomOf, alike}
 use Rattle.octets.proofs.Lists.{bool, below-or, alike-true}
 use Rattle.walk.specs.declared.Settings.{Settings}
 use Rattle.packet.specs.declared.Header.{Header}
 use Rattle.packet.specs.Reading.{readPacket, segmented, acceptedHeader, primaryOf}
 use Rattle.format.proofs.Start.{answer}
 use Rattle.cells.specs.declared.Judged.{Judged}
-use Rattle.cells.specs.Segments.{Seg, segOf, both}
-use Rattle.cells.specs.Rows.{Cell, free, held, broken, zeroRow, heldRow, packetIn, mayHold, holds, cellOf}
+use Rattle.cells.specs.Segments.{segOf, both}
+use Rattle.cells.specs.Rows.{zeroRow, heldRow, packetIn, mayHold, holds, cellOf}
 use Rattle.cells.specs.Inner.{heldRowTest, bodyIn, judgedOf, placeIn}
 
 pub both-true : (a b : Bool) → both a b ≡ true → (a ≡ true) × (b ≡ true)

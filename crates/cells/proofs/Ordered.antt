@@ -1,6 +1,6 @@
 -- A store in order, from the tests that the code makes one after another.
 -- Assumes nothing.
-use Prim.Native.Nat.{ℕ, _*_, _/_, _%_, _≤_}
+use Prim.Native.Nat.{ℕ, _/_, _%_, _≤_}
 use mathlib.Core.Path.{_≡_, refl, ap, ap₂, sym, _∙_}
 use mathlib.Core.Logic.{⊎-elim}
 use mathlib.Core.Bool.{Bool, true, false}
@@ -10,7 +10,7 @@ use lib.ListN.{length}
 use lib.Dec.{leb, eqb}
 use borrow.Author.Tests.{leb-true}
 use Rattle.octets.specs.Octets.{pick}
-use Rattle.octets.proofs.Lists.{bool, pick-false}
+use Rattle.octets.proofs.Lists.{bool}
 use Rattle.walk.specs.declared.Settings.{Settings}
 use Rattle.cells.specs.Segments.{both}
 use Rattle.cells.specs.Order.{cellsMost, lengthFits, countIn, sound, distinct, inOrder}
@@ -61,14 +61,8 @@ module _ (s : Settings) (Z : ℕ) (st : List ℕ) {n : ℕ} (en : n ≡ pick (le
         order-told s Z st (fitting h .0)
         (ap (λ (k : ℕ). both (sound s Z st k) (distinct s Z st k)) (sym (fitting h .1)) ∙ sym (ap₂ both ea eb) ∙ f)
 
-    fault : both a b ≡ false → 0 ≡ pick (inOrder s Z st) (countIn Z st) 0
-    fault f = sym (ap (λ (x : Bool). pick x (countIn Z st) 0) (cells-told f))
+    pub order-fault : both a b ≡ false → 0 ≡ pick (inOrder s Z st) (countIn Z st) 0
+    order-fault f = sym (ap (λ (x : Bool). pick x (countIn Z st) 0) (cells-told f))
 
-    pub order-unsound : a ≡ false → 0 ≡ pick (inOrder s Z st) (countIn Z st) 0
-    order-unsound e = fault (ap (λ (x : Bool). both x b) e)
-
-    pub order-twice : b ≡ false → 0 ≡ pick (inOrder s Z st) (countIn Z st) 0
-    order-twice e = fault (ap (both a) e ∙ pick-false a)
-
-    pub order-held : a ≡ true → b ≡ true → n ≡ pick (inOrder s Z st) (countIn Z st) 0
-    order-held e f = fitting h .1 ∙ sym (ap (λ (x : Bool). pick x (countIn Z st) 0) (cells-told (ap₂ both e f)))
+    pub order-held : both a b ≡ true → n ≡ pick (inOrder s Z st) (countIn Z st) 0
+    order-held f = fitting h .1 ∙ sym (ap (λ (x : Bool). pick x (countIn Z st) 0) (cells-told f))

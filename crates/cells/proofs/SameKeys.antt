@@ -1,14 +1,14 @@
 -- Two accepted segments agree around their counters exactly if they have the same key.
 -- Assumes nothing.
-use Prim.Native.Nat.{ℕ, _+_, _-_, _≤_}
+use Prim.Native.Nat.{ℕ, _+_, _-_}
 use mathlib.Core.Path.{_≡_, refl, ap, ap₂, sym, _∙_}
-use mathlib.Core.Bool.{Bool, true, false}
+use mathlib.Core.Bool.{Bool, true}
 use mathlib.Core.List.{List, _++_}
 use native.Mathlib.Omega.{arith}
 use lib.ListN.{length, take, drop}
 use lib.Seq.{take-at, drop-at}
 use lib.Dec.{eqb}
-use borrow.Author.Tests.{eqb-true, eq-eqb}
+use borrow.Author.Tests.{eq-eqb}
 use Rattle.octets.specs.Octets.{pick, Octets, part, alike}
 use Rattle.octets.proofs.Has.{part-length}
 use Rattle.octets.proofs.Lists.{alike-self, alike-true}
@@ -18,7 +18,6 @@ use Rattle.packet.specs.Format.{Head, headerOctets}
 use Rattle.packet.specs.Reading.{readPacket, segmented, counterSize}
 use Rattle.packet.specs.Key.{counterPlace, keyOf, sameKey}
 use Rattle.format.specs.Told.{valuesOf, headOf}
-use Rattle.format.specs.Accepted.{Accepted}
 use Rattle.format.proofs.Accepting.{accepted}
 use Rattle.format.proofs.Keys.{same-key}
 use Rattle.cells.specs.Segments.{both}

@@ -1,16 +1,16 @@
 -- Octets that are a segment's key, and a cell that holds a segment of a key between two counters, as the code tests them.
 -- Assumes nothing.
-use Prim.Native.Nat.{ℕ, zero, suc, _+_, _-_, _≤_, _<_}
+use Prim.Native.Nat.{ℕ, suc, _+_, _-_, _≤_, _<_}
 use mathlib.Core.Path.{_≡_, refl, ap, ap₂, sym, _∙_}
 use mathlib.Core.Logic.{⊎-elim}
-use mathlib.Core.Bool.{Bool, true, false}
+use mathlib.Core.Bool.{Bool, false}
 use mathlib.Core.List.{List, [], _∷_, _++_}
 use native.Mathlib.Omega.{arith}
 use lib.ListN.{length, take, drop}
 use lib.Seq.{drop-drop}
 use lib.Dec.{eqb, leb, ltb}
 use borrow.Author.Tests.{le-leb, lt-leb}
-use Rattle.octets.specs.Octets.{pick, Octets, octetAt, part, number, alike}
+use Rattle.octets.specs.Octets.{Octets, octetAt, part, number, alike}
 use Rattle.octets.proofs.Has.{octets-part}
 use Rattle.octets.proofs.Lists.{bool, pick-false}
 use Rattle.walk.specs.declared.Settings.{Settings}

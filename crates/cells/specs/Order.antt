@@ -2,14 +2,14 @@
 -- Document 01, "The store": "A store is in order if its length fits, each cell is as above and readable under T, and no two cells have
 -- equal key and counter."
 -- Assumes nothing: these are definitions.
-use Prim.Native.Nat.{ℕ, zero, suc, _+_, _/_, _%_}
-use mathlib.Core.List.{List, [], _∷_, _++_}
+use Prim.Native.Nat.{ℕ, zero, suc, _/_, _%_}
+use mathlib.Core.List.{List}
 use mathlib.Core.Bool.{Bool, true, false, not}
 use lib.ListN.{length}
 use lib.Dec.{leb, eqb}
 use Rattle.octets.specs.Octets.{pick}
 use Rattle.walk.specs.declared.Settings.{Settings}
-use Rattle.cells.specs.Segments.{Seg, carries, both}
+use Rattle.cells.specs.Segments.{carries, both}
 use Rattle.cells.specs.Rows.{Cell, free, held, broken, rowAt, cellOf}
 
 -- "Cells of 1,024 octets"

@@ -4,8 +4,8 @@
 -- Assumes nothing: these are definitions.
 use Prim.Native.Nat.{ℕ, _+_, _-_, _*_}
 use mathlib.Core.List.{List, _∷_, _++_}
-use mathlib.Core.Bool.{Bool, true, false}
-use lib.ListN.{length, take, drop, replicate}
+use mathlib.Core.Bool.{Bool}
+use lib.ListN.{length, replicate}
 use lib.Dec.{leb, eqb}
 use Rattle.octets.specs.Octets.{pick, part, number, alike}
 use Rattle.walk.specs.declared.Settings.{Settings}

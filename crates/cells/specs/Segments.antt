@@ -4,7 +4,7 @@
 -- Assumes nothing: these are definitions.
 use Prim.Native.Nat.{ℕ}
 use mathlib.Core.List.{List}
-use mathlib.Core.Bool.{Bool, true, false}
+use mathlib.Core.Bool.{Bool, false}
 use lib.Dec.{eqb}
 use Rattle.octets.specs.Octets.{pick, part, alike}
 use Rattle.packet.specs.declared.Header.{Header}

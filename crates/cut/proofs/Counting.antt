@@ -1,24 +1,23 @@
 -- Rounding up, counters and sequence counts: the code's closed forms are the definitions.
 -- Assumes nothing.
-use Prim.Native.Nat.{ℕ, zero, suc, _+_, _-_, _*_, _/_, _%_, _≤_, _<_, min}
+use Prim.Native.Nat.{ℕ, zero, suc, _+_, _-_, _/_, _%_, _≤_, _<_}
 use mathlib.Core.Path.{_≡_, refl, ap, ap₂, sym, _∙_}
 use mathlib.Core.Logic.{⊎-elim}
 use mathlib.Core.Bool.{Bool, true, false}
-use native.Mathlib.Numerals.{add-one}
 use native.Mathlib.Omega.{arith}
 use native.Mathlib.Nat.{div-zero, div-eq-of-lt, add-div-right, add-mod-mod, add-zero}
 use lib.Dec.{leb, eqb}
 use borrow.Author.Tests.{le-leb, lt-leb, eq-eqb, ne-eqb}
-use Rattle.octets.specs.Octets.{pick, most32}
+use Rattle.octets.specs.Octets.{most32}
 use Rattle.octets.proofs.Lists.{below-or}
-use Rattle.packet.specs.Numbers.{nextCount, countMost, nextSequenceCount}
+use Rattle.packet.specs.Numbers.{nextCount, countMost}
 use Rattle.packet.specs.declared.SegmentCounter.{SegmentCounter}
 use Rattle.packet.specs.declared.SequenceCount.{SequenceCount}
 use Rattle.sender.specs.declared.Sender.{Sender}
 use Rattle.sender.specs.declared.Next.{Next}
 use Rattle.sender.specs.declared.Next.the-variants.{At, NoneLeft}
 use Rattle.sender.specs.Sending.{nextCounter, afterSegment}
-use Rattle.cut.specs.Cutting.{afterSegments, countersFit, counterAt, countAt, rounded}
+use Rattle.cut.specs.Cutting.{afterSegments, countersFit, countAt, rounded}
 use Rattle.cut.specs.Inner.{counterAfter, counterOf, countOf}
 
 -- ---- rounding up

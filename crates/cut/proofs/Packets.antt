@@ -1,25 +1,22 @@
 -- Packet number i as the code makes it is the definition's, and its answer and output follow.
 -- Assumes nothing.
-use Prim.Native.Nat.{ℕ, suc, _+_, _-_, _*_, _≤_, _<_, min}
+use Prim.Native.Nat.{ℕ, suc, _+_, _-_, _*_, _≤_, _<_}
 use mathlib.Core.Path.{_≡_, refl, ap, ap₂, sym, _∙_}
-use mathlib.Core.Logic.{⊎-elim}
 use mathlib.Core.Bool.{Bool, true, false}
-use mathlib.Core.List.{List, [], _∷_, _++_}
+use mathlib.Core.List.{List, _++_}
 use native.Mathlib.Omega.{arith}
-use lib.ListN.{length, take, drop, length-drop, length-take, drop-of-length-le}
-use lib.Seq.{take-all, take-nil}
+use lib.ListN.{length, take, drop, length-take}
+use lib.Seq.{take-all}
 use lib.Dec.{leb, ltb, eqb}
-use borrow.Author.Tests.{leb-true, ltb-true, le-leb, lt-leb, eq-eqb, ne-eqb}
-use Rattle.octets.specs.Octets.{pick, roomOf, part, most32}
+use borrow.Author.Tests.{leb-true, ltb-true, le-leb, eq-eqb, ne-eqb}
+use Rattle.octets.specs.Octets.{pick, part, most32}
 use Rattle.octets.specs.Laying.{laid, Lays}
-use Rattle.octets.proofs.Lists.{bool, below-or}
 use Rattle.walk.specs.declared.Settings.{Settings}
 use Rattle.walk.specs.declared.Refusal.{Refusal}
 use Rattle.walk.specs.Walk.{unless}
 use Rattle.fields.specs.Inner.{capped}
 use Rattle.octets.proofs.Places.{part-at}
-use Rattle.packet.specs.Format.{Values, segment, octetsOf, secondaryOctets, headerOctets, packetMost}
-use Rattle.packet.specs.Numbers.{countMost}
+use Rattle.packet.specs.Format.{Values, segment, octetsOf}
 use Rattle.sender.specs.declared.Sender.{Sender}
 use Rattle.sender.specs.declared.Next.{Next}
 use Rattle.sender.specs.declared.Next.the-variants.{At, NoneLeft}
@@ -31,11 +28,10 @@ use Rattle.write.specs.Inner.{packetPieces}
 use Rattle.write.proofs.Tests.{unless-fine}
 use Rattle.write.proofs.Answers.{unless-same, size-is, packet-laid, packet-length, secondary-length, packet-least}
 use Rattle.cut.specs.declared.Plan.{Plan}
-use Rattle.cut.specs.declared.Cut.{Cut}
 use Rattle.cut.specs.Cutting.{countersFit, counterAt, countAt, single, chunk, packets, headerLength, countRefusal, flagsAt, bodyAt, packetAt, givenAt, packetRefusal, packetAnswer, packetOutput}
-use Rattle.cut.specs.Inner.{planOf, counterOf, fromOf, toOf, countOf, valuesOf}
+use Rattle.cut.specs.Inner.{planOf, counterOf, fromOf, toOf, valuesOf}
 use Rattle.cut.proofs.Counting.{count-is}
-use Rattle.cut.proofs.Plans.{before, Planned, planned, refusal-same}
+use Rattle.cut.proofs.Plans.{before, planned, refusal-same}
 
 -- ---- the part of the body
 

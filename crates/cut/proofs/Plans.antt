@@ -1,14 +1,13 @@
 -- A message's plan as the code makes it is the definition's, and the count's answer follows.
 -- Assumes nothing.
-use Prim.Native.Nat.{ℕ, suc, _+_, _-_, _*_, _≤_, _<_, min}
-use mathlib.Core.Path.{_≡_, refl, ap, ap₂, sym, _∙_}
+use Prim.Native.Nat.{ℕ, _+_, _≤_}
+use mathlib.Core.Path.{_≡_, ap, ap₂, sym, _∙_}
 use mathlib.Core.Logic.{⊎-elim}
 use mathlib.Core.Bool.{Bool, true, false}
-use mathlib.Core.List.{List}
 use native.Mathlib.Omega.{arith}
 use lib.ListN.{length}
-use lib.Dec.{leb, ltb, eqb}
-use borrow.Author.Tests.{leb-true, le-leb, lt-leb, eq-eqb, ne-eqb}
+use lib.Dec.{leb}
+use borrow.Author.Tests.{leb-true, eq-eqb, ne-eqb}
 use Rattle.octets.specs.Octets.{pick}
 use Rattle.octets.proofs.Lists.{bool}
 use Rattle.walk.specs.declared.Settings.{Settings}
@@ -26,7 +25,6 @@ use Rattle.write.specs.Writing.{settingsTest, partsTest, fine}
 use Rattle.write.proofs.Tests.{unless-fine, unlessAll-fine, AllHold}
 use Rattle.write.proofs.Answers.{shut, below-cap, cap-middle}
 use Rattle.cut.specs.declared.Plan.{Plan}
-use Rattle.cut.specs.declared.Counted.{Counted}
 use Rattle.cut.specs.Cutting.{afterSegments, countersFit, single, chunk, packets, limitTest, valueTests, messageTests, headerLength, countRefusal, senderAfter, countAnswer, bodyMost, limitLeast}
 use Rattle.cut.specs.Inner.{singleOf, packetsOf, planRefusal, planOf}
 

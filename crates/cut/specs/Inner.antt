@@ -1,7 +1,7 @@
 -- The plan of a message as the code makes it, from a size h that is told up to the limit; and the numbers of a packet, total.
 -- Assumes nothing: these are definitions.
-use Prim.Native.Nat.{ℕ, zero, suc, _+_, _-_, _*_, _%_, min}
-use mathlib.Core.Bool.{Bool, true, false}
+use Prim.Native.Nat.{ℕ, zero, suc, _+_, _*_, _%_, min}
+use mathlib.Core.Bool.{Bool, true}
 use lib.Dec.{leb, eqb}
 use Rattle.octets.specs.Octets.{pick, roomOf, most32}
 use Rattle.walk.specs.declared.Refusal.{Refusal}

@@ -14,7 +14,6 @@ use Rattle.packet.specs.FixedPart.{octetField, wideField, sduField, afterSdu, a
 use Rattle.packet.specs.Reading.{primaryTests, primaryOf, idsOf, textsOf, bodyTest, refusedHeader, acceptedHeader, readPacket}
 use Rattle.packet.specs.Key.{counterPlace, keyOf}
 use Rattle.write.specs.Given.{headOf}
-use Rattle.cut.specs.Cutting.{packets}
 use Rattle.fewest.specs.Runs.{place}
 use Rattle.cells.specs.Order.{cellSize}
 use Rattle.demand3.specs.Sendings.{Sending, manyOf, segmentAt, keyIn, startOf}

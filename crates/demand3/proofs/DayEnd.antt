@@ -22,7 +22,7 @@ use Rattle.taking.specs.Taking.{message, unable}
 use Rattle.keeping.specs.Cells.{put, hasFree}
 use Rattle.demand3.specs.Traffic.{Event, empty, takenFrom, stepped, after}
 use Rattle.demand3.specs.Promise.{Untaken as CellUntaken}
-use Rattle.demand3.specs.Calls.{arrival, taking, joining, Brings, Handed, tookBy, outBy}
+use Rattle.demand3.specs.Calls.{arrival, taking, Brings, Handed, tookBy, outBy}
 use Rattle.demand3.specs.Sendings.{segmentAt, keyIn, startOf}
 use Rattle.demand3.specs.Presupposed.{Came, AllCame, MayCome, Traffic, Untaken, storeBehind, cellsIn, Anew, fresh, retaken}
 use Rattle.demand3.specs.Whole.{IsComplete, Delivers, Promise}

@@ -12,19 +12,18 @@ use native.Mathlib.Omega.{arith}
 use lib.ListN.{length, replicate}
 use Rattle.octets.specs.Octets.{alike}
 use Rattle.cells.specs.Segments.{carries, sameRest}
-use Rattle.cells.specs.Rows.{Cell, free}
+use Rattle.cells.specs.Rows.{Cell}
 use Rattle.cells.specs.Order.{cellSize}
 use Rattle.messages.specs.Messages.{look, roleOf, bodies, chain, runFrom, pickIn, among, top}
-use Rattle.taking.specs.Taking.{message}
 use Rattle.keeping.specs.Cells.{put, hasFree}
 use Rattle.messages.proofs.Empty.{empty-cells}
-use Rattle.demand3.specs.Traffic.{Event, arrives, passes, takes, empty, takenFrom, stepped, after, Room as CellRoom}
+use Rattle.demand3.specs.Traffic.{Event, arrives, passes, empty, takenFrom, stepped, after, Room as CellRoom}
 use Rattle.demand3.specs.Calls.{Call, arrival, taking, joining, draws, tookBy}
 use Rattle.demand3.specs.Sendings.{Sending, manyOf, segmentAt, keyIn, IsCut}
 use Rattle.demand3.specs.Presupposed.{Traffic, InUse, emptyStore, storeBehind, cellsIn, Given}
 use Rattle.demand3.proofs.Checks.{roomIn, room-by}
 use Rattle.demand3.proofs.Steps.{eventOf}
-use Rattle.demand3.proofs.Events.{before, eventsIn}
+use Rattle.demand3.proofs.Events.{eventsIn}
 use Rattle.demand3.proofs.Simulates.{took-by}
 use Rattle.demand3.proofs.Carried.{begins, behind-cells, behind-keeps}
 use Rattle.demand3.proofs.Acts.{EachPacket, each-packet, Act, comes, draw, meets, actOf, lands, actEvents, draws-by, acts-are, room-told}

@@ -26,7 +26,7 @@ use Rattle.taking.specs.Told.{takenOf}
 use Rattle.keeping.specs.Cells.{put, hasFree}
 use Rattle.messages.proofs.Empty.{empty-cells}
 use Rattle.demand3.specs.Complete.{Held}
-use Rattle.demand3.specs.Traffic.{Event, passes, empty, after}
+use Rattle.demand3.specs.Traffic.{Event, passes, empty}
 use Rattle.demand3.specs.Calls.{Call, arrival, taking, joining, Brings, Handed, tookBy, storeAfter}
 use Rattle.demand3.specs.Sendings.{segmentAt, headerSize}
 use Rattle.demand3.specs.Presupposed.{Came, AllCame, Its, MayCome, Traffic, Untaken, emptyStore, storeBehind, cellsIn, fresh, RoomIn}

@@ -9,7 +9,7 @@ use Rattle.walk.specs.declared.Settings.{Settings}
 use Rattle.walk.specs.declared.Number.{Number}
 use Rattle.walk.specs.Walk.{Reading, Step, check, number}
 use Rattle.walk.specs.Inner.{ofWalk, asNumber}
-use Rattle.fields.specs.Fields.{Parts, partsMost, noParts, partsTo, domain}
+use Rattle.fields.specs.Fields.{partsMost, noParts, partsTo, domain}
 
 abbrev ofNumber : Number → Step ℕ
 ofNumber n = record { walk = ofWalk (n .walk); value = n .value }

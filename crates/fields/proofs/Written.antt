@@ -1,18 +1,17 @@
 -- The writing of fields, on plain values: a number whole or not at all, and the invariant of the loop that writes a domain's parts.
 -- Assumes nothing.
-use Prim.Native.Nat.{ℕ, suc, _+_, _-_, _≤_, _<_, min}
+use Prim.Native.Nat.{ℕ, suc, _+_, _-_, _≤_, _<_}
 use mathlib.Core.Path.{_≡_, refl, ap, ap₂, sym, _∙_}
 use mathlib.Core.Logic.{⊎-elim}
 use mathlib.Core.List.{List, [], _∷_, _++_, append-assoc, append-nil}
 use native.Mathlib.Numerals.{add-one}
 use native.Mathlib.Omega.{arith}
-use lib.ListN.{length, getD, take, drop, length-drop, drop-of-length-le}
-use lib.Seq.{drop-cons, take-all, drop-drop, sets}
-use lib.Dec.{leb}
-use borrow.Author.Tests.{leb-true, leb-false, le-leb, lt-leb}
+use lib.ListN.{length, getD, take, drop, drop-of-length-le}
+use lib.Seq.{drop-cons, sets}
+use borrow.Author.Tests.{le-leb, lt-leb}
 use Rattle.octets.specs.Octets.{roomOf}
-use Rattle.octets.specs.Laying.{Laid, laid, lay, layAll, Lays}
-use Rattle.octets.proofs.Lists.{bool, below-or}
+use Rattle.octets.specs.Laying.{Laid, laid, layAll, Lays}
+use Rattle.octets.proofs.Lists.{below-or}
 use Rattle.octets.proofs.Places.{next-part, rest-part}
 use Rattle.octets.proofs.Laying.{lays-both, lays-none, lay-fits, lay-not}
 use Rattle.varint.specs.declared.Wrote.{Wrote}

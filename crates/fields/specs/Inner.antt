@@ -3,7 +3,7 @@
 -- Assumes nothing: these are definitions.
 use mathlib.Core.List.{List, [], _∷_, _++_}
 use Prim.Native.Nat.{ℕ, min}
-use lib.ListN.{length, take, drop}
+use lib.ListN.{length}
 use Rattle.walk.specs.declared.Settings.{Settings}
 use Rattle.walk.specs.Walk.{Step}
 use Rattle.walk.specs.Inner.{asWalk, ofWalk}
@@ -11,7 +11,7 @@ use Rattle.fields.specs.declared.Place.{Place}
 use Rattle.fields.specs.declared.Text.{Text}
 use Rattle.fields.specs.declared.Domain.{Domain}
 use Rattle.fields.specs.Fields.{Parts}
-use Rattle.fields.specs.Form.{numberOctets, split}
+use Rattle.fields.specs.Form.{numberOctets}
 
 abbrev pub asText : Step Place → Text
 asText t = record { walk = asWalk (t .walk); place = t .value }

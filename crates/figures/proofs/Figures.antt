@@ -1,9 +1,8 @@
 -- Document 01's figures hold: what the definitions come to is what it says, in every row of the table, by computation. Two rows, that
 -- would compute over a whole store's octets, are laws: figure 13, and what the recording program writes for figure 14.
 -- Assumes nothing.
-use Prim.Native.Nat.{ℕ}
 use mathlib.Core.Path.{_≡_, ap, ap₂}
-use mathlib.Core.List.{List, [], _∷_, _++_, map}
+use mathlib.Core.List.{[], _∷_, _++_, map}
 use lib.ListN.{take, drop}
 use Rattle.octets.specs.Octets.{wide, number as numberAt}
 use Rattle.varint.specs.Varint.{write, octetsOf as varintOctets, final, after, read}

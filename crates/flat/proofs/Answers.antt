@@ -1,13 +1,12 @@
 -- The pieces of reading's answer, laid one behind the other, are its numbers from the first to the last.
 -- Assumes nothing.
 use Prim.Native.Nat.{ℕ, _+_}
-use mathlib.Core.Path.{_≡_, refl, ap, sym, _∙_}
+use mathlib.Core.Path.{_≡_, ap, sym, _∙_}
 use mathlib.Core.List.{List, [], _∷_, _++_, append-assoc, append-nil}
 use native.Mathlib.Omega.{arith}
-use lib.ListN.{length, length-append, set, drop}
+use lib.ListN.{length, length-append, set}
 use lib.Seq.{sets, sets-eq, drop-length}
 use Rattle.octets.proofs.Lists.{sets-append}
-use Rattle.fields.specs.declared.Place.{Place}
 use Rattle.packet.specs.declared.Header.{Header}
 use Rattle.packet.specs.declared.Texts.{Texts}
 use Rattle.flat.specs.Told.{primaryNumbers, nameNumbers, routingNumbers, presentNumbers, idsNumbers, placeNumbers, placesTo, textNumbers, readNumbers}

@@ -1,10 +1,9 @@
 -- Numbers that fit go to the call, and any other are refused: the answer and the output, on either side.
 -- Assumes nothing.
 use Prim.Native.Nat.{ℕ}
-use mathlib.Core.Path.{_≡_, refl, ap, sym, _∙_}
+use mathlib.Core.Path.{_≡_, sym, _∙_}
 use mathlib.Core.Bool.{Bool, true, false}
-use mathlib.Core.List.{List, [], _∷_}
-use lib.ListN.{length}
+use mathlib.Core.List.{List}
 use Rattle.octets.specs.Octets.{pick}
 use Rattle.write.specs.Given.{Lent}
 use Rattle.write.specs.Writing.{writeAnswer, writeOutput}
@@ -16,7 +15,7 @@ use Rattle.cut.specs.declared.Cut.{Cut}
 use Rattle.cut.specs.Cutting.{countAnswer, packetAnswer, packetOutput}
 use Rattle.walk.specs.Walk.{settingsOf}
 use Rattle.sender.specs.declared.Sender.{Sender}
-use Rattle.flat.specs.Given.{headerFits, headerOf, packetFits, packetOf, senderFits, senderOf}
+use Rattle.flat.specs.Given.{headerOf, packetOf, senderOf}
 use Rattle.flat.specs.Told.{writtenNumbers, countedNumbers, cutNumbers}
 use Rattle.flat.specs.Answers.{writeFits, writeRefused, writeNumbers, writeOut, cutFits, cutRefused, countNumbers, packetNumbers, packetOut}
 use Rattle.flat.proofs.Fitting.{both-held}

@@ -10,7 +10,6 @@ use Rattle.walk.specs.declared.Settings.{Settings}
 use Rattle.walk.specs.declared.Refusal.{Refusal}
 use Rattle.walk.specs.Walk.{settingsOf, noRefusal, unless}
 use Rattle.packet.specs.Numbers.{nextSequenceCount}
-use Rattle.sender.specs.declared.Sender.{Sender}
 use Rattle.sender.specs.Sending.{afterPacket, afterSegment}
 use Rattle.write.specs.Given.{Lent}
 use Rattle.write.specs.Writing.{settingsTest, writeAnswer, writeOutput}

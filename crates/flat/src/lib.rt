@@ -7,7 +7,7 @@ ghost use mathlib.Core.Bool.{true, false};
 ghost use Prim.Native.Nat.{_+_, _≤_};
 ghost use lib.ListN.{length};
 ghost use lib.Seq.{sets};
-ghost use Rattle.walk.specs.Walk.{settingsOf, noRefusal};
+ghost use Rattle.walk.specs.Walk.{settingsOf};
 ghost use Rattle.packet.specs.Reading.{readPacket};
 ghost use Rattle.write.specs.Given.{lent};
 ghost use Rattle.flat.specs.Given.{fitsTo, headerFits, presentOf, headerOf, packetFits, packetOf, senderFits, senderOf};

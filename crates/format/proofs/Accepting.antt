@@ -1,7 +1,7 @@
 -- What an accepted packet has, for those who store and join packets: proved from its octets and no refusal. And the same of a
 -- packet that was written, by its values.
 -- Assumes nothing.
-use Prim.Native.Nat.{ℕ, _+_, _-_}
+use Prim.Native.Nat.{ℕ, _+_}
 use mathlib.Core.Path.{_≡_, refl, ap, sym, _∙_, subst}
 use mathlib.Core.List.{List, _++_}
 use mathlib.Core.Bool.{Bool, true, false}

@@ -1,6 +1,6 @@
 -- A store's cells after an arrival and after a taking: what the calls' octets come to, cell by cell.
 -- Assumes nothing: these are definitions.
-use mathlib.Core.Bool.{Bool, true, false}
+use mathlib.Core.Bool.{Bool, false}
 use mathlib.Core.List.{List, [], _∷_, map}
 use Rattle.octets.specs.Octets.{pick}
 use Rattle.cells.specs.Segments.{Seg}

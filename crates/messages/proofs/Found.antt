@@ -1,21 +1,19 @@
 -- The cell that a search finds holds a segment with the key and counter looked for; and how long a held segment's body is.
 -- Assumes nothing.
-use Prim.Native.Nat.{ℕ, _+_, _-_, _≤_, _<_, _^_, min}
-use mathlib.Core.Path.{_≡_, refl, ap, sym, _∙_}
-use mathlib.Core.Bool.{Bool, true, false}
+use Prim.Native.Nat.{ℕ, _+_, _-_, _≤_, _<_, min}
+use mathlib.Core.Path.{_≡_, ap, _∙_}
+use mathlib.Core.Bool.{true}
 use mathlib.Core.List.{List}
 use native.Mathlib.Omega.{arith}
-use lib.ListN.{length, take, drop, length-take, length-drop}
+use lib.ListN.{length, drop, length-take, length-drop}
 use Rattle.octets.specs.Octets.{Octets, part, number}
-use Rattle.octets.proofs.Has.{octets-part}
 use Rattle.octets.proofs.Numbers.{number-top}
 use Rattle.walk.specs.declared.Settings.{Settings}
 use Rattle.packet.specs.declared.Header.{Header}
 use Rattle.packet.specs.Reading.{readPacket, acceptedHeader, ended}
 use Rattle.format.proofs.Start.{answer}
-use Rattle.cells.specs.Segments.{segOf}
 use Rattle.cells.specs.Rows.{rowAt, packetIn}
-use Rattle.cells.specs.Order.{carriesIn, lowest, cellAt, foundIn}
+use Rattle.cells.specs.Order.{carriesIn, cellAt, foundIn}
 use Rattle.cells.proofs.Carries.{Holding, carrying}
 use Rattle.messages.proofs.Looks.{lowest-holds}
 

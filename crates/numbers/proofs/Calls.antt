@@ -1,11 +1,9 @@
 -- Demand 1: "each public call ends with its answer or one numbered refusal from document 01". Over the generated contract of each public
 -- call that can refuse: the number in its answer is 0 or one of the call's own list.
 -- Assumes nothing.
-use Prim.Native.Nat.{ℕ}
 use mathlib.Core.Path.{ap, sym, _∙_, subst}
 use contract.Lifetimes as L
 use denote.Ref.{now}
-use lib.ListN.{length}
 use Rattle.packet.specs.declared.Header.{Header}
 use Rattle.packet.proofs.read.Reads as reads
 use Rattle.write.specs.declared.Written.{Written}
@@ -16,7 +14,6 @@ use Rattle.cut.specs.declared.Cut.{Cut}
 use Rattle.cut.specs.Cutting.{countAnswer, packetAnswer}
 use Rattle.cut.proofs.count.Reads as counts
 use Rattle.cut.proofs.packet.Reads as cuts
-use Rattle.arrival.specs.declared.Arrival.{Arrival}
 use Rattle.taking.specs.declared.Taken.{Taken}
 use Rattle.arrival.specs.Arriving.{arrived}
 use Rattle.arrival.specs.Told.{Said, said}

@@ -1,12 +1,12 @@
 -- Reading is refused by a number of its own list: each step of a walk keeps the number or gives one of them.
 -- Assumes nothing.
-use Prim.Native.Nat.{ℕ, zero, suc, _+_, _%_, _/_}
+use Prim.Native.Nat.{ℕ, zero, suc, _+_}
 use mathlib.Core.Path.{_≡_, refl}
 use mathlib.Core.Bool.{Bool, true, false}
-use mathlib.Core.List.{List, [], _∷_, List·Memᴰ}
+use mathlib.Core.List.{List, _∷_}
 use lib.ListN.{length, take}
 use lib.Dec.{leb, eqb}
-use Rattle.octets.specs.Octets.{pick, octetAt}
+use Rattle.octets.specs.Octets.{octetAt}
 use Rattle.varint.specs.Varint.{Got, value, ends, bad, readAt}
 use Rattle.walk.specs.declared.Settings.{Settings}
 use Rattle.walk.specs.Walk.{Reading, Step, goes, refused, going, headerEnd, octets, check, numberStep, number, begun}
@@ -14,7 +14,7 @@ use Rattle.fields.specs.Fields.{opt, block, blob, text, part, Parts, partsMost,
 use Rattle.packet.specs.declared.Header.{Header}
 use Rattle.packet.specs.declared.Present.{Present}
 use Rattle.packet.specs.FixedPart.{octetField, wideField, afterSdu, afterArea, afterService, afterOperation, afterVersion, afterSession, afterSecondary, afterQualifier, afterTransaction, afterPresence, fixedEnd}
-use Rattle.packet.specs.Reading.{primaryTests, segmented, idsOf, textsOf, bodyTest, startAt, hasAt, idsAt, textsAt, ended, refusedHeader, acceptedHeader, readPacket}
+use Rattle.packet.specs.Reading.{primaryTests, segmented, idsOf, textsOf, bodyTest, startAt, hasAt, textsAt, ended, refusedHeader, acceptedHeader, readPacket}
 use Rattle.numbers.specs.Lists.{Numbered, ofReading}
 use Rattle.numbers.proofs.Among.{has, among, picked}
 

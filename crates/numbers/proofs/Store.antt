@@ -4,7 +4,7 @@ use Prim.Native.Nat.{ℕ, suc, _+_}
 use mathlib.Core.Path.{_≡_, refl}
 use mathlib.Core.Bool.{true}
 use mathlib.Core.Option.{Option, none, some}
-use mathlib.Core.List.{List, [], _∷_, List·Memᴰ}
+use mathlib.Core.List.{List, _∷_}
 use lib.ListN.{length}
 use lib.Dec.{leb, ltb, eqb}
 use Rattle.walk.specs.declared.Settings.{Settings}
@@ -17,7 +17,7 @@ use Rattle.arrival.specs.Arriving.{Arrived, whole, stored, again, refused, plac
 use Rattle.taking.specs.Taking.{Took, message, unable, writing, drawn, tookIn, took}
 use Rattle.arrival.specs.Told.{saidOf}
 use Rattle.taking.specs.Told.{takenOf}
-use Rattle.join.specs.Joining.{Joining, tookAs, joinedBy, joining}
+use Rattle.join.specs.Joining.{tookAs, joinedBy, joining}
 use Rattle.join.specs.Told.{joinedOf}
 use Rattle.numbers.specs.Lists.{Numbered, ofReading, ofArrival, ofTaking, ofJoining}
 use Rattle.numbers.proofs.Among.{has, among, among-all, picked}

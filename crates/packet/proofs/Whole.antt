@@ -1,13 +1,12 @@
 -- From the answers of the steps to the answer of reading, on plain values.
 -- Assumes nothing.
 use Prim.Native.Nat.{ℕ, _-_}
-use mathlib.Core.Path.{_≡_, refl, ap, ap₂, sym, _∙_}
+use mathlib.Core.Path.{_≡_, ap, ap₂, sym, _∙_}
 use mathlib.Core.Bool.{true}
 use mathlib.Core.List.{List}
 use lib.ListN.{length}
 use borrow.Author.Tests.{eq-eqb, ne-eqb}
 use Rattle.walk.specs.declared.Settings.{Settings}
-use Rattle.walk.specs.declared.Refusal.{Refusal}
 use Rattle.walk.specs.declared.Walk.{Walk}
 use Rattle.walk.specs.Walk.{Reading, Step, noRefusal, going, begun}
 use Rattle.walk.specs.Inner.{asWalk, ofWalk}
@@ -19,7 +18,6 @@ use Rattle.packet.specs.declared.Ids.{Ids}
 use Rattle.packet.specs.declared.IdsStep.{IdsStep}
 use Rattle.packet.specs.declared.Texts.{Texts}
 use Rattle.packet.specs.declared.TextsStep.{TextsStep}
-use Rattle.packet.specs.declared.Header.{Header}
 use Rattle.packet.specs.FixedPart.{fixedOf, fixedEnd, presentOf}
 use Rattle.packet.specs.Reading.{primaryTests, primaryOf, idsOf, textsOf, bodyTest, startAt, hasAt, idsAt, textsAt, ended, counterSize, refusedHeader, acceptedHeader, readPacket}
 use Rattle.packet.specs.Inner.{fixedStep, asIds, asTexts}

@@ -1,17 +1,16 @@
 -- What reading a packet answers, with its order of refusals.
 -- Document 01: "Reading: 15, then 1 to 5, then fields left to right, then 14."
 -- Assumes nothing: these are definitions.
-use Prim.Native.Nat.{ℕ, _+_, _-_, _*_, _/_, _%_}
+use Prim.Native.Nat.{ℕ, _+_, _-_, _/_, _%_}
 use mathlib.Core.List.{List}
-use mathlib.Core.Bool.{Bool, true, false, not}
+use mathlib.Core.Bool.{Bool, false, not}
 use lib.ListN.{length, replicate}
 use lib.Dec.{ltb, leb, eqb}
 use Rattle.octets.specs.Octets.{pick, octetAt, number}
 use Rattle.walk.specs.declared.Settings.{Settings}
 use Rattle.walk.specs.declared.Refusal.{Refusal}
-use Rattle.walk.specs.Walk.{Reading, Step, noRefusal, going, octets, check, begun, number as numberStep}
-use Rattle.fields.specs.declared.Place.{Place}
-use Rattle.fields.specs.Fields.{place, nowhere, opt, block, blob, text, domain, noParts, Parts}
+use Rattle.walk.specs.Walk.{Reading, Step, noRefusal, going, check, begun, number as numberStep}
+use Rattle.fields.specs.Fields.{place, nowhere, opt, block, blob, text, domain, noParts}
 use Rattle.packet.specs.declared.Primary.{Primary}
 use Rattle.packet.specs.declared.Fixed.{Fixed}
 use Rattle.packet.specs.declared.Present.{Present}

@@ -20,7 +20,7 @@ use Rattle.walk.specs.Walk.{refusal}
 use Rattle.steps.specs.declared.Done.{Done}
 use Rattle.recording.specs.declared.Why.{Why}
 use Rattle.recording.specs.declared.Why.the-variants.{Unsaid}
-use Rattle.steps.specs.Stepping.{Found, nothing, other, cut, whole, foundIn, room, Stepped, stepBy, stepped, storeBehind, usedBy, writtenBy}
+use Rattle.steps.specs.Stepping.{Found, nothing, other, cut, whole, foundIn, Stepped, stepBy, stepped, storeBehind, usedBy, writtenBy}
 use Rattle.recording.specs.Recording.{recordedFrom, recorded, settings, cellCount, emptyStore}
 use Rattle.steps.specs.Told.{doneOf}
 use Rattle.recording.specs.Ending.{past, reachFrom, reach, whyAt, whyOf, recordedOf, outRecorded}

@@ -20,6 +20,7 @@ use Rattle.packet.specs.Reading.{readPacket, counterSize}
 use Rattle.packet.specs.Key.{keyOf, counterPlace}
 use Rattle.cells.specs.Segments.{Seg, segOf}
 use Rattle.cells.specs.Rows.{Cell, free, held, broken, rowAt, packetIn, cellOf}
+use Rattle.cells.proofs.Carries.{held-is}
 use Rattle.cells.specs.Order.{cellAt, countIn}
 use Rattle.messages.specs.Messages.{listed, cellsOf, look, Role, first, middle, last, roleOf, Run, bodies, bodyOf, segments, linkBy, link, chain, picked, top}
 use Rattle.arrival.specs.Arriving.{Arrived, whole, stored, again, refused, arrived, storeWith}
@@ -31,7 +32,6 @@ use Rattle.messages.proofs.Members.{In, opening, picked-held}
 use Rattle.arrival.proofs.Keeps.{arrive-long}
 use Rattle.join.specs.Joining.{tookAs, joinedBy, storeBy, joining, storeJoined}
 use Rattle.steps.specs.Stepping.{room}
-use Rattle.steps.proofs.Joins.{held-is}
 
 -- ---- no more segments than cells
 
@@ -173,14 +173,16 @@ unfolding segOf
 held-small s Z r t e =
     let h = held-is s Z r t e in
     let p : List ℕ = packetIn Z r in
+    let d : held (segOf p (readPacket s p)) ≡ held t = sym (h .cell) ∙ e in
+    let same : segOf p (readPacket s p) ≡ t = cc d in
     record {
-      key = omega (arith, key-short p (readPacket s p), h .0 .fits, ap (λ (u : Seg). length (u .key)) (h .1));
+      key = omega (arith, key-short p (readPacket s p), h .fits, ap (λ (u : Seg). length (u .key)) same);
       body =
           omega (
             arith,
             part-short p (readPacket s p .body .at) (readPacket s p .body .length),
-            h .0 .fits,
-            ap (λ (u : Seg). length (u .body)) (h .1),
+            h .fits,
+            ap (λ (u : Seg). length (u .body)) same,
           );
     }
 

@@ -1,26 +1,18 @@
 -- A packet that is joined: what the output holds behind it, and how long a message is.
 -- Assumes nothing.
-use Prim.Native.Nat.{ℕ, _+_, _-_, _≤_}
+use Prim.Native.Nat.{ℕ, _+_, _≤_}
 use mathlib.Core.Path.{_≡_, refl, ap, ap₂, sym, _∙_}
-use mathlib.Core.Logic.{⊎-elim}
 use mathlib.Core.Bool.{Bool, true, false}
 use mathlib.Core.List.{List, _∷_, _++_, List·Memᴰ·head}
 use native.Mathlib.Omega.{arith}
-use lib.ListN.{length, take, drop, length-append, length-take, length-drop}
+use lib.ListN.{length, take, drop, length-append, length-drop}
 use lib.Seq.{sets, length-take-le}
 use lib.Dec.{eqb}
-use Rattle.octets.specs.Octets.{pick, part, alike, wide}
-use Rattle.octets.proofs.Lists.{bool}
+use Rattle.octets.specs.Octets.{pick, wide}
 use Rattle.walk.specs.declared.Settings.{Settings}
 use Rattle.walk.specs.declared.Refusal.{Refusal}
 use Rattle.walk.specs.Walk.{refusal}
-use Rattle.packet.specs.Reading.{readPacket, counterSize}
-use Rattle.packet.specs.declared.Header.{Header}
-use Rattle.packet.specs.Key.{keyOf, counterPlace}
-use Rattle.cells.specs.Segments.{Seg, segOf}
-use Rattle.cells.specs.Rows.{free, held, zeroRow, rowAt, packetIn, cellOf}
-use Rattle.cells.specs.Order.{isSound}
-use Rattle.cells.proofs.Carries.{free-cell, Holding, holding}
+use Rattle.cells.specs.Rows.{rowAt}
 use Rattle.messages.specs.Messages.{Run, bodyOf}
 use Rattle.arrival.specs.Arriving.{Arrived, whole, stored, again, refused, arrived, storeWith}
 use Rattle.taking.specs.Taking.{Took, message, unable, writing, took, outWith}
@@ -36,31 +28,6 @@ use Rattle.steps.specs.Stepping.{room, refused as passed, kept, cameBy, 
 use Rattle.steps.specs.Told.{doneCame}
 use Rattle.steps.specs.Inner.{takenIn, leftAs}
 use Rattle.steps.proofs.Frames.{sets-part, frame-before, framed-long}
-
--- ---- a held segment
-
-key-least : (p : List ℕ) (h : Header) → 6 ≤ length p → 2 ≤ length (keyOf p h)
-unfolding keyOf
-key-least p h l =
-    omega
-    (arith, length-append (part p 0 2) (part p 6 (counterPlace h - 6) ++ part p (counterPlace h + counterSize p) (h .body .at - (counterPlace h + counterSize p))), length-take 2 p)
-
--- the packet that a held cell holds
-pub held-is :
-    (s : Settings) (Z : ℕ) (r : List ℕ) (t : Seg) → cellOf s Z r ≡ held t → Holding s Z r × (segOf (packetIn Z r) (readPacket s (packetIn Z r)) ≡ t)
-held-is s Z r t e = ⊎-elim is-free is-held (bool (alike r (zeroRow Z)))
-  where
-    is-free : alike r (zeroRow Z) ≡ true → Holding s Z r × (segOf (packetIn Z r) (readPacket s (packetIn Z r)) ≡ t)
-    is-free a =
-        let d : free ≡ held t = sym (free-cell s Z r a) ∙ e in
-        let z : _≡_ {A = ℕ} 0 1 = cc d in
-        absurd (omega arith)
-
-    is-held : alike r (zeroRow Z) ≡ false → Holding s Z r × (segOf (packetIn Z r) (readPacket s (packetIn Z r)) ≡ t)
-    is-held a =
-        let h = holding s Z r (ap isSound e) a in
-        let d : held (segOf (packetIn Z r) (readPacket s (packetIn Z r))) ≡ held t = sym (h .cell) ∙ e in
-        (h, cc d)
 
 module _ (s : Settings) (Z : ℕ) (st p : List ℕ) where
   -- ---- the output

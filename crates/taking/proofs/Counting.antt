@@ -1,24 +1,21 @@
 -- The octets of a run, counted as its segments are found one after the other.
 -- Assumes nothing.
-use Prim.Native.Nat.{ℕ, zero, suc, _+_, _-_, _*_, _≤_, _<_}
+use Prim.Native.Nat.{ℕ, suc, _+_, _-_, _*_, _≤_, _<_}
 use mathlib.Core.Path.{_≡_, refl, ap, ap₂, sym, _∙_}
-use mathlib.Core.Logic.{⊎-elim}
-use mathlib.Core.Bool.{Bool, true, false}
 use mathlib.Core.List.{List}
-use mathlib.Core.Option.{Option, none, some}
+use mathlib.Core.Option.{Option}
 use native.Mathlib.Omega.{arith}
 use native.Mathlib.Numerals.{add-one}
 use lib.ListN.{length}
-use Rattle.octets.specs.Octets.{Octets, part}
+use Rattle.octets.specs.Octets.{Octets}
 use Rattle.octets.proofs.Has.{octets-part}
 use Rattle.walk.specs.declared.Settings.{Settings}
-use Rattle.packet.specs.declared.Header.{Header}
 use Rattle.packet.specs.Reading.{readPacket}
-use Rattle.cells.specs.Segments.{Seg, segOf}
+use Rattle.cells.specs.Segments.{segOf}
 use Rattle.cells.specs.Rows.{rowAt, packetIn}
 use Rattle.cells.specs.Order.{foundIn}
 use Rattle.messages.specs.declared.Piece.{Piece}
-use Rattle.messages.specs.Messages.{Role, first, middle, last, roleOf, linkBy}
+use Rattle.messages.specs.Messages.{Role, roleOf, linkBy}
 use Rattle.messages.specs.Inner.{pieceOf}
 use Rattle.taking.specs.Follow.{segAt, follow, total}
 use Rattle.messages.proofs.Found.{found-held, body-long, part-most}

@@ -1,31 +1,29 @@
 -- The message that taking picks, by the places of its segments.
 -- Assumes nothing.
-use Prim.Native.Nat.{ℕ, zero, suc, _+_, _*_, _≤_, _<_}
+use Prim.Native.Nat.{ℕ, zero, suc, _+_, _≤_, _<_}
 use mathlib.Core.Path.{_≡_, refl, ap, ap₂, sym, _∙_}
 use mathlib.Core.Logic.{⊎-elim}
 use mathlib.Core.Bool.{Bool, true, false}
-use mathlib.Core.List.{List, [], _∷_, _++_, map}
+use mathlib.Core.List.{List, _∷_, _++_, map}
 use mathlib.Core.Option.{Option, none, some, Option·map}
 use native.Mathlib.Omega.{arith}
 use lib.ListN.{length, length-append}
-use lib.Dec.{ltb, leb}
 use borrow.Author.Tests.{le-leb, lt-leb}
-use Rattle.octets.specs.Octets.{pick, alike}
+use Rattle.octets.specs.Octets.{pick}
 use Rattle.octets.proofs.Lists.{bool, below-or}
 use Rattle.walk.specs.declared.Settings.{Settings}
 use Rattle.walk.specs.Walk.{refusal}
 use Rattle.cells.specs.Segments.{Seg}
-use Rattle.cells.specs.Rows.{Cell, free, held, broken, rowAt, zeroRow}
-use Rattle.cells.specs.Order.{cellAt, lowest, foundIn}
+use Rattle.cells.specs.Rows.{Cell, free, held, broken, rowAt}
+use Rattle.cells.specs.Order.{cellAt, lowest}
 use Rattle.cells.proofs.Carries.{Holding, held-is}
-use Rattle.messages.specs.Messages.{Role, first, middle, last, roleOf, Run, bodies, bodyOf, listed, orElse, cellsOf, chain, opensBy, runFrom, runIn, pickIn, picked, top}
-use Rattle.taking.specs.Taking.{Took, message, unable, writing, drawn, tookIn}
+use Rattle.messages.specs.Messages.{Role, first, middle, last, roleOf, Run, bodyOf, listed, orElse, cellsOf, chain, opensBy, runFrom, runIn, pickIn, picked, top}
+use Rattle.taking.specs.Taking.{message, unable, writing, drawn, tookIn}
 use Rattle.taking.specs.declared.Copied.{Copied}
 use Rattle.taking.specs.Told.{takenOf}
 use Rattle.taking.specs.Follow.{segAt, follow, placesFrom, placesOf, bodiesAt, answer, isSome, opensAt, copiedOf, Opens}
 use Rattle.messages.proofs.Looks.{lowest-holds}
-use Rattle.messages.proofs.Found.{found-held}
-use Rattle.taking.proofs.Following.{follow-none, follow-by, chain-places, bodies-places}
+use Rattle.taking.proofs.Following.{chain-places, bodies-places}
 
 -- ---- what a run that was found has
 

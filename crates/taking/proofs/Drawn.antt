@@ -1,9 +1,8 @@
 -- A message drawn from a store: what is told, what is written and what is left, as taking is defined.
 -- Assumes nothing.
 use Prim.Native.Nat.{ℕ, suc, _+_, _*_, _≤_, _<_}
-use mathlib.Core.Path.{_≡_, refl, ap, ap₂, sym, _∙_}
-use mathlib.Core.Bool.{Bool, true, false}
-use mathlib.Core.List.{List, [], _∷_, _++_, map, append-assoc}
+use mathlib.Core.Path.{_≡_, ap, ap₂, sym, _∙_}
+use mathlib.Core.List.{List, _∷_, _++_, map, append-assoc}
 use native.Mathlib.Omega.{arith}
 use lib.ListN.{length, take, drop, length-append}
 use lib.Seq.{sets, sets-eq, take-append-seam}
@@ -11,13 +10,13 @@ use Rattle.octets.specs.Octets.{Octets, part, number}
 use Rattle.octets.proofs.Has.{octets-part}
 use Rattle.walk.specs.declared.Settings.{Settings}
 use Rattle.walk.specs.Walk.{refusal}
-use Rattle.cells.specs.Segments.{Seg, segOf}
+use Rattle.cells.specs.Segments.{segOf}
 use Rattle.cells.specs.Rows.{held, rowAt, packetIn}
 use Rattle.cells.specs.Order.{cellAt, lowest}
 use Rattle.cells.specs.Inner.{withinIn}
 use Rattle.taking.specs.declared.Copied.{Copied}
 use Rattle.messages.specs.Messages.{cellsOf, picked, amongIn, top}
-use Rattle.taking.specs.Taking.{Took, message, tookIn, writing, outWith, storeLess}
+use Rattle.taking.specs.Taking.{message, tookIn, outWith, storeLess}
 use Rattle.clearing.specs.Cleared.{clearedTo}
 use Rattle.taking.specs.Told.{takenOf}
 use Rattle.taking.specs.Follow.{segAt, placesFrom, bodiesAt, answer, opensAt, copiedOf, Opens}

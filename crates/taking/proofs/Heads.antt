@@ -1,18 +1,16 @@
 -- The message that opens in a cell, to the output: its key, the first's body, then the others'; and what is told of it.
 -- Assumes nothing.
-use Prim.Native.Nat.{ℕ, suc, _+_, _-_, _*_, _≤_, _<_}
-use mathlib.Core.Path.{_≡_, refl, ap, ap₂, sym, _∙_, subst}
-use mathlib.Core.Logic.{⊎-elim}
-use mathlib.Core.Bool.{true, false}
+use Prim.Native.Nat.{ℕ, suc, _+_, _-_, _*_, _≤_}
+use mathlib.Core.Path.{_≡_, ap, ap₂, sym, _∙_, subst}
 use mathlib.Core.List.{List, _∷_, _++_}
 use mathlib.Core.Option.{some}
 use native.Mathlib.Numerals.{add-one}
 use native.Mathlib.Omega.{arith}
 use lib.ListN.{length, length-append}
 use lib.Seq.{sets, length-sets}
-use Rattle.octets.specs.Octets.{Octets, part, number, alike}
+use Rattle.octets.specs.Octets.{Octets, part, number}
 use Rattle.octets.proofs.Has.{octets-part}
-use Rattle.octets.proofs.Lists.{bool, sets-append}
+use Rattle.octets.proofs.Lists.{sets-append}
 use Rattle.walk.specs.declared.Settings.{Settings}
 use Rattle.packet.specs.declared.Header.{Header}
 use Rattle.packet.specs.Format.{identification, headerOctets}
@@ -21,8 +19,8 @@ use Rattle.packet.specs.Key.{keyOf}
 use Rattle.format.specs.Told.{valuesOf}
 use Rattle.format.proofs.Frame.{identification-long}
 use Rattle.format.proofs.Accepting.{accepted}
-use Rattle.cells.specs.Segments.{Seg, segOf}
-use Rattle.cells.specs.Rows.{free, held, rowAt, zeroRow, packetIn}
+use Rattle.cells.specs.Segments.{segOf}
+use Rattle.cells.specs.Rows.{held, rowAt, packetIn}
 use Rattle.cells.specs.Order.{cellAt}
 use Rattle.cells.specs.Inner.{Asked}
 use Rattle.cells.proofs.Carries.{Holding, held-is}

@@ -1,17 +1,16 @@
 -- The complete message whose first lies in the lowest cell, sought cell by cell.
 -- Assumes nothing.
-use Prim.Native.Nat.{ℕ, zero, suc, _+_, _-_, _≤_, _<_}
+use Prim.Native.Nat.{ℕ, suc, _+_, _-_, _≤_, _<_}
 use mathlib.Core.Path.{_≡_, refl, ap, ap₂, sym, _∙_}
-use mathlib.Core.Bool.{Bool, true, false}
-use mathlib.Core.List.{List, [], _∷_}
+use mathlib.Core.Bool.{true}
+use mathlib.Core.List.{List}
 use mathlib.Core.Option.{Option, none, some}
 use native.Mathlib.Omega.{arith}
 use native.Mathlib.Numerals.{add-one}
 use Rattle.walk.specs.declared.Settings.{Settings}
 use Rattle.cells.specs.Rows.{Cell}
-use Rattle.cells.specs.Order.{cellAt, lowest}
+use Rattle.cells.specs.Order.{cellAt}
 use Rattle.cells.proofs.Scans.{Seeking, seeking-first, seeking-turn, seeking-found, seeking-none}
-use Rattle.taking.specs.declared.Picked.{Picked}
 use Rattle.messages.specs.Messages.{Run, listed, orElse, cellsOf, runIn, pickIn, picked, top}
 use Rattle.taking.specs.Follow.{answer, isSome, opensAt, pickedOf}
 

@@ -1,17 +1,17 @@
 -- The message that opens in a cell, as the code finds it.
 -- Assumes nothing.
-use Prim.Native.Nat.{ℕ, zero, suc, _+_, _-_, _*_, _/_, _^_, _≤_, _<_}
+use Prim.Native.Nat.{ℕ, suc, _+_, _-_, _*_, _/_, _^_, _≤_, _<_}
 use mathlib.Core.Path.{_≡_, refl, ap, ap₂, sym, _∙_}
 use mathlib.Core.Logic.{⊎-elim}
 use mathlib.Core.Bool.{Bool, true, false}
-use mathlib.Core.List.{List, [], _∷_, _++_, map}
+use mathlib.Core.List.{List, _∷_, map}
 use mathlib.Core.Option.{Option, none, some, Option·map}
 use native.Mathlib.Omega.{arith}
 use native.Mathlib.Numerals.{add-one}
 use lib.ListN.{length, length-append}
 use lib.Dec.{eqb}
 use borrow.Author.Tests.{eqb-true}
-use Rattle.octets.specs.Octets.{pick, Octets, octetAt, part, number}
+use Rattle.octets.specs.Octets.{pick, Octets, octetAt, number}
 use Rattle.octets.proofs.Has.{octets-part}
 use Rattle.octets.proofs.Numbers.{number-top}
 use Rattle.walk.specs.declared.Settings.{Settings}
@@ -19,13 +19,13 @@ use Rattle.packet.specs.Reading.{readPacket}
 use Rattle.packet.specs.Key.{keyOf}
 use Rattle.format.proofs.Accepting.{accepted}
 use Rattle.cells.specs.Segments.{Seg, segOf}
-use Rattle.cells.specs.Rows.{Cell, free, held, broken, rowAt, packetIn, cellOf}
+use Rattle.cells.specs.Rows.{Cell, free, broken, rowAt, packetIn, cellOf}
 use Rattle.cells.specs.Order.{cellAt}
 use Rattle.cells.specs.declared.Judged.{Judged}
 use Rattle.cells.specs.Inner.{bodyIn, judgedOf, Asked}
 use Rattle.cells.proofs.Counters.{counter-told}
 use Rattle.cells.proofs.Carries.{Holding, kinds, judged-one, judged-at}
-use Rattle.messages.specs.Messages.{Role, first, middle, last, roleOf, Run, bodies, bodyOf, cellsOf, chain, opensBy, runFrom, runIn, top}
+use Rattle.messages.specs.Messages.{Role, first, middle, last, roleOf, bodies, cellsOf, chain, opensBy, runFrom, runIn, top}
 use Rattle.taking.specs.Follow.{segAt, follow, bodiesAt, total, answer}
 use Rattle.messages.proofs.Found.{body-long, part-most}
 use Rattle.taking.proofs.Ends.{flags-told}

@@ -1,26 +1,23 @@
 -- Taking, case by case as the code tells them apart: nothing complete, an output too short, a message.
 -- Assumes nothing.
 use Prim.Native.Nat.{ℕ, zero, suc, _+_, _-_, _*_, _≤_, _<_}
-use mathlib.Core.Path.{_≡_, refl, ap, ap₂, sym, _∙_}
-use mathlib.Core.Bool.{Bool, true, false}
+use mathlib.Core.Path.{_≡_, refl, ap, sym, _∙_}
 use mathlib.Core.List.{List}
 use mathlib.Core.Option.{Option}
 use native.Mathlib.Omega.{arith}
-use lib.ListN.{length, length-append, length-take, length-drop, drop}
-use Rattle.octets.specs.Octets.{Octets, part, number}
+use lib.ListN.{length, length-append}
+use Rattle.octets.specs.Octets.{Octets, number}
 use Rattle.octets.proofs.Has.{octets-part}
 use Rattle.walk.specs.declared.Settings.{Settings}
 use Rattle.packet.specs.declared.Header.{Header}
 use Rattle.packet.specs.Reading.{readPacket}
-use Rattle.packet.specs.Key.{keyOf}
 use Rattle.format.specs.Told.{valuesOf}
 use Rattle.format.proofs.Accepting.{accepted}
 use Rattle.format.proofs.Frame.{identification-long}
 use Rattle.packet.specs.Format.{identification, headerOctets}
-use Rattle.cells.specs.Segments.{Seg, segOf}
+use Rattle.cells.specs.Segments.{segOf}
 use Rattle.cells.specs.Rows.{rowAt, packetIn}
 use Rattle.cells.specs.Order.{lowest}
-use Rattle.cells.proofs.Carries.{Holding}
 use Rattle.taking.specs.declared.Picked.{Picked}
 use Rattle.messages.specs.Messages.{Run, cellsOf, picked, top}
 use Rattle.taking.specs.Taking.{unable, drawn, tookIn}

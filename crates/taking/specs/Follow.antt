@@ -10,7 +10,7 @@ use lib.Dec.{ltb, eqb}
 use Rattle.octets.specs.Octets.{pick, octetAt}
 use Rattle.walk.specs.declared.Settings.{Settings}
 use Rattle.cells.specs.Segments.{Seg}
-use Rattle.cells.specs.Rows.{Cell, rowAt, zeroRow}
+use Rattle.cells.specs.Rows.{rowAt, zeroRow}
 use Rattle.cells.specs.Order.{cellAt, foundIn, lowest}
 use Rattle.cells.specs.Chains.{Chained, bucketAt}
 use Rattle.taking.specs.declared.Picked.{Picked}

@@ -4,14 +4,14 @@
 // that is neither free nor held counts for nothing, and a store whose length does not fit has no cells. Each held cell is looked for
 // among those below it, so the time grows with the square of the cells: this is for a store of a few dozen, looked at once.
 ghost use mathlib.Core.Path.{_≡_};
-ghost use Prim.Native.Nat.{_+_, _*_, _≤_, _<_};
+ghost use Prim.Native.Nat.{_+_, _≤_, _<_};
 ghost use lib.ListN.{length};
 ghost use Rattle.octets.specs.Octets.{pick};
 ghost use Rattle.packet.specs.Reading.{readPacket};
 ghost use Rattle.packet.specs.Key.{keyOf};
 ghost use Rattle.cells.specs.Segments.{both};
 ghost use Rattle.cells.specs.Rows.{zeroRow, cellOf};
-ghost use Rattle.cells.specs.Order.{cellAt, lengthFits, cellsMost};
+ghost use Rattle.cells.specs.Order.{cellAt, cellsMost};
 ghost use Rattle.cells.specs.Inner.{Asked};
 ghost use Rattle.tally.specs.Counting.{isHeld, keyed as keyedAs, newKeyTo, newKeyIn, segmentsIn, keysIn, leftIn};
 use walk::Settings;

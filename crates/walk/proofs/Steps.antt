@@ -1,6 +1,6 @@
 -- The steps of a reading, by what holds where they stand; and what a step that was not refused tells.
 -- Assumes nothing.
-use Prim.Native.Nat.{ℕ, suc, _+_, _^_, _≤_, _<_, _-_, min}
+use Prim.Native.Nat.{ℕ, suc, _+_, _≤_, _<_, _-_, min}
 use mathlib.Core.Path.{_≡_, refl, ap, sym, _∙_}
 use mathlib.Core.List.{List}
 use mathlib.Core.Bool.{Bool, true, false}
@@ -8,18 +8,18 @@ use native.Mathlib.Omega.{arith}
 use mathlib.Core.Logic.{⊎-elim}
 use lib.ListN.{length, take, drop, length-take}
 use lib.Seq.{take-all}
-use lib.Dec.{leb, eqb}
-use borrow.Author.Tests.{eqb-true, eqb-false, leb-true, le-leb, lt-leb, eq-eqb, ne-eqb}
+use lib.Dec.{leb}
+use borrow.Author.Tests.{eqb-true, leb-true, le-leb, lt-leb, eq-eqb}
 use Rattle.octets.specs.Octets.{pick, Octets}
 use Rattle.octets.proofs.Has.{has-inside, octets-take}
-use Rattle.varint.specs.Varint.{Got, value, ends, bad, readAt, write}
+use Rattle.varint.specs.Varint.{Got, value, readAt, write}
 use Rattle.octets.proofs.Lists.{below-or}
 use Rattle.varint.specs.declared.Found.{Found}
 use Rattle.varint.specs.Answer.{found}
 use Rattle.varint.proofs.Told.{got, told}
 use Rattle.varint.proofs.Laws.{within, only-written}
 use Rattle.walk.specs.declared.Settings.{Settings}
-use Rattle.walk.specs.Walk.{Reading, Step, goes, refused, going, headerEnd, octets, check, numberStep, number}
+use Rattle.walk.specs.Walk.{Reading, goes, refused, going, headerEnd, octets, check, numberStep, number}
 
 -- ---- by cases
 

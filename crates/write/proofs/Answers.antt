@@ -1,17 +1,17 @@
 -- From the sizes and tests of the code to the answer and the output of writing, on plain values.
 -- Assumes nothing.
-use Prim.Native.Nat.{ℕ, _+_, _-_, _*_, _≤_, _<_, min}
-use mathlib.Core.Path.{_≡_, refl, ap, ap₂, sym, _∙_}
+use Prim.Native.Nat.{ℕ, _+_, _-_, _≤_, _<_}
+use mathlib.Core.Path.{_≡_, ap, sym, _∙_}
 use mathlib.Core.Logic.{⊎-elim}
 use mathlib.Core.Bool.{Bool, true, false}
-use mathlib.Core.List.{List, [], _∷_, _++_}
+use mathlib.Core.List.{List, _++_}
 use native.Mathlib.Omega.{arith}
 use native.Mathlib.Nat.{zero-add}
 use lib.ListN.{length, drop, length-append}
 use lib.Seq.{sets, sets-eq}
-use lib.Dec.{leb, eqb}
+use lib.Dec.{leb}
 use borrow.Author.Tests.{leb-true, le-leb, lt-leb, eq-eqb, ne-eqb}
-use Rattle.octets.specs.Octets.{pick, wide}
+use Rattle.octets.specs.Octets.{pick}
 use Rattle.octets.specs.Laying.{laid, together, Lays}
 use Rattle.octets.proofs.Lists.{bool, below-or}
 use Rattle.octets.proofs.Numbers.{wide-length}
@@ -20,18 +20,16 @@ use Rattle.walk.specs.declared.Settings.{Settings}
 use Rattle.walk.specs.declared.Refusal.{Refusal}
 use Rattle.walk.specs.Walk.{unless}
 use Rattle.fields.specs.Inner.{capped, sizeMost}
-use Rattle.fields.proofs.Sized.{cap-right}
-use Rattle.packet.specs.Format.{Head, Values, segment, identification, fixedOctets, frontOctets, backOctets, headerOctets, secondaryOctets, dataOctets, octetsOf, headerMost, packetMost}
+use Rattle.packet.specs.Format.{Values, segment, identification, headerOctets, secondaryOctets, dataOctets, octetsOf, headerMost, packetMost}
 use Rattle.format.proofs.Back.{data-long}
 use Rattle.format.proofs.Stretches.{counter-long}
 use Rattle.write.specs.declared.HeaderValues.{HeaderValues}
 use Rattle.write.specs.declared.PacketValues.{PacketValues}
-use Rattle.write.specs.declared.Written.{Written}
 use Rattle.write.specs.Given.{Lent, headOf, packetOf}
 use Rattle.write.specs.Writing.{bodyFits, givenPacket, sizeTests, valueRefusal, writeRefusal, fine, writeAnswer, writeOutput}
 use Rattle.write.specs.Inner.{packetPieces}
 use Rattle.write.proofs.Tests.{unless-fine}
-use Rattle.write.proofs.Sizes.{fixed-length, header-length}
+use Rattle.write.proofs.Sizes.{header-length}
 use Rattle.write.proofs.Pieces.{packet-together}
 
 -- ---- lengths

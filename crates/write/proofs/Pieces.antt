@@ -1,12 +1,12 @@
 -- The pieces of a packet, laid one after another, are its octets.
 -- Assumes nothing.
-use Prim.Native.Nat.{ℕ, _+_, _-_, _*_, _≤_}
-use mathlib.Core.Path.{_≡_, refl, ap, ap₂, sym, _∙_}
+use Prim.Native.Nat.{ℕ, _+_, _-_, _*_}
+use mathlib.Core.Path.{_≡_, refl, ap, ap₂, _∙_}
 use mathlib.Core.Bool.{Bool, true, false}
 use mathlib.Core.List.{List, [], _∷_, _++_, append-assoc, append-nil}
 use native.Mathlib.Omega.{arith}
 use lib.ListN.{length}
-use Rattle.octets.specs.Octets.{pick, wide}
+use Rattle.octets.specs.Octets.{wide}
 use Rattle.octets.specs.Laying.{together}
 use Rattle.octets.proofs.Laying.{together-append, one-together}
 use Rattle.walk.specs.declared.Settings.{Settings}

@@ -1,18 +1,18 @@
 -- The lengths of a packet's parts, and the sizes that the code tells of them.
 -- Assumes nothing.
-use Prim.Native.Nat.{ℕ, _+_, _-_, _<_, min}
+use Prim.Native.Nat.{ℕ, _+_}
 use mathlib.Core.Path.{_≡_, refl, ap, ap₂, sym, _∙_}
 use mathlib.Core.Bool.{Bool, true, false}
-use mathlib.Core.List.{List, [], _∷_, _++_}
+use mathlib.Core.List.{List, _++_}
 use native.Mathlib.Omega.{arith}
 use lib.ListN.{length, length-append}
-use Rattle.octets.specs.Octets.{pick, wide}
+use Rattle.octets.specs.Octets.{pick}
 use Rattle.octets.proofs.Numbers.{wide-length}
 use Rattle.walk.specs.declared.Settings.{Settings}
-use Rattle.fields.specs.Form.{numberOctets, blobOctets, textOctets, domainOctets, split}
+use Rattle.fields.specs.Form.{numberOctets, domainOctets, split}
 use Rattle.fields.specs.Inner.{capped}
 use Rattle.fields.proofs.Sized.{text-long, blob-long, cap-right, cap-both}
-use Rattle.packet.specs.Format.{Head, Values, segment, when, identification, presence, fixedOctets, frontOctets, counterOctets, backOctets, headerOctets, secondaryOctets, dataOctets, octetsOf}
+use Rattle.packet.specs.Format.{Head, when, fixedOctets, frontOctets, backOctets, headerOctets}
 use Rattle.format.proofs.Stretches.{front-long}
 use Rattle.write.specs.declared.HeaderValues.{HeaderValues}
 use Rattle.write.specs.Given.{Lent, headOf}

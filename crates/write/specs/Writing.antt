@@ -11,7 +11,7 @@ use Rattle.walk.specs.declared.Settings.{Settings}
 use Rattle.walk.specs.declared.Refusal.{Refusal}
 use Rattle.walk.specs.Walk.{noRefusal, unless, timestampLeast, timestampMost}
 use Rattle.fields.specs.Fields.{partsMost}
-use Rattle.packet.specs.Format.{Head, Values, segment, octetsOf, secondaryOctets, packetMost, headerMost}
+use Rattle.packet.specs.Format.{Values, segment, octetsOf, secondaryOctets, packetMost, headerMost}
 use Rattle.write.specs.declared.HeaderValues.{HeaderValues}
 use Rattle.write.specs.declared.PacketValues.{PacketValues}
 use Rattle.write.specs.declared.Written.{Written}

@@ -8,8 +8,7 @@
 // Every test is made on the values as they are given; sizes are told up to one above the largest packet, so nothing overflows.
 // The pieces of the packet are then laid one after another. `cut` uses the parts marked inner.
 ghost use mathlib.Core.Path.{_≡_};
-ghost use mathlib.Core.Bool.{Bool};
-ghost use mathlib.Core.List.{[], _∷_, _++_};
+ghost use mathlib.Core.List.{[], _∷_};
 ghost use Prim.Native.Nat.{_+_};
 ghost use lib.ListN.{length};
 ghost use lib.Dec.{eqb, leb};
@@ -20,7 +19,7 @@ ghost use Rattle.fields.specs.Fields.{partsMost};
 ghost use Rattle.fields.specs.Form.{numberOctets, split};
 ghost use Rattle.fields.specs.Inner.{blobPieces, textPieces, domainPieces, capped};
 ghost use Rattle.packet.specs.Format.{segment, headerOctets, headerMost, packetMost, when};
-ghost use Rattle.write.specs.Given.{Lent, lent, headOf, packetOf, numberFits, textFits, exactFits, lengthsFit, sum, nameChecks, routingChecks, idChecks, textChecks, headerChecks, packetChecks, unlessAll};
+ghost use Rattle.write.specs.Given.{lent, headOf, numberFits, textFits, exactFits, lengthsFit, sum, nameChecks, routingChecks, idChecks, textChecks, headerChecks, packetChecks, unlessAll};
 ghost use Rattle.write.specs.Writing.{settingsTest, bodyFits, valueRefusal, writeAnswer, writeOutput};
 ghost use Rattle.write.specs.Inner.{primaryPieces, namePieces, routingPieces, presentOctet, frontPieces, middlePieces, endPieces, packetPieces, middleSize, endSize};
 use packet::Apid;

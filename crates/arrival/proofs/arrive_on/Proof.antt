@@ -1,11 +1,11 @@
 -- `arrival::arrive_on` meets its contract: reading's refusal, whole, 17, and then the segment.
 -- Assumes nothing.
-use mathlib.Core.Path.{ap, sym, _∙_, refl}
+use mathlib.Core.Path.{ap, sym, _∙_}
 use denote.Ref.{now}
 use lib.ListN.{length}
 use Rattle.arrival.specs.Told.{arrivalOf}
 use Rattle.arrival.specs.Arriving.{storeWith}
-use Rattle.arrival.proofs.Arrivals.{packet-bad, packet-whole, packet-segment, packet-asked, packet-long, packet-fits}
+use Rattle.arrival.proofs.Arrivals.{packet-bad, packet-whole, packet-asked, packet-long, packet-fits}
 use borrow.Author.Needs.{needs}
 use Rattle.arrival.proofs.arrive_on.Statement.{statement}
 use Rattle.arrival.proofs.arrive_on.Tie as tie

@@ -1,7 +1,6 @@
 -- `cells::distinct_by` meets its contract. The loop's invariant: whether the cells passed are apart, and that they are on their chains.
 -- Assumes nothing.
 use Prim.Native.Nat.{_-_}
-use mathlib.Core.Path.{_∙_}
 use denote.Ref.{now}
 use lib.ListN.{length}
 use native.Mathlib.Omega.{arith}

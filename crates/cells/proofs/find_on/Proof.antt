@@ -1,10 +1,8 @@
 -- `cells::find_on` meets its contract. The loop's invariant: the best so far is the lowest of the cells that the walk has passed.
 -- Assumes nothing.
-use Prim.Native.Nat.{_-_}
 use denote.Ref.{now}
 use lib.ListN.{length}
 use mathlib.Core.Logic.{inl, inr, ⊎-elim}
-use mathlib.Core.Path.{ap, _∙_}
 use native.Mathlib.Omega.{arith}
 use Rattle.cells.proofs.Finding.{Finding, chain-low, head-small, finding-first, finding-small, finding-down, finding-less, finding-turn, finding-done}
 use borrow.Author.Needs.{needs}

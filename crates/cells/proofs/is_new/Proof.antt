@@ -5,7 +5,6 @@ use lib.ListN.{length}
 use Rattle.packet.specs.Key.{keyOf}
 use Rattle.packet.specs.Reading.{readPacket}
 use Rattle.cells.proofs.Entering.{new-found, new-not}
-use borrow.Author.Needs.{needs}
 use Rattle.cells.proofs.is_new.Statement.{statement}
 use Rattle.cells.proofs.is_new.Tie as tie
 

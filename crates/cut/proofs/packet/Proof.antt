@@ -1,6 +1,5 @@
 -- `cut::packet` meets its contract: the packet made is the definition's, and the pieces laid are its octets.
 -- Assumes nothing.
-use Prim.Native.Nat.{_≤_}
 use borrow.Author.Needs.{needs}
 use denote.Ref.{now}
 use lib.ListN.{length}

@@ -7,7 +7,7 @@ use native.Mathlib.Nat.{le-antisymm}
 use native.Mathlib.Numerals.{add-one}
 use Rattle.fields.proofs.parts_to.Statement.{statement}
 use Rattle.fields.proofs.parts_to.Tie as tie
-use Rattle.fields.specs.Fields.{partAt, partsTo}
+use Rattle.fields.specs.Fields.{partsTo}
 use Rattle.fields.specs.Inner.{asDomain, ofDomain}
 
 abbrev Inv-loop : tie.InvT-loop

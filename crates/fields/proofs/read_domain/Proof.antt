@@ -1,11 +1,9 @@
 -- `fields::read_domain` meets its contract: the test of the branch is the definition's.
 -- Assumes nothing.
 use borrow.Author.Needs.{needs}
-use mathlib.Core.Path.{sym, ap, _∙_}
 use Rattle.fields.proofs.Steps.{domain-parts, domain-many}
 use Rattle.fields.proofs.read_domain.Statement.{statement}
 use Rattle.fields.proofs.read_domain.Tie as tie
-use Rattle.fields.specs.Inner.{asDomain}
 
 read-number-requires : tie.Need-read-number-requires
 read-number-requires c κs = search needs

@@ -1,7 +1,6 @@
 -- `join::join_on` meets its contract: the arrival, and then what it asks for.
 -- Assumes nothing.
 use native.Mathlib.Omega.{arith}
-use mathlib.Core.Path.{refl}
 use denote.Ref.{now}
 use lib.ListN.{length}
 use Rattle.join.proofs.Coming.{place-fits}

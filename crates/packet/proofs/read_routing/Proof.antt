@@ -1,14 +1,10 @@
 -- `packet::read_routing` meets its contract: its steps are the definition's.
 -- Assumes nothing.
 use borrow.Author.Needs.{needs}
-use mathlib.Core.Path.{ap, sym}
 use Rattle.packet.proofs.read_routing.Statement.{statement}
 use Rattle.packet.proofs.read_routing.Tie as tie
 use Rattle.packet.specs.Inner.{routingOf}
 use Rattle.packet.specs.FixedPart.{octetField, wideField, afterQualifier, afterSecondary, afterSession}
-use Rattle.packet.specs.declared.Octet.{Octet}
-use Rattle.packet.specs.declared.Word.{Word}
-use Rattle.walk.specs.Inner.{ofWalk}
 
 read-octet-requires : tie.Need-read-octet-requires
 read-octet-requires c κs = search needs

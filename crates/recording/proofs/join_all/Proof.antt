@@ -1,7 +1,7 @@
 -- `recording::join_all` meets its contract: a recording that is longer than the output is refused, any other is gone along.
 -- Assumes nothing.
 use denote.Ref.{now}
-use mathlib.Core.Path.{refl, ap}
+use mathlib.Core.Path.{refl}
 use native.Mathlib.Omega.{arith}
 use Rattle.recording.proofs.Reaching.{reach-most, store-begins, told-short, out-short, told-all, out-all}
 use borrow.Author.Needs.{needs}

@@ -2,7 +2,6 @@
 -- Assumes nothing.
 use borrow.Author.Needs.{needs}
 use borrow.Author.Tests.{le-leb, lt-leb}
-use mathlib.Core.Path.{sym}
 use native.Mathlib.Numerals.{add-one}
 use Rattle.octets.specs.Octets.{most32}
 use Rattle.sender.proofs.next_counter.Statement.{statement}

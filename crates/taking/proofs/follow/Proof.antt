@@ -1,6 +1,5 @@
 -- `taking::follow` meets its contract. The loop's invariant: what is left of the run and the octets so far come to the whole.
 -- Assumes nothing.
-use Prim.Native.Nat.{ℕ}
 use native.Mathlib.Omega.{arith}
 use denote.Ref.{now}
 use lib.ListN.{length}

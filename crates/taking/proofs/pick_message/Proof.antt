@@ -1,7 +1,6 @@
 -- `taking::pick_message` meets its contract. The loop's invariant: the cells passed open no complete message.
 -- Assumes nothing.
-use Prim.Native.Nat.{ℕ, _-_}
-use native.Mathlib.Omega.{arith}
+use Prim.Native.Nat.{_-_}
 use denote.Ref.{now}
 use lib.ListN.{length}
 use Rattle.taking.proofs.Picks.{Picking, picking-first, picking-turn, picking-found, picking-none}

@@ -1,6 +1,5 @@
 -- `taking::take_by` meets its contract: 20, then 21, and else the message is drawn.
 -- Assumes nothing.
-use Prim.Native.Nat.{ℕ}
 use native.Mathlib.Omega.{arith}
 use mathlib.Core.Path.{ap, sym, _∙_}
 use denote.Ref.{now}

@@ -1,10 +1,8 @@
 -- `tally::first` meets its contract: a cell that is not held has no key, and that of a held one is looked for below it.
 -- Assumes nothing.
-use native.Mathlib.Omega.{arith}
 use borrow.Author.Needs.{needs}
 use denote.Ref.{now}
 use lib.ListN.{length}
-use mathlib.Core.Path.{ap, _∙_}
 use Rattle.tally.proofs.Judging.{first-none, first-asked, first-told}
 use Rattle.tally.proofs.first.Statement.{statement}
 use Rattle.tally.proofs.first.Tie as tie

@@ -1,8 +1,7 @@
 -- `tally::keys` meets its contract. The loop's invariant: how many of the cells passed are the first of their key.
 -- Assumes nothing.
-use Prim.Native.Nat.{ℕ, _-_}
+use Prim.Native.Nat.{_-_}
 use borrow.Author.Needs.{needs}
-use denote.Ref.{now}
 use lib.ListN.{length}
 use Rattle.cells.specs.Order.{cellAt}
 use Rattle.tally.specs.Counting.{newKeyIn, keysIn}

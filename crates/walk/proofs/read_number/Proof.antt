@@ -2,14 +2,14 @@
 -- value of 32 bits fit.
 -- Assumes nothing.
 use borrow.Author.Needs.{needs}
-use borrow.Author.Tests.{eq-eqb, ne-eqb}
+use borrow.Author.Tests.{ne-eqb}
 use denote.Ref.{now}
-use mathlib.Core.Path.{sym, _∙_, ap}
+use mathlib.Core.Path.{sym, ap}
 use native.Mathlib.Omega.{arith}
 use Rattle.walk.proofs.Steps.{number-refused, number-got, number-told, number-small}
 use Rattle.walk.proofs.read_number.Statement.{statement}
 use Rattle.walk.proofs.read_number.Tie as tie
-use Rattle.walk.specs.Inner.{asWalk, ofWalk, asNumber}
+use Rattle.walk.specs.Inner.{ofWalk, asNumber}
 use Rattle.walk.specs.Walk.{numberStep}
 
 returns : tie.Need-returns

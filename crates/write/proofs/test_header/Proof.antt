@@ -4,7 +4,7 @@ use borrow.Author.Needs.{needs}
 use Rattle.write.proofs.Tests.{unlessAll-append}
 use Rattle.write.proofs.test_header.Statement.{statement}
 use Rattle.write.proofs.test_header.Tie as tie
-use Rattle.write.specs.Given.{headerChecks, unlessAll}
+use Rattle.write.specs.Given.{headerChecks}
 
 test-names-requires : tie.Need-test-names-requires
 test-names-requires c κs = search needs
