@@ -85,7 +85,7 @@ next-mod m =
     (λ l. rw (le-leb countMost (m % 16384) l) (wraps m l))
     (below-or (m % 16384) countMost)
 
-count-mod : (c i : ℕ) → c ≤ countMost → countAt c i ≡ (c + i) % 16384
+pub count-mod : (c i : ℕ) → c ≤ countMost → countAt c i ≡ (c + i) % 16384
 unfolding countAt
 count-mod c zero h = omega arith
 count-mod c (suc i) h =

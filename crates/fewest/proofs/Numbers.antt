@@ -1,11 +1,10 @@
 -- The numbers of packet i where the count succeeds: its flags, sequence count and counter; and its values are in range.
 -- Assumes nothing.
-use Prim.Native.Nat.{ℕ, suc, _+_, _*_, _%_, _≤_, _<_}
+use Prim.Native.Nat.{ℕ, suc, _+_, _*_, _≤_, _<_}
 use mathlib.Core.Path.{_≡_, refl, ap, sym, _∙_, subst}
 use mathlib.Core.Bool.{Bool, true, false, not}
 use mathlib.Core.List.{List}
 use native.Mathlib.Omega.{arith}
-use native.Mathlib.Nat.{add-mod-mod}
 use lib.ListN.{length}
 use lib.Dec.{leb, eqb}
 use borrow.Author.Tests.{leb-true, eq-eqb, ne-eqb}
@@ -15,7 +14,6 @@ use Rattle.walk.specs.declared.Settings.{Settings}
 use Rattle.walk.specs.Walk.{noRefusal, unless, timestampLeast, timestampMost}
 use Rattle.packet.specs.declared.SegmentCounter.{SegmentCounter}
 use Rattle.packet.specs.Format.{Opt, segment, SettingsInRange, InRange}
-use Rattle.packet.specs.Numbers.{countMost}
 use Rattle.sender.specs.declared.Sender.{Sender}
 use Rattle.sender.specs.declared.Next.{Next}
 use Rattle.sender.specs.declared.Next.the-variants.{At, NoneLeft}
@@ -24,7 +22,7 @@ use Rattle.write.specs.Given.{Lent}
 use Rattle.write.specs.Writing.{settingsTest, fine}
 use Rattle.write.proofs.Tests.{unless-fine}
 use Rattle.write.proofs.Answers.{secondary-length}
-use Rattle.cut.specs.Cutting.{countersFit, counterAt, countAt, single, chunk, packets, headerLength, countRefusal, flagsAt, bodyAt, packetAt, givenAt}
+use Rattle.cut.specs.Cutting.{countersFit, counterAt, single, chunk, packets, headerLength, countRefusal, flagsAt, bodyAt, packetAt, givenAt}
 use Rattle.cut.proofs.Counting.{count-is}
 use Rattle.cut.proofs.Plans.{before, Good, good, Cuts, cuts}
 use Rattle.cut.proofs.Packets.{counter-flag, packet-most}
@@ -90,11 +88,6 @@ fit-starts NoneLeft n g = let z : _≡_ {A = ℕ} 0 1 = cc in absurd (omega arit
 pub counter-of : (d : Next) (c : SegmentCounter) (i : ℕ) → d ≡ At c → counterAt d i ≡ c .0 + i
 unfolding counterAt
 counter-of d c i e = rw (e, counterAt)
-
--- ---- the sequence count
-
-pub count-mod : (c i : ℕ) → c ≤ countMost → countAt c i ≡ (c + i) % 16384
-count-mod c i h = count-is c i h ∙ add-mod-mod c i 16384
 
 -- ---- a message whose count succeeds
 

@@ -24,11 +24,12 @@ use Rattle.format.proofs.TwoWay.{writes-octets, reads-back}
 use Rattle.format.proofs.Accepting.{written}
 use Rattle.cut.specs.Cutting.{counterAt, countAt, single, chunk, packets, headerLength, countRefusal, flagsAt, bodyAt, packetAt, givenAt}
 use Rattle.cut.proofs.Packets.{packet-most}
+use Rattle.cut.proofs.Counting.{count-mod}
 use Rattle.fewest.specs.Carrying.{bodyOf, Carried, Carries}
 use Rattle.fewest.specs.Cutting.{Lends, told, number, octetsAt, allPackets, Segment, Back, AllBack}
 use Rattle.fewest.proofs.Lists.{first-length, first-each, first-same, joined-first}
 use Rattle.fewest.proofs.Parts.{packets-one, two-at-least, piece-full, piece-some, piece-most, parts-joined}
-use Rattle.fewest.proofs.Numbers.{segment-is, flags-whole, flags-first, flags-last, flags-between, counter-of, count-mod, cuts-well, good-values, room, counters, packet-range}
+use Rattle.fewest.proofs.Numbers.{segment-is, flags-whole, flags-first, flags-last, flags-between, counter-of, cuts-well, good-values, room, counters, packet-range}
 use Rattle.fewest.proofs.Fewest.{fewest}
 
 -- the body of a packet is the one that is told
