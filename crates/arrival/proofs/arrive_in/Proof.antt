@@ -14,16 +14,18 @@ refused-requires : tie.Need-refused-requires
 refused-requires c κs = search needs
 
 returns : tie.Need-returns
-returns c = arrives-other (c .before .before .before .before .before .before .args .s) (now (c .before .before .before .before .before .before .args .zero)) (now (c .before .before .before .before .before .before .args .store)) (c .before .before .before .before .before .before .args .n) (c .before .before .zeros .ensures) (now (c .before .before .before .before .before .before .args .p)) (c .before .if1 .taken) (c .refused .ensures)
+returns c = arrives-other _ _ _ _ (c .before .before .zeros .ensures) _ (c .before .if1 .taken) (c .refused .ensures)
 
 arrive-on-requires : tie.Need-arrive-on-requires
-arrive-on-requires c κs = zero-told (now (c .before .before .before .before .before .before .args .zero)) (c .before .before .zeros .ensures) (c .before .if1 .left)
+arrive-on-requires c κs = zero-told _ (c .before .before .zeros .ensures) (c .before .if1 .left)
 
 same-length : tie.Need-same-length
 same-length c = search needs
 
 returns-2 : tie.Need-returns-2
-returns-2 c = arrives-on (c .before .before .before .before .before .before .before .before .before .args .s) (now (c .before .before .before .before .before .before .before .before .before .args .zero)) (now (c .before .before .before .before .before .before .before .before .before .args .store)) (c .before .before .before .before .before .before .before .before .before .args .n) (c .before .before .before .before .before .zeros .ensures) (now (c .before .before .before .before .before .before .before .before .before .args .p)) (c .before .before .before .before .if1 .left) (c .before .before .arrive-on .ensures)
+returns-2 c =
+    arrives-on _ _ _ _ (c .before .before .before .before .before .zeros .ensures) _ (c .before .before .before .before .if1 .left)
+    (c .before .before .arrive-on .ensures)
 
 pub arrive-in-spec : {M : Type 1} → statement M
 arrive-in-spec = tie.close (tie.spec zeros-requires refused-requires returns arrive-on-requires same-length returns-2)

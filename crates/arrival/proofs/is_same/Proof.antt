@@ -16,7 +16,7 @@ same-rest-requires : tie.Need-same-rest-requires
 same-rest-requires c κs = search needs
 
 returns : tie.Need-returns
-returns c = rest-same (c .before .before .before .before .before .args .s) (now (c .before .before .before .before .before .args .row)) (now (c .before .before .before .before .before .args .p)) (c .before .before .before .before .before .args .flags) (c .before .before .before .before .before .args .at) (c .before .before .before .before .before .args .long) (c .before .before .packet-in .ensures) (c .before .piece-in .ensures) (c .same-rest .ensures)
+returns c = rest-same _ _ _ _ _ _ (c .before .before .packet-in .ensures) (c .before .piece-in .ensures) (c .same-rest .ensures)
 
 pub is-same-spec : {M : Type 1} → statement M
 is-same-spec =

@@ -14,13 +14,19 @@ find-requires : tie.Need-find-requires
 find-requires c κs = (c .before .before .before .before .pre .0, c .before .before .before .before .pre .1 .0)
 
 store-new-requires : tie.Need-store-new-requires
-store-new-requires c κs = (c .before .before .before .before .before .before .before .pre .0, c .before .before .before .before .before .before .before .pre .1 .1)
+store-new-requires c κs =
+    let g = c .before .before .before .before .before .before .before .pre in
+    (g .0, g .1 .1)
 
 same-length : tie.Need-same-length
 same-length c = search needs
 
 returns : tie.Need-returns
-returns c = let e = segment-new (c .before .before .before .before .before .before .before .before .before .before .args .s) (now (c .before .before .before .before .before .before .before .before .before .before .args .store)) (now (c .before .before .before .before .before .before .before .before .before .before .args .zero)) (now (c .before .before .before .before .before .before .before .before .before .before .args .p)) (c .before .before .before .before .before .before .before .before .before .before .args .n) (c .before .before .before .before .before .before .before .before .before .before .args .flags) (c .before .before .before .before .before .before .before .before .before .before .args .at) (c .before .before .before .before .before .before .before .before .before .before .args .long) (c .before .before .before .before .before .before .before .before .before .before .args .counter) (c .before .before .before .before .before .before .before .before .before .before .pre .0) (c .before .before .before .before .before .find .ensures) (c .before .before .before .before .if1 .taken) in (c .before .before .store-new .ensures .0 ∙ ap arrivalOf (sym e), c .before .before .store-new .ensures .1 ∙ ap (storeWith (length (now (c .before .before .before .before .before .before .before .before .before .before .args .zero))) (now (c .before .before .before .before .before .before .before .before .before .before .args .store)) (now (c .before .before .before .before .before .before .before .before .before .before .args .p))) (sym e))
+returns c =
+    let g = c .before .before in
+    let e = segment-new _ _ _ _ _ _ _ _ _ (g .before .before .before .before .before .before .before .before .pre .0)
+    (g .before .before .before .find .ensures) (g .before .before .if1 .taken) in
+    (g .store-new .ensures .0 ∙ ap arrivalOf (sym e), g .store-new .ensures .1 ∙ ap (storeWith _ _ _) (sym e))
 
 row-requires : tie.Need-row-requires
 row-requires c κs = search needs
@@ -33,7 +39,11 @@ same-length-2 c = search needs
 
 returns-2 : tie.Need-returns-2
 unfolding storeWith
-returns-2 c = let e = segment-same (c .before .before .before .before .before .before .before .before .before .before .args .s) (now (c .before .before .before .before .before .before .before .before .before .before .args .store)) (now (c .before .before .before .before .before .before .before .before .before .before .args .zero)) (now (c .before .before .before .before .before .before .before .before .before .before .args .p)) (c .before .before .before .before .before .before .before .before .before .before .args .n) (c .before .before .before .before .before .before .before .before .before .before .args .flags) (c .before .before .before .before .before .before .before .before .before .before .args .at) (c .before .before .before .before .before .before .before .before .before .before .args .long) (c .before .before .before .before .before .before .before .before .before .before .args .counter) (c .before .before .before .before .before .before .before .before .before .before .pre .0) (c .before .before .before .before .before .find .ensures) (c .before .before .before .before .if1 .left) (c .before .before .row .ensures) (c .before .is-same .ensures) (c .if2 .taken) in (ap arrivalOf (sym e), ap (storeWith (length (now (c .before .before .before .before .before .before .before .before .before .before .args .zero))) (now (c .before .before .before .before .before .before .before .before .before .before .args .store)) (now (c .before .before .before .before .before .before .before .before .before .before .args .p))) (sym e))
+returns-2 c =
+    let g = c .before .before .before .before in
+    let e = segment-same _ _ _ _ _ _ _ _ _ (g .before .before .before .before .before .before .pre .0) (g .before .find .ensures) (g .if1 .left)
+    (c .before .before .row .ensures) (c .before .is-same .ensures) (c .if2 .taken) in
+    (ap arrivalOf (sym e), ap (storeWith _ _ _) (sym e))
 
 refused-requires : tie.Need-refused-requires
 refused-requires c κs = search needs
@@ -43,7 +53,13 @@ same-length-3 c = search needs
 
 returns-3 : tie.Need-returns-3
 unfolding storeWith
-returns-3 c = let e = segment-other (c .before .before .before .before .before .before .before .before .before .before .before .args .s) (now (c .before .before .before .before .before .before .before .before .before .before .before .args .store)) (now (c .before .before .before .before .before .before .before .before .before .before .before .args .zero)) (now (c .before .before .before .before .before .before .before .before .before .before .before .args .p)) (c .before .before .before .before .before .before .before .before .before .before .before .args .n) (c .before .before .before .before .before .before .before .before .before .before .before .args .flags) (c .before .before .before .before .before .before .before .before .before .before .before .args .at) (c .before .before .before .before .before .before .before .before .before .before .before .args .long) (c .before .before .before .before .before .before .before .before .before .before .before .args .counter) (c .before .before .before .before .before .before .before .before .before .before .before .pre .0) (c .before .before .before .before .before .before .find .ensures) (c .before .before .before .before .before .if1 .left) (c .before .before .before .row .ensures) (c .before .before .is-same .ensures) (c .before .if2 .left) in (c .refused .ensures ∙ ap arrivalOf (sym e), ap (storeWith (length (now (c .before .before .before .before .before .before .before .before .before .before .before .args .zero))) (now (c .before .before .before .before .before .before .before .before .before .before .before .args .store)) (now (c .before .before .before .before .before .before .before .before .before .before .before .args .p))) (sym e))
+returns-3 c =
+    let g = c .before .before .before .before .before in
+    let e = segment-other _ _ _ _ _ _ _ _ _ (g .before .before .before .before .before .before .pre .0) (g .before .find .ensures) (g .if1 .left)
+    (c .before .before .before .row .ensures) (c .before .before .is-same .ensures) (c .before .if2 .left) in
+    (c .refused .ensures ∙ ap arrivalOf (sym e), ap (storeWith _ _ _) (sym e))
 
 pub store-segment-spec : {M : Type 1} → statement M
-store-segment-spec = tie.close (tie.spec find-requires store-new-requires same-length returns row-requires is-same-requires same-length-2 returns-2 refused-requires same-length-3 returns-3)
+store-segment-spec =
+    tie.close (tie.spec find-requires store-new-requires same-length returns row-requires is-same-requires same-length-2 returns-2 refused-requires
+    same-length-3 returns-3)

@@ -27,10 +27,12 @@ mix-requires-2 : tie.Need-mix-requires-2
 mix-requires-2 c κs = search needs
 
 add-span : tie.Need-add-span
-add-span c = omega (arith, c .before .before .before .before .counter-place .ensures, place-least (now (c .before .before .before .before .before .before .args .q)))
+add-span c =
+    omega (arith, c .before .before .before .before .counter-place .ensures, place-least (now (c .before .before .before .before .before .before .args .q)))
 
 add-less : tie.Need-add-less
-add-less c = omega (arith, c .before .before .before .before .counter-place .ensures, place-least (now (c .before .before .before .before .before .before .args .q)))
+add-less c =
+    omega (arith, c .before .before .before .before .counter-place .ensures, place-least (now (c .before .before .before .before .before .before .args .q)))
 
 less-requires : tie.Need-less-requires
 less-requires c κs = search needs
@@ -46,10 +48,12 @@ chain-requires c κs = search needs
 
 returns : tie.Need-returns
 returns c =
-    bucket-told (now (c .before .before .before .before .before .before .before .before .before .before .args .q)) (c .before .before .before .before .before .before .before .before .before .before .args .stop) (c .before .before .before .before .before .before .before .before .before .before .args .c)
-    (rw (c .before .before .before .before .before .before .before .span .ensures) at (c .before .before .before .before .before .before .mix .ensures))
-    (rw (c .before .before .before .before .before .span2 .ensures, c .before .before .before .before .before .before .before .before .counter-place .ensures) at (c .before .before .before .before .mix2 .ensures))
-    (rw (c .before .before .span3 .ensures, c .before .before .before .less .ensures, c .before .before .before .before .before .before .before .before .counter-place .ensures) at (c .before .mix3 .ensures))
+    let g = c .before .before .before .before in
+    let h = g .before .before .before .before .counter-place .ensures in
+    bucket-told _ _ _
+    (rw (g .before .before .before .span .ensures) at (g .before .before .mix .ensures))
+    (rw (g .before .span2 .ensures, h) at (g .mix2 .ensures))
+    (rw (c .before .before .span3 .ensures, c .before .before .before .less .ensures, h) at (c .before .mix3 .ensures))
     (c .chain .ensures)
 
 pub bucket-spec : {M : Type 1} → statement M

@@ -26,10 +26,24 @@ element-copy-out-enter : tie.Need-element-copy-out-enter Inv-loop μ-loop
 element-copy-out-enter c = omega (arith, c .loop-test .taken, c .before .before .before .before .pre .1 .0)
 
 cast-enter : tie.Need-cast-enter Inv-loop μ-loop
-cast-enter c = omega (arith, c .before .before .before .before .before .pre .1 .1 .0 (c .before .before .loop .i) (c .before .loop-test .taken), body-top (c .before .before .before .before .before .args .s) (length (now (c .before .before .before .before .before .args .zero))) (now (c .before .before .before .before .before .args .store)) (c .before .before .loop .i) (λ j. c .before .before .before .before .shared-slice-known .given j .fits))
+cast-enter c =
+    let g = c .before .before .before .before in
+    omega (
+      arith,
+      g .before .pre .1 .1 .0 _ (c .before .loop-test .taken),
+      body-top (g .before .args .s) (length (now (g .before .args .zero)))
+          (now (g .before .args .store)) (c .before .before .loop .i) (λ j. g .shared-slice-known .given j .fits),
+    )
 
 enter-requires : tie.Need-enter-requires Inv-loop μ-loop
-enter-requires c κs = (c .before .before .before .before .before .before .before .pre .0, (omega (arith, c .before .before .before .loop-test .taken, c .before .before .before .before .before .before .before .pre .1 .0), (c .before .before .before .before .before .before .before .pre .1 .1 .0 (c .before .before .before .before .loop .i) (c .before .before .before .loop-test .taken), c .before .before .before .before .loop .inv .chained)))
+enter-requires c κs =
+    let g = c .before .before .before .before .before .before .before .pre in (
+      g .0,
+      (
+        omega (arith, c .before .before .before .loop-test .taken, g .1 .0),
+        (g .1 .1 .0 _ (c .before .before .before .loop-test .taken), c .before .before .before .before .loop .inv .chained),
+      ),
+    )
 
 add-i : tie.Need-add-i Inv-loop μ-loop
 add-i c = search needs
@@ -38,7 +52,9 @@ loop-less : tie.Need-loop-less Inv-loop μ-loop
 loop-less c = search needs
 
 loop-again : tie.Need-loop-again Inv-loop μ-loop
-loop-again c = ordering-turn (c .before .before .before .before .before .loop .inv) (c .before .before .before .before .loop-test .taken) (c .enter .ensures .0) (c .enter .ensures .1)
+loop-again c =
+    ordering-turn (c .before .before .before .before .before .loop .inv) (c .before .before .before .before .loop-test .taken) (c .enter .ensures .0)
+    (c .enter .ensures .1)
 
 returns : tie.Need-returns Inv-loop μ-loop
 returns c = (ordering-apart (c .before .loop .inv) (c .loop-test .left), ordering-chained (c .before .loop .inv) (c .loop-test .left))

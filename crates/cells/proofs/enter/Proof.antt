@@ -9,7 +9,11 @@ use Rattle.cells.proofs.enter.Statement.{statement}
 use Rattle.cells.proofs.enter.Tie as tie
 
 returns : tie.Need-returns
-returns c = (none-apart (c .before .before .before .args .s) (now (c .before .before .before .args .store)) (length (now (c .before .before .before .args .zero))) (c .before .before .before .args .i) (λ j. c .before .before .shared-slice-known .given j .fits) (c .before .before .before .pre .1 .1 .0) (c .if1 .taken) (c .before .before .before .args .apart), none-off (c .before .before .before .args .s) (now (c .before .before .before .args .store)) (length (now (c .before .before .before .args .zero))) (c .before .before .before .args .i) (λ j. c .before .before .shared-slice-known .given j .fits) (c .before .before .before .pre .1 .1 .0) (c .if1 .taken) (c .before .before .before .pre .1 .1 .1) (c .before .before .before .pre .1 .0))
+returns c =
+    let g = c .before .before .before .pre .1 in (
+      none-apart _ _ _ _ (λ j. c .before .before .shared-slice-known .given j .fits) (g .1 .0) (c .if1 .taken) _,
+      none-off _ _ _ _ (λ j. c .before .before .shared-slice-known .given j .fits) (g .1 .0) (c .if1 .taken) (g .1 .1) (g .0),
+    )
 
 row-requires : tie.Need-row-requires
 row-requires c κs = search needs
@@ -27,13 +31,35 @@ bucket-requires : tie.Need-bucket-requires
 bucket-requires c κs = search needs
 
 is-new-requires : tie.Need-is-new-requires
-is-new-requires c κs = (c .before .before .before .before .before .before .before .before .before .pre .0, (asked-at (c .before .before .before .before .before .before .before .before .before .args .s) (now (c .before .before .before .before .before .before .before .before .before .args .store)) (length (now (c .before .before .before .before .before .before .before .before .before .args .zero))) (c .before .before .before .before .before .before .before .before .before .args .i) (λ j. c .before .before .before .before .before .before .before .before .shared-slice-known .given j .fits) (c .before .before .before .before .before .before .before .before .before .pre .1 .1 .0) (c .before .before .before .before .before .before .if1 .left) (c .before .before .before .before .before .row .ensures) (c .before .before .before .before .packet-in .ensures) (c .before .before .before .counter-in .ensures), (c .before .before .before .before .before .before .before .before .before .pre .1 .1 .1, c .before .before .bucket .ensures)))
+is-new-requires c κs =
+    let g = c .before .before .before .before .before in
+    let h = g .before .before .before .before .pre in (
+      h .0,
+      (
+        asked-at _ _ _ _ (λ j. g .before .before .before .shared-slice-known .given j .fits) (h .1 .1 .0) (g .before .if1 .left) (g .row .ensures)
+            (c .before .before .before .before .packet-in .ensures) (c .before .before .before .counter-in .ensures),
+        (h .1 .1 .1, c .before .before .bucket .ensures),
+      ),
+    )
 
 push-requires : tie.Need-push-requires
-push-requires c κs = (c .before .before .before .before .before .before .before .before .before .before .before .before .pre .1 .0, rw (c .before .before .before .before .before .bucket .ensures) (bucket-low _ _))
+push-requires c κs = (
+  c .before .before .before .before .before .before .before .before .before .before .before .before .pre .1 .0,
+  rw (c .before .before .before .before .before .bucket .ensures) (bucket-low _ _),
+)
 
 returns-2 : tie.Need-returns-2
-returns-2 c = (some-apart (c .before .before .before .before .before .before .before .before .before .before .before .before .before .args .s) (now (c .before .before .before .before .before .before .before .before .before .before .before .before .before .args .store)) (length (now (c .before .before .before .before .before .before .before .before .before .before .before .before .before .args .zero))) (c .before .before .before .before .before .before .before .before .before .before .before .before .before .args .i) (λ j. c .before .before .before .before .before .before .before .before .before .before .before .before .shared-slice-known .given j .fits) (c .before .before .before .before .before .before .before .before .before .before .before .before .before .pre .1 .1 .0) (c .before .before .before .before .before .before .before .before .before .before .if1 .left) (c .before .before .before .before .before .before .before .before .before .row .ensures) (c .before .before .before .before .before .before .before .before .packet-in .ensures) (c .before .before .before .before .before .before .before .counter-in .ensures) (c .before .before .before .before .before .before .before .before .before .before .before .before .before .args .apart) (c .before .before .before .is-new .ensures), some-on (c .before .before .before .before .before .before .before .before .before .before .before .before .before .args .s) (now (c .before .before .before .before .before .before .before .before .before .before .before .before .before .args .store)) (length (now (c .before .before .before .before .before .before .before .before .before .before .before .before .before .args .zero))) (c .before .before .before .before .before .before .before .before .before .before .before .before .before .args .i) (λ j. c .before .before .before .before .before .before .before .before .before .before .before .before .shared-slice-known .given j .fits) (c .before .before .before .before .before .before .before .before .before .before .before .before .before .pre .1 .1 .0) (c .before .before .before .before .before .before .before .before .before .before .if1 .left) (c .before .before .before .before .before .before .before .before .before .row .ensures) (c .before .before .before .before .before .before .before .before .packet-in .ensures) (c .before .before .before .before .before .before .before .counter-in .ensures) (c .before .before .before .before .before .before .before .before .before .before .before .before .before .pre .1 .1 .1) (c .before .before .before .before .before .before .before .before .before .before .before .before .before .pre .1 .0) (c .before .before .before .before .before .before .bucket .ensures) (rw (c .before .before .before .before .before .before .bucket .ensures) (bucket-low _ _)) (c .push .ensures .0) (c .push .ensures .1))
+returns-2 c =
+    let g = c .before .before .before .before .before .before .before in
+    let h = g .before .before .before .before .before in
+    let k = c .before .before .before .before .before .before .bucket .ensures in (
+      some-apart _ _ _ _ (λ j. h .shared-slice-known .given j .fits) (h .before .pre .1 .1 .0) (g .before .before .before .if1 .left)
+          (g .before .before .row .ensures) (g .before .packet-in .ensures) (g .counter-in .ensures) (h .before .args .apart)
+          (c .before .before .before .is-new .ensures),
+      some-on _ _ _ _ (λ j. h .shared-slice-known .given j .fits) (h .before .pre .1 .1 .0)
+          (g .before .before .before .if1 .left) (g .before .before .row .ensures) (g .before .packet-in .ensures) (g .counter-in .ensures)
+          (h .before .pre .1 .1 .1) (h .before .pre .1 .0) k (rw k (bucket-low _ _)) (c .push .ensures .0) (c .push .ensures .1),
+    )
 
 pub enter-spec : {M : Type 1} → statement M
 enter-spec = tie.close (tie.spec returns row-requires packet-in-requires counter-in-requires cast-c bucket-requires is-new-requires push-requires returns-2)

@@ -31,7 +31,11 @@ carries-at-requires c κs = c .before .before .before .before .before .before .p
 
 returns : tie.Need-returns Inv-loop μ-loop
 unfolding foundIn
-returns c = seeking-found (c .before .before .before .before .loop .inv) (c .before .before .before .loop-test .taken) (sym (c .before .carries-at .ensures ∙ ap (λ (r : List ℕ). carriesIn (keyOf (now (c .before .before .before .before .before .before .before .before .args .q)) (readPacket (c .before .before .before .before .before .before .before .before .args .s) (now (c .before .before .before .before .before .before .before .before .args .q)))) (c .before .before .before .before .before .before .before .before .args .c) (cellOf (c .before .before .before .before .before .before .before .before .args .s) (length (now (c .before .before .before .before .before .before .before .before .args .zero))) r)) (c .before .before .row .ensures)) ∙ c .if1 .taken)
+returns c =
+    let g = c .before .before .before .before .before .before .before .before .args in
+    seeking-found (c .before .before .before .before .loop .inv) (c .before .before .before .loop-test .taken)
+    (sym (c .before .carries-at .ensures ∙ ap (λ (r : List ℕ). carriesIn (keyOf (now (g .q)) (readPacket (g .s) (now (g .q)))) (g .c)
+    (cellOf (g .s) (length (now (g .zero))) r)) (c .before .before .row .ensures)) ∙ c .if1 .taken)
 
 add-j : tie.Need-add-j Inv-loop μ-loop
 add-j c = search needs
@@ -40,7 +44,11 @@ loop-less : tie.Need-loop-less Inv-loop μ-loop
 loop-less c = search needs
 
 loop-again : tie.Need-loop-again Inv-loop μ-loop
-loop-again c = seeking-turn (c .before .before .before .before .loop .inv) (c .before .before .before .loop-test .taken) (sym (c .before .carries-at .ensures ∙ ap (λ (r : List ℕ). carriesIn (keyOf (now (c .before .before .before .before .before .before .before .before .args .q)) (readPacket (c .before .before .before .before .before .before .before .before .args .s) (now (c .before .before .before .before .before .before .before .before .args .q)))) (c .before .before .before .before .before .before .before .before .args .c) (cellOf (c .before .before .before .before .before .before .before .before .args .s) (length (now (c .before .before .before .before .before .before .before .before .args .zero))) r)) (c .before .before .row .ensures)) ∙ c .if1 .left)
+loop-again c =
+    let g = c .before .before .before .before .before .before .before .before .args in
+    seeking-turn (c .before .before .before .before .loop .inv) (c .before .before .before .loop-test .taken)
+    (sym (c .before .carries-at .ensures ∙ ap (λ (r : List ℕ). carriesIn (keyOf (now (g .q)) (readPacket (g .s) (now (g .q)))) (g .c)
+    (cellOf (g .s) (length (now (g .zero))) r)) (c .before .before .row .ensures)) ∙ c .if1 .left)
 
 returns-2 : tie.Need-returns-2 Inv-loop μ-loop
 unfolding foundIn

@@ -8,7 +8,9 @@ bucket-requires : tie.Need-bucket-requires
 bucket-requires c κs = search needs
 
 find-on-requires : tie.Need-find-on-requires
-find-on-requires c κs = (c .before .before .before .before .before .pre .0, (c .before .before .before .before .before .pre .1 .0, (c .before .before .before .before .before .pre .1 .1 (c .before .if1 .taken), c .bucket .ensures)))
+find-on-requires c κs =
+    let g = c .before .before .before .before .before .pre in
+    (g .0, (g .1 .0, (g .1 .1 (c .before .if1 .taken), c .bucket .ensures)))
 
 returns : tie.Need-returns
 returns c = search needs

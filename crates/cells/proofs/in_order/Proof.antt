@@ -16,12 +16,12 @@ count-requires c κs = search needs
 returns : tie.Need-returns
 returns c =
     let g = c .before .before .before .before .args in
-    order-length (g .s) (length (now (g .zero))) (now (g .store)) (c .before .count .ensures) (c .if1 .taken)
+    order-length (g .s) _ _ (c .before .count .ensures) (c .if1 .taken)
 
 order-by-requires : tie.Need-order-by-requires
 order-by-requires c κs =
     let g = c .before .before .before .before .before .before .args in
-    let most = cells-most (g .s) (length (now (g .zero))) (now (g .store)) (c .before .before .before .count .ensures) (c .before .before .if1 .left) in
+    let most = cells-most (g .s) _ (now (g .store)) (c .before .before .before .count .ensures) (c .before .before .if1 .left) in
     (c .before .before .before .before .before .before .pre, (most, chained-none _ _ (length-replicate {A = ℕ} 4096 0)))
 
 both-requires : tie.Need-both-requires
@@ -29,15 +29,17 @@ both-requires c κs = search needs
 
 returns-2 : tie.Need-returns-2
 returns-2 c =
-    let g = c .before .before .before .before .before .before .before .before .before .args in
+    let h = c .before .before .before .before .before in
+    let g = h .before .before .before .before .args in
     let o = c .before .before .order-by .ensures in
-    order-held (g .s) (length (now (g .zero))) (now (g .store)) (c .before .before .before .before .before .before .count .ensures) (c .before .before .before .before .before .if1 .left) (o .0) (o .1 .0) (sym (c .before .both .ensures) ∙ c .if2 .taken)
+    order-held (g .s) _ _ (h .before .count .ensures) (h .if1 .left) (o .0) (o .1 .0) (sym (c .before .both .ensures) ∙ c .if2 .taken)
 
 returns-3 : tie.Need-returns-3
 returns-3 c =
-    let g = c .before .before .before .before .before .before .before .before .before .args in
+    let h = c .before .before .before .before .before in
+    let g = h .before .before .before .before .args in
     let o = c .before .before .order-by .ensures in
-    order-fault (g .s) (length (now (g .zero))) (now (g .store)) (c .before .before .before .before .before .before .count .ensures) (c .before .before .before .before .before .if1 .left) (o .0) (o .1 .0) (sym (c .before .both .ensures) ∙ c .if2 .left)
+    order-fault (g .s) _ _ (h .before .count .ensures) (h .if1 .left) (o .0) (o .1 .0) (sym (c .before .both .ensures) ∙ c .if2 .left)
 
 pub in-order-spec : {M : Type 1} → statement M
 in-order-spec = tie.close (tie.spec count-requires returns order-by-requires both-requires returns-2 returns-3)

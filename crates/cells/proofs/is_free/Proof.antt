@@ -13,7 +13,7 @@ octet-requires-2 : tie.Need-octet-requires-2
 octet-requires-2 c κs = search needs
 
 returns : tie.Need-returns
-returns c = first-differs (now (c .before .before .before .before .before .args .row)) (now (c .before .before .before .before .before .args .zero)) (c .before .before .octet .ensures) (c .before .octet2 .ensures) (c .if1 .taken)
+returns c = first-differs _ _ (c .before .before .octet .ensures) (c .before .octet2 .ensures) (c .if1 .taken)
 
 same-requires : tie.Need-same-requires
 same-requires c κs = search needs

@@ -31,7 +31,18 @@ both-requires-3 c κs = search needs
 
 returns : tie.Need-returns
 unfolding heldRowTest
-returns c = simp (c .both3 .ensures, c .before .both2 .ensures, c .before .before .both .ensures, c .before .before .before .same .ensures, c .before .before .before .before .tail2 .ensures, c .before .before .before .before .before .tail .ensures, c .before .before .before .before .before .before .octet2 .ensures, c .before .before .before .before .before .before .before .octet .ensures)
+returns c =
+    let g = c .before .before .before in
+    simp (
+      c .both3 .ensures,
+      c .before .both2 .ensures,
+      c .before .before .both .ensures,
+      g .same .ensures,
+      g .before .tail2 .ensures,
+      g .before .before .tail .ensures,
+      g .before .before .before .octet2 .ensures,
+      g .before .before .before .before .octet .ensures,
+    )
 
 pub is-held-row-spec : {M : Type 1} → statement M
 is-held-row-spec =

@@ -60,7 +60,15 @@ both-requires-2 : tie.Need-both-requires-2
 both-requires-2 c κs = search needs
 
 returns : tie.Need-returns
-returns c = key-tested (now (c .before .before .before .before .before .before .before .before .before .before .before .before .before .before .before .args .k)) (now (c .before .before .before .before .before .before .before .before .before .before .before .before .before .before .before .args .p)) (c .before .before .before .before .before .before .before .before .before .before .before .before .before .before .before .args .end) (c .before .before .before .before .before .before .before .before .before .before .before .before .counter-place .ensures) (c .before .before .before .before .before .before .before .before .before .before .before .span .ensures) (c .before .before .before .before .before .before .before .before .before .before .span2 .ensures) (rw (c .before .before .before .before .before .before .before .before .before .less .ensures) at (c .before .before .before .before .before .before .before .before .span3 .ensures)) (c .before .before .before .before .before .before .before .span4 .ensures) (c .before .before .before .before .before .before .same .ensures) (c .before .before .before .before .before .span5 .ensures) (c .before .before .before .before .same2 .ensures) (c .before .before .before .tail .ensures) (c .before .before .same3 .ensures) (c .before .both .ensures) (c .both2 .ensures)
+returns c =
+    let g = c .before .before .before .before .before .before in
+    let h = g .before .before .before in
+    key-tested _ _ _ (h .before .before .before .counter-place .ensures) (h .before .before .span .ensures) (h .before .span2 .ensures)
+    (rw (h .less .ensures) at (g .before .before .span3 .ensures)) (g .before .span4 .ensures) (g .same .ensures)
+    (c .before .before .before .before .before .span5 .ensures) (c .before .before .before .before .same2 .ensures)
+    (c .before .before .before .tail .ensures) (c .before .before .same3 .ensures) (c .before .both .ensures) (c .both2 .ensures)
 
 pub is-key-spec : {M : Type 1} → statement M
-is-key-spec = tie.close (tie.spec counter-place-requires span-requires sub-span span-requires-2 add-span add-less less-requires span-requires-3 span-requires-4 same-requires span-requires-5 same-requires-2 add-tail tail-requires same-requires-3 both-requires both-requires-2 returns)
+is-key-spec =
+    tie.close (tie.spec counter-place-requires span-requires sub-span span-requires-2 add-span add-less less-requires span-requires-3 span-requires-4
+    same-requires span-requires-5 same-requires-2 add-tail tail-requires same-requires-3 both-requires both-requires-2 returns)

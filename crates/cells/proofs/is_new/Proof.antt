@@ -12,10 +12,10 @@ find-on-requires : tie.Need-find-on-requires
 find-on-requires c κs = c .before .before .before .before .pre
 
 returns : tie.Need-returns
-returns c = new-found (c .before .before .before .before .before .args .s) (now (c .before .before .before .before .before .args .store)) (length (now (c .before .before .before .before .before .args .zero))) (c .before .before .before .before .before .args .i) (keyOf (now (c .before .before .before .before .before .args .q)) (readPacket (c .before .before .before .before .before .args .s) (now (c .before .before .before .before .before .args .q)))) (c .before .before .before .before .before .args .c) (c .before .if1 .taken) (c .find-on .ensures)
+returns c = new-found _ _ _ _ _ _ (c .before .if1 .taken) (c .find-on .ensures)
 
 returns-2 : tie.Need-returns-2
-returns-2 c = new-not (c .before .before .before .before .args .s) (now (c .before .before .before .before .args .store)) (length (now (c .before .before .before .before .args .zero))) (c .before .before .before .before .args .i) (keyOf (now (c .before .before .before .before .args .q)) (readPacket (c .before .before .before .before .args .s) (now (c .before .before .before .before .args .q)))) (c .before .before .before .before .args .c) (c .if1 .left)
+returns-2 c = new-not _ _ _ _ _ _ (c .if1 .left)
 
 pub is-new-spec : {M : Type 1} → statement M
 is-new-spec = tie.close (tie.spec find-on-requires returns returns-2)

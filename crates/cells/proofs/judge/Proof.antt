@@ -15,7 +15,7 @@ is-free-requires : tie.Need-is-free-requires
 is-free-requires c κs = search needs
 
 returns : tie.Need-returns
-returns c = told-free (c .before .before .before .before .args .s) (now (c .before .before .before .before .args .row)) (now (c .before .before .before .before .args .zero)) (c .before .before .before .before .pre) (c .before .is-free .ensures) (c .if1 .taken)
+returns c = told-free _ _ _ (c .before .before .before .before .pre) (c .before .is-free .ensures) (c .if1 .taken)
 
 packet-in-requires : tie.Need-packet-in-requires
 packet-in-requires c κs = search needs
@@ -24,7 +24,11 @@ read-requires : tie.Need-read-requires
 read-requires c κs = search needs
 
 add-is-held-row : tie.Need-add-is-held-row
-add-is-held-row c = record { fits = part-room (now (c .before .before .before .before .before .before .before .before .before .before .before .args .row)) (number 2 (now (c .before .before .before .before .before .before .before .before .before .before .before .args .row)) 6 + 7) (ap length (c .before .before .before .before .before .before .packet-in .ensures)) (omega arith) }
+add-is-held-row c =
+    record {
+      fits = part-room (now (c .before .before .before .before .before .before .before .before .before .before .before .args .row)) (number 2 _ 6 + 7)
+          (ap length (c .before .before .before .before .before .before .packet-in .ensures)) (omega arith);
+    }
 
 is-held-row-requires : tie.Need-is-held-row-requires
 is-held-row-requires c κs = search needs
@@ -36,10 +40,20 @@ both-requires-2 : tie.Need-both-requires-2
 both-requires-2 c κs = search needs
 
 returns-2 : tie.Need-returns-2
-returns-2 c = told-held (c .before .before .before .before .before .before .before .before .before .before .before .before .before .before .before .before .before .args .s) (now (c .before .before .before .before .before .before .before .before .before .before .before .before .before .before .before .before .before .args .row)) (now (c .before .before .before .before .before .before .before .before .before .before .before .before .before .before .before .before .before .args .zero)) (c .before .before .before .before .before .before .before .before .before .before .before .before .before .before .before .before .before .pre) (c .before .before .before .before .before .before .before .before .before .before .before .before .before .before .is-free .ensures) (c .before .before .before .before .before .before .before .before .before .before .before .before .before .if1 .left) (c .before .before .before .before .before .before .before .before .before .before .before .before .packet-in .ensures) (c .before .before .before .before .before .before .before .before .before .before .before .read .ensures .0) (c .before .before .before .before .before .is-held-row .ensures) (rw (c .before .before .both .ensures) at (c .before .both2 .ensures)) (c .if2 .taken)
+returns-2 c =
+    let g = c .before .before .before .before .before .before .before .before .before .before .before in
+    told-held _ _ _ (g .before .before .before .before .before .before .pre) (g .before .before .before .is-free .ensures) (g .before .before .if1 .left)
+    (g .before .packet-in .ensures) (g .read .ensures .0) (c .before .before .before .before .before .is-held-row .ensures)
+    (rw (c .before .before .both .ensures) at (c .before .both2 .ensures)) (c .if2 .taken)
 
 returns-3 : tie.Need-returns-3
-returns-3 c = told-broken (c .before .before .before .before .before .before .before .before .before .before .before .before .before .before .before .before .before .args .s) (now (c .before .before .before .before .before .before .before .before .before .before .before .before .before .before .before .before .before .args .row)) (now (c .before .before .before .before .before .before .before .before .before .before .before .before .before .before .before .before .before .args .zero)) (c .before .before .before .before .before .before .before .before .before .before .before .before .before .before .before .before .before .pre) (c .before .before .before .before .before .before .before .before .before .before .before .before .before .before .is-free .ensures) (c .before .before .before .before .before .before .before .before .before .before .before .before .before .if1 .left) (c .before .before .before .before .before .before .before .before .before .before .before .before .packet-in .ensures) (c .before .before .before .before .before .before .before .before .before .before .before .read .ensures .0) (c .before .before .before .before .before .is-held-row .ensures) (rw (c .before .before .both .ensures) at (c .before .both2 .ensures)) (c .if2 .left)
+returns-3 c =
+    let g = c .before .before .before .before .before .before .before .before .before .before .before in
+    told-broken _ _ _ (g .before .before .before .before .before .before .pre) (g .before .before .before .is-free .ensures) (g .before .before .if1 .left)
+    (g .before .packet-in .ensures) (g .read .ensures .0) (c .before .before .before .before .before .is-held-row .ensures)
+    (rw (c .before .before .both .ensures) at (c .before .both2 .ensures)) (c .if2 .left)
 
 pub judge-spec : {M : Type 1} → statement M
-judge-spec = tie.close (tie.spec is-free-requires returns packet-in-requires read-requires add-is-held-row is-held-row-requires both-requires both-requires-2 returns-2 returns-3)
+judge-spec =
+    tie.close (tie.spec is-free-requires returns packet-in-requires read-requires add-is-held-row is-held-row-requires both-requires both-requires-2 returns-2
+    returns-3)

@@ -26,7 +26,9 @@ is-free-requires : tie.Need-is-free-requires Inv-loop μ-loop
 is-free-requires c κs = search needs
 
 returns : tie.Need-returns Inv-loop μ-loop
-returns c = seeking-found (c .before .before .before .before .loop .inv) (c .before .before .before .loop-test .taken) (row-free (now (c .before .before .before .before .before .before .before .args .store)) (now (c .before .before .before .before .before .before .before .args .zero)) (c .before .before .before .before .loop .i) (c .before .before .row .ensures) (c .before .is-free .ensures) (c .if1 .taken))
+returns c =
+    seeking-found (c .before .before .before .before .loop .inv) (c .before .before .before .loop-test .taken)
+    (row-free _ _ _ (c .before .before .row .ensures) (c .before .is-free .ensures) (c .if1 .taken))
 
 add-i : tie.Need-add-i Inv-loop μ-loop
 add-i c = search needs
@@ -35,7 +37,9 @@ loop-less : tie.Need-loop-less Inv-loop μ-loop
 loop-less c = search needs
 
 loop-again : tie.Need-loop-again Inv-loop μ-loop
-loop-again c = seeking-turn (c .before .before .before .before .loop .inv) (c .before .before .before .loop-test .taken) (row-free (now (c .before .before .before .before .before .before .before .args .store)) (now (c .before .before .before .before .before .before .before .args .zero)) (c .before .before .before .before .loop .i) (c .before .before .row .ensures) (c .before .is-free .ensures) (c .if1 .left))
+loop-again c =
+    seeking-turn (c .before .before .before .before .loop .inv) (c .before .before .before .loop-test .taken)
+    (row-free _ _ _ (c .before .before .row .ensures) (c .before .is-free .ensures) (c .if1 .left))
 
 returns-2 : tie.Need-returns-2 Inv-loop μ-loop
 returns-2 c = seeking-none (c .before .loop .inv) (c .loop-test .left)

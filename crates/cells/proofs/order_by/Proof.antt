@@ -11,7 +11,9 @@ sound-by-requires : tie.Need-sound-by-requires
 sound-by-requires c κs = search needs
 
 distinct-by-requires : tie.Need-distinct-by-requires
-distinct-by-requires c κs = (c .before .before .before .before .before .before .before .pre .0, (c .before .before .before .before .before .before .before .pre .1 .0, (bodies-left (c .before .before .before .before .before .before .before .args .s) (length (now (c .before .before .before .before .before .before .before .args .zero))) (now (c .before .before .before .before .before .before .before .args .store)) (c .before .before .before .before .before .before .before .pre .1 .0) (c .before .before .before .sound-by .ensures .1), c .before .before .before .before .before .before .before .pre .1 .1)))
+distinct-by-requires c κs =
+    let g = c .before .before .before .before .before .before .before .pre in
+    (g .0, (g .1 .0, (bodies-left _ _ _ (g .1 .0) (c .before .before .before .sound-by .ensures .1), g .1 .1)))
 
 returns : tie.Need-returns
 returns c = search needs

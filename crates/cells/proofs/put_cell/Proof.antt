@@ -18,7 +18,10 @@ same-length : tie.Need-same-length
 same-length c = search needs
 
 returns : tie.Need-returns
-returns c = put-there _ _ _ _ (c .before .before .before .before .before .before .before .before .place .ensures) (c .before .before .before .before .before .before .before .before .before .before .before .pre) (c .before .before .before .before .before .before .lay-number .ensures) (c .before .before .lay .ensures)
+returns c =
+    let g = c .before .before .before .before .before .before in
+    put-there _ _ _ _ (g .before .before .place .ensures) (g .before .before .before .before .before .pre) (g .lay-number .ensures)
+    (c .before .before .lay .ensures)
 
 pub put-cell-spec : {M : Type 1} → statement M
 put-cell-spec =

@@ -27,13 +27,29 @@ same-requires : tie.Need-same-requires
 same-requires c κs = search needs
 
 sub-span : tie.Need-sub-span
-sub-span c = omega (arith, c .before .before .before .before .before .counter-place .ensures, c .before .before .before .before .counter-place2 .ensures, place-least (now (c .before .before .before .before .before .before .before .before .args .p)), place-least (now (c .before .before .before .before .before .before .before .before .args .q)))
+sub-span c =
+    let g = c .before .before .before .before in
+    omega (
+      arith,
+      g .before .counter-place .ensures,
+      g .counter-place2 .ensures,
+      place-least (now (g .before .before .before .before .args .p)),
+      place-least (now (g .before .before .before .before .args .q)),
+    )
 
 span-requires-3 : tie.Need-span-requires-3
 span-requires-3 c κs = search needs
 
 sub-span-2 : tie.Need-sub-span-2
-sub-span-2 c = omega (arith, c .before .before .before .before .before .before .counter-place .ensures, c .before .before .before .before .before .counter-place2 .ensures, place-least (now (c .before .before .before .before .before .before .before .before .before .args .p)), place-least (now (c .before .before .before .before .before .before .before .before .before .args .q)))
+sub-span-2 c =
+    let g = c .before .before .before .before .before in
+    omega (
+      arith,
+      g .before .counter-place .ensures,
+      g .counter-place2 .ensures,
+      place-least (now (g .before .before .before .before .args .p)),
+      place-least (now (g .before .before .before .before .args .q)),
+    )
 
 span-requires-4 : tie.Need-span-requires-4
 span-requires-4 c κs = search needs
@@ -42,10 +58,26 @@ same-requires-2 : tie.Need-same-requires-2
 same-requires-2 c κs = search needs
 
 add-span : tie.Need-add-span
-add-span c = omega (arith, c .before .before .before .before .before .before .before .before .counter-place .ensures, c .before .before .before .before .before .before .before .counter-place2 .ensures, place-least (now (c .before .before .before .before .before .before .before .before .before .before .before .args .p)), place-least (now (c .before .before .before .before .before .before .before .before .before .before .before .args .q)))
+add-span c =
+    let g = c .before .before .before .before .before .before .before in
+    omega (
+      arith,
+      g .before .counter-place .ensures,
+      g .counter-place2 .ensures,
+      place-least (now (g .before .before .before .before .args .p)),
+      place-least (now (g .before .before .before .before .args .q)),
+    )
 
 add-less : tie.Need-add-less
-add-less c = omega (arith, c .before .before .before .before .before .before .before .before .counter-place .ensures, c .before .before .before .before .before .before .before .counter-place2 .ensures, place-least (now (c .before .before .before .before .before .before .before .before .before .before .before .args .p)), place-least (now (c .before .before .before .before .before .before .before .before .before .before .before .args .q)))
+add-less c =
+    let g = c .before .before .before .before .before .before .before in
+    omega (
+      arith,
+      g .before .counter-place .ensures,
+      g .counter-place2 .ensures,
+      place-least (now (g .before .before .before .before .args .p)),
+      place-least (now (g .before .before .before .before .args .q)),
+    )
 
 less-requires : tie.Need-less-requires
 less-requires c κs = search needs
@@ -54,10 +86,26 @@ span-requires-5 : tie.Need-span-requires-5
 span-requires-5 c κs = search needs
 
 add-span-2 : tie.Need-add-span-2
-add-span-2 c = omega (arith, c .before .before .before .before .before .before .before .before .before .before .counter-place .ensures, c .before .before .before .before .before .before .before .before .before .counter-place2 .ensures, place-least (now (c .before .before .before .before .before .before .before .before .before .before .before .before .before .args .p)), place-least (now (c .before .before .before .before .before .before .before .before .before .before .before .before .before .args .q)))
+add-span-2 c =
+    let g = c .before .before .before .before .before .before .before .before .before in
+    omega (
+      arith,
+      g .before .counter-place .ensures,
+      g .counter-place2 .ensures,
+      place-least (now (g .before .before .before .before .args .p)),
+      place-least (now (g .before .before .before .before .args .q)),
+    )
 
 add-less-2 : tie.Need-add-less-2
-add-less-2 c = omega (arith, c .before .before .before .before .before .before .before .before .before .before .counter-place .ensures, c .before .before .before .before .before .before .before .before .before .counter-place2 .ensures, place-least (now (c .before .before .before .before .before .before .before .before .before .before .before .before .before .args .p)), place-least (now (c .before .before .before .before .before .before .before .before .before .before .before .before .before .args .q)))
+add-less-2 c =
+    let g = c .before .before .before .before .before .before .before .before .before in
+    omega (
+      arith,
+      g .before .counter-place .ensures,
+      g .counter-place2 .ensures,
+      place-least (now (g .before .before .before .before .args .p)),
+      place-least (now (g .before .before .before .before .args .q)),
+    )
 
 less-requires-2 : tie.Need-less-requires-2
 less-requires-2 c κs = search needs
@@ -79,7 +127,29 @@ both-requires-4 c κs = search needs
 
 returns : tie.Need-returns
 unfolding spansAlike
-returns c = simp (c .both4 .ensures, c .before .both3 .ensures, c .before .before .both2 .ensures, c .before .before .before .same3 .ensures, c .before .before .before .before .span6 .ensures, c .before .before .before .before .before .less2 .ensures, c .before .before .before .before .before .before .span5 .ensures, c .before .before .before .before .before .before .before .less .ensures, c .before .before .before .before .before .before .before .before .same2 .ensures, c .before .before .before .before .before .before .before .before .before .span4 .ensures, c .before .before .before .before .before .before .before .before .before .before .span3 .ensures, c .before .before .before .before .before .before .before .before .before .before .before .same .ensures, c .before .before .before .before .before .before .before .before .before .before .before .before .span2 .ensures, c .before .before .before .before .before .before .before .before .before .before .before .before .before .span .ensures, c .before .before .before .before .before .before .before .before .before .before .before .before .before .before .both .ensures, c .before .before .before .before .before .before .before .before .before .before .before .before .before .before .before .counter-place2 .ensures, c .before .before .before .before .before .before .before .before .before .before .before .before .before .before .before .before .counter-place .ensures)
+returns c =
+    let g = c .before .before .before .before .before .before .before .before in
+    let h = g .before .before .before .before in
+    let k = c .before .before .before in
+    simp (
+      c .both4 .ensures,
+      c .before .both3 .ensures,
+      c .before .before .both2 .ensures,
+      k .same3 .ensures,
+      k .before .span6 .ensures,
+      k .before .before .less2 .ensures,
+      k .before .before .before .span5 .ensures,
+      k .before .before .before .before .less .ensures,
+      g .same2 .ensures,
+      g .before .span4 .ensures,
+      g .before .before .span3 .ensures,
+      g .before .before .before .same .ensures,
+      h .span2 .ensures,
+      h .before .span .ensures,
+      h .before .before .both .ensures,
+      h .before .before .before .counter-place2 .ensures,
+      h .before .before .before .before .counter-place .ensures,
+    )
 
 pub same-key-spec : {M : Type 1} → statement M
 same-key-spec =

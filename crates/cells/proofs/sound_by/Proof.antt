@@ -24,7 +24,11 @@ judge-requires : tie.Need-judge-requires Inv-loop μ-loop
 judge-requires c κs = c .before .before .before .before .before .pre .0
 
 cast-bodies : tie.Need-cast-bodies Inv-loop μ-loop
-cast-bodies c = record { fits = place-small (c .before .before .before .before .loop .inv) (c .before .before .row .ensures) (c .before .judge .ensures) (λ j. c .before .before .before .before .before .before .shared-slice-known .given j .fits) }
+cast-bodies c =
+    record {
+      fits = place-small (c .before .before .before .before .loop .inv) (c .before .before .row .ensures) (c .before .judge .ensures)
+          (λ j. c .before .before .before .before .before .before .shared-slice-known .given j .fits);
+    }
 
 mul-bodies : tie.Need-mul-bodies Inv-loop μ-loop
 mul-bodies c = omega (arith, c .before .before .before .loop-test .taken, c .before .before .before .before .before .before .before .pre .1)
@@ -42,10 +46,14 @@ loop-less : tie.Need-loop-less Inv-loop μ-loop
 loop-less c = search needs
 
 loop-again : tie.Need-loop-again Inv-loop μ-loop
-loop-again c = sounding-turn (c .before .before .before .before .before .before .loop .inv) (c .before .before .before .before .row .ensures) (c .before .before .before .judge .ensures) (c .before .before .before .before .before .loop-test .taken) (c .both .ensures)
+loop-again c =
+    let g = c .before .before .before in
+    sounding-turn (g .before .before .before .loop .inv) (g .before .row .ensures) (g .judge .ensures) (g .before .before .loop-test .taken) (c .both .ensures)
 
 returns : tie.Need-returns Inv-loop μ-loop
 returns c = (sounding-sound (c .before .loop .inv) (c .loop-test .left), sounding-bodies (c .before .loop .inv) (c .loop-test .left))
 
 pub sound-by-spec : {M : Type 1} → statement M
-sound-by-spec = tie.close (tie.spec Inv-loop μ-loop loop-holds row-requires judge-requires cast-bodies mul-bodies element-write-bodies both-requires add-i loop-less loop-again returns)
+sound-by-spec =
+    tie.close (tie.spec Inv-loop μ-loop loop-holds row-requires judge-requires cast-bodies mul-bodies element-write-bodies both-requires add-i loop-less
+    loop-again returns)

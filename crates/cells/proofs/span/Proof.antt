@@ -28,8 +28,9 @@ part-result-end c = search needs
 returns : tie.Need-returns
 returns c =
     let g = now (c .before .before .before .before .args .x) in
-    let f : c .before .before .within .result ≡ min (c .before .before .before .before .args .at) (length g) = omega (arith, c .before .before .within .ensures) in
-    part-at g (c .before .before .before .before .args .at) (c .before .before .before .before .args .n) f (c .before .within2 .ensures)
+    let f : c .before .before .within .result ≡ min (c .before .before .before .before .args .at) (length g) =
+    omega (arith, c .before .before .within .ensures) in
+    part-at g _ _ f (c .before .within2 .ensures)
 
 pub span-spec : {M : Type 1} → statement M
 span-spec =

@@ -39,7 +39,18 @@ loop-less : tie.Need-loop-less Inv-loop μ-loop
 loop-less c = search needs
 
 loop-again : tie.Need-loop-again Inv-loop μ-loop
-loop-again c = ⊎-elim (λ w. clearing-here (now (c .before .before .before .before .before .before .before .before .before .args .zero)) (c .before .before .before .before .before .loop .inv) (c .before .before .before .before .loop-test .taken) (c .before .before .before .before .before .before .before .before .before .pre) (sym (clearing-told (λ (r : List ℕ). withinIn (now (c .before .before .before .before .before .before .before .before .before .args .key)) (c .before .before .before .before .before .before .before .before .before .args .from) (c .before .before .before .before .before .before .before .before .before .args .to) (cellOf (c .before .before .before .before .before .before .before .before .before .args .s) (length (now (c .before .before .before .before .before .before .before .before .before .args .zero))) r)) (length (now (c .before .before .before .before .before .before .before .before .before .args .zero))) (c .before .before .before .before .before .loop .inv) (c .before .before .row .ensures) (c .before .is-within .ensures)) ∙ w .0 .taken) (w .5 ∙ w .2 .ensures)) (λ w. clearing-not (c .before .before .before .before .before .loop .inv) (c .before .before .before .before .loop-test .taken) (sym (clearing-told (λ (r : List ℕ). withinIn (now (c .before .before .before .before .before .before .before .before .before .args .key)) (c .before .before .before .before .before .before .before .before .before .args .from) (c .before .before .before .before .before .before .before .before .before .args .to) (cellOf (c .before .before .before .before .before .before .before .before .before .args .s) (length (now (c .before .before .before .before .before .before .before .before .before .args .zero))) r)) (length (now (c .before .before .before .before .before .before .before .before .before .args .zero))) (c .before .before .before .before .before .loop .inv) (c .before .before .row .ensures) (c .before .is-within .ensures)) ∙ w .0 .left) (w .1)) (c .if1 .came)
+loop-again c =
+    let g = c .before .before .before .before .before .before .before .before .before in
+    let h = c .before .before .before .before in
+    let k = h .before .loop .inv in
+    ⊎-elim (λ w. clearing-here (now (g .args .zero)) k (h .loop-test .taken) (g .pre)
+    (sym (clearing-told (λ (r : List ℕ). withinIn (now (g .args .key)) (g .args .from) (g .args .to)
+    (cellOf (g .args .s) (length (now (g .args .zero))) r))
+    (length (now (g .args .zero))) k (c .before .before .row .ensures) (c .before .is-within .ensures)) ∙ w .0 .taken) (w .5 ∙ w .2 .ensures))
+    (λ w. clearing-not k (h .loop-test .taken)
+    (sym (clearing-told (λ (r : List ℕ). withinIn (now (g .args .key)) (g .args .from) (g .args .to)
+    (cellOf (g .args .s) (length (now (g .args .zero))) r))
+    (length (now (g .args .zero))) k (c .before .before .row .ensures) (c .before .is-within .ensures)) ∙ w .0 .left) (w .1)) (c .if1 .came)
 
 same-length : tie.Need-same-length Inv-loop μ-loop
 same-length c = clearing-long (c .before .loop .inv)

@@ -17,7 +17,10 @@ same-length : tie.Need-same-length
 same-length c = search needs
 
 returns : tie.Need-returns
-returns c = c .before .before .copy .ensures ∙ zero-there (now (c .before .before .before .before .before .before .before .args .store)) (now (c .before .before .before .before .before .before .before .args .zero)) (c .before .before .before .before .before .before .before .args .i) (c .before .before .before .before .place .ensures)
+returns c =
+    let g = c .before .before .before .before in
+    c .before .before .copy .ensures ∙ zero-there (now (g .before .before .before .args .store)) (now (g .before .before .before .args .zero)) _
+    (g .place .ensures)
 
 pub put-zero-spec : {M : Type 1} → statement M
 put-zero-spec =

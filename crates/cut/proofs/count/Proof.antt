@@ -18,18 +18,24 @@ plan-of-requires c κs = search needs
 
 returns : tie.Need-returns
 returns c =
-    let g = c .before .before .before .before .before .before .before .before .before .before .before .before .args in
-    refused-count (g .s) (g .p) (g .v) (lent (now (g .time)) (now (g .zone)) (now (g .name)) (now (g .domain)) (now (g .lengths)) (now (g .id))) (g .body) (g .sender) (c .before .before .before .before .before .test-message .ensures) (c .before .before .before .before .header-size .ensures) (c .before .before .before .plan-of .ensures) (c .if1 .taken)
+    let h = c .before .before .before in
+    let g = h .before .before .before .before .before .before .before .before .before .args in
+    refused-count (g .s) (g .p) (g .v) _ (g .body) _ (h .before .before .test-message .ensures) (h .before .header-size .ensures) (h .plan-of .ensures)
+    (c .if1 .taken)
 
 moved-on-requires : tie.Need-moved-on-requires
 moved-on-requires c κs =
-    let g = c .before .before .before .before .before .before .before .before .before .before .before .before .args in
-    small-count (g .s) (g .p) (g .v) (lent (now (g .time)) (now (g .zone)) (now (g .name)) (now (g .domain)) (now (g .lengths)) (now (g .id))) (g .body) (g .sender) (c .before .before .before .before .before .test-message .ensures) (c .before .before .before .before .header-size .ensures) (c .before .before .before .plan-of .ensures) (c .if1 .left)
+    let h = c .before .before .before in
+    let g = h .before .before .before .before .before .before .before .before .before .args in
+    small-count (g .s) (g .p) (g .v) _ (g .body) _ (h .before .before .test-message .ensures) (h .before .header-size .ensures) (h .plan-of .ensures)
+    (c .if1 .left)
 
 returns-2 : tie.Need-returns-2
 returns-2 c =
-    let g = c .before .before .before .before .before .before .before .before .before .before .before .before .before .args in
-    made-count (g .s) (g .p) (g .v) (lent (now (g .time)) (now (g .zone)) (now (g .name)) (now (g .domain)) (now (g .lengths)) (now (g .id))) (g .body) (g .sender) (c .before .before .before .before .before .before .test-message .ensures) (c .before .before .before .before .before .header-size .ensures) (c .before .before .before .before .plan-of .ensures) (c .before .if1 .left) (c .moved-on .ensures)
+    let h = c .before .before .before .before in
+    let g = h .before .before .before .before .before .before .before .before .before .args in
+    made-count (g .s) (g .p) (g .v) _ (g .body) _ (h .before .before .test-message .ensures) (h .before .header-size .ensures) (h .plan-of .ensures)
+    (c .before .if1 .left) (c .moved-on .ensures)
 
 pub count-spec : {M : Type 1} → statement M
 count-spec =

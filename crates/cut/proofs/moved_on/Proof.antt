@@ -18,7 +18,9 @@ count-after-requires : tie.Need-count-after-requires
 count-after-requires c κs = search needs
 
 returns-2 : tie.Need-returns-2
-returns-2 c = rw (c .before .before .before .if1 .left) (moved-both _ _ (c .before .before .before .before .pre) (c .count-after .ensures) (c .before .before .counter-after .ensures))
+returns-2 c =
+    rw (c .before .before .before .if1 .left) (moved-both _ _ (c .before .before .before .before .pre) (c .count-after .ensures)
+    (c .before .before .counter-after .ensures))
 
 pub moved-on-spec : {M : Type 1} → statement M
 moved-on-spec =

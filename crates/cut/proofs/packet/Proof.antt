@@ -30,18 +30,21 @@ to-of-requires c κs = search needs
 sub-part : tie.Need-sub-part
 sub-part c =
     let g = c .before .before .before .before .before .before .before .before .before .before .before .before .before .before .args in
-    part-inside (c .before .before .before .plan-of .result .single) (c .before .before .before .plan-of .result .chunk) (g .i) (length (now (g .body))) (c .before .from-of .ensures) (c .to-of .ensures) .0
+    part-inside (c .before .before .before .plan-of .result .single) (c .before .before .before .plan-of .result .chunk) (g .i) (length (now (g .body)))
+    (c .before .from-of .ensures) (c .to-of .ensures) .0
 
 part-part-start : tie.Need-part-part-start
 part-part-start c =
     let g = c .before .before .before .before .before .before .before .before .before .before .before .before .before .before .args in
-    let k = part-inside (c .before .before .before .plan-of .result .single) (c .before .before .before .plan-of .result .chunk) (g .i) (length (now (g .body))) (c .before .from-of .ensures) (c .to-of .ensures) in
+    let k = part-inside (c .before .before .before .plan-of .result .single) (c .before .before .before .plan-of .result .chunk) (g .i) _
+    (c .before .from-of .ensures) (c .to-of .ensures) in
     search needs
 
 part-part-end : tie.Need-part-part-end
 part-part-end c =
     let g = c .before .before .before .before .before .before .before .before .before .before .before .before .before .before .args in
-    let k = part-inside (c .before .before .before .plan-of .result .single) (c .before .before .before .plan-of .result .chunk) (g .i) (length (now (g .body))) (c .before .from-of .ensures) (c .to-of .ensures) in
+    let k = part-inside (c .before .before .before .plan-of .result .single) (c .before .before .before .plan-of .result .chunk) (g .i) _
+    (c .before .from-of .ensures) (c .to-of .ensures) in
     search needs
 
 secondary-size-requires : tie.Need-secondary-size-requires
@@ -61,13 +64,31 @@ refused-requires c κs = search needs
 
 returns : tie.Need-returns
 returns c =
-    let g = c .before .before .before .before .before .before .before .before .before .before .before .before .before .before .before .before .before .before .before .before .before .before .before .args in
-    (rw (c .refused .ensures) (refused-packet (g .s) (g .p) (g .v) (lent (now (g .time)) (now (g .zone)) (now (g .name)) (now (g .domain)) (now (g .lengths)) (now (g .id))) (now (g .body)) (g .sender) (g .i) (c .before .before .before .before .before .before .before .before .before .before .before .before .before .before .test-message .ensures) (c .before .before .before .before .before .before .before .before .before .before .before .before .before .header-size .ensures) (c .before .before .before .before .before .before .before .before .before .before .before .before .plan-of .ensures) (c .before .before .before .before .before .before .before .before .before .before .before .values-at .ensures) (c .before .before .before .before .before .before .before .before .before .before .from-of .ensures) (c .before .before .before .before .before .before .before .before .before .to-of .ensures) (c .before .before .before .before .before .before .before .secondary-size .ensures) (c .before .before .before .before .before .before .packet-size .ensures) (length (now (g .out))) (c .before .before .before .before .unless .ensures) (c .before .before .before .unless2 .ensures) (c .before .if1 .taken)), refused-output (g .s) (g .p) (g .v) (lent (now (g .time)) (now (g .zone)) (now (g .name)) (now (g .domain)) (now (g .lengths)) (now (g .id))) (now (g .body)) (g .sender) (g .i) (c .before .before .before .before .before .before .before .before .before .before .before .before .before .before .test-message .ensures) (c .before .before .before .before .before .before .before .before .before .before .before .before .before .header-size .ensures) (c .before .before .before .before .before .before .before .before .before .before .before .before .plan-of .ensures) (c .before .before .before .before .before .before .before .before .before .before .before .values-at .ensures) (c .before .before .before .before .before .before .before .before .before .before .from-of .ensures) (c .before .before .before .before .before .before .before .before .before .to-of .ensures) (c .before .before .before .before .before .before .before .secondary-size .ensures) (c .before .before .before .before .before .before .packet-size .ensures) (now (g .out)) (c .before .before .before .before .unless .ensures) (c .before .before .before .unless2 .ensures) (c .before .if1 .taken))
+    let h = c .before .before .before .before .before .before .before .before .before in
+    let k = c .before .before .before in
+    let l = h .before .before .before in
+    let g = l .before .before .before .before .before .before .before .before .before .before .before .args in (
+      rw (c .refused .ensures) (refused-packet (g .s) (g .p) (g .v) _ _ _ (g .i) (l .before .before .test-message .ensures) (l .before .header-size .ensures)
+          (l .plan-of .ensures) (h .before .before .values-at .ensures) (h .before .from-of .ensures) (h .to-of .ensures)
+          (k .before .before .before .before .secondary-size .ensures) (k .before .before .before .packet-size .ensures) _ (k .before .unless .ensures)
+          (k .unless2 .ensures) (c .before .if1 .taken)),
+      refused-output (g .s) (g .p) (g .v) _ _ _ (g .i) (l .before .before .test-message .ensures) (l .before .header-size .ensures) (l .plan-of .ensures)
+          (h .before .before .values-at .ensures) (h .before .from-of .ensures) (h .to-of .ensures) (k .before .before .before .before .secondary-size .ensures)
+          (k .before .before .before .packet-size .ensures) _ (k .before .unless .ensures) (k .unless2 .ensures) (c .before .if1 .taken),
+    )
 
 sub-n : tie.Need-sub-n
 sub-n c =
-    let g = c .before .before .before .before .before .before .before .before .before .before .before .before .before .before .before .before .before .before .before .before .before .before .args in
-    omega (arith, done (g .s) (g .p) (g .v) (lent (now (g .time)) (now (g .zone)) (now (g .name)) (now (g .domain)) (now (g .lengths)) (now (g .id))) (now (g .body)) (g .sender) (g .i) (c .before .before .before .before .before .before .before .before .before .before .before .before .before .test-message .ensures) (c .before .before .before .before .before .before .before .before .before .before .before .before .header-size .ensures) (c .before .before .before .before .before .before .before .before .before .before .before .plan-of .ensures) (c .before .before .before .before .before .before .before .before .before .before .values-at .ensures) (c .before .before .before .before .before .before .before .before .before .from-of .ensures) (c .before .before .before .before .before .before .before .before .to-of .ensures) (c .before .before .before .before .before .before .secondary-size .ensures) (c .before .before .before .before .before .packet-size .ensures) (length (now (g .out))) (c .before .before .before .unless .ensures) (c .before .before .unless2 .ensures) (c .if1 .left) .least)
+    let h = c .before .before .before .before .before .before .before .before in
+    let g = h .before .before .before .before .before .before .before .before .before .before .before .before .before .before .args in
+    omega (
+      arith,
+      done (g .s) (g .p) (g .v) _ _ _ (g .i) (h .before .before .before .before .before .test-message .ensures)
+          (h .before .before .before .before .header-size .ensures) (h .before .before .before .plan-of .ensures) (h .before .before .values-at .ensures)
+          (h .before .from-of .ensures) (h .to-of .ensures) (c .before .before .before .before .before .before .secondary-size .ensures)
+          (c .before .before .before .before .before .packet-size .ensures) _ (c .before .before .before .unless .ensures) (c .before .before .unless2 .ensures)
+          (c .if1 .left) .least,
+    )
 
 put-packet-requires : tie.Need-put-packet-requires
 put-packet-requires c κs = search needs
@@ -77,8 +98,19 @@ same-length c = search needs
 
 returns-2 : tie.Need-returns-2
 returns-2 c =
-    let g = c .before .before .before .before .before .before .before .before .before .before .before .before .before .before .before .before .before .before .before .before .before .before .before .before .before .before .args in
-    (made-packet (g .s) (g .p) (g .v) (lent (now (g .time)) (now (g .zone)) (now (g .name)) (now (g .domain)) (now (g .lengths)) (now (g .id))) (now (g .body)) (g .sender) (g .i) (c .before .before .before .before .before .before .before .before .before .before .before .before .before .before .before .before .before .test-message .ensures) (c .before .before .before .before .before .before .before .before .before .before .before .before .before .before .before .before .header-size .ensures) (c .before .before .before .before .before .before .before .before .before .before .before .before .before .before .before .plan-of .ensures) (c .before .before .before .before .before .before .before .before .before .before .before .before .before .before .values-at .ensures) (c .before .before .before .before .before .before .before .before .before .before .before .before .before .from-of .ensures) (c .before .before .before .before .before .before .before .before .before .before .before .before .to-of .ensures) (c .before .before .before .before .before .before .before .before .before .before .secondary-size .ensures) (c .before .before .before .before .before .before .before .before .before .packet-size .ensures) (length (now (g .out))) (c .before .before .before .before .before .before .before .unless .ensures) (c .before .before .before .before .before .before .unless2 .ensures) (c .before .before .before .before .if1 .left), made-output (g .s) (g .p) (g .v) (lent (now (g .time)) (now (g .zone)) (now (g .name)) (now (g .domain)) (now (g .lengths)) (now (g .id))) (now (g .body)) (g .sender) (g .i) (c .before .before .before .before .before .before .before .before .before .before .before .before .before .before .before .before .before .test-message .ensures) (c .before .before .before .before .before .before .before .before .before .before .before .before .before .before .before .before .header-size .ensures) (c .before .before .before .before .before .before .before .before .before .before .before .before .before .before .before .plan-of .ensures) (c .before .before .before .before .before .before .before .before .before .before .before .before .before .before .values-at .ensures) (c .before .before .before .before .before .before .before .before .before .before .before .before .before .from-of .ensures) (c .before .before .before .before .before .before .before .before .before .before .before .before .to-of .ensures) (c .before .before .before .before .before .before .before .before .before .before .secondary-size .ensures) (c .before .before .before .before .before .before .before .before .before .packet-size .ensures) (now (g .out)) (c .before .before .before .before .before .before .before .unless .ensures) (c .before .before .before .before .before .before .unless2 .ensures) (c .before .before .before .before .if1 .left) (c .before .before .put-packet .ensures))
+    let h = c .before .before .before .before .before .before .before .before .before in
+    let k = h .before .before .before .before in
+    let l = c .before .before .before .before in
+    let g = k .before .before .before .before .before .before .before .before .before .before .before .before .before .args in (
+      made-packet (g .s) (g .p) (g .v) _ _ _ (g .i) (k .before .before .before .before .test-message .ensures) (k .before .before .before .header-size .ensures)
+          (k .before .before .plan-of .ensures) (k .before .values-at .ensures) (k .from-of .ensures) (h .before .before .before .to-of .ensures)
+          (h .before .secondary-size .ensures) (h .packet-size .ensures) _ (l .before .before .before .unless .ensures) (l .before .before .unless2 .ensures)
+          (l .if1 .left),
+      made-output (g .s) (g .p) (g .v) _ _ _ (g .i) (k .before .before .before .before .test-message .ensures)
+          (k .before .before .before .header-size .ensures) (k .before .before .plan-of .ensures) (k .before .values-at .ensures) (k .from-of .ensures)
+          (h .before .before .before .to-of .ensures) (h .before .secondary-size .ensures) (h .packet-size .ensures) _
+          (l .before .before .before .unless .ensures) (l .before .before .unless2 .ensures) (l .if1 .left) (c .before .before .put-packet .ensures),
+    )
 
 pub packet-spec : {M : Type 1} → statement M
 packet-spec =

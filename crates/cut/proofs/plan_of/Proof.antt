@@ -40,7 +40,21 @@ unless-requires-4 c κs = search needs
 
 returns : tie.Need-returns
 unfolding planOf planRefusal
-returns c = simp (c .unless4 .ensures, c .before .either2 .ensures, c .before .before .counters-fit .ensures, c .before .before .before .unless3 .ensures, c .before .before .before .before .either .ensures, c .before .before .before .before .before .unless2 .ensures, c .before .before .before .before .before .before .header-of .ensures, c .before .before .before .before .before .before .before .unless .ensures, c .before .before .before .before .before .before .before .before .count-of .ensures, c .before .before .before .before .before .before .before .before .before .chunk-of .ensures, c .before .before .before .before .before .before .before .before .before .before .packet-size .ensures)
+returns c =
+    let g = c .before .before .before .before .before in
+    simp (
+      c .unless4 .ensures,
+      c .before .either2 .ensures,
+      c .before .before .counters-fit .ensures,
+      c .before .before .before .unless3 .ensures,
+      c .before .before .before .before .either .ensures,
+      g .unless2 .ensures,
+      g .before .header-of .ensures,
+      g .before .before .unless .ensures,
+      g .before .before .before .count-of .ensures,
+      g .before .before .before .before .chunk-of .ensures,
+      g .before .before .before .before .before .packet-size .ensures,
+    )
 
 pub plan-of-spec : {M : Type 1} → statement M
 plan-of-spec =

@@ -20,7 +20,13 @@ test-parts-requires c κs = search needs
 
 returns : tie.Need-returns
 unfolding valueTests partsTest
-returns c = simp (c .test-parts .ensures, c .before .unless .ensures, c .before .before .before .test-header .ensures, c .before .before .before .before .test-limit .ensures)
+returns c =
+    simp (
+      c .test-parts .ensures,
+      c .before .unless .ensures,
+      c .before .before .before .test-header .ensures,
+      c .before .before .before .before .test-limit .ensures,
+    )
 
 pub test-message-spec : {M : Type 1} → statement M
 test-message-spec =

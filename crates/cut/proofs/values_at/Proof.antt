@@ -16,7 +16,12 @@ counter-at-requires c κs = search needs
 
 returns : tie.Need-returns
 unfolding valuesOf
-returns c = λ j. record { flags = c .before .before .flags-at .ensures j; count = record { 0 = c .before .count-after .ensures j }; counter = record { 0 = c .counter-at .ensures j } }
+returns c =
+    λ j. record {
+      flags = c .before .before .flags-at .ensures j;
+      count = record { 0 = c .before .count-after .ensures j };
+      counter = record { 0 = c .counter-at .ensures j };
+    }
 
 pub values-at-spec : {M : Type 1} → statement M
 values-at-spec =

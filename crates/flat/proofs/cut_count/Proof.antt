@@ -20,16 +20,19 @@ cut-too-wide-requires c κs = search needs
 
 returns : tie.Need-returns
 returns c =
-    let e = together _ _ _ _ _ (c .before .before .before .before .header-fits .ensures) (c .before .before .before .sender-fits .ensures) (c .before .before .both .ensures) in
+    let e = together _ _ _ _ _ (c .before .before .before .before .header-fits .ensures) (c .before .before .before .sender-fits .ensures)
+    (c .before .before .both .ensures) in
     count-refused _ _ _ _ _ _ e (not-true _ (c .before .if1 .taken)) _ (c .cut-too-wide .ensures) _
 
 header-of-requires : tie.Need-header-of-requires
 header-of-requires c κs =
-    first-held _ _ _ _ _ (c .before .before .before .header-fits .ensures) (c .before .before .sender-fits .ensures) (c .before .both .ensures) (not-false _ (c .if1 .left))
+    first-held _ _ _ _ _ (c .before .before .before .header-fits .ensures) (c .before .before .sender-fits .ensures) (c .before .both .ensures)
+    (not-false _ (c .if1 .left))
 
 sender-of-requires : tie.Need-sender-of-requires
 sender-of-requires c κs =
-    second-held _ _ _ _ _ (c .before .before .before .before .header-fits .ensures) (c .before .before .before .sender-fits .ensures) (c .before .before .both .ensures) (not-false _ (c .before .if1 .left))
+    second-held _ _ _ _ _ (c .before .before .before .before .header-fits .ensures) (c .before .before .before .sender-fits .ensures)
+    (c .before .before .both .ensures) (not-false _ (c .before .if1 .left))
 
 count-requires : tie.Need-count-requires
 count-requires c κs = search needs
@@ -39,9 +42,11 @@ counted-numbers-requires c κs = search needs
 
 returns-2 : tie.Need-returns-2
 returns-2 c =
-    let e = together _ _ _ _ _ (c .before .before .before .before .before .before .before .header-fits .ensures) (c .before .before .before .before .before .before .sender-fits .ensures) (c .before .before .before .before .before .both .ensures) in
-    let f = not-false _ (c .before .before .before .before .if1 .left) in
-    count-told _ _ _ _ _ _ e f _ _ (c .before .before .before .header-of .ensures) (c .before .before .sender-of .ensures) _ _ _
+    let g = c .before .before .before in
+    let e = together _ _ _ _ _ (g .before .before .before .before .header-fits .ensures) (g .before .before .before .sender-fits .ensures)
+    (g .before .before .both .ensures) in
+    let f = not-false _ (g .before .if1 .left) in
+    count-told _ _ _ _ _ _ e f _ _ (g .header-of .ensures) (c .before .before .sender-of .ensures) _ _ _
     (c .before .count .ensures) (c .counted-numbers .ensures)
 
 pub cut-count-spec : {M : Type 1} → statement M

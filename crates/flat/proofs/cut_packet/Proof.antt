@@ -20,17 +20,20 @@ cut-too-wide-requires c κs = search needs
 
 returns : tie.Need-returns
 returns c =
-    let e = together _ _ _ _ _ (c .before .before .before .before .header-fits .ensures) (c .before .before .before .sender-fits .ensures) (c .before .before .both .ensures) in
+    let e = together _ _ _ _ _ (c .before .before .before .before .header-fits .ensures) (c .before .before .before .sender-fits .ensures)
+    (c .before .before .both .ensures) in
     let f = not-true _ (c .before .if1 .taken) in
     (packet-refused _ _ _ _ _ _ e f _ (c .cut-too-wide .ensures) _ _ _, packet-kept _ _ _ _ _ _ e f _ _ _)
 
 header-of-requires : tie.Need-header-of-requires
 header-of-requires c κs =
-    first-held _ _ _ _ _ (c .before .before .before .header-fits .ensures) (c .before .before .sender-fits .ensures) (c .before .both .ensures) (not-false _ (c .if1 .left))
+    first-held _ _ _ _ _ (c .before .before .before .header-fits .ensures) (c .before .before .sender-fits .ensures) (c .before .both .ensures)
+    (not-false _ (c .if1 .left))
 
 sender-of-requires : tie.Need-sender-of-requires
 sender-of-requires c κs =
-    second-held _ _ _ _ _ (c .before .before .before .before .header-fits .ensures) (c .before .before .before .sender-fits .ensures) (c .before .before .both .ensures) (not-false _ (c .before .if1 .left))
+    second-held _ _ _ _ _ (c .before .before .before .before .header-fits .ensures) (c .before .before .before .sender-fits .ensures)
+    (c .before .before .both .ensures) (not-false _ (c .before .if1 .left))
 
 packet-requires : tie.Need-packet-requires
 packet-requires c κs = search needs
@@ -43,10 +46,12 @@ same-length c = search needs
 
 returns-2 : tie.Need-returns-2
 returns-2 c =
-    let e = together _ _ _ _ _ (c .before .before .before .before .before .before .before .before .before .before .header-fits .ensures) (c .before .before .before .before .before .before .before .before .before .sender-fits .ensures) (c .before .before .before .before .before .before .before .before .both .ensures) in
-    let f = not-false _ (c .before .before .before .before .before .before .before .if1 .left) in
-    let v = c .before .before .before .before .before .before .header-of .ensures in
-    let d = c .before .before .before .before .before .sender-of .ensures in
+    let g = c .before .before .before .before .before in
+    let e = together _ _ _ _ _ (g .before .before .before .before .before .header-fits .ensures) (g .before .before .before .before .sender-fits .ensures)
+    (g .before .before .before .both .ensures) in
+    let f = not-false _ (g .before .before .if1 .left) in
+    let v = g .before .header-of .ensures in
+    let d = g .sender-of .ensures in
     let w = c .before .before .before .packet .ensures in (
       packet-told _ _ _ _ _ _ e f _ _ v d _ _ _ _ _ (w .0) (c .cut-numbers .ensures),
       packet-laid _ _ _ _ _ _ e f _ _ v d _ _ _ _ (w .1),

@@ -39,11 +39,12 @@ put-place-requires c κs = search needs
 
 returns : tie.Need-returns
 returns c =
-    header-laid (c .before .before .before .before .before .before .before .before .before .before .before .before .before .before .before .before .args .h) (replicate 72 0) _ _ _ _ _ _ _ (length-replicate {A = ℕ} 72 0)
-    (c .before .before .before .before .before .before .before .before .before .before .before .before .put-primary .ensures)
-    (c .before .before .before .before .before .before .before .before .before .before .put-names .ensures)
-    (c .before .before .before .before .before .before .before .before .put-routing .ensures)
-    (c .before .before .before .before .before .before .put-present .ensures)
+    let g = c .before .before .before .before .before .before in
+    header-laid _ (replicate 72 0) _ _ _ _ _ _ _ (length-replicate {A = ℕ} 72 0)
+    (g .before .before .before .before .before .before .put-primary .ensures)
+    (g .before .before .before .before .put-names .ensures)
+    (g .before .before .put-routing .ensures)
+    (g .put-present .ensures)
     (c .before .before .before .before .put-ids .ensures)
     (c .before .before .put-texts .ensures)
     (c .put-place .ensures)

@@ -68,19 +68,29 @@ element-copy-out-t42 : tie.Need-element-copy-out-t42
 element-copy-out-t42 c = search needs
 
 cast-t43 : tie.Need-cast-t43
-cast-t43 c = omega (arith, fits-at 24 _ headerWidths (c .before .before .before .before .before .before .before .before .before .before .before .pre) 9 (omega arith))
+cast-t43 c =
+    omega (arith, fits-at 24 _ headerWidths (c .before .before .before .before .before .before .before .before .before .before .before .pre) 9 (omega arith))
 
 element-copy-out-t46 : tie.Need-element-copy-out-t46
 element-copy-out-t46 c = search needs
 
 cast-t47 : tie.Need-cast-t47
-cast-t47 c = omega (arith, fits-at 24 _ headerWidths (c .before .before .before .before .before .before .before .before .before .before .before .before .pre) 10 (omega arith))
+cast-t47 c =
+    omega (
+      arith,
+      fits-at 24 _ headerWidths (c .before .before .before .before .before .before .before .before .before .before .before .before .pre) 10 (omega arith),
+    )
 
 element-copy-out-t51 : tie.Need-element-copy-out-t51
 element-copy-out-t51 c = search needs
 
 cast-t52 : tie.Need-cast-t52
-cast-t52 c = omega (arith, fits-at 24 _ headerWidths (c .before .before .before .before .before .before .before .before .before .before .before .before .before .pre) 11 (omega arith))
+cast-t52 c =
+    omega (
+      arith,
+      fits-at 24 _ headerWidths (c .before .before .before .before .before .before .before .before .before .before .before .before .before .pre) 11
+          (omega arith),
+    )
 
 element-copy-out-t55 : tie.Need-element-copy-out-t55
 element-copy-out-t55 c = search needs
@@ -89,20 +99,32 @@ element-copy-out-t58 : tie.Need-element-copy-out-t58
 element-copy-out-t58 c = search needs
 
 cast-t59 : tie.Need-cast-t59
-cast-t59 c = omega (arith, fits-at 24 _ headerWidths (c .before .before .before .before .before .before .before .before .before .before .before .before .before .before .before .pre) 21 (omega arith))
+cast-t59 c =
+    omega (
+      arith,
+      fits-at 24 _ headerWidths
+          (c .before .before .before .before .before .before .before .before .before .before .before .before .before .before .before .pre) 21 (omega arith),
+    )
 
 element-copy-out-t62 : tie.Need-element-copy-out-t62
 element-copy-out-t62 c = search needs
 
 cast-t63 : tie.Need-cast-t63
-cast-t63 c = omega (arith, fits-at 24 _ headerWidths (c .before .before .before .before .before .before .before .before .before .before .before .before .before .before .before .before .pre) 22 (omega arith))
+cast-t63 c =
+    omega (
+      arith,
+      fits-at 24 _ headerWidths
+          (c .before .before .before .before .before .before .before .before .before .before .before .before .before .before .before .before .pre) 22
+          (omega arith),
+    )
 
 element-copy-out-t66 : tie.Need-element-copy-out-t66
 element-copy-out-t66 c = search needs
 
 returns : tie.Need-returns
 unfolding headerOf
-returns c = rw (c .before .before .before .before .before .before .before .before .before .before .before .before .before .before .before .before .present-of .ensures)
+returns c =
+    rw (c .before .before .before .before .before .before .before .before .before .before .before .before .before .before .before .before .present-of .ensures)
 
 pub header-of-spec : {M : Type 1} → statement M
 header-of-spec =

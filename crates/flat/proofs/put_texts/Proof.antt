@@ -25,9 +25,10 @@ put-place-requires-4 c κs = search needs
 
 returns : tie.Need-returns
 returns c =
-    texts-laid (c .before .before .before .before .before .before .before .before .before .before .before .args .texts) (c .before .before .before .before .before .before .before .before .before .before .before .args .answer .now) _ _ _ _ _
-    (c .before .before .before .before .before .before .before .before .put-place .ensures)
-    (c .before .before .before .before .before .before .put-place2 .ensures)
+    let g = c .before .before .before .before .before .before in
+    texts-laid (g .before .before .before .before .before .args .texts) (g .before .before .before .before .before .args .answer .now) _ _ _ _ _
+    (g .before .before .put-place .ensures)
+    (g .put-place2 .ensures)
     (c .before .before .before .before .put-place3 .ensures)
     (c .before .before .put-domain .ensures)
     (c .put-place4 .ensures)

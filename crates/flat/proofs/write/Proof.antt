@@ -29,17 +29,20 @@ write-too-wide-requires c κs = search needs
 
 returns : tie.Need-returns
 returns c =
-    let e = together _ _ _ _ _ (c .before .before .before .before .header-fits .ensures) (c .before .before .before .packet-fits .ensures) (c .before .before .both .ensures) in
+    let e = together _ _ _ _ _ (c .before .before .before .before .header-fits .ensures) (c .before .before .before .packet-fits .ensures)
+    (c .before .before .both .ensures) in
     let f = not-true _ (c .before .if1 .taken) in
     (write-refused _ _ _ _ _ _ _ _ e f _ _ (c .write-too-wide .ensures), write-kept _ _ _ _ _ _ _ _ e f _)
 
 header-of-requires : tie.Need-header-of-requires
 header-of-requires c κs =
-    first-held _ _ _ _ _ (c .before .before .before .header-fits .ensures) (c .before .before .packet-fits .ensures) (c .before .both .ensures) (not-false _ (c .if1 .left))
+    first-held _ _ _ _ _ (c .before .before .before .header-fits .ensures) (c .before .before .packet-fits .ensures) (c .before .both .ensures)
+    (not-false _ (c .if1 .left))
 
 packet-of-requires : tie.Need-packet-of-requires
 packet-of-requires c κs =
-    second-held _ _ _ _ _ (c .before .before .before .before .header-fits .ensures) (c .before .before .before .packet-fits .ensures) (c .before .before .both .ensures) (not-false _ (c .before .if1 .left))
+    second-held _ _ _ _ _ (c .before .before .before .before .header-fits .ensures) (c .before .before .before .packet-fits .ensures)
+    (c .before .before .both .ensures) (not-false _ (c .before .if1 .left))
 
 write-requires : tie.Need-write-requires
 write-requires c κs = search needs
@@ -52,10 +55,12 @@ same-length c = search needs
 
 returns-2 : tie.Need-returns-2
 returns-2 c =
-    let e = together _ _ _ _ _ (c .before .before .before .before .before .before .before .before .before .before .header-fits .ensures) (c .before .before .before .before .before .before .before .before .before .packet-fits .ensures) (c .before .before .before .before .before .before .before .before .both .ensures) in
-    let f = not-false _ (c .before .before .before .before .before .before .before .if1 .left) in
-    let v = c .before .before .before .before .before .before .header-of .ensures in
-    let o = c .before .before .before .before .before .packet-of .ensures in
+    let g = c .before .before .before .before .before in
+    let e = together _ _ _ _ _ (g .before .before .before .before .before .header-fits .ensures) (g .before .before .before .before .packet-fits .ensures)
+    (g .before .before .before .both .ensures) in
+    let f = not-false _ (g .before .before .if1 .left) in
+    let v = g .before .header-of .ensures in
+    let o = g .packet-of .ensures in
     let w = c .before .before .before .write .ensures in (
       write-told _ _ _ _ _ _ _ _ e f _ _ v o _ _ _ (w .0) (c .written-numbers .ensures),
       write-laid _ _ _ _ _ _ _ _ e f _ _ v o _ _ (w .1),

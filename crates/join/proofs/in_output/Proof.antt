@@ -10,13 +10,13 @@ refused-requires : tie.Need-refused-requires
 refused-requires c κs = search needs
 
 returns : tie.Need-returns
-returns c = c .refused .ensures ∙ as-refused (c .before .before .before .before .before .args .t) (c .before .if1 .taken)
+returns c = c .refused .ensures ∙ as-refused _ (c .before .if1 .taken)
 
 add-t6 : tie.Need-add-t6
 add-t6 c = search needs
 
 returns-2 : tie.Need-returns-2
-returns-2 c = as-taken (c .before .before .before .before .before .args .t) (c .before .if1 .left)
+returns-2 c = as-taken _ (c .before .if1 .left)
 
 pub in-output-spec : {M : Type 1} → statement M
 in-output-spec = tie.close (tie.spec refused-requires returns add-t6 returns-2)

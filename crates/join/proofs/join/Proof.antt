@@ -23,7 +23,9 @@ same-length : tie.Need-same-length
 same-length c = search needs
 
 returns : tie.Need-returns
-returns c = let n = opened-number (c .before .before .before .before .before .before .before .before .before .before .args .s) 1024 (now (c .before .before .before .before .before .before .before .before .before .before .args .store)) (c .before .before .before .before .check .ensures) in join-shut (c .before .before .before .before .before .before .before .before .before .before .args .s) 1024 (now (c .before .before .before .before .before .before .before .before .before .before .args .store)) (now (c .before .before .before .before .before .before .before .before .before .before .args .p)) (now (c .before .before .before .before .before .before .before .before .before .before .args .out)) (λ g. c .before .if1 .taken (n ∙ g)) n (c .refused .ensures)
+returns c =
+    let n = opened-number _ 1024 _ (c .before .before .before .before .check .ensures) in
+    join-shut _ 1024 _ _ _ (λ g. c .before .if1 .taken (n ∙ g)) n (c .refused .ensures)
 
 slice-aggregate-join-in : tie.Need-slice-aggregate-join-in
 slice-aggregate-join-in c = search needs
@@ -38,7 +40,13 @@ same-length-3 : tie.Need-same-length-3
 same-length-3 c = search needs
 
 returns-2 : tie.Need-returns-2
-returns-2 c = joins-open (c .before .before .before .before .before .before .before .before .before .before .before .before .before .before .before .before .before .args .s) 1024 (now (c .before .before .before .before .before .before .before .before .before .before .before .before .before .before .before .before .before .args .store)) (now (c .before .before .before .before .before .before .before .before .before .before .before .before .before .before .before .before .before .args .p)) (opened-gate (c .before .before .before .before .before .before .before .before .before .before .before .before .before .before .before .before .before .args .s) 1024 (now (c .before .before .before .before .before .before .before .before .before .before .before .before .before .before .before .before .before .args .store)) (c .before .before .before .before .before .before .before .before .before .before .before .check .ensures) (c .before .before .before .before .before .before .before .before .if1 .left)) (opened-cells (c .before .before .before .before .before .before .before .before .before .before .before .before .before .before .before .before .before .args .s) 1024 (now (c .before .before .before .before .before .before .before .before .before .before .before .before .before .before .before .before .before .args .store)) (c .before .before .before .before .before .before .before .before .before .before .before .check .ensures) (c .before .before .before .before .before .before .before .before .if1 .left)) (now (c .before .before .before .before .before .before .before .before .before .before .before .before .before .before .before .before .before .args .out)) (joins-within (c .before .before .before .before .before .before .before .before .before .before .before .before .before .before .before .before .before .args .s) _ (now (c .before .before .before .before .before .before .before .before .before .before .before .before .before .before .before .before .before .args .store)) (now (c .before .before .before .before .before .before .before .before .before .before .before .before .before .before .before .before .before .args .p)) (now (c .before .before .before .before .before .before .before .before .before .before .before .before .before .before .before .before .before .args .out)) _ refl (c .before .before .before .before .join-in .ensures))
+returns-2 c =
+    let g = c .before .before .before .before .before .before .before .before in
+    joins-open _ 1024 _ _ (opened-gate _ 1024 _ (g .before .before .before .check .ensures) (g .if1 .left))
+    (opened-cells _ 1024 _ (g .before .before .before .check .ensures) (g .if1 .left)) _
+    (joins-within _ _ _ _ _ _ refl (c .before .before .before .before .join-in .ensures))
 
 pub join-spec : {M : Type 1} → statement M
-join-spec = tie.close (tie.spec slice-aggregate-check check-requires refused-requires same-length returns slice-aggregate-join-in join-in-requires same-length-2 same-length-3 returns-2)
+join-spec =
+    tie.close (tie.spec slice-aggregate-check check-requires refused-requires same-length returns slice-aggregate-join-in join-in-requires same-length-2
+    same-length-3 returns-2)

@@ -14,10 +14,10 @@ refused-requires : tie.Need-refused-requires
 refused-requires c κs = search needs
 
 returns : tie.Need-returns
-returns c = joins-other (c .before .before .before .before .before .before .before .args .s) (now (c .before .before .before .before .before .before .before .args .zero)) (now (c .before .before .before .before .before .before .before .args .store)) (now (c .before .before .before .before .before .before .before .args .p)) (now (c .before .before .before .before .before .before .before .args .out)) (c .before .before .before .before .before .before .before .args .n) (c .before .before .zeros .ensures) (c .before .if1 .taken) (c .refused .ensures)
+returns c = joins-other _ _ _ _ _ _ (c .before .before .zeros .ensures) (c .before .if1 .taken) (c .refused .ensures)
 
 join-on-requires : tie.Need-join-on-requires
-join-on-requires c κs = zero-told (now (c .before .before .before .before .before .before .before .before .args .zero)) (c .before .before .before .zeros .ensures) (c .before .before .if1 .left)
+join-on-requires c κs = zero-told _ (c .before .before .before .zeros .ensures) (c .before .before .if1 .left)
 
 same-length : tie.Need-same-length
 same-length c = search needs
@@ -26,7 +26,9 @@ same-length-2 : tie.Need-same-length-2
 same-length-2 c = search needs
 
 returns-2 : tie.Need-returns-2
-returns-2 c = joins-on (c .before .before .before .before .before .before .before .before .before .before .before .before .before .args .s) (now (c .before .before .before .before .before .before .before .before .before .before .before .before .before .args .zero)) (now (c .before .before .before .before .before .before .before .before .before .before .before .before .before .args .store)) (now (c .before .before .before .before .before .before .before .before .before .before .before .before .before .args .p)) (now (c .before .before .before .before .before .before .before .before .before .before .before .before .before .args .out)) (c .before .before .before .before .before .before .before .before .before .before .before .before .before .args .n) (c .before .before .before .before .before .before .before .before .zeros .ensures) (c .before .before .before .before .before .before .before .if1 .left) (c .before .before .before .before .join-on .ensures)
+returns-2 c =
+    let g = c .before .before .before .before in
+    joins-on _ _ _ _ _ _ (g .before .before .before .before .zeros .ensures) (g .before .before .before .if1 .left) (g .join-on .ensures)
 
 pub join-in-spec : {M : Type 1} → statement M
 join-in-spec = tie.close (tie.spec zeros-requires refused-requires returns join-on-requires same-length same-length-2 returns-2)

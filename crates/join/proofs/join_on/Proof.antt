@@ -28,7 +28,9 @@ same-length : tie.Need-same-length
 same-length c = search needs
 
 returns : tie.Need-returns
-returns c = join-refused (c .before .before .before .before .before .before .before .before .before .before .before .before .args .s) (length (now (c .before .before .before .before .before .before .before .before .before .before .before .before .args .zero))) (now (c .before .before .before .before .before .before .before .before .before .before .before .before .args .store)) (now (c .before .before .before .before .before .before .before .before .before .before .before .before .args .p)) (now (c .before .before .before .before .before .before .before .before .before .before .before .before .args .out)) (c .before .before .before .before .before .before .before .before .before .before .before .before .args .n) (c .before .before .before .before .before .before .arrive-on .ensures .0) (c .before .before .before .before .before .before .arrive-on .ensures .1) (c .before .before .enum-told .given .1) (c .before .refusal-of .ensures) (c .refused .ensures)
+returns c =
+    let g = c .before .before .before .before .before .before .arrive-on .ensures in
+    join-refused _ _ _ _ _ _ (g .0) (g .1) (c .before .before .enum-told .given .1) (c .before .refusal-of .ensures) (c .refused .ensures)
 
 enum-told-2 : tie.Need-enum-told-2
 enum-told-2 c = search needs
@@ -40,13 +42,22 @@ same-length-2 : tie.Need-same-length-2
 same-length-2 c = search needs
 
 returns-2 : tie.Need-returns-2
-returns-2 c = join-whole (c .before .before .before .before .before .before .before .before .before .before .before .before .before .before .args .s) (length (now (c .before .before .before .before .before .before .before .before .before .before .before .before .before .before .args .zero))) (now (c .before .before .before .before .before .before .before .before .before .before .before .before .before .before .args .store)) (now (c .before .before .before .before .before .before .before .before .before .before .before .before .before .before .args .p)) (now (c .before .before .before .before .before .before .before .before .before .before .before .before .before .before .args .out)) (c .before .before .before .before .before .before .before .before .before .before .before .before .before .before .args .n) (c .before .before .before .before .before .before .before .before .arrive-on .ensures .0) (c .before .before .before .before .before .before .before .before .arrive-on .ensures .1) (λ i. c .before .before .before .before .before .before .before .before .before .before .before .shared-slice-known2 .given i .fits) (c .before .before .before .before .got .given .1) (c .before .enum-told2 .given .1) (c .in-packet .ensures)
+returns-2 c =
+    let g = c .before .before .before .before .before .before .before .before in
+    join-whole _ _ _ _ _ _ (g .arrive-on .ensures .0) (g .arrive-on .ensures .1) (λ i. g .before .before .before .shared-slice-known2 .given i .fits)
+    (c .before .before .before .before .got .given .1) (c .before .enum-told2 .given .1) (c .in-packet .ensures)
 
 take-on-requires : tie.Need-take-on-requires
 take-on-requires c κs = c .before .before .before .before .before .before .before .before .before .before .before .before .before .before .pre
 
 in-output-requires : tie.Need-in-output-requires
-in-output-requires c κs = place-fits _ _ _ _ _ (c .before .before .before .before .take-on .ensures .0) (omega (arith, c .before .before .before .before .before .before .before .before .before .before .before .before .before .before .before .before .before .before .before .good .1 .1 .1 .1 .1 .0))
+in-output-requires c κs =
+    place-fits _ _ _ _ _ (c .before .before .before .before .take-on .ensures .0)
+    (omega (
+      arith,
+      c .before .before .before .before .before .before .before .before .before .before .before .before .before .before .before .before .before .before .before
+          .good .1 .1 .1 .1 .1 .0,
+    ))
 
 same-length-3 : tie.Need-same-length-3
 same-length-3 c = search needs
@@ -55,7 +66,19 @@ same-length-4 : tie.Need-same-length-4
 same-length-4 c = search needs
 
 returns-3 : tie.Need-returns-3
-returns-3 c = join-taking (c .before .before .before .before .before .before .before .before .before .before .before .before .before .before .before .before .before .before .before .before .args .s) (length (now (c .before .before .before .before .before .before .before .before .before .before .before .before .before .before .before .before .before .before .before .before .args .zero))) (now (c .before .before .before .before .before .before .before .before .before .before .before .before .before .before .before .before .before .before .before .before .args .store)) (now (c .before .before .before .before .before .before .before .before .before .before .before .before .before .before .before .before .before .before .before .before .args .p)) (now (c .before .before .before .before .before .before .before .before .before .before .before .before .before .before .before .before .before .before .before .before .args .out)) (c .before .before .before .before .before .before .before .before .before .before .before .before .before .before .before .before .before .before .before .before .args .n) (c .before .before .before .before .before .before .before .before .before .before .before .before .before .before .arrive-on .ensures .0) (c .before .before .before .before .before .before .before .before .before .before .before .before .before .before .arrive-on .ensures .1) (c .before .before .before .before .before .before .before .before .before .before .got .given .1) (not-whole _ (c .before .before .before .before .before .before .before .before .match2 .keys2)) (record { taken = _; told = c .before .before .before .before .before .take-on .ensures .0; answer = c .in-output .ensures; store = c .before .before .before .before .before .take-on .ensures .1 .1; output = c .before .before .before .before .before .take-on .ensures .1 .0 })
+returns-3 c =
+    let g = c .before .before .before .before .before in
+    let h = g .before .before .before .before .before .before .before .before .before .arrive-on .ensures in
+    join-taking _ _ _ _ _ _ (h .0) (h .1) (g .before .before .before .before .before .got .given .1) (not-whole _ (g .before .before .before .match2 .keys2))
+    (record {
+      taken = _;
+      told = g .take-on .ensures .0;
+      answer = c .in-output .ensures;
+      store = g .take-on .ensures .1 .1;
+      output = g .take-on .ensures .1 .0;
+    })
 
 pub join-on-spec : {M : Type 1} → statement M
-join-on-spec = tie.close (tie.spec arrive-on-requires enum-known-got enum-told refusal-of-requires refused-requires same-length returns enum-told-2 in-packet-requires same-length-2 returns-2 take-on-requires in-output-requires same-length-3 same-length-4 returns-3)
+join-on-spec =
+    tie.close (tie.spec arrive-on-requires enum-known-got enum-told refusal-of-requires refused-requires same-length returns enum-told-2 in-packet-requires
+    same-length-2 returns-2 take-on-requires in-output-requires same-length-3 same-length-4 returns-3)

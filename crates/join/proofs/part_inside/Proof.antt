@@ -16,7 +16,7 @@ part-result-end : tie.Need-part-result-end
 part-result-end c = search needs
 
 returns : tie.Need-returns
-returns c = past-place (now (c .before .before .args .x)) (c .before .before .args .place) (c .before .before .args .long) (c .before .if1 .taken)
+returns c = past-place _ _ _ (c .before .if1 .taken)
 
 sub-if2 : tie.Need-sub-if2
 sub-if2 c = search needs
@@ -31,7 +31,7 @@ part-result-end-2 : tie.Need-part-result-end-2
 part-result-end-2 c = search needs
 
 returns-2 : tie.Need-returns-2
-returns-2 c = past-length (now (c .before .before .before .args .x)) (c .before .before .before .args .place) (c .before .before .before .args .long) (c .before .before .if1 .left) (c .before .if2 .taken)
+returns-2 c = past-length _ _ _ (c .before .before .if1 .left) (c .before .if2 .taken)
 
 add-to : tie.Need-add-to
 add-to c = search needs
@@ -46,7 +46,7 @@ part-result-end-3 : tie.Need-part-result-end-3
 part-result-end-3 c = search needs
 
 returns-3 : tie.Need-returns-3
-returns-3 c = within (now (c .before .before .before .args .x)) (c .before .before .before .args .place) (c .before .before .before .args .long) (c .before .before .if1 .left) (c .before .if2 .left)
+returns-3 c = within _ _ _ (c .before .before .if1 .left) (c .before .if2 .left)
 
 pub part-inside-spec : {M : Type 1} → statement M
 part-inside-spec =

@@ -40,7 +40,7 @@ unfolding viewed
 returns-2 c = rw (c .before .enum-told2 .given .1) (c .part-inside2 .ensures)
 
 returns-3 : tie.Need-returns-3
-returns-3 c = rw (c .before .enum-told3 .given .1) (nothing (now (c .before .before .before .before .before .args .packet)) (now (c .before .before .before .before .before .args .joined)) (c .before .before .before .before .before .args .place) (c .before .before .before .before .before .args .long))
+returns-3 c = rw (c .before .enum-told3 .given .1) (nothing _ _ _ _)
 
 pub view-spec : {M : Type 1} → statement M
 view-spec =

@@ -37,7 +37,18 @@ check-requires-5 c κs = search needs
 
 returns : tie.Need-returns
 unfolding primaryTests
-returns c = simp (c .check5 .ensures, c .before .check4 .ensures, c .before .before .check3 .ensures, c .before .before .before .check2 .ensures, c .before .before .before .before .check .ensures, c .before .before .before .before .before .be162 .ensures, c .before .before .before .before .before .before .be16 .ensures, c .before .before .before .before .before .before .before .octet .ensures)
+returns c =
+    let g = c .before .before .before in
+    simp (
+      c .check5 .ensures,
+      c .before .check4 .ensures,
+      c .before .before .check3 .ensures,
+      g .check2 .ensures,
+      g .before .check .ensures,
+      g .before .before .be162 .ensures,
+      g .before .before .before .be16 .ensures,
+      g .before .before .before .before .octet .ensures,
+    )
 
 pub primary-walk-spec : {M : Type 1} → statement M
 primary-walk-spec =

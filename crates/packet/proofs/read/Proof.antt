@@ -28,7 +28,13 @@ refused-header-requires : tie.Need-refused-header-requires
 refused-header-requires c κs = search needs
 
 returns : tie.Need-returns
-returns c = (c .refused-header .ensures ∙ refused-whole _ _ (c .before .before .before .before .before .before .before .before .before .before .before .before .before .begin .ensures) (c .before .before .before .before .before .before .before .before .before .before .before .before .primary-walk .ensures) (c .before .before .before .before .before .before .before .before .before .before .before .read-fixed .ensures) (c .before .before .before .before .before .before .before .before .read-ids .ensures) (c .before .before .before .before .before .before .read-texts .ensures) (c .before .before .before .before .body-walk .ensures) (c .before .if1 .taken), λ i. c .before .before .before .before .before .before .before .before .before .before .before .before .before .before .shared-slice-known .given i .fits)
+returns c =
+    let g = c .before .before .before .before .before .before .before .before .before .before .before in
+    let h = c .before .before .before .before in (
+      c .refused-header .ensures ∙ refused-whole _ _ (g .before .before .begin .ensures) (g .before .primary-walk .ensures) (g .read-fixed .ensures)
+          (h .before .before .before .before .read-ids .ensures) (h .before .before .read-texts .ensures) (h .body-walk .ensures) (c .before .if1 .taken),
+      λ i. g .before .before .before .shared-slice-known .given i .fits,
+    )
 
 cast-end : tie.Need-cast-end
 cast-end c = search needs
@@ -49,7 +55,16 @@ less-requires-3 : tie.Need-less-requires-3
 less-requires-3 c κs = search needs
 
 returns-2 : tie.Need-returns-2
-returns-2 c = (accepted-whole _ _ (c .before .before .before .before .before .before .before .before .before .before .before .before .before .before .before .before .before .before .before .before .before .begin .ensures) (c .before .before .before .before .before .before .before .before .before .before .before .before .before .before .before .before .before .before .before .before .primary-walk .ensures) (c .before .before .before .before .before .before .before .before .before .before .before .before .before .before .before .before .before .before .before .read-fixed .ensures) (c .before .before .before .before .before .before .before .before .before .before .before .before .before .before .before .before .read-ids .ensures) (c .before .before .before .before .before .before .before .before .before .before .before .before .before .before .read-texts .ensures) (c .before .before .before .before .before .before .before .before .before .before .before .before .body-walk .ensures) (c .before .before .before .before .before .before .before .before .before .if1 .left) (c .before .before .before .before .before .before .before .read-primary .ensures) (simp (c .before .less2 .ensures, c .before .before .before .less .ensures, c .before .before .counter-size .ensures)) (c .less3 .ensures), λ i. c .before .before .before .before .before .before .before .before .before .before .before .before .before .before .before .before .before .before .before .before .before .before .shared-slice-known .given i .fits)
+returns-2 c =
+    let g = c .before .before .before .before .before .before .before .before .before .before .before .before in
+    let h = g .before .before .before .before .before .before .before in
+    let k = c .before .before .before .before .before .before .before in (
+      accepted-whole _ _ (h .before .before .begin .ensures) (h .before .primary-walk .ensures) (h .read-fixed .ensures)
+          (g .before .before .before .before .read-ids .ensures) (g .before .before .read-texts .ensures) (g .body-walk .ensures) (k .before .before .if1 .left)
+          (k .read-primary .ensures) (simp (c .before .less2 .ensures, c .before .before .before .less .ensures, c .before .before .counter-size .ensures))
+          (c .less3 .ensures),
+      λ i. h .before .before .before .shared-slice-known .given i .fits,
+    )
 
 pub read-spec : {M : Type 1} → statement M
 read-spec =

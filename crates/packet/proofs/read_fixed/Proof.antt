@@ -35,7 +35,17 @@ octets-requires-2 c κs = search needs
 
 returns : tie.Need-returns
 unfolding fixedStep fixedOf presentOf namesOf routingOf afterPresence afterTransaction
-returns c = simp (c .before .octets2 .ensures, c .before .before .flags-of .ensures, c .before .before .before .octet .ensures, c .before .before .before .before .before .octets .ensures, c .before .before .before .before .before .before .be64 .ensures, c .before .before .before .before .before .before .before .before .before .read-routing .ensures, c .before .before .before .before .before .before .before .before .before .before .before .read-names .ensures)
+returns c =
+    let g = c .before .before .before .before .before in
+    simp (
+      c .before .octets2 .ensures,
+      c .before .before .flags-of .ensures,
+      c .before .before .before .octet .ensures,
+      g .octets .ensures,
+      g .before .be64 .ensures,
+      g .before .before .before .before .read-routing .ensures,
+      g .before .before .before .before .before .before .read-names .ensures,
+    )
 
 pub read-fixed-spec : {M : Type 1} → statement M
 read-fixed-spec =

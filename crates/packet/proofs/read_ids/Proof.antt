@@ -22,7 +22,15 @@ number-if-requires c κs = search needs
 
 returns : tie.Need-returns
 unfolding idsOf
-returns c = simp (c .before .before .number-if .ensures, c .before .before .before .before .counter-if .ensures, c .before .before .before .before .before .segmented .ensures, c .before .before .before .before .before .before .before .octet-if2 .ensures, c .before .before .before .before .before .before .before .before .before .octet-if .ensures)
+returns c =
+    let g = c .before .before .before .before in
+    simp (
+      c .before .before .number-if .ensures,
+      g .counter-if .ensures,
+      g .before .segmented .ensures,
+      g .before .before .before .octet-if2 .ensures,
+      g .before .before .before .before .before .octet-if .ensures,
+    )
 
 pub read-ids-spec : {M : Type 1} → statement M
 read-ids-spec =

@@ -27,7 +27,20 @@ read-octet-requires c κs = search needs
 
 returns : tie.Need-returns
 unfolding namesOf sduField octetField wideField afterVersion afterOperation afterService afterArea
-returns c = simp (ap (λ (x : Octet). ofWalk (x .walk)) (sym (c .before .before .before .before .before .before .before .before .before .read-sdu .ensures)), ap (λ (x : Octet). x .value) (sym (c .before .before .before .before .before .before .before .before .before .read-sdu .ensures)), ap (λ (x : Word). ofWalk (x .walk)) (sym (c .before .before .before .before .before .before .before .read-word .ensures)), ap (λ (x : Word). x .value) (sym (c .before .before .before .before .before .before .before .read-word .ensures)), ap (λ (x : Word). ofWalk (x .walk)) (sym (c .before .before .before .before .before .read-word2 .ensures)), ap (λ (x : Word). x .value) (sym (c .before .before .before .before .before .read-word2 .ensures)), ap (λ (x : Word). ofWalk (x .walk)) (sym (c .before .before .before .read-word3 .ensures)), ap (λ (x : Word). x .value) (sym (c .before .before .before .read-word3 .ensures)), ap (λ (x : Octet). ofWalk (x .walk)) (sym (c .before .read-octet .ensures)), ap (λ (x : Octet). x .value) (sym (c .before .read-octet .ensures)))
+returns c =
+    let g = c .before .before .before .before .before in
+    simp (
+      ap (λ (x : Octet). ofWalk (x .walk)) (sym (g .before .before .before .before .read-sdu .ensures)),
+      ap (λ (x : Octet). x .value) (sym (g .before .before .before .before .read-sdu .ensures)),
+      ap (λ (x : Word). ofWalk (x .walk)) (sym (g .before .before .read-word .ensures)),
+      ap (λ (x : Word). x .value) (sym (g .before .before .read-word .ensures)),
+      ap (λ (x : Word). ofWalk (x .walk)) (sym (g .read-word2 .ensures)),
+      ap (λ (x : Word). x .value) (sym (g .read-word2 .ensures)),
+      ap (λ (x : Word). ofWalk (x .walk)) (sym (c .before .before .before .read-word3 .ensures)),
+      ap (λ (x : Word). x .value) (sym (c .before .before .before .read-word3 .ensures)),
+      ap (λ (x : Octet). ofWalk (x .walk)) (sym (c .before .read-octet .ensures)),
+      ap (λ (x : Octet). x .value) (sym (c .before .read-octet .ensures)),
+    )
 
 pub read-names-spec : {M : Type 1} → statement M
 read-names-spec =

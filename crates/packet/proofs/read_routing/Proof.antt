@@ -32,7 +32,9 @@ add-t18 c = search needs
 
 returns : tie.Need-returns
 unfolding routingOf octetField wideField afterQualifier afterSecondary afterSession
-returns c = simp (c .before .before .read-word .ensures, c .before .before .before .before .read-octet2 .ensures, c .before .before .before .before .before .check .ensures, c .before .before .before .before .before .before .before .read-octet .ensures)
+returns c =
+    let g = c .before .before .before .before in
+    simp (c .before .before .read-word .ensures, g .read-octet2 .ensures, g .before .check .ensures, g .before .before .before .read-octet .ensures)
 
 pub read-routing-spec : {M : Type 1} → statement M
 read-routing-spec =

@@ -19,7 +19,13 @@ check-requires-2 c κs = search needs
 
 returns : tie.Need-returns
 unfolding sduField afterSdu octetField
-returns c = simp (ap (λ (x : Octet). ofWalk (x .walk)) (sym (c .before .before .before .read-octet .ensures)), ap (λ (x : Octet). x .value) (sym (c .before .before .before .read-octet .ensures)), ap ofWalk (sym (c .before .check .ensures)), ap ofWalk (sym (c .check2 .ensures)))
+returns c =
+    simp (
+      ap (λ (x : Octet). ofWalk (x .walk)) (sym (c .before .before .before .read-octet .ensures)),
+      ap (λ (x : Octet). x .value) (sym (c .before .before .before .read-octet .ensures)),
+      ap ofWalk (sym (c .before .check .ensures)),
+      ap ofWalk (sym (c .check2 .ensures)),
+    )
 
 pub read-sdu-spec : {M : Type 1} → statement M
 read-sdu-spec = tie.close (tie.spec read-octet-requires check-requires check-requires-2 returns)

@@ -24,7 +24,16 @@ blob-if-requires c κs = search needs
 
 returns : tie.Need-returns
 unfolding textsOf
-returns c = simp (ap ofText (sym (c .before .before .before .before .before .before .before .before .before .before .before .before .before .before .block-if .ensures)), ap ofText (sym (c .before .before .before .before .before .before .before .before .before .before .before .before .text-if .ensures)), ap ofText (sym (c .before .before .before .before .before .before .before .before .before .before .text-if2 .ensures)), ap ofDomain (sym (c .before .before .before .before .before .before .before .before .domain-if .ensures)), ap ofText (sym (c .before .before .before .before .before .before .blob-if .ensures)))
+returns c =
+    let g = c .before .before .before .before .before .before in
+    let h = g .before .before .before .before in
+    simp (
+      ap ofText (sym (h .before .before .before .before .block-if .ensures)),
+      ap ofText (sym (h .before .before .text-if .ensures)),
+      ap ofText (sym (h .text-if2 .ensures)),
+      ap ofDomain (sym (g .before .before .domain-if .ensures)),
+      ap ofText (sym (g .blob-if .ensures)),
+    )
 
 pub read-texts-spec : {M : Type 1} → statement M
 read-texts-spec =

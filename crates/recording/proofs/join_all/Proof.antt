@@ -10,7 +10,8 @@ use Rattle.recording.proofs.join_all.Tie as tie
 use Rattle.recording.proofs.Beginning.{spare-begins}
 
 returns : tie.Need-returns
-returns c = (told-short (now (c .before .before .before .args .recording)) (now (c .before .before .before .args .out)) (c .if1 .taken), out-short (now (c .before .before .before .args .recording)) (now (c .before .before .before .args .out)) (c .if1 .taken))
+returns c =
+    (told-short (now (c .before .before .before .args .recording)) (now (c .before .before .before .args .out)) (c .if1 .taken), out-short _ _ (c .if1 .taken))
 
 slice-aggregate-along : tie.Need-slice-aggregate-along
 slice-aggregate-along c = search needs
@@ -25,10 +26,20 @@ along-requires : tie.Need-along-requires
 along-requires c κs = (refl, (store-begins refl, (spare-begins refl, c .before .before .before .before .if1 .left)))
 
 sub-why-at : tie.Need-sub-why-at
-sub-why-at c = omega (arith, c .before .before .before .before .along .ensures .0, reach-most (now (c .before .before .before .before .before .before .before .before .before .before .before .before .args .recording)))
+sub-why-at c =
+    omega (
+      arith,
+      c .before .before .before .before .along .ensures .0,
+      reach-most (now (c .before .before .before .before .before .before .before .before .before .before .before .before .args .recording)),
+    )
 
 part-why-at-start : tie.Need-part-why-at-start
-part-why-at-start c = omega (arith, c .before .before .before .before .along .ensures .0, reach-most (now (c .before .before .before .before .before .before .before .before .before .before .before .before .args .recording)))
+part-why-at-start c =
+    omega (
+      arith,
+      c .before .before .before .before .along .ensures .0,
+      reach-most (now (c .before .before .before .before .before .before .before .before .before .before .before .before .args .recording)),
+    )
 
 part-why-at-end : tie.Need-part-why-at-end
 part-why-at-end c = search needs
@@ -40,8 +51,14 @@ same-length : tie.Need-same-length
 same-length c = search needs
 
 returns-2 : tie.Need-returns-2
-returns-2 c = (told-all (now (c .before .before .before .before .before .before .before .before .before .before .before .before .before .before .args .recording)) (now (c .before .before .before .before .before .before .before .before .before .before .before .before .before .before .args .out)) (c .before .before .before .before .before .before .before .before .before .before .before .if1 .left) (c .before .before .before .before .before .before .along .ensures .0) (c .before .before .before .before .before .before .along .ensures .1 .0) refl (c .why-at .ensures), out-all (now (c .before .before .before .before .before .before .before .before .before .before .before .before .before .before .args .recording)) (now (c .before .before .before .before .before .before .before .before .before .before .before .before .before .before .args .out)) (c .before .before .before .before .before .before .before .before .before .before .before .if1 .left) (c .before .before .before .before .before .before .along .ensures .1 .1))
+returns-2 c =
+    let g = c .before .before .before .before .before .before in
+    let h = g .before .before .before .before .before in (
+      told-all _ (now (h .before .before .before .args .out)) (h .if1 .left) (g .along .ensures .0) (g .along .ensures .1 .0) refl (c .why-at .ensures),
+      out-all _ _ (h .if1 .left) (g .along .ensures .1 .1),
+    )
 
 pub join-all-spec : {M : Type 1} → statement M
 join-all-spec =
-    tie.close (tie.spec returns slice-aggregate-along slice-aggregate-along-2 slice-aggregate-along-3 along-requires sub-why-at part-why-at-start part-why-at-end why-at-requires same-length returns-2)
+    tie.close (tie.spec returns slice-aggregate-along slice-aggregate-along-2 slice-aggregate-along-3 along-requires sub-why-at part-why-at-start
+    part-why-at-end why-at-requires same-length returns-2)

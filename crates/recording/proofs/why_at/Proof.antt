@@ -23,16 +23,16 @@ enum-told-4 : tie.Need-enum-told-4
 enum-told-4 c = search needs
 
 returns : tie.Need-returns
-returns c = why-nothing (foundIn (now (c .before .before .before .before .args .rest))) (c .before .before .look .ensures) (c .enum-told .given .1)
+returns c = why-nothing (foundIn _) (c .before .before .look .ensures) (c .enum-told .given .1)
 
 returns-2 : tie.Need-returns-2
-returns-2 c = why-other (foundIn (now (c .before .before .before .before .args .rest))) (c .before .before .look .ensures) (c .enum-told2 .given .1)
+returns-2 c = why-other (foundIn _) (c .before .before .look .ensures) (c .enum-told2 .given .1)
 
 returns-3 : tie.Need-returns-3
-returns-3 c = why-cut (foundIn (now (c .before .before .before .before .args .rest))) (c .before .before .look .ensures) (c .enum-told3 .given .1)
+returns-3 c = why-cut (foundIn _) (c .before .before .look .ensures) (c .enum-told3 .given .1)
 
 returns-4 : tie.Need-returns-4
-returns-4 c = why-whole (foundIn (now (c .before .before .before .before .args .rest))) (c .before .before .look .ensures) (c .enum-told4 .given .1)
+returns-4 c = why-whole (foundIn _) (c .before .before .look .ensures) (c .enum-told4 .given .1)
 
 pub why-at-spec : {M : Type 1} → statement M
 why-at-spec =

@@ -34,7 +34,19 @@ same-length-2 : tie.Need-same-length-2
 same-length-2 c = search needs
 
 returns : tie.Need-returns
-returns c = let l = lent-long (c .before .before .before .before .before .before .before .before .before .before .before .args .s) (length (now (c .before .before .before .before .before .before .before .before .before .before .before .args .zero))) (now (c .before .before .before .before .before .before .before .before .before .before .before .args .store)) (now (c .before .before .before .before .before .before .before .before .before .before .before .args .p)) (now (c .before .before .before .before .before .before .before .before .before .before .before .args .out)) (c .before .before .before .before .before .before .before .before .before .before .before .pre .1 .1 .1) in (c .before .before .before .before .join-on .ensures .0 ∙ ap joinedOf (joining-open (c .before .before .before .before .before .before .before .before .before .before .before .args .s) (length (now (c .before .before .before .before .before .before .before .before .before .before .before .args .zero))) (now (c .before .before .before .before .before .before .before .before .before .before .before .args .store)) (now (c .before .before .before .before .before .before .before .before .before .before .before .args .p)) (c .before .before .before .before .before .before .before .before .before .before .before .pre .1 .0) (c .before .before .before .before .before .before .before .before .before .before .before .pre .1 .1 .0) _ ∙ ap (λ (m : ℕ). joining (c .before .before .before .before .before .before .before .before .before .before .before .args .s) (length (now (c .before .before .before .before .before .before .before .before .before .before .before .args .zero))) (now (c .before .before .before .before .before .before .before .before .before .before .before .args .store)) (now (c .before .before .before .before .before .before .before .before .before .before .before .args .p)) m) l), (c .before .before .before .before .join-on .ensures .1 .0 ∙ store-open (c .before .before .before .before .before .before .before .before .before .before .before .args .s) (length (now (c .before .before .before .before .before .before .before .before .before .before .before .args .zero))) (now (c .before .before .before .before .before .before .before .before .before .before .before .args .store)) (now (c .before .before .before .before .before .before .before .before .before .before .before .args .p)) (c .before .before .before .before .before .before .before .before .before .before .before .pre .1 .0) (c .before .before .before .before .before .before .before .before .before .before .before .pre .1 .1 .0) _ ∙ ap (λ (m : ℕ). storeJoined (c .before .before .before .before .before .before .before .before .before .before .before .args .s) (length (now (c .before .before .before .before .before .before .before .before .before .before .before .args .zero))) (now (c .before .before .before .before .before .before .before .before .before .before .before .args .store)) (now (c .before .before .before .before .before .before .before .before .before .before .before .args .p)) m) l, behind-out (c .before .before .before .before .before .before .before .before .before .before .before .args .s) (length (now (c .before .before .before .before .before .before .before .before .before .before .before .args .zero))) (now (c .before .before .before .before .before .before .before .before .before .before .before .args .store)) (now (c .before .before .before .before .before .before .before .before .before .before .before .args .p)) (now (c .before .before .before .before .before .before .before .before .before .before .before .args .out)) (c .before .before .before .before .before .before .before .before .before .before .before .pre .1 .1 .1) (c .before .before .before .before .join-on .ensures .1 .1 ∙ out-open (c .before .before .before .before .before .before .before .before .before .before .before .args .s) (length (now (c .before .before .before .before .before .before .before .before .before .before .before .args .zero))) (now (c .before .before .before .before .before .before .before .before .before .before .before .args .store)) (now (c .before .before .before .before .before .before .before .before .before .before .before .args .p)) (c .before .before .before .before .before .before .before .before .before .before .before .pre .1 .0) (c .before .before .before .before .before .before .before .before .before .before .before .pre .1 .1 .0) _)))
+returns c =
+    let g = c .before .before .before .before .before .before .before .before .before .before .before in
+    let h = c .before .before .before .before .join-on .ensures in
+    let k = g .pre .1 in
+    let l = lent-long (g .args .s) (length (now (g .args .zero))) (now (g .args .store)) (now (g .args .p)) (now (g .args .out)) (k .1 .1) in (
+      h .0 ∙ ap joinedOf (joining-open _ _ _ _ (k .0) (k .1 .0) _ ∙ ap
+          (λ (m : ℕ). joining (g .args .s) (length (now (g .args .zero))) (now (g .args .store)) (now (g .args .p)) m) l),
+      (
+        h .1 .0 ∙ store-open _ _ _ _ (k .0) (k .1 .0) _ ∙ ap (λ (m : ℕ). storeJoined (g .args .s) (length (now (g .args .zero))) (now (g .args .store))
+            (now (g .args .p)) m) l,
+        behind-out _ _ _ _ _ (k .1 .1) (h .1 .1 ∙ out-open _ _ _ _ (k .0) (k .1 .0) _),
+      ),
+    )
 
 pub join-behind-spec : {M : Type 1} → statement M
 join-behind-spec = tie.close (tie.spec add-to sub-join-on part-join-on-start part-join-on-end join-on-requires same-length same-length-2 returns)

@@ -16,7 +16,9 @@ add-used : tie.Need-add-used
 add-used c = search needs
 
 join-behind-requires : tie.Need-join-behind-requires
-join-behind-requires c κs = (c .before .before .before .before .before .before .pre .0, (c .before .before .before .before .before .before .pre .1 .0, (c .before .before .before .before .before .before .pre .1 .1 .0, c .before .before .before .before .before .before .pre .1 .1 .1 .0)))
+join-behind-requires c κs =
+    let g = c .before .before .before .before .before .before .pre in
+    (g .0, (g .1 .0, (g .1 .1 .0, g .1 .1 .1 .0)))
 
 enum-told : tie.Need-enum-told
 enum-told c = search needs
@@ -31,16 +33,25 @@ put-whole-requires : tie.Need-put-whole-requires
 put-whole-requires c κs = search needs
 
 framed-requires : tie.Need-framed-requires
-framed-requires c κs = omega (arith, c .before .before .before .put-whole .ensures .0, without-long (now (c .before .before .before .before .before .before .before .before .before .before .before .before .before .before .before .before .before .before .before .args .p)), c .before .before .before .before .before .before .before .before .before .before .before .before .before .before .before .before .before .before .before .pre .1 .1 .1 .1)
+framed-requires c κs =
+    let g =
+    c .before .before .before .before .before .before .before .before .before .before .before .before .before .before .before .before .before .before
+    .before in
+    omega (arith, c .before .before .before .put-whole .ensures .0, without-long (now (g .args .p)), g .pre .1 .1 .1 .1)
 
 enum-told-3 : tie.Need-enum-told-3
 enum-told-3 c = search needs
 
 add-framed : tie.Need-add-framed
-add-framed c = omega (arith, message-most (c .before .before .before .before .before .before .before .before .before .before .before .before .before .before .before .args .s) (length (now (c .before .before .before .before .before .before .before .before .before .before .before .before .before .before .before .args .zero))) (now (c .before .before .before .before .before .before .before .before .before .before .before .before .before .before .before .args .store)) (now (c .before .before .before .before .before .before .before .before .before .before .before .before .before .before .before .args .p)) (c .before .before .before .before .before .before .before .before .join-behind .ensures .0) (c .before .enum-told3 .given .1))
+add-framed c =
+    omega (
+      arith,
+      message-most _ _ _ _ (c .before .before .before .before .before .before .before .before .join-behind .ensures .0) (c .before .enum-told3 .given .1),
+    )
 
 framed-requires-2 : tie.Need-framed-requires-2
-framed-requires-2 c κs = message-most (c .before .before .before .before .before .before .before .before .before .before .before .before .before .before .before .args .s) (length (now (c .before .before .before .before .before .before .before .before .before .before .before .before .before .before .before .args .zero))) (now (c .before .before .before .before .before .before .before .before .before .before .before .before .before .before .before .args .store)) (now (c .before .before .before .before .before .before .before .before .before .before .before .before .before .before .before .args .p)) (c .before .before .before .before .before .before .before .before .join-behind .ensures .0) (c .before .enum-told3 .given .1)
+framed-requires-2 c κs =
+    message-most _ _ _ _ (c .before .before .before .before .before .before .before .before .join-behind .ensures .0) (c .before .enum-told3 .given .1)
 
 same-length : tie.Need-same-length
 same-length c = search needs
@@ -49,7 +60,12 @@ same-length-2 : tie.Need-same-length-2
 same-length-2 c = search needs
 
 returns : tie.Need-returns
-returns c = let k = joins-left (now (c .before .before .before .before .before .before .before .before .before .before .before .before .before .before .before .args .p)) (now (c .before .before .before .before .before .before .before .before .before .before .before .before .before .before .before .args .out)) (joining (c .before .before .before .before .before .before .before .before .before .before .before .before .before .before .before .args .s) (length (now (c .before .before .before .before .before .before .before .before .before .before .before .before .before .before .before .args .zero))) (now (c .before .before .before .before .before .before .before .before .before .before .before .before .before .before .before .args .store)) (now (c .before .before .before .before .before .before .before .before .before .before .before .before .before .before .before .args .p)) room) (c .before .before .before .before .before .before .before .before .join-behind .ensures .0) (c .before .before .before .before .before .before .before .before .join-behind .ensures .1 .1) (c .before .enum-told .given .1) (c .left .ensures) in (k .0, (c .before .before .before .before .before .before .before .before .join-behind .ensures .1 .0, k .1))
+returns c =
+    let g = c .before .before .before .before .before .before .before .before in
+    let h = g .before .before .before .before .before .before .before .args in
+    let k = joins-left (now (h .p)) (now (h .out)) (joining _ _ _ _ room) (g .join-behind .ensures .0) (g .join-behind .ensures .1 .1)
+    (c .before .enum-told .given .1) (c .left .ensures) in
+    (k .0, (g .join-behind .ensures .1 .0, k .1))
 
 same-length-3 : tie.Need-same-length-3
 same-length-3 c = search needs
@@ -58,7 +74,13 @@ same-length-4 : tie.Need-same-length-4
 same-length-4 c = search needs
 
 returns-2 : tie.Need-returns-2
-returns-2 c = let k = joins-whole (now (c .before .before .before .before .before .before .before .before .before .before .before .before .before .before .before .before .before .before .before .before .before .before .args .p)) (now (c .before .before .before .before .before .before .before .before .before .before .before .before .before .before .before .before .before .before .before .before .before .before .args .out)) (joining (c .before .before .before .before .before .before .before .before .before .before .before .before .before .before .before .before .before .before .before .before .before .before .args .s) (length (now (c .before .before .before .before .before .before .before .before .before .before .before .before .before .before .before .before .before .before .before .before .before .before .args .zero))) (now (c .before .before .before .before .before .before .before .before .before .before .before .before .before .before .before .before .before .before .before .before .before .before .args .store)) (now (c .before .before .before .before .before .before .before .before .before .before .before .before .before .before .before .before .before .before .before .before .before .before .args .p)) room) (c .before .before .before .before .before .before .before .before .before .before .before .before .before .before .before .join-behind .ensures .0) (c .before .before .before .before .before .before .before .before .before .before .before .before .before .before .before .join-behind .ensures .1 .1) (c .before .before .before .before .before .before .before .before .enum-told2 .given .1) (c .before .before .before .before .before .before .put-whole .ensures .0) (c .before .before .before .before .before .before .put-whole .ensures .1) (c .before .before .framed .ensures .1) in (c .before .before .framed .ensures .0 ∙ k .0, (c .before .before .before .before .before .before .before .before .before .before .before .before .before .before .before .join-behind .ensures .1 .0, k .1))
+returns-2 c =
+    let g = c .before .before .before .before .before .before .before .before .before .before .before .before .before .before .before in
+    let h = c .before .before .before .before .before .before in
+    let l = g .before .before .before .before .before .before .before .args in
+    let k = joins-whole (now (l .p)) (now (l .out)) (joining _ _ _ _ room) (g .join-behind .ensures .0) (g .join-behind .ensures .1 .1)
+    (h .before .before .enum-told2 .given .1) (h .put-whole .ensures .0) (h .put-whole .ensures .1) (c .before .before .framed .ensures .1) in
+    (c .before .before .framed .ensures .0 ∙ k .0, (g .join-behind .ensures .1 .0, k .1))
 
 same-length-5 : tie.Need-same-length-5
 same-length-5 c = search needs
@@ -67,7 +89,12 @@ same-length-6 : tie.Need-same-length-6
 same-length-6 c = search needs
 
 returns-3 : tie.Need-returns-3
-returns-3 c = let k = joins-message (c .before .before .before .before .before .before .before .before .before .before .before .before .before .before .before .before .before .before .args .s) (length (now (c .before .before .before .before .before .before .before .before .before .before .before .before .before .before .before .before .before .before .args .zero))) (now (c .before .before .before .before .before .before .before .before .before .before .before .before .before .before .before .before .before .before .args .store)) (now (c .before .before .before .before .before .before .before .before .before .before .before .before .before .before .before .before .before .before .args .p)) (now (c .before .before .before .before .before .before .before .before .before .before .before .before .before .before .before .before .before .before .args .out)) (c .before .before .before .before .before .before .before .before .before .before .before .join-behind .ensures .0) (c .before .before .before .before .before .before .before .before .before .before .before .join-behind .ensures .1 .1) (c .before .before .before .before .enum-told3 .given .1) refl (c .before .before .framed2 .ensures .1) in (c .before .before .framed2 .ensures .0 ∙ k .0, (c .before .before .before .before .before .before .before .before .before .before .before .join-behind .ensures .1 .0, k .1))
+returns-3 c =
+    let g = c .before .before .before .before .before .before .before .before .before .before .before .join-behind .ensures in
+    let k = joins-message _ _ _ _ _ (g .0) (g .1 .1) (c .before .before .before .before .enum-told3 .given .1) refl (c .before .before .framed2 .ensures .1) in
+    (c .before .before .framed2 .ensures .0 ∙ k .0, (g .1 .0, k .1))
 
 pub join-packet-spec : {M : Type 1} → statement M
-join-packet-spec = tie.close (tie.spec add-used join-behind-requires enum-told left-requires enum-told-2 put-whole-requires framed-requires enum-told-3 add-framed framed-requires-2 same-length same-length-2 returns same-length-3 same-length-4 returns-2 same-length-5 same-length-6 returns-3)
+join-packet-spec =
+    tie.close (tie.spec add-used join-behind-requires enum-told left-requires enum-told-2 put-whole-requires framed-requires enum-told-3 add-framed
+    framed-requires-2 same-length same-length-2 returns same-length-3 same-length-4 returns-2 same-length-5 same-length-6 returns-3)

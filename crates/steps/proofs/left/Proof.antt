@@ -7,11 +7,11 @@ use Rattle.steps.proofs.left.Tie as tie
 
 returns : tie.Need-returns
 unfolding leftAs
-returns c = simp (eq-eqb (c .before .before .args .refusal .number) 20 (c .if1 .taken))
+returns c = simp (eq-eqb _ 20 (c .if1 .taken))
 
 returns-2 : tie.Need-returns-2
 unfolding leftAs
-returns-2 c = simp (ne-eqb (c .before .before .args .refusal .number) 20 (c .if1 .left))
+returns-2 c = simp (ne-eqb _ 20 (c .if1 .left))
 
 pub left-spec : {M : Type 1} → statement M
 left-spec =

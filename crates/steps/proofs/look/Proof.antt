@@ -10,13 +10,13 @@ use Rattle.steps.proofs.look.Statement.{statement}
 use Rattle.steps.proofs.look.Tie as tie
 
 returns : tie.Need-returns
-returns c = sym (ap standsOf (found-nothing (now (c .before .before .args .x)) (c .if1 .taken)))
+returns c = sym (ap standsOf (found-nothing _ (c .if1 .taken)))
 
 marked-requires : tie.Need-marked-requires
 marked-requires c κs = search needs
 
 returns-2 : tie.Need-returns-2
-returns-2 c = sym (ap standsOf (found-other (now (c .before .before .before .before .args .x)) (c .before .before .if1 .left) (sym (c .before .marked .ensures) ∙ not-true (c .before .marked .result) (c .if2 .taken))))
+returns-2 c = sym (ap standsOf (found-other _ (c .before .before .if1 .left) (sym (c .before .marked .ensures) ∙ not-true _ (c .if2 .taken))))
 
 be16-requires : tie.Need-be16-requires
 be16-requires c κs = search needs
@@ -31,10 +31,14 @@ add-if3-2 : tie.Need-add-if3-2
 add-if3-2 c = search needs
 
 returns-3 : tie.Need-returns-3
-returns-3 c = sym (ap standsOf (found-cut (now (c .before .before .before .before .before .before .args .x)) (c .before .before .before .before .if1 .left) (sym (c .before .before .before .marked .ensures) ∙ not-false (c .before .before .before .marked .result) (c .before .before .if2 .left)) (rw (c .before .be16 .ensures) at (c .if3 .taken))))
+returns-3 c =
+    sym (ap standsOf (found-cut _ (c .before .before .before .before .if1 .left)
+    (sym (c .before .before .before .marked .ensures) ∙ not-false _ (c .before .before .if2 .left)) (rw (c .before .be16 .ensures) at (c .if3 .taken))))
 
 returns-4 : tie.Need-returns-4
-returns-4 c = sym (ap standsOf (found-whole (now (c .before .before .before .before .before .before .args .x)) (c .before .before .before .before .if1 .left) (sym (c .before .before .before .marked .ensures) ∙ not-false (c .before .before .before .marked .result) (c .before .before .if2 .left)) (rw (c .before .be16 .ensures) at (c .if3 .left))))
+returns-4 c =
+    sym (ap standsOf (found-whole _ (c .before .before .before .before .if1 .left)
+    (sym (c .before .before .before .marked .ensures) ∙ not-false _ (c .before .before .if2 .left)) (rw (c .before .be16 .ensures) at (c .if3 .left))))
 
 pub look-spec : {M : Type 1} → statement M
 look-spec =

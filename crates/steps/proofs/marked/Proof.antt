@@ -25,7 +25,9 @@ same-requires : tie.Need-same-requires
 same-requires c κs = search needs
 
 returns : tie.Need-returns
-returns c = begins-as (now (c .before .before .before .before .before .before .args .x)) (c .before .before .before .span .ensures) (c .before .before .before .before .within .ensures) (c .same .ensures)
+returns c =
+    begins-as (now (c .before .before .before .before .before .before .args .x)) (c .before .before .before .span .ensures)
+    (c .before .before .before .before .within .ensures) (c .same .ensures)
 
 pub marked-spec : {M : Type 1} → statement M
 marked-spec =

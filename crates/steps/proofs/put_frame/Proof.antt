@@ -20,7 +20,10 @@ same-length c = search needs
 
 returns : tie.Need-returns
 unfolding wide
-returns c = c .before .before .put-number .ensures ∙ ap (λ (x : List ℕ). sets x 2 (wide 4 (c .before .before .before .before .before .before .before .before .before .args .n))) (c .before .before .before .before .before .before .put16 .ensures)
+returns c =
+    c .before .before .put-number .ensures ∙ ap (λ (x : List ℕ). sets x 2
+    (wide 4 (c .before .before .before .before .before .before .before .before .before .args .n)))
+    (c .before .before .before .before .before .before .put16 .ensures)
 
 pub put-frame-spec : {M : Type 1} → statement M
 put-frame-spec =

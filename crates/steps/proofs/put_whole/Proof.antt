@@ -20,13 +20,23 @@ lay-requires-2 : tie.Need-lay-requires-2
 lay-requires-2 c κs = search needs
 
 sub-result : tie.Need-sub-result
-sub-result c = omega (arith, whole-laid (now (c .before .before .before .before .before .before .before .before .before .before .before .before .args .p)) (now (c .before .before .before .before .before .before .before .before .before .before .before .before .args .out)) (c .before .before .before .before .before .before .before .before .before .before .before .before .pre) (c .before .before .before .before .before .before .before .before .span .ensures) (c .before .before .before .span2 .ensures) (c .before .before .before .before .before .before .before .lay .ensures) (c .before .before .lay2 .ensures) .0)
+sub-result c =
+    let g = c .before .before .before .before .before .before .before in
+    omega (
+      arith,
+      whole-laid (now (g .before .before .before .before .before .args .p)) _ (g .before .before .before .before .before .pre)
+          (g .before .span .ensures) (c .before .before .before .span2 .ensures) (g .lay .ensures) (c .before .before .lay2 .ensures) .0,
+    )
 
 same-length : tie.Need-same-length
 same-length c = search needs
 
 returns : tie.Need-returns
-returns c = let k = whole-laid (now (c .before .before .before .before .before .before .before .before .before .before .before .before .args .p)) (now (c .before .before .before .before .before .before .before .before .before .before .before .before .args .out)) (c .before .before .before .before .before .before .before .before .before .before .before .before .pre) (c .before .before .before .before .before .before .before .before .span .ensures) (c .before .before .before .span2 .ensures) (c .before .before .before .before .before .before .before .lay .ensures) (c .before .before .lay2 .ensures) in (omega (arith, k .0), k .1)
+returns c =
+    let g = c .before .before .before .before .before .before .before in
+    let k = whole-laid (now (g .before .before .before .before .before .args .p)) _ (g .before .before .before .before .before .pre) (g .before .span .ensures)
+    (c .before .before .before .span2 .ensures) (g .lay .ensures) (c .before .before .lay2 .ensures) in
+    (omega (arith, k .0), k .1)
 
 pub put-whole-spec : {M : Type 1} → statement M
 put-whole-spec =

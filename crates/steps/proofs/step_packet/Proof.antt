@@ -11,10 +11,12 @@ add-t12 : tie.Need-add-t12
 add-t12 c = search needs
 
 returns : tie.Need-returns
-returns c = passes-over (c .before .before .before .before .before .args .s) (length (now (c .before .before .before .before .before .args .zero))) (now (c .before .before .before .before .before .args .store)) (now (c .before .before .before .before .before .args .p)) (now (c .before .before .before .before .before .args .out)) (c .if1 .taken)
+returns c = passes-over _ _ _ _ _ (c .if1 .taken)
 
 join-packet-requires : tie.Need-join-packet-requires
-join-packet-requires c κs = (c .before .before .before .before .before .before .before .pre .0, (c .before .before .before .before .before .before .before .pre .1 .0, (c .before .before .before .before .before .before .before .pre .1 .1 .0, (c .before .before .before .before .before .before .before .pre .1 .1 .1 .0, c .before .before .if1 .left))))
+join-packet-requires c κs =
+    let g = c .before .before .before .before .before .before .before .pre in
+    (g .0, (g .1 .0, (g .1 .1 .0, (g .1 .1 .1 .0, c .before .before .if1 .left))))
 
 same-length : tie.Need-same-length
 same-length c = search needs
@@ -23,7 +25,9 @@ same-length-2 : tie.Need-same-length-2
 same-length-2 c = search needs
 
 returns-2 : tie.Need-returns-2
-returns-2 c = passes-joined (c .before .before .before .before .before .before .before .before .before .before .before .before .args .s) (length (now (c .before .before .before .before .before .before .before .before .before .before .before .before .args .zero))) (now (c .before .before .before .before .before .before .before .before .before .before .before .before .args .store)) (now (c .before .before .before .before .before .before .before .before .before .before .before .before .args .p)) (now (c .before .before .before .before .before .before .before .before .before .before .before .before .args .out)) (c .before .before .before .before .before .before .before .if1 .left) (c .before .before .before .before .join-packet .ensures .0) (c .before .before .before .before .join-packet .ensures .1 .0) (c .before .before .before .before .join-packet .ensures .1 .1)
+returns-2 c =
+    let g = c .before .before .before .before .join-packet .ensures in
+    passes-joined _ _ _ _ _ (c .before .before .before .before .before .before .before .if1 .left) (g .0) (g .1 .0) (g .1 .1)
 
 pub step-packet-spec : {M : Type 1} → statement M
 step-packet-spec =

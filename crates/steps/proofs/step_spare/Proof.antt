@@ -25,7 +25,17 @@ part-copy-start : tie.Need-part-copy-start
 part-copy-start c = search needs
 
 part-copy-end : tie.Need-part-copy-end
-part-copy-end c = let l = step-within (c .before .before .before .before .before .before .before .before .before .before .before .before .before .before .args .s) (length (now (c .before .before .before .before .before .before .before .before .before .before .before .before .before .before .args .zero))) (now (c .before .before .before .before .before .before .before .before .before .before .before .before .before .before .args .store)) (now (c .before .before .before .before .before .before .before .before .before .before .before .before .before .before .args .rest)) true (c .before .before .before .before .before .before .step .ensures .0) .1 in omega (arith, l, ap length (c .before .before .before .before .before .before .step .ensures .1 .1), length-sets (now (c .before .before .before .before .before .before .before .before .before .before .before .before .before .before .args .spare)) 0 (writtenBy (stepped (c .before .before .before .before .before .before .before .before .before .before .before .before .before .before .args .s) (length (now (c .before .before .before .before .before .before .before .before .before .before .before .before .before .before .args .zero))) (now (c .before .before .before .before .before .before .before .before .before .before .before .before .before .before .args .store)) (now (c .before .before .before .before .before .before .before .before .before .before .before .before .before .before .args .rest)) true)), c .before .before .before .before .before .before .before .before .before .before .before .before .before .before .pre .1 .1 .1)
+part-copy-end c =
+    let g = c .before .before .before .before .before .before .before .before .before .before .before .before .before .before in
+    let h = c .before .before .before .before .before .before .step .ensures in
+    let l = step-within _ _ _ _ true (h .0) .1 in
+    omega (
+      arith,
+      l,
+      ap length (h .1 .1),
+      length-sets (now (g .args .spare)) 0 (writtenBy (stepped (g .args .s) (length (now (g .args .zero))) (now (g .args .store)) (now (g .args .rest)) true)),
+      g .pre .1 .1 .1,
+    )
 
 copy-requires : tie.Need-copy-requires
 copy-requires c κs = search needs
@@ -40,7 +50,16 @@ same-length-3 : tie.Need-same-length-3
 same-length-3 c = search needs
 
 returns : tie.Need-returns
-returns c = (c .before .before .before .before .before .before .before .before .before .before .step .ensures .0, (c .before .before .before .before .before .before .before .before .before .before .step .ensures .1 .0, c .before .before .copy .ensures ∙ ap (λ (l : List ℕ). sets (now (c .before .before .before .before .before .before .before .before .before .before .before .before .before .before .before .before .before .before .args .out)) (c .before .before .before .before .before .before .before .before .before .before .before .before .before .before .before .before .before .before .args .at) l) (spare-front (c .before .before .before .before .before .before .before .before .before .before .before .before .before .before .before .before .before .before .args .s) (length (now (c .before .before .before .before .before .before .before .before .before .before .before .before .before .before .before .before .before .before .args .zero))) (now (c .before .before .before .before .before .before .before .before .before .before .before .before .before .before .before .before .before .before .args .store)) (now (c .before .before .before .before .before .before .before .before .before .before .before .before .before .before .before .before .before .before .args .rest)) (now (c .before .before .before .before .before .before .before .before .before .before .before .before .before .before .before .before .before .before .args .spare)) (c .before .before .before .before .before .before .before .before .before .before .step .ensures .0) (c .before .before .before .before .before .before .before .before .before .before .step .ensures .1 .1) (c .before .before .before .before .before .before .before .before .before .before .before .before .before .before .before .before .before .before .pre .1 .1 .1))))
+returns c =
+    let g = c .before .before .before .before .before .before .before .before .before .before in
+    let h = g .before .before .before .before .before .before .before .before in (
+      g .step .ensures .0,
+      (
+        g .step .ensures .1 .0,
+        c .before .before .copy .ensures ∙ ap (λ (l : List ℕ). sets (now (h .args .out)) (h .args .at) l)
+            (spare-front _ _ _ _ (now (h .args .spare)) (g .step .ensures .0) (g .step .ensures .1 .1) (h .pre .1 .1 .1)),
+      ),
+    )
 
 pub step-spare-spec : {M : Type 1} → statement M
 step-spare-spec =

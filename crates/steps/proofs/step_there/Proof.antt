@@ -23,7 +23,21 @@ part-step-end : tie.Need-part-step-end
 part-step-end c = search needs
 
 step-requires : tie.Need-step-requires
-step-requires c κs = (c .before .before .before .before .before .before .pre .0, (c .before .before .before .before .before .before .pre .1 .0, (c .before .before .before .before .before .before .pre .1 .1 .0, omega (arith, length-take-le (c .before .before .before .before .before .before .args .at + 65542 - c .before .before .before .before .before .before .args .at) (drop (c .before .before .before .before .before .before .args .at) (now (c .before .before .before .before .before .before .args .out))) (omega (arith, length-drop (c .before .before .before .before .before .before .args .at) (now (c .before .before .before .before .before .before .args .out)), c .before .before .before .before .before .before .pre .1 .1 .1))))))
+step-requires c κs =
+    let g = c .before .before .before .before .before .before in (
+      g .pre .0,
+      (
+        g .pre .1 .0,
+        (
+          g .pre .1 .1 .0,
+          omega (
+            arith,
+            length-take-le (g .args .at + 65542 - g .args .at) (drop (g .args .at) (now (g .args .out)))
+                (omega (arith, length-drop (g .args .at) (now (g .args .out)), g .pre .1 .1 .1)),
+          ),
+        ),
+      ),
+    )
 
 same-length : tie.Need-same-length
 same-length c = search needs
@@ -32,7 +46,10 @@ same-length-2 : tie.Need-same-length-2
 same-length-2 c = search needs
 
 returns : tie.Need-returns
-returns c = (c .before .before .before .before .step .ensures .0, (c .before .before .before .before .step .ensures .1 .0, there-out (c .before .before .before .before .before .before .before .before .before .before .before .args .s) (length (now (c .before .before .before .before .before .before .before .before .before .before .before .args .zero))) (now (c .before .before .before .before .before .before .before .before .before .before .before .args .store)) (now (c .before .before .before .before .before .before .before .before .before .before .before .args .rest)) (now (c .before .before .before .before .before .before .before .before .before .before .before .args .out)) (c .before .before .before .before .before .before .before .before .before .before .before .args .at) (c .before .before .before .before .before .before .before .before .before .before .before .args .at + 65542 - c .before .before .before .before .before .before .before .before .before .before .before .args .at) (omega (arith, c .before .before .before .before .before .before .before .before .before .before .before .pre .1 .1 .1)) (omega arith) (c .before .before .before .before .step .ensures .1 .1)))
+returns c =
+    let g = c .before .before .before .before .before .before .before .before .before .before .before in
+    let h = c .before .before .before .before .step .ensures in
+    (h .0, (h .1 .0, there-out _ _ _ _ _ _ (g .args .at + 65542 - g .args .at) (omega (arith, g .pre .1 .1 .1)) (omega arith) (h .1 .1)))
 
 pub step-there-spec : {M : Type 1} → statement M
 step-there-spec =

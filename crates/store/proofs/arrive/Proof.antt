@@ -22,7 +22,10 @@ same-length c = search needs
 
 returns : tie.Need-returns
 unfolding storeWith
-returns c = let n = opened-number (c .before .before .before .before .before .before .before .before .args .s) 1024 (now (c .before .before .before .before .before .before .before .before .args .store)) (c .before .before .before .check .ensures) in let e = arrived-shut (c .before .before .before .before .before .before .before .before .args .s) 1024 (now (c .before .before .before .before .before .before .before .before .args .store)) (now (c .before .before .before .before .before .before .before .before .args .p)) (λ g. c .if1 .taken (n ∙ g)) in (ap arrivalOf (ap refused n ∙ sym e), ap (storeWith 1024 (now (c .before .before .before .before .before .before .before .before .args .store)) (now (c .before .before .before .before .before .before .before .before .args .p))) (sym e))
+returns c =
+    let n = opened-number _ 1024 _ (c .before .before .before .check .ensures) in
+    let e = arrived-shut _ 1024 _ _ (λ g. c .if1 .taken (n ∙ g)) in
+    (ap arrivalOf (ap refused n ∙ sym e), ap (storeWith 1024 _ _) (sym e))
 
 slice-aggregate-arrive-in : tie.Need-slice-aggregate-arrive-in
 slice-aggregate-arrive-in c = search needs
@@ -34,7 +37,13 @@ same-length-2 : tie.Need-same-length-2
 same-length-2 c = search needs
 
 returns-2 : tie.Need-returns-2
-returns-2 c = let e = arrived-beside (c .before .before .before .before .before .before .before .before .before .before .before .before .before .args .s) _ (now (c .before .before .before .before .before .before .before .before .before .before .before .before .before .args .store)) _ refl (now (c .before .before .before .before .before .before .before .before .before .before .before .before .before .args .p)) ∙ ap (λ n. arrivedIn (c .before .before .before .before .before .before .before .before .before .before .before .before .before .args .s) 1024 (now (c .before .before .before .before .before .before .before .before .before .before .before .before .before .args .store)) n (now (c .before .before .before .before .before .before .before .before .before .before .before .before .before .args .p))) (opened-cells (c .before .before .before .before .before .before .before .before .before .before .before .before .before .args .s) 1024 (now (c .before .before .before .before .before .before .before .before .before .before .before .before .before .args .store)) (c .before .before .before .before .before .before .before .before .check .ensures) (c .before .before .before .before .before .if1 .left)) ∙ arrived-open (c .before .before .before .before .before .before .before .before .before .before .before .before .before .args .s) 1024 (now (c .before .before .before .before .before .before .before .before .before .before .before .before .before .args .store)) (now (c .before .before .before .before .before .before .before .before .before .before .before .before .before .args .p)) (opened-gate (c .before .before .before .before .before .before .before .before .before .before .before .before .before .args .s) 1024 (now (c .before .before .before .before .before .before .before .before .before .before .before .before .before .args .store)) (c .before .before .before .before .before .before .before .before .check .ensures) (c .before .before .before .before .before .if1 .left)) in (c .before .before .arrive-in .ensures .0 ∙ ap arrivalOf e, c .before .before .arrive-in .ensures .1 ∙ ap (storeWith 1024 (now (c .before .before .before .before .before .before .before .before .before .before .before .before .before .args .store)) (now (c .before .before .before .before .before .before .before .before .before .before .before .before .before .args .p))) e)
+returns-2 c =
+    let g = c .before .before .before .before .before .before .before .before .before .before .before .before .before .args in
+    let h = c .before .before .before .before .before in
+    let e = arrived-beside _ _ (now (g .store)) _ refl (now (g .p)) ∙ ap (λ n. arrivedIn (g .s) 1024 (now (g .store)) n (now (g .p)))
+    (opened-cells _ 1024 _ (h .before .before .before .check .ensures) (h .if1 .left)) ∙ arrived-open _ 1024 _ _
+    (opened-gate _ 1024 _ (h .before .before .before .check .ensures) (h .if1 .left)) in
+    (c .before .before .arrive-in .ensures .0 ∙ ap arrivalOf e, c .before .before .arrive-in .ensures .1 ∙ ap (storeWith 1024 _ _) e)
 
 pub arrive-spec : {M : Type 1} → statement M
 arrive-spec = tie.close (tie.spec slice-aggregate-check check-requires same-length returns slice-aggregate-arrive-in arrive-in-requires same-length-2 returns-2)

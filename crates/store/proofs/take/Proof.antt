@@ -27,7 +27,10 @@ same-length c = search needs
 
 returns : tie.Need-returns
 unfolding outWith storeLess
-returns c = let n = opened-number (c .before .before .before .before .before .before .before .before .before .args .s) 1024 (now (c .before .before .before .before .before .before .before .before .before .args .store)) (c .before .before .before .before .check .ensures) in let e = took-shut (c .before .before .before .before .before .before .before .before .before .args .s) 1024 (now (c .before .before .before .before .before .before .before .before .before .args .store)) (length (now (c .before .before .before .before .before .before .before .before .before .args .out))) (λ g. c .before .if1 .taken (n ∙ g)) in (c .not-taken .ensures ∙ ap (λ k. takenOf (unable k)) n ∙ ap takenOf (sym e), (ap (outWith (now (c .before .before .before .before .before .before .before .before .before .args .out))) (sym e), ap (storeLess (c .before .before .before .before .before .before .before .before .before .args .s) 1024 (now (c .before .before .before .before .before .before .before .before .before .args .store)) (countIn 1024 (now (c .before .before .before .before .before .before .before .before .before .args .store)))) (sym e)))
+returns c =
+    let n = opened-number _ 1024 _ (c .before .before .before .before .check .ensures) in
+    let e = took-shut _ 1024 _ _ (λ g. c .before .if1 .taken (n ∙ g)) in
+    (c .not-taken .ensures ∙ ap (λ k. takenOf (unable k)) n ∙ ap takenOf (sym e), (ap (outWith _) (sym e), ap (storeLess _ 1024 _ _) (sym e)))
 
 slice-aggregate-take-in : tie.Need-slice-aggregate-take-in
 slice-aggregate-take-in c = search needs
@@ -42,7 +45,21 @@ same-length-3 : tie.Need-same-length-3
 same-length-3 c = search needs
 
 returns-2 : tie.Need-returns-2
-returns-2 c = let n = opened-cells (c .before .before .before .before .before .before .before .before .before .before .before .before .before .before .before .before .args .s) 1024 (now (c .before .before .before .before .before .before .before .before .before .before .before .before .before .before .before .before .args .store)) (c .before .before .before .before .before .before .before .before .before .before .before .check .ensures) (c .before .before .before .before .before .before .before .before .if1 .left) in let e = took-beside (c .before .before .before .before .before .before .before .before .before .before .before .before .before .before .before .before .args .s) _ (now (c .before .before .before .before .before .before .before .before .before .before .before .before .before .before .before .before .args .store)) _ refl (length (now (c .before .before .before .before .before .before .before .before .before .before .before .before .before .before .before .before .args .out))) ∙ ap (λ k. tookIn (c .before .before .before .before .before .before .before .before .before .before .before .before .before .before .before .before .args .s) 1024 (now (c .before .before .before .before .before .before .before .before .before .before .before .before .before .before .before .before .args .store)) k (length (now (c .before .before .before .before .before .before .before .before .before .before .before .before .before .before .before .before .args .out)))) n ∙ took-open (c .before .before .before .before .before .before .before .before .before .before .before .before .before .before .before .before .args .s) 1024 (now (c .before .before .before .before .before .before .before .before .before .before .before .before .before .before .before .before .args .store)) (length (now (c .before .before .before .before .before .before .before .before .before .before .before .before .before .before .before .before .args .out))) (opened-gate (c .before .before .before .before .before .before .before .before .before .before .before .before .before .before .before .before .args .s) 1024 (now (c .before .before .before .before .before .before .before .before .before .before .before .before .before .before .before .before .args .store)) (c .before .before .before .before .before .before .before .before .before .before .before .check .ensures) (c .before .before .before .before .before .before .before .before .if1 .left)) in (c .before .before .before .before .take-in .ensures .0 ∙ ap takenOf e, (c .before .before .before .before .take-in .ensures .1 .0 ∙ ap (outWith (now (c .before .before .before .before .before .before .before .before .before .before .before .before .before .before .before .before .args .out))) e, c .before .before .before .before .take-in .ensures .1 .1 ∙ ap₂ (λ k t. storeLess (c .before .before .before .before .before .before .before .before .before .before .before .before .before .before .before .before .args .s) 1024 (now (c .before .before .before .before .before .before .before .before .before .before .before .before .before .before .before .before .args .store)) k t) n e))
+returns-2 c =
+    let g = c .before .before .before .before .before .before .before .before .before .before .before .before .before .before .before .before .args in
+    let h = c .before .before .before .before in
+    let l = h .before .before .before .before in
+    let n = opened-cells _ 1024 _ (l .before .before .before .check .ensures) (l .if1 .left) in
+    let e = took-beside _ _ (now (g .store)) _ refl (length (now (g .out))) ∙ ap (λ k. tookIn (g .s) 1024 (now (g .store)) k (length (now (g .out)))) n ∙
+    took-open _ 1024 _ _ (opened-gate _ 1024 _ (l .before .before .before .check .ensures) (l .if1 .left)) in (
+      h .take-in .ensures .0 ∙ ap takenOf e,
+      (
+        h .take-in .ensures .1 .0 ∙ ap (outWith _) e,
+        h .take-in .ensures .1 .1 ∙ ap₂ (λ k t. storeLess (g .s) 1024 (now (g .store)) k t) n e,
+      ),
+    )
 
 pub take-spec : {M : Type 1} → statement M
-take-spec = tie.close (tie.spec slice-aggregate-check check-requires not-taken-requires same-length returns slice-aggregate-take-in take-in-requires same-length-2 same-length-3 returns-2)
+take-spec =
+    tie.close (tie.spec slice-aggregate-check check-requires not-taken-requires same-length returns slice-aggregate-take-in take-in-requires same-length-2
+    same-length-3 returns-2)

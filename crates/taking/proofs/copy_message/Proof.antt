@@ -21,10 +21,23 @@ piece-in-requires : tie.Need-piece-in-requires
 piece-in-requires c κs = search needs
 
 put-key-requires : tie.Need-put-key-requires
-put-key-requires c κs = (head-asked (c .before .before .before .before .before .before .before .before .before .before .before .args .s) (length (now (c .before .before .before .before .before .before .before .before .before .before .before .args .zero))) (now (c .before .before .before .before .before .before .before .before .before .before .before .args .store)) (c .before .before .before .before .before .before .before .before .before .before .before .args .n) (c .before .before .before .before .before .before .before .before .before .before .before .args .i) (λ j. c .before .before .before .before .before .before .before .before .before .before .shared-slice-known .given j .fits) (c .before .before .before .before .before .before .before .before .before .before .before .pre .1 .0) (c .before .before .before .before .before .before .before .row .ensures) (c .before .before .before .before .before .before .packet-in .ensures) (c .before .before .before .before .before .read .ensures .0) (c .before .piece-in .ensures), head-key-room (c .before .before .before .before .before .before .before .before .before .before .before .args .s) (length (now (c .before .before .before .before .before .before .before .before .before .before .before .args .zero))) (now (c .before .before .before .before .before .before .before .before .before .before .before .args .store)) (c .before .before .before .before .before .before .before .before .before .before .before .args .n) (c .before .before .before .before .before .before .before .before .before .before .before .args .i) (λ j. c .before .before .before .before .before .before .before .before .before .before .shared-slice-known .given j .fits) (c .before .before .before .before .before .before .before .before .before .before .before .pre .1 .0) (c .before .before .before .before .before .before .before .row .ensures) (c .before .before .before .before .before .before .packet-in .ensures) (c .before .before .before .before .before .read .ensures .0) (c .before .piece-in .ensures) (c .before .before .before .before .before .before .before .before .before .before .before .pre .1 .1))
+put-key-requires c κs =
+    let g = c .before .before .before .before .before in
+    let h = g .before .before .before .before .before in (
+      head-asked _ _ _ (h .before .args .n) _ (λ j. h .shared-slice-known .given j .fits) (h .before .pre .1 .0) (g .before .before .row .ensures)
+          (g .before .packet-in .ensures) (g .read .ensures .0) (c .before .piece-in .ensures),
+      head-key-room _ _ _ _ _
+          (λ j. h .shared-slice-known .given j .fits) (h .before .pre .1 .0) (g .before .before .row .ensures) (g .before .packet-in .ensures)
+          (g .read .ensures .0) (c .before .piece-in .ensures) (h .before .pre .1 .1),
+    )
 
 put-body-requires : tie.Need-put-body-requires
-put-body-requires c κs = head-body-room (c .before .before .before .before .before .before .before .before .before .before .before .before .before .before .before .args .s) (length (now (c .before .before .before .before .before .before .before .before .before .before .before .before .before .before .before .args .zero))) (now (c .before .before .before .before .before .before .before .before .before .before .before .before .before .before .before .args .store)) (c .before .before .before .before .before .before .before .before .before .before .before .before .before .before .before .args .n) (c .before .before .before .before .before .before .before .before .before .before .before .before .before .before .before .args .i) (λ j. c .before .before .before .before .before .before .before .before .before .before .before .before .before .before .shared-slice-known .given j .fits) (c .before .before .before .before .before .before .before .before .before .before .before .before .before .before .before .pre .1 .0) (c .before .before .before .before .before .before .before .before .before .before .before .row .ensures) (c .before .before .before .before .before .before .before .before .before .before .packet-in .ensures) (c .before .before .before .before .before .before .before .before .before .read .ensures .0) (c .before .before .before .before .before .piece-in .ensures) (c .before .before .before .before .before .before .before .before .before .before .before .before .before .before .before .pre .1 .1) (c .before .before .before .put-key .ensures .0) (c .before .before .before .put-key .ensures .1)
+put-body-requires c κs =
+    let g = c .before .before .before .before .before .before .before .before .before in
+    let h = g .before .before .before .before .before in
+    head-body-room _ _ _ _ _ (λ j. h .shared-slice-known .given j .fits) (h .before .pre .1 .0) (g .before .before .row .ensures)
+    (g .before .packet-in .ensures) (g .read .ensures .0) (c .before .before .before .before .before .piece-in .ensures) (h .before .pre .1 .1)
+    (c .before .before .before .put-key .ensures .0) (c .before .before .before .put-key .ensures .1)
 
 cast-c : tie.Need-cast-c
 cast-c c = search needs
@@ -33,13 +46,41 @@ add-c : tie.Need-add-c
 add-c c = search needs
 
 copy-rest-requires : tie.Need-copy-rest-requires
-copy-rest-requires c κs = (c .before .before .before .before .before .before .before .before .before .before .before .before .before .before .before .before .before .before .before .before .pre .0, (head-asked (c .before .before .before .before .before .before .before .before .before .before .before .before .before .before .before .before .before .before .before .before .args .s) (length (now (c .before .before .before .before .before .before .before .before .before .before .before .before .before .before .before .before .before .before .before .before .args .zero))) (now (c .before .before .before .before .before .before .before .before .before .before .before .before .before .before .before .before .before .before .before .before .args .store)) (c .before .before .before .before .before .before .before .before .before .before .before .before .before .before .before .before .before .before .before .before .args .n) (c .before .before .before .before .before .before .before .before .before .before .before .before .before .before .before .before .before .before .before .before .args .i) (λ j. c .before .before .before .before .before .before .before .before .before .before .before .before .before .before .before .before .before .before .before .shared-slice-known .given j .fits) (c .before .before .before .before .before .before .before .before .before .before .before .before .before .before .before .before .before .before .before .before .pre .1 .0) (c .before .before .before .before .before .before .before .before .before .before .before .before .before .before .before .before .row .ensures) (c .before .before .before .before .before .before .before .before .before .before .before .before .before .before .before .packet-in .ensures) (c .before .before .before .before .before .before .before .before .before .before .before .before .before .before .read .ensures .0) (c .before .before .before .before .before .before .before .before .before .before .piece-in .ensures), (omega arith, head-ready (c .before .before .before .before .before .before .before .before .before .before .before .before .before .before .before .before .before .before .before .before .args .s) (length (now (c .before .before .before .before .before .before .before .before .before .before .before .before .before .before .before .before .before .before .before .before .args .zero))) (now (c .before .before .before .before .before .before .before .before .before .before .before .before .before .before .before .before .before .before .before .before .args .store)) (c .before .before .before .before .before .before .before .before .before .before .before .before .before .before .before .before .before .before .before .before .args .n) (c .before .before .before .before .before .before .before .before .before .before .before .before .before .before .before .before .before .before .before .before .args .i) (λ j. c .before .before .before .before .before .before .before .before .before .before .before .before .before .before .before .before .before .before .before .shared-slice-known .given j .fits) (c .before .before .before .before .before .before .before .before .before .before .before .before .before .before .before .before .before .before .before .before .pre .1 .0) (c .before .before .before .before .before .before .before .before .before .before .before .before .before .before .before .before .row .ensures) (c .before .before .before .before .before .before .before .before .before .before .before .before .before .before .before .packet-in .ensures) (c .before .before .before .before .before .before .before .before .before .before .before .before .before .before .read .ensures .0) (c .before .before .before .before .before .before .before .before .before .before .piece-in .ensures) (c .before .before .before .before .before .before .before .before .before .before .before .before .before .before .before .before .before .before .before .before .pre .1 .1) (c .before .before .before .before .before .before .before .before .put-key .ensures .0) (c .before .before .before .before .before .before .before .before .put-key .ensures .1) (c .before .before .before .before .put-body .ensures .0) (c .before .before .before .before .put-body .ensures .1))))
+copy-rest-requires c κs =
+    let g = c .before .before .before .before .before .before .before .before .before .before .before .before .before .before in
+    let h = g .before .before .before .before .before in
+    let k = c .before .before .before .before .before .before .before .before in (
+      h .before .pre .0,
+      (
+        head-asked _ _ _ (h .before .args .n) _ (λ j. h .shared-slice-known .given j .fits) (h .before .pre .1 .0)
+            (g .before .before .row .ensures) (g .before .packet-in .ensures) (g .read .ensures .0) (k .before .before .piece-in .ensures),
+        (
+          omega arith,
+          head-ready _ _ _ _ _ (λ j. h .shared-slice-known .given j .fits) (h .before .pre .1 .0) (g .before .before .row .ensures)
+              (g .before .packet-in .ensures) (g .read .ensures .0) (k .before .before .piece-in .ensures) (h .before .pre .1 .1) (k .put-key .ensures .0)
+              (k .put-key .ensures .1) (c .before .before .before .before .put-body .ensures .0) (c .before .before .before .before .put-body .ensures .1),
+        ),
+      ),
+    )
 
 same-length : tie.Need-same-length
 same-length c = search needs
 
 returns : tie.Need-returns
-returns c = (head-told (c .before .before .before .before .before .before .before .before .before .before .before .before .before .before .before .before .before .before .before .before .before .before .before .args .s) (length (now (c .before .before .before .before .before .before .before .before .before .before .before .before .before .before .before .before .before .before .before .before .before .before .before .args .zero))) (now (c .before .before .before .before .before .before .before .before .before .before .before .before .before .before .before .before .before .before .before .before .before .before .before .args .store)) (c .before .before .before .before .before .before .before .before .before .before .before .before .before .before .before .before .before .before .before .before .before .before .before .args .n) (c .before .before .before .before .before .before .before .before .before .before .before .before .before .before .before .before .before .before .before .before .before .before .before .args .i) (λ j. c .before .before .before .before .before .before .before .before .before .before .before .before .before .before .before .before .before .before .before .before .before .before .shared-slice-known .given j .fits) (c .before .before .before .before .before .before .before .before .before .before .before .before .before .before .before .before .before .before .before .before .before .before .before .pre .1 .0) (c .before .before .before .before .before .before .before .before .before .before .before .before .before .before .before .before .before .before .before .row .ensures) (c .before .before .before .before .before .before .before .before .before .before .before .before .before .before .before .before .before .before .packet-in .ensures) (c .before .before .before .before .before .before .before .before .before .before .before .before .before .before .before .before .before .read .ensures .0) (c .before .before .before .before .before .before .before .before .before .before .before .before .before .piece-in .ensures) (c .before .before .copy-rest .ensures .0), head-written (c .before .before .before .before .before .before .before .before .before .before .before .before .before .before .before .before .before .before .before .before .before .before .before .args .s) (length (now (c .before .before .before .before .before .before .before .before .before .before .before .before .before .before .before .before .before .before .before .before .before .before .before .args .zero))) (now (c .before .before .before .before .before .before .before .before .before .before .before .before .before .before .before .before .before .before .before .before .before .before .before .args .store)) (c .before .before .before .before .before .before .before .before .before .before .before .before .before .before .before .before .before .before .before .before .before .before .before .args .n) (c .before .before .before .before .before .before .before .before .before .before .before .before .before .before .before .before .before .before .before .before .before .before .before .args .i) (λ j. c .before .before .before .before .before .before .before .before .before .before .before .before .before .before .before .before .before .before .before .before .before .before .shared-slice-known .given j .fits) (c .before .before .before .before .before .before .before .before .before .before .before .before .before .before .before .before .before .before .before .before .before .before .before .pre .1 .0) (c .before .before .before .before .before .before .before .before .before .before .before .before .before .before .before .before .before .before .before .row .ensures) (c .before .before .before .before .before .before .before .before .before .before .before .before .before .before .before .before .before .before .packet-in .ensures) (c .before .before .before .before .before .before .before .before .before .before .before .before .before .before .before .before .before .read .ensures .0) (c .before .before .before .before .before .before .before .before .before .before .before .before .before .piece-in .ensures) (c .before .before .before .before .before .before .before .before .before .before .before .before .before .before .before .before .before .before .before .before .before .before .before .pre .1 .1) (c .before .before .before .before .before .before .before .before .before .before .before .put-key .ensures .0) (c .before .before .before .before .before .before .before .before .before .before .before .put-key .ensures .1) (c .before .before .before .before .before .before .before .put-body .ensures .0) (c .before .before .before .before .before .before .before .put-body .ensures .1) (c .before .before .copy-rest .ensures .1))
+returns c =
+    let g = c .before .before .before .before .before .before .before .before .before .before .before .before .before .before .before .before .before in
+    let h = c .before .before .before .before .before .before .before in
+    let k = g .before .before .before .before .before in (
+      head-told _ _ _ _ _ (λ j. k .shared-slice-known .given j .fits) (k .before .pre .1 .0) (g .before .before .row .ensures) (g .before .packet-in .ensures)
+          (g .read .ensures .0) (h .before .before .before .before .before .before .piece-in .ensures) (c .before .before .copy-rest .ensures .0),
+      head-written _
+          _ _ _ _ (λ j. k .shared-slice-known .given j .fits) (k .before .pre .1 .0) (g .before .before .row .ensures) (g .before .packet-in .ensures)
+          (g .read .ensures .0) (h .before .before .before .before .before .before .piece-in .ensures) (k .before .pre .1 .1)
+          (h .before .before .before .before .put-key .ensures .0) (h .before .before .before .before .put-key .ensures .1) (h .put-body .ensures .0)
+          (h .put-body .ensures .1) (c .before .before .copy-rest .ensures .1),
+    )
 
 pub copy-message-spec : {M : Type 1} → statement M
-copy-message-spec = tie.close (tie.spec row-requires packet-in-requires read-requires piece-in-requires put-key-requires put-body-requires cast-c add-c copy-rest-requires same-length returns)
+copy-message-spec =
+    tie.close (tie.spec row-requires packet-in-requires read-requires piece-in-requires put-key-requires put-body-requires cast-c add-c copy-rest-requires
+    same-length returns)

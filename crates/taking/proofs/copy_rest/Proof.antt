@@ -13,16 +13,20 @@ use Rattle.taking.proofs.copy_rest.Statement.{statement}
 use Rattle.taking.proofs.copy_rest.Tie as tie
 
 abbrev Inv-loop : tie.InvT-loop
-Inv-loop s store n zero q stop start out₀ place chained heads links z c₀ left₀ at₀ out c left at = Copying s (length zero) store n (keyOf q (readPacket s q)) (placesFrom s (length zero) store n (keyOf q (readPacket s q)) start) place out₀ start out c left at
+Inv-loop s store n zero q stop start out₀ place chained heads links z c₀ left₀ at₀ out c left at =
+    Copying s (length zero) store n (keyOf q (readPacket s q)) (placesFrom s (length zero) store n (keyOf q (readPacket s q)) start) place out₀ start out c
+    left at
 
 abbrev μ-loop : tie.MeasureT-loop
 μ-loop s store n zero q stop start out₀ place chained heads links z c₀ left₀ at₀ out c left at = left
 
 loop-holds : tie.Need-loop-holds Inv-loop μ-loop
-loop-holds c = copying-first (c .before .before .before .before .args .s) (length (now (c .before .before .before .before .args .zero))) (now (c .before .before .before .before .args .store)) (c .before .before .before .before .args .n) (keyOf (now (c .before .before .before .before .args .q)) (readPacket (c .before .before .before .before .args .s) (now (c .before .before .before .before .args .q)))) (c .before .before .before .before .args .start) (c .before .before .before .before .args .place) (now (c .before .before .before .before .args .out)) (c .before .before .before .before .pre .1 .1 .0) (c .before .before .before .before .pre .1 .1 .1)
+loop-holds c = copying-first _ _ _ _ _ _ _ _ (c .before .before .before .before .pre .1 .1 .0) (c .before .before .before .before .pre .1 .1 .1)
 
 find-by-requires : tie.Need-find-by-requires Inv-loop μ-loop
-find-by-requires c κs = (c .before .before .before .before .before .before .pre .0 .1, (c .before .before .before .before .before .before .pre .1 .0, c .before .before .before .before .before .before .pre .0 .0))
+find-by-requires c κs =
+    let g = c .before .before .before .before .before .before .pre in
+    (g .0 .1, (g .1 .0, g .0 .0))
 
 row-requires : tie.Need-row-requires Inv-loop μ-loop
 row-requires c κs = search needs
@@ -31,16 +35,38 @@ piece-with-requires : tie.Need-piece-with-requires Inv-loop μ-loop
 piece-with-requires c κs = search needs
 
 put-body-requires : tie.Need-put-body-requires Inv-loop μ-loop
-put-body-requires c κs = copying-room (c .before .before .before .before .before .loop .inv) (c .before .before .before .before .loop-test .taken) (c .before .before .before .find-by .ensures) (c .before .before .row .ensures) (piece-found (c .before .before .before .before .before .before .before .before .before .before .args .s) (length (now (c .before .before .before .before .before .before .before .before .before .before .args .zero))) (now (c .before .before .before .before .before .before .before .before .before .before .args .store)) (now (c .before .before .before .before .before .before .before .before .before .before .args .q)) (c .before .before .before .before .before .before .before .before .before .before .args .n) (c .before .before .before .before .before .before .before .before .before .before .args .stop) (c .before .before .before .before .before .loop .c) (c .before .before .before .before .before .before .before .before .before .before .pre .1 .0) (λ i. c .before .before .before .before .before .before .before .before .before .shared-slice-known .given i .fits) (c .before .before .before .find-by .ensures) (copying-inside (c .before .before .before .before .before .loop .inv) (c .before .before .before .before .loop-test .taken) (c .before .before .before .find-by .ensures)) (c .before .before .row .ensures) (c .before .piece-with .ensures))
+put-body-requires c κs =
+    let g = c .before .before .before in
+    copying-room (g .before .before .loop .inv) (g .before .loop-test .taken) (g .find-by .ensures) (c .before .before .row .ensures)
+    (piece-found _ _ _ _ _ _ _ (g .before .before .before .before .before .before .before .pre .1 .0)
+    (λ i. g .before .before .before .before .before .before .shared-slice-known .given i .fits) (g .find-by .ensures)
+    (copying-inside (g .before .before .loop .inv) (g .before .loop-test .taken) (g .find-by .ensures)) (c .before .before .row .ensures)
+    (c .before .piece-with .ensures))
 
 add-result : tie.Need-add-result Inv-loop μ-loop
 add-result c = omega (arith, c .before .before .before .before .before .before .before .before .before .before .loop .inv .count)
 
 same-length : tie.Need-same-length Inv-loop μ-loop
-same-length c = copying-long (c .before .before .before .before .before .before .before .before .before .before .loop .inv) (c .before .before .before .before .before .before .before .before .before .loop-test .taken) (c .before .before .before .before .before .before .before .before .find-by .ensures) (c .before .before .before .before .before .before .before .row .ensures) (piece-found (c .before .before .before .before .before .before .before .before .before .before .before .before .before .before .before .args .s) (length (now (c .before .before .before .before .before .before .before .before .before .before .before .before .before .before .before .args .zero))) (now (c .before .before .before .before .before .before .before .before .before .before .before .before .before .before .before .args .store)) (now (c .before .before .before .before .before .before .before .before .before .before .before .before .before .before .before .args .q)) (c .before .before .before .before .before .before .before .before .before .before .before .before .before .before .before .args .n) (c .before .before .before .before .before .before .before .before .before .before .before .before .before .before .before .args .stop) (c .before .before .before .before .before .before .before .before .before .before .loop .c) (c .before .before .before .before .before .before .before .before .before .before .before .before .before .before .before .pre .1 .0) (λ i. c .before .before .before .before .before .before .before .before .before .before .before .before .before .before .shared-slice-known .given i .fits) (c .before .before .before .before .before .before .before .before .find-by .ensures) (copying-inside (c .before .before .before .before .before .before .before .before .before .before .loop .inv) (c .before .before .before .before .before .before .before .before .before .loop-test .taken) (c .before .before .before .before .before .before .before .before .find-by .ensures)) (c .before .before .before .before .before .before .before .row .ensures) (c .before .before .before .before .before .before .piece-with .ensures)) (c .before .before .before .before .put-body .ensures .0) (c .before .before .before .before .put-body .ensures .1)
+same-length c =
+    let g = c .before .before .before .before .before .before .before in
+    let h = g .before .before in
+    let k = c .before .before .before .before in
+    copying-long (h .before .loop .inv) (h .loop-test .taken) (g .before .find-by .ensures) (g .row .ensures)
+    (piece-found _ _ _ _ _ _ _ (h .before .before .before .before .before .before .pre .1 .0)
+    (λ i. h .before .before .before .before .before .shared-slice-known .given i .fits) (g .before .find-by .ensures)
+    (copying-inside (h .before .loop .inv) (h .loop-test .taken) (g .before .find-by .ensures)) (g .row .ensures) (k .before .before .piece-with .ensures))
+    (k .put-body .ensures .0) (k .put-body .ensures .1)
 
 returns : tie.Need-returns Inv-loop μ-loop
-returns c = copying-last (c .before .before .before .before .before .before .before .before .before .before .loop .inv) (c .before .before .before .before .before .before .before .before .before .loop-test .taken) (c .before .before .before .before .before .before .before .before .find-by .ensures) (c .before .before .before .before .before .before .before .row .ensures) (piece-found (c .before .before .before .before .before .before .before .before .before .before .before .before .before .before .before .args .s) (length (now (c .before .before .before .before .before .before .before .before .before .before .before .before .before .before .before .args .zero))) (now (c .before .before .before .before .before .before .before .before .before .before .before .before .before .before .before .args .store)) (now (c .before .before .before .before .before .before .before .before .before .before .before .before .before .before .before .args .q)) (c .before .before .before .before .before .before .before .before .before .before .before .before .before .before .before .args .n) (c .before .before .before .before .before .before .before .before .before .before .before .before .before .before .before .args .stop) (c .before .before .before .before .before .before .before .before .before .before .loop .c) (c .before .before .before .before .before .before .before .before .before .before .before .before .before .before .before .pre .1 .0) (λ i. c .before .before .before .before .before .before .before .before .before .before .before .before .before .before .shared-slice-known .given i .fits) (c .before .before .before .before .before .before .before .before .find-by .ensures) (copying-inside (c .before .before .before .before .before .before .before .before .before .before .loop .inv) (c .before .before .before .before .before .before .before .before .before .loop-test .taken) (c .before .before .before .before .before .before .before .before .find-by .ensures)) (c .before .before .before .before .before .before .before .row .ensures) (c .before .before .before .before .before .before .piece-with .ensures)) (c .before .before .before .before .put-body .ensures .0) (c .before .before .before .before .put-body .ensures .1) (c .if1 .taken)
+returns c =
+    let g = c .before .before .before .before .before .before .before in
+    let h = g .before .before in
+    let k = c .before .before .before .before in
+    copying-last (h .before .loop .inv) (h .loop-test .taken) (g .before .find-by .ensures) (g .row .ensures)
+    (piece-found _ _ _ _ _ _ _ (h .before .before .before .before .before .before .pre .1 .0)
+    (λ i. h .before .before .before .before .before .shared-slice-known .given i .fits) (g .before .find-by .ensures)
+    (copying-inside (h .before .loop .inv) (h .loop-test .taken) (g .before .find-by .ensures)) (g .row .ensures) (k .before .before .piece-with .ensures))
+    (k .put-body .ensures .0) (k .put-body .ensures .1) (c .if1 .taken)
 
 add-c : tie.Need-add-c Inv-loop μ-loop
 add-c c = omega (arith, c .before .before .before .before .before .before .before .before .before .before .loop .inv .count)
@@ -52,7 +78,15 @@ loop-less : tie.Need-loop-less Inv-loop μ-loop
 loop-less c = omega (arith, c .before .before .before .before .before .before .before .before .before .loop-test .taken)
 
 loop-again : tie.Need-loop-again Inv-loop μ-loop
-loop-again c = copying-turn (c .before .before .before .before .before .before .before .before .before .before .loop .inv) (c .before .before .before .before .before .before .before .before .before .loop-test .taken) (c .before .before .before .before .before .before .before .before .find-by .ensures) (c .before .before .before .before .before .before .before .row .ensures) (piece-found (c .before .before .before .before .before .before .before .before .before .before .before .before .before .before .before .args .s) (length (now (c .before .before .before .before .before .before .before .before .before .before .before .before .before .before .before .args .zero))) (now (c .before .before .before .before .before .before .before .before .before .before .before .before .before .before .before .args .store)) (now (c .before .before .before .before .before .before .before .before .before .before .before .before .before .before .before .args .q)) (c .before .before .before .before .before .before .before .before .before .before .before .before .before .before .before .args .n) (c .before .before .before .before .before .before .before .before .before .before .before .before .before .before .before .args .stop) (c .before .before .before .before .before .before .before .before .before .before .loop .c) (c .before .before .before .before .before .before .before .before .before .before .before .before .before .before .before .pre .1 .0) (λ i. c .before .before .before .before .before .before .before .before .before .before .before .before .before .before .shared-slice-known .given i .fits) (c .before .before .before .before .before .before .before .before .find-by .ensures) (copying-inside (c .before .before .before .before .before .before .before .before .before .before .loop .inv) (c .before .before .before .before .before .before .before .before .before .loop-test .taken) (c .before .before .before .before .before .before .before .before .find-by .ensures)) (c .before .before .before .before .before .before .before .row .ensures) (c .before .before .before .before .before .before .piece-with .ensures)) (c .before .before .before .before .put-body .ensures .0) (c .before .before .before .before .put-body .ensures .1) (c .if1 .left)
+loop-again c =
+    let g = c .before .before .before .before .before .before .before in
+    let h = g .before .before in
+    let k = c .before .before .before .before in
+    copying-turn (h .before .loop .inv) (h .loop-test .taken) (g .before .find-by .ensures) (g .row .ensures)
+    (piece-found _ _ _ _ _ _ _ (h .before .before .before .before .before .before .pre .1 .0)
+    (λ i. h .before .before .before .before .before .shared-slice-known .given i .fits) (g .before .find-by .ensures)
+    (copying-inside (h .before .loop .inv) (h .loop-test .taken) (g .before .find-by .ensures)) (g .row .ensures) (k .before .before .piece-with .ensures))
+    (k .put-body .ensures .0) (k .put-body .ensures .1) (c .if1 .left)
 
 same-length-2 : tie.Need-same-length-2 Inv-loop μ-loop
 same-length-2 c = c .before .loop .inv .long
@@ -61,4 +95,6 @@ returns-2 : tie.Need-returns-2 Inv-loop μ-loop
 returns-2 c = absurd (copying-ended (c .before .loop .inv) (c .loop-test .left))
 
 pub copy-rest-spec : {M : Type 1} → statement M
-copy-rest-spec = tie.close (tie.spec Inv-loop μ-loop loop-holds find-by-requires row-requires piece-with-requires put-body-requires add-result same-length returns add-c sub-left loop-less loop-again same-length-2 returns-2)
+copy-rest-spec =
+    tie.close (tie.spec Inv-loop μ-loop loop-holds find-by-requires row-requires piece-with-requires put-body-requires add-result same-length returns add-c
+    sub-left loop-less loop-again same-length-2 returns-2)

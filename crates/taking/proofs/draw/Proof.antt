@@ -9,10 +9,25 @@ use Rattle.taking.proofs.draw.Statement.{statement}
 use Rattle.taking.proofs.draw.Tie as tie
 
 copy-message-requires : tie.Need-copy-message-requires
-copy-message-requires c κs = (c .before .before .before .before .before .pre .0, (draw-cell (c .before .before .before .before .before .args .s) (length (now (c .before .before .before .before .before .args .zero))) (now (c .before .before .before .before .before .args .store)) (now (c .before .before .before .before .before .args .out)) (c .before .before .before .before .before .args .n) (c .before .before .before .before .before .args .i) (c .before .before .before .before .before .args .b) (c .before .before .before .before .before .pre .1 .0) (c .before .before .before .before .before .pre .1 .1 .0 .0) (c .before .before .before .before .before .pre .1 .1 .0 .1) (c .before .before .before .before .before .pre .1 .1 .1), draw-opens (c .before .before .before .before .before .args .s) (length (now (c .before .before .before .before .before .args .zero))) (now (c .before .before .before .before .before .args .store)) (now (c .before .before .before .before .before .args .out)) (c .before .before .before .before .before .args .n) (c .before .before .before .before .before .args .i) (c .before .before .before .before .before .args .b) (c .before .before .before .before .before .pre .1 .0) (c .before .before .before .before .before .pre .1 .1 .0 .0) (c .before .before .before .before .before .pre .1 .1 .0 .1) (c .before .before .before .before .before .pre .1 .1 .1)))
+copy-message-requires c κs =
+    let g = c .before .before .before .before .before in
+    let h = g .pre .1 in (
+      g .pre .0,
+      (
+        draw-cell _ _ _ (now (g .args .out)) _ _ _ (h .0) (h .1 .0 .0) (h .1 .0 .1) (h .1 .1),
+        draw-opens _ _ _ _ _ _ _ (h .0) (h .1 .0 .0) (h .1 .0 .1) (h .1 .1),
+      ),
+    )
 
 add-span : tie.Need-add-span
-add-span c = omega (arith, draw-header (c .before .before .before .before .before .before .before .before .before .before .before .args .s) (length (now (c .before .before .before .before .before .before .before .before .before .before .before .args .zero))) (now (c .before .before .before .before .before .before .before .before .before .before .before .args .store)) (now (c .before .before .before .before .before .before .before .before .before .before .before .args .out)) (c .before .before .before .before .before .before .before .before .before .before .before .args .n) (c .before .before .before .before .before .before .before .before .before .before .before .args .i) (c .before .before .before .before .before .before .before .before .before .before .before .args .b) (c .before .before .before .before .before .before .before .before .before .before .before .pre .1 .0) (c .before .before .before .before .before .before .before .before .before .before .before .pre .1 .1 .0 .0) (c .before .before .before .before .before .before .before .before .before .before .before .pre .1 .1 .0 .1) (c .before .before .before .before .before .before .before .before .before .before .before .pre .1 .1 .1) (λ j. c .before .before .before .before .before .before .before .before .before .before .slice-known .given j .fits) (c .before .before .before .before .before .copy-message .ensures .0))
+add-span c =
+    let g = c .before .before .before .before .before .before .before .before .before .before in
+    omega (
+      arith,
+      draw-header _ _ _ (now (g .before .args .out)) _ (g .before .args .i) (g .before .args .b) (g .before .pre .1 .0)
+          (g .before .pre .1 .1 .0 .0) (g .before .pre .1 .1 .0 .1) (g .before .pre .1 .1 .1) (λ j. g .slice-known .given j .fits)
+          (c .before .before .before .before .before .copy-message .ensures .0),
+    )
 
 span-requires : tie.Need-span-requires
 span-requires c κs = search needs
@@ -30,7 +45,17 @@ same-length-2 : tie.Need-same-length-2
 same-length-2 c = search needs
 
 returns : tie.Need-returns
-returns c = (draw-told (c .before .before .before .before .before .before .before .before .before .before .before .before .before .before .before .before .before .args .s) (length (now (c .before .before .before .before .before .before .before .before .before .before .before .before .before .before .before .before .before .args .zero))) (now (c .before .before .before .before .before .before .before .before .before .before .before .before .before .before .before .before .before .args .store)) (now (c .before .before .before .before .before .before .before .before .before .before .before .before .before .before .before .before .before .args .out)) (c .before .before .before .before .before .before .before .before .before .before .before .before .before .before .before .before .before .args .n) (c .before .before .before .before .before .before .before .before .before .before .before .before .before .before .before .before .before .args .i) (c .before .before .before .before .before .before .before .before .before .before .before .before .before .before .before .before .before .args .b) (c .before .before .before .before .before .before .before .before .before .before .before .before .before .before .before .before .before .pre .1 .0) (c .before .before .before .before .before .before .before .before .before .before .before .before .before .before .before .before .before .pre .1 .1 .0 .0) (c .before .before .before .before .before .before .before .before .before .before .before .before .before .before .before .before .before .pre .1 .1 .0 .1) (c .before .before .before .before .before .before .before .before .before .before .before .before .before .before .before .before .before .pre .1 .1 .1) (c .before .before .before .before .before .before .before .before .before .before .before .copy-message .ensures .0), (draw-out (c .before .before .before .before .before .before .before .before .before .before .before .before .before .before .before .before .before .args .s) (length (now (c .before .before .before .before .before .before .before .before .before .before .before .before .before .before .before .before .before .args .zero))) (now (c .before .before .before .before .before .before .before .before .before .before .before .before .before .before .before .before .before .args .store)) (now (c .before .before .before .before .before .before .before .before .before .before .before .before .before .before .before .before .before .args .out)) (c .before .before .before .before .before .before .before .before .before .before .before .before .before .before .before .before .before .args .n) (c .before .before .before .before .before .before .before .before .before .before .before .before .before .before .before .before .before .args .i) (c .before .before .before .before .before .before .before .before .before .before .before .before .before .before .before .before .before .args .b) (c .before .before .before .before .before .before .before .before .before .before .before .before .before .before .before .before .before .pre .1 .0) (c .before .before .before .before .before .before .before .before .before .before .before .before .before .before .before .before .before .pre .1 .1 .0 .0) (c .before .before .before .before .before .before .before .before .before .before .before .before .before .before .before .before .before .pre .1 .1 .0 .1) (c .before .before .before .before .before .before .before .before .before .before .before .before .before .before .before .before .before .pre .1 .1 .1) (c .before .before .before .before .before .before .before .before .before .before .before .copy-message .ensures .1), draw-store (c .before .before .before .before .before .before .before .before .before .before .before .before .before .before .before .before .before .args .s) (length (now (c .before .before .before .before .before .before .before .before .before .before .before .before .before .before .before .before .before .args .zero))) (now (c .before .before .before .before .before .before .before .before .before .before .before .before .before .before .before .before .before .args .store)) (now (c .before .before .before .before .before .before .before .before .before .before .before .before .before .before .before .before .before .args .out)) (c .before .before .before .before .before .before .before .before .before .before .before .before .before .before .before .before .before .args .n) (c .before .before .before .before .before .before .before .before .before .before .before .before .before .before .before .before .before .args .i) (c .before .before .before .before .before .before .before .before .before .before .before .before .before .before .before .before .before .args .b) (c .before .before .before .before .before .before .before .before .before .before .before .before .before .before .before .before .before .pre .1 .0) (c .before .before .before .before .before .before .before .before .before .before .before .before .before .before .before .before .before .pre .1 .1 .0 .0) (c .before .before .before .before .before .before .before .before .before .before .before .before .before .before .before .before .before .pre .1 .1 .0 .1) (c .before .before .before .before .before .before .before .before .before .before .before .before .before .before .before .before .before .pre .1 .1 .1) (λ j. c .before .before .before .before .before .before .before .before .before .before .before .before .before .before .before .before .slice-known .given j .fits) (c .before .before .before .before .before .before .before .before .before .before .before .copy-message .ensures .0) (c .before .before .before .before .before .before .before .before .before .before .before .copy-message .ensures .1) (c .before .before .before .before .before .span .ensures) (c .before .before .clear .ensures)))
+returns c =
+    let g = c .before .before .before .before .before .before .before .before .before .before .before .before .before .before .before .before in
+    let h = c .before .before .before .before .before .before .before .before .before .before .before .copy-message .ensures in
+    let k = g .before .pre .1 in (
+      draw-told _ _ _ (now (g .before .args .out)) _ _ _ (k .0) (k .1 .0 .0) (k .1 .0 .1) (k .1 .1) (h .0),
+      (
+        draw-out _ _ _ _ _ _ _ (k .0) (k .1 .0 .0) (k .1 .0 .1) (k .1 .1) (h .1),
+        draw-store _ _ _ _ _ _ _ (k .0) (k .1 .0 .0) (k .1 .0 .1) (k .1 .1)
+            (λ j. g .slice-known .given j .fits) (h .0) (h .1) (c .before .before .before .before .before .span .ensures) (c .before .before .clear .ensures),
+      ),
+    )
 
 pub draw-spec : {M : Type 1} → statement M
 draw-spec = tie.close (tie.spec copy-message-requires add-span span-requires cast-clear clear-requires same-length same-length-2 returns)

@@ -25,7 +25,10 @@ flags-in-requires : tie.Need-flags-in-requires Inv-loop μ-loop
 flags-in-requires c κs = search needs
 
 returns : tie.Need-returns Inv-loop μ-loop
-returns c = seeking-found (c .before .before .before .before .loop .inv) (c .before .before .before .loop-test .taken) (ends-yes (c .before .before .before .before .before .before .args .z) (now (c .before .before .before .before .before .before .args .store)) (c .before .before .before .before .loop .i) (c .before .before .row .ensures) (c .before .flags-in .ensures) (c .if1 .taken))
+returns c =
+    let g = c .before .before .before in
+    seeking-found (g .before .loop .inv) (g .loop-test .taken) (ends-yes (g .before .before .before .args .z) (now (g .before .before .before .args .store))
+    (g .before .loop .i) (c .before .before .row .ensures) (c .before .flags-in .ensures) (c .if1 .taken))
 
 add-i : tie.Need-add-i Inv-loop μ-loop
 add-i c = search needs
@@ -34,7 +37,10 @@ loop-less : tie.Need-loop-less Inv-loop μ-loop
 loop-less c = search needs
 
 loop-again : tie.Need-loop-again Inv-loop μ-loop
-loop-again c = seeking-turn (c .before .before .before .before .loop .inv) (c .before .before .before .loop-test .taken) (ends-other (c .before .before .before .before .before .before .args .z) (now (c .before .before .before .before .before .before .args .store)) (c .before .before .before .before .loop .i) (c .before .before .row .ensures) (c .before .flags-in .ensures) (c .if1 .left))
+loop-again c =
+    let g = c .before .before .before in
+    seeking-turn (g .before .loop .inv) (g .loop-test .taken) (ends-other (g .before .before .before .args .z) (now (g .before .before .before .args .store))
+    (g .before .loop .i) (c .before .before .row .ensures) (c .before .flags-in .ensures) (c .if1 .left))
 
 returns-2 : tie.Need-returns-2 Inv-loop μ-loop
 returns-2 c = seeking-none (c .before .loop .inv) (c .loop-test .left)

@@ -16,7 +16,7 @@ flags-in-requires : tie.Need-flags-in-requires
 flags-in-requires c κs = search needs
 
 returns : tie.Need-returns
-returns c = piece-read (now (c .before .before .before .before .args .row)) (c .before .before .before .before .args .stop) (c .before .before .packet-in .ensures) (c .before .span .ensures) (c .flags-in .ensures)
+returns c = piece-read _ _ (c .before .before .packet-in .ensures) (c .before .span .ensures) (c .flags-in .ensures)
 
 pub piece-with-spec : {M : Type 1} → statement M
 piece-with-spec = tie.close (tie.spec packet-in-requires span-requires flags-in-requires returns)

@@ -22,7 +22,10 @@ same-length : tie.Need-same-length
 same-length c = search needs
 
 returns : tie.Need-returns
-returns c = laid-there (c .before .before .before .span .ensures ∙ ap (λ (p : List ℕ). part p (c .before .before .before .before .before .before .before .before .args .t .at) (c .before .before .before .before .before .before .before .before .args .t .length)) (c .before .before .before .before .before .packet-in .ensures)) (c .before .before .lay .ensures) (c .before .before .before .before .before .before .before .before .pre)
+returns c =
+    let g = c .before .before .before .before .before .before .before .before in
+    laid-there (c .before .before .before .span .ensures ∙ ap (λ (p : List ℕ). part p (g .args .t .at) (g .args .t .length))
+    (c .before .before .before .before .before .packet-in .ensures)) (c .before .before .lay .ensures) (g .pre)
 
 pub put-body-spec : {M : Type 1} → statement M
 put-body-spec =

@@ -17,7 +17,9 @@ lay-requires : tie.Need-lay-requires
 lay-requires c κs = search needs
 
 sub-span : tie.Need-sub-span
-sub-span c = key-places (c .before .before .before .before .before .before .before .before .before .args .s) (now (c .before .before .before .before .before .before .before .before .before .args .q)) (c .before .before .before .before .before .before .before .before .before .args .stop) (c .before .before .before .before .before .before .before .before .before .pre .0) (c .before .before .before .before .before .before .counter-place .ensures) .0
+sub-span c =
+    key-places _ _ _ (c .before .before .before .before .before .before .before .before .before .pre .0)
+    (c .before .before .before .before .before .before .counter-place .ensures) .0
 
 span-requires-2 : tie.Need-span-requires-2
 span-requires-2 c κs = search needs
@@ -26,13 +28,19 @@ lay-requires-2 : tie.Need-lay-requires-2
 lay-requires-2 c κs = search needs
 
 add-span : tie.Need-add-span
-add-span c = omega (arith, key-places (c .before .before .before .before .before .before .before .before .before .before .before .before .before .before .args .s) (now (c .before .before .before .before .before .before .before .before .before .before .before .before .before .before .args .q)) (c .before .before .before .before .before .before .before .before .before .before .before .before .before .before .args .stop) (c .before .before .before .before .before .before .before .before .before .before .before .before .before .before .pre .0) (c .before .before .before .before .before .before .before .before .before .before .before .counter-place .ensures) .1 .0)
+add-span c =
+    let g = c .before .before .before .before .before .before .before .before .before .before .before in
+    omega (arith, key-places _ _ _ (g .before .before .before .pre .0) (g .counter-place .ensures) .1 .0)
 
 add-span-2 : tie.Need-add-span-2
-add-span-2 c = omega (arith, key-places (c .before .before .before .before .before .before .before .before .before .before .before .before .before .before .args .s) (now (c .before .before .before .before .before .before .before .before .before .before .before .before .before .before .args .q)) (c .before .before .before .before .before .before .before .before .before .before .before .before .before .before .args .stop) (c .before .before .before .before .before .before .before .before .before .before .before .before .before .before .pre .0) (c .before .before .before .before .before .before .before .before .before .before .before .counter-place .ensures) .1 .0)
+add-span-2 c =
+    let g = c .before .before .before .before .before .before .before .before .before .before .before in
+    omega (arith, key-places _ _ _ (g .before .before .before .pre .0) (g .counter-place .ensures) .1 .0)
 
 sub-span-2 : tie.Need-sub-span-2
-sub-span-2 c = key-places (c .before .before .before .before .before .before .before .before .before .before .before .before .before .before .args .s) (now (c .before .before .before .before .before .before .before .before .before .before .before .before .before .before .args .q)) (c .before .before .before .before .before .before .before .before .before .before .before .before .before .before .args .stop) (c .before .before .before .before .before .before .before .before .before .before .before .before .before .before .pre .0) (c .before .before .before .before .before .before .before .before .before .before .before .counter-place .ensures) .1 .1
+sub-span-2 c =
+    let g = c .before .before .before .before .before .before .before .before .before .before .before in
+    key-places _ _ _ (g .before .before .before .pre .0) (g .counter-place .ensures) .1 .1
 
 span-requires-3 : tie.Need-span-requires-3
 span-requires-3 c κs = search needs
@@ -44,8 +52,14 @@ same-length : tie.Need-same-length
 same-length c = search needs
 
 returns : tie.Need-returns
-returns c = key-put (c .before .before .before .before .before .before .before .before .before .before .before .before .before .before .before .before .before .before .args .s) (now (c .before .before .before .before .before .before .before .before .before .before .before .before .before .before .before .before .before .before .args .q)) (c .before .before .before .before .before .before .before .before .before .before .before .before .before .before .before .before .before .before .args .stop) (c .before .before .before .before .before .before .before .before .before .before .before .before .before .before .before .before .before .before .pre .0) (c .before .before .before .before .before .before .before .before .before .before .before .before .before .before .before .counter-place .ensures) (c .before .before .before .before .before .before .before .before .before .before .before .before .before .before .before .before .before .before .pre .1) (c .before .before .before .before .before .before .before .before .before .before .before .before .before .span .ensures) (c .before .before .before .before .before .before .before .before .span2 .ensures) (c .before .before .before .span3 .ensures) (c .before .before .before .before .before .before .before .before .before .before .before .before .lay .ensures) (c .before .before .before .before .before .before .before .lay2 .ensures) (c .before .before .lay3 .ensures)
+returns c =
+    let g = c .before .before .before .before .before .before .before .before .before .before .before .before in
+    let h = c .before .before .before .before .before .before .before in
+    key-put _ _ _ (g .before .before .before .before .before .before .pre .0) (g .before .before .before .counter-place .ensures)
+    (g .before .before .before .before .before .before .pre .1) (g .before .span .ensures) (h .before .span2 .ensures)
+    (c .before .before .before .span3 .ensures) (g .lay .ensures) (h .lay2 .ensures) (c .before .before .lay3 .ensures)
 
 pub put-key-spec : {M : Type 1} → statement M
 put-key-spec =
-    tie.close (tie.spec counter-place-requires span-requires lay-requires sub-span span-requires-2 lay-requires-2 add-span add-span-2 sub-span-2 span-requires-3 lay-requires-3 same-length returns)
+    tie.close (tie.spec counter-place-requires span-requires lay-requires sub-span span-requires-2 lay-requires-2 add-span add-span-2 sub-span-2
+    span-requires-3 lay-requires-3 same-length returns)

@@ -22,10 +22,12 @@ same-length c = search needs
 
 returns : tie.Need-returns
 unfolding outWith storeLess
-returns c = let e = taking-none (c .before .before .before .before .before .before .before .before .args .s) (length (now (c .before .before .before .before .before .before .before .before .args .zero))) (now (c .before .before .before .before .before .before .before .before .args .store)) (c .before .before .before .before .before .before .before .before .args .n) (c .before .before .before .pick-message .ensures) (length (now (c .before .before .before .before .before .before .before .before .args .out))) (c .before .if1 .taken) in (c .not-taken .ensures ∙ ap takenOf (sym e), (ap (outWith (now (c .before .before .before .before .before .before .before .before .args .out))) (sym e), ap (storeLess (c .before .before .before .before .before .before .before .before .args .s) (length (now (c .before .before .before .before .before .before .before .before .args .zero))) (now (c .before .before .before .before .before .before .before .before .args .store)) (c .before .before .before .before .before .before .before .before .args .n)) (sym e)))
+returns c =
+    let e = taking-none _ _ _ _ (c .before .before .before .pick-message .ensures) _ (c .before .if1 .taken) in
+    (c .not-taken .ensures ∙ ap takenOf (sym e), (ap (outWith _) (sym e), ap (storeLess _ _ _ _) (sym e)))
 
 sub-b : tie.Need-sub-b
-sub-b c = taking-least (c .before .before .before .before .before .before .before .before .args .s) (length (now (c .before .before .before .before .before .before .before .before .args .zero))) (now (c .before .before .before .before .before .before .before .before .args .store)) (c .before .before .before .before .before .before .before .before .args .n) (c .before .before .before .pick-message .ensures) (c .before .if1 .left)
+sub-b c = taking-least _ _ _ _ (c .before .before .before .pick-message .ensures) (c .before .if1 .left)
 
 row-requires : tie.Need-row-requires
 row-requires c κs = search needs
@@ -44,7 +46,19 @@ same-length-2 c = search needs
 
 returns-2 : tie.Need-returns-2
 unfolding outWith storeLess
-returns-2 c = let e = taking-short (c .before .before .before .before .before .before .before .before .before .before .before .before .before .before .args .s) (length (now (c .before .before .before .before .before .before .before .before .before .before .before .before .before .before .args .zero))) (now (c .before .before .before .before .before .before .before .before .before .before .before .before .before .before .args .store)) (c .before .before .before .before .before .before .before .before .before .before .before .before .before .before .args .n) (c .before .before .before .before .before .before .before .before .before .pick-message .ensures) (c .before .before .before .before .before .before .before .if1 .left) (λ i. c .before .before .before .before .before .before .before .before .before .before .before .before .before .slice-known .given i .fits) (c .before .before .before .before .row .ensures) (c .before .before .before .packet-in .ensures) (c .before .before .read .ensures .0) (length (now (c .before .before .before .before .before .before .before .before .before .before .before .before .before .before .args .out))) (omega (arith, c .before .if2 .taken)) in (c .not-taken2 .ensures ∙ ap takenOf (sym e), (ap (outWith (now (c .before .before .before .before .before .before .before .before .before .before .before .before .before .before .args .out))) (sym e), ap (storeLess (c .before .before .before .before .before .before .before .before .before .before .before .before .before .before .args .s) (length (now (c .before .before .before .before .before .before .before .before .before .before .before .before .before .before .args .zero))) (now (c .before .before .before .before .before .before .before .before .before .before .before .before .before .before .args .store)) (c .before .before .before .before .before .before .before .before .before .before .before .before .before .before .args .n)) (sym e)))
+returns-2 c =
+    let g = c .before .before .before .before .before .before .before .before .before .before .before .before .before in
+    let h = c .before .before .before in
+    let k = g .before .args in
+    let e = taking-short _ _ _ _ (h .before .before .before .before .before .before .pick-message .ensures) (h .before .before .before .before .if1 .left)
+    (λ i. g .slice-known .given i .fits) (h .before .row .ensures) (h .packet-in .ensures) (c .before .before .read .ensures .0) (length (now (k .out)))
+    (omega (arith, c .before .if2 .taken)) in (
+      c .not-taken2 .ensures ∙ ap takenOf (sym e),
+      (
+        ap (outWith (now (k .out))) (sym e),
+        ap (storeLess (k .s) (length (now (k .zero))) (now (k .store)) (k .n)) (sym e),
+      ),
+    )
 
 not-taken-requires-3 : tie.Need-not-taken-requires-3
 not-taken-requires-3 c κs = search needs
@@ -54,7 +68,20 @@ same-length-3 c = search needs
 
 returns-3 : tie.Need-returns-3
 unfolding outWith storeLess
-returns-3 c = let e = taking-short (c .before .before .before .before .before .before .before .before .before .before .before .before .before .before .before .before .args .s) (length (now (c .before .before .before .before .before .before .before .before .before .before .before .before .before .before .before .before .args .zero))) (now (c .before .before .before .before .before .before .before .before .before .before .before .before .before .before .before .before .args .store)) (c .before .before .before .before .before .before .before .before .before .before .before .before .before .before .before .before .args .n) (c .before .before .before .before .before .before .before .before .before .before .before .pick-message .ensures) (c .before .before .before .before .before .before .before .before .before .if1 .left) (λ i. c .before .before .before .before .before .before .before .before .before .before .before .before .before .before .before .slice-known .given i .fits) (c .before .before .before .before .before .before .row .ensures) (c .before .before .before .before .before .packet-in .ensures) (c .before .before .before .before .read .ensures .0) (length (now (c .before .before .before .before .before .before .before .before .before .before .before .before .before .before .before .before .args .out))) (omega (arith, c .before .before .before .if2 .left, c .before .if3 .taken)) in (c .not-taken3 .ensures ∙ ap takenOf (sym e), (ap (outWith (now (c .before .before .before .before .before .before .before .before .before .before .before .before .before .before .before .before .args .out))) (sym e), ap (storeLess (c .before .before .before .before .before .before .before .before .before .before .before .before .before .before .before .before .args .s) (length (now (c .before .before .before .before .before .before .before .before .before .before .before .before .before .before .before .before .args .zero))) (now (c .before .before .before .before .before .before .before .before .before .before .before .before .before .before .before .before .args .store)) (c .before .before .before .before .before .before .before .before .before .before .before .before .before .before .before .before .args .n)) (sym e)))
+returns-3 c =
+    let g = c .before .before .before .before .before .before .before .before .before .before .before .before .before .before .before in
+    let h = c .before .before .before .before in
+    let k = g .before .args in
+    let e = taking-short _ _ _ _ (h .before .before .before .before .before .before .before .pick-message .ensures)
+    (h .before .before .before .before .before .if1 .left) (λ i. g .slice-known .given i .fits) (h .before .before .row .ensures)
+    (h .before .packet-in .ensures) (h .read .ensures .0) (length (now (k .out)))
+    (omega (arith, c .before .before .before .if2 .left, c .before .if3 .taken)) in (
+      c .not-taken3 .ensures ∙ ap takenOf (sym e),
+      (
+        ap (outWith (now (k .out))) (sym e),
+        ap (storeLess (k .s) (length (now (k .zero))) (now (k .store)) (k .n)) (sym e),
+      ),
+    )
 
 sub-if4 : tie.Need-sub-if4
 sub-if4 c = search needs
@@ -67,10 +94,38 @@ same-length-4 c = search needs
 
 returns-4 : tie.Need-returns-4
 unfolding outWith storeLess
-returns-4 c = let e = taking-short (c .before .before .before .before .before .before .before .before .before .before .before .before .before .before .before .before .before .before .args .s) (length (now (c .before .before .before .before .before .before .before .before .before .before .before .before .before .before .before .before .before .before .args .zero))) (now (c .before .before .before .before .before .before .before .before .before .before .before .before .before .before .before .before .before .before .args .store)) (c .before .before .before .before .before .before .before .before .before .before .before .before .before .before .before .before .before .before .args .n) (c .before .before .before .before .before .before .before .before .before .before .before .before .before .pick-message .ensures) (c .before .before .before .before .before .before .before .before .before .before .before .if1 .left) (λ i. c .before .before .before .before .before .before .before .before .before .before .before .before .before .before .before .before .before .slice-known .given i .fits) (c .before .before .before .before .before .before .before .before .row .ensures) (c .before .before .before .before .before .before .before .packet-in .ensures) (c .before .before .before .before .before .before .read .ensures .0) (length (now (c .before .before .before .before .before .before .before .before .before .before .before .before .before .before .before .before .before .before .args .out))) (omega (arith, c .before .before .before .before .before .if2 .left, c .before .before .before .if3 .left, c .before .if4 .taken)) in (c .not-taken4 .ensures ∙ ap takenOf (sym e), (ap (outWith (now (c .before .before .before .before .before .before .before .before .before .before .before .before .before .before .before .before .before .before .args .out))) (sym e), ap (storeLess (c .before .before .before .before .before .before .before .before .before .before .before .before .before .before .before .before .before .before .args .s) (length (now (c .before .before .before .before .before .before .before .before .before .before .before .before .before .before .before .before .before .before .args .zero))) (now (c .before .before .before .before .before .before .before .before .before .before .before .before .before .before .before .before .before .before .args .store)) (c .before .before .before .before .before .before .before .before .before .before .before .before .before .before .before .before .before .before .args .n)) (sym e)))
+returns-4 c =
+    let g = c .before .before .before .before .before .before .before .before .before .before .before .before .before .before .before .before .before in
+    let h = c .before .before .before .before .before in
+    let k = g .before .args in
+    let e = taking-short _ _ _ _ (h .before .before .before .before .before .before .before .before .pick-message .ensures)
+    (h .before .before .before .before .before .before .if1 .left) (λ i. g .slice-known .given i .fits) (h .before .before .before .row .ensures)
+    (h .before .before .packet-in .ensures) (h .before .read .ensures .0) (length (now (k .out)))
+    (omega (arith, h .if2 .left, c .before .before .before .if3 .left, c .before .if4 .taken)) in (
+      c .not-taken4 .ensures ∙ ap takenOf (sym e),
+      (
+        ap (outWith (now (k .out))) (sym e),
+        ap (storeLess (k .s) (length (now (k .zero))) (now (k .store)) (k .n)) (sym e),
+      ),
+    )
 
 draw-requires : tie.Need-draw-requires
-draw-requires c κs = (c .before .before .before .before .before .before .before .before .before .before .before .before .before .before .before .before .before .before .before .pre, (cell-is (c .before .before .before .before .before .before .before .before .before .before .before .before .before .before .before .before .before .before .before .args .s) (length (now (c .before .before .before .before .before .before .before .before .before .before .before .before .before .before .before .before .before .before .before .args .zero))) (now (c .before .before .before .before .before .before .before .before .before .before .before .before .before .before .before .before .before .before .before .args .store)) (c .before .before .before .before .before .before .before .before .before .before .before .before .before .before .before .before .before .before .before .args .n) (c .before .before .before .before .before .before .before .before .before .before .before .before .before .before .pick-message .ensures), ((taking-below (c .before .before .before .before .before .before .before .before .before .before .before .before .before .before .before .before .before .before .before .args .s) (length (now (c .before .before .before .before .before .before .before .before .before .before .before .before .before .before .before .before .before .before .before .args .zero))) (now (c .before .before .before .before .before .before .before .before .before .before .before .before .before .before .before .before .before .before .before .args .store)) (c .before .before .before .before .before .before .before .before .before .before .before .before .before .before .before .before .before .before .before .args .n) (c .before .before .before .before .before .before .before .before .before .before .before .before .before .before .pick-message .ensures) (c .before .before .before .before .before .before .before .before .before .before .before .before .if1 .left), taking-body (c .before .before .before .before .before .before .before .before .before .before .before .before .before .before .before .before .before .before .before .args .s) (length (now (c .before .before .before .before .before .before .before .before .before .before .before .before .before .before .before .before .before .before .before .args .zero))) (now (c .before .before .before .before .before .before .before .before .before .before .before .before .before .before .before .before .before .before .before .args .store)) (c .before .before .before .before .before .before .before .before .before .before .before .before .before .before .before .before .before .before .before .args .n) (c .before .before .before .before .before .before .before .before .before .before .before .before .before .before .pick-message .ensures) (c .before .before .before .before .before .before .before .before .before .before .before .before .if1 .left)), taking-room (c .before .before .before .before .before .before .before .before .before .before .before .before .before .before .before .before .before .before .before .args .s) (length (now (c .before .before .before .before .before .before .before .before .before .before .before .before .before .before .before .before .before .before .before .args .zero))) (now (c .before .before .before .before .before .before .before .before .before .before .before .before .before .before .before .before .before .before .before .args .store)) (c .before .before .before .before .before .before .before .before .before .before .before .before .before .before .before .before .before .before .before .args .n) (c .before .before .before .before .before .before .before .before .before .before .before .before .before .before .pick-message .ensures) (c .before .before .before .before .before .before .before .before .before .before .before .before .if1 .left) (λ i. c .before .before .before .before .before .before .before .before .before .before .before .before .before .before .before .before .before .before .slice-known .given i .fits) (c .before .before .before .before .before .before .before .before .before .row .ensures) (c .before .before .before .before .before .before .before .before .packet-in .ensures) (c .before .before .before .before .before .before .before .read .ensures .0) (length (now (c .before .before .before .before .before .before .before .before .before .before .before .before .before .before .before .before .before .before .before .args .out))) (omega (arith, c .before .before .before .before .before .before .if2 .left, c .before .before .before .before .if3 .left, c .before .before .if4 .left)))))
+draw-requires c κs =
+    let g = c .before .before .before .before .before .before .before .before .before .before .before .before in
+    let h = c .before .before .before .before .before .before in
+    let k = g .before .before .pick-message .ensures in (
+      g .before .before .before .before .before .before .before .pre,
+      (
+        cell-is _ _ _ _ k,
+        (
+          (taking-below _ _ _ _ k (g .if1 .left), taking-body _ _ _ _ k (g .if1 .left)),
+          taking-room _ _ _ _ k (g .if1 .left)
+              (λ i. g .before .before .before .before .before .before .slice-known .given i .fits) (h .before .before .before .row .ensures)
+              (h .before .before .packet-in .ensures) (h .before .read .ensures .0) _
+              (omega (arith, h .if2 .left, c .before .before .before .before .if3 .left, c .before .before .if4 .left)),
+        ),
+      ),
+    )
 
 same-length-5 : tie.Need-same-length-5
 same-length-5 c = search needs
@@ -79,7 +134,12 @@ same-length-6 : tie.Need-same-length-6
 same-length-6 c = search needs
 
 returns-5 : tie.Need-returns-5
-returns-5 c = (c .before .before .before .before .draw .ensures .0, (c .before .before .before .before .draw .ensures .1 .0, c .before .before .before .before .draw .ensures .1 .1))
+returns-5 c =
+    let g = c .before .before .before .before .draw .ensures in
+    (g .0, (g .1 .0, g .1 .1))
 
 pub take-by-spec : {M : Type 1} → statement M
-take-by-spec = tie.close (tie.spec pick-message-requires not-taken-requires same-length returns sub-b row-requires packet-in-requires read-requires not-taken-requires-2 same-length-2 returns-2 not-taken-requires-3 same-length-3 returns-3 sub-if4 not-taken-requires-4 same-length-4 returns-4 draw-requires same-length-5 same-length-6 returns-5)
+take-by-spec =
+    tie.close (tie.spec pick-message-requires not-taken-requires same-length returns sub-b row-requires packet-in-requires read-requires not-taken-requires-2
+    same-length-2 returns-2 not-taken-requires-3 same-length-3 returns-3 sub-if4 not-taken-requires-4 same-length-4 returns-4 draw-requires same-length-5
+    same-length-6 returns-5)

@@ -8,10 +8,19 @@ use Rattle.taking.proofs.take_chained.Statement.{statement}
 use Rattle.taking.proofs.take_chained.Tie as tie
 
 order-by-requires : tie.Need-order-by-requires
-order-by-requires c κs = (c .before .before .before .before .before .before .pre .0, (c .before .before .before .before .before .before .pre .1, chained-none _ _ (length-replicate {A = ℕ} 4096 0)))
+order-by-requires c κs = (
+  c .before .before .before .before .before .before .pre .0,
+  (
+    c .before .before .before .before .before .before .pre .1,
+    chained-none _ _ (length-replicate {A = ℕ} 4096 0),
+  ),
+)
 
 take-by-requires : tie.Need-take-by-requires
-take-by-requires c κs = ((λ e. c .before .before .before .before .order-by .ensures .1 .1), c .before .before .before .before .before .before .before .before .before .before .before .pre .0)
+take-by-requires c κs = (
+  (λ e. c .before .before .before .before .order-by .ensures .1 .1),
+  c .before .before .before .before .before .before .before .before .before .before .before .pre .0,
+)
 
 same-length : tie.Need-same-length
 same-length c = search needs

@@ -14,10 +14,10 @@ not-taken-requires : tie.Need-not-taken-requires
 not-taken-requires c κs = search needs
 
 returns : tie.Need-returns
-returns c = takes-other (c .before .before .before .before .before .before .args .s) (now (c .before .before .before .before .before .before .args .zero)) (now (c .before .before .before .before .before .before .args .store)) (c .before .before .before .before .before .before .args .n) (c .before .before .zeros .ensures) (now (c .before .before .before .before .before .before .args .out)) (c .before .if1 .taken) (c .not-taken .ensures)
+returns c = takes-other _ _ _ _ (c .before .before .zeros .ensures) _ (c .before .if1 .taken) (c .not-taken .ensures)
 
 take-on-requires : tie.Need-take-on-requires
-take-on-requires c κs = zero-told (now (c .before .before .before .before .before .before .before .args .zero)) (c .before .before .before .zeros .ensures) (c .before .before .if1 .left)
+take-on-requires c κs = zero-told _ (c .before .before .before .zeros .ensures) (c .before .before .if1 .left)
 
 same-length : tie.Need-same-length
 same-length c = search needs
@@ -26,7 +26,9 @@ same-length-2 : tie.Need-same-length-2
 same-length-2 c = search needs
 
 returns-2 : tie.Need-returns-2
-returns-2 c = takes-on (c .before .before .before .before .before .before .before .before .before .before .before .before .args .s) (now (c .before .before .before .before .before .before .before .before .before .before .before .before .args .zero)) (now (c .before .before .before .before .before .before .before .before .before .before .before .before .args .store)) (c .before .before .before .before .before .before .before .before .before .before .before .before .args .n) (c .before .before .before .before .before .before .before .before .zeros .ensures) (now (c .before .before .before .before .before .before .before .before .before .before .before .before .args .out)) (c .before .before .before .before .before .before .before .if1 .left) (c .before .before .before .before .take-on .ensures)
+returns-2 c =
+    let g = c .before .before .before .before in
+    takes-on _ _ _ _ (g .before .before .before .before .zeros .ensures) _ (g .before .before .before .if1 .left) (g .take-on .ensures)
 
 pub take-in-spec : {M : Type 1} → statement M
 take-in-spec = tie.close (tie.spec zeros-requires not-taken-requires returns take-on-requires same-length same-length-2 returns-2)

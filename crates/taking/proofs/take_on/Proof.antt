@@ -21,7 +21,9 @@ same-length c = search needs
 
 returns : tie.Need-returns
 unfolding outWith storeLess
-returns c = let e = took-nothing (c .before .before .before .before .before .before .before .args .s) (length (now (c .before .before .before .before .before .before .before .args .zero))) (now (c .before .before .before .before .before .before .before .args .store)) (c .before .before .before .before .before .before .before .args .n) (length (now (c .before .before .before .before .before .before .before .args .out))) (c .before .before .lowest-last .ensures) (c .before .if1 .taken) in (c .not-taken .ensures ∙ ap takenOf (sym e), (ap (outWith (now (c .before .before .before .before .before .before .before .args .out))) (sym e), ap (storeLess (c .before .before .before .before .before .before .before .args .s) (length (now (c .before .before .before .before .before .before .before .args .zero))) (now (c .before .before .before .before .before .before .before .args .store)) (c .before .before .before .before .before .before .before .args .n)) (sym e)))
+returns c =
+    let e = took-nothing _ _ _ _ _ (c .before .before .lowest-last .ensures) (c .before .if1 .taken) in
+    (c .not-taken .ensures ∙ ap takenOf (sym e), (ap (outWith _) (sym e), ap (storeLess _ _ _ _) (sym e)))
 
 take-plain-requires : tie.Need-take-plain-requires
 take-plain-requires c κs = search needs
@@ -60,4 +62,6 @@ returns-4 : tie.Need-returns-4
 returns-4 c = search needs
 
 pub take-on-spec : {M : Type 1} → statement M
-take-on-spec = tie.close (tie.spec lowest-last-requires not-taken-requires same-length returns take-plain-requires same-length-2 same-length-3 returns-2 take-plain-requires-2 same-length-4 same-length-5 returns-3 take-chained-requires same-length-6 same-length-7 returns-4)
+take-on-spec =
+    tie.close (tie.spec lowest-last-requires not-taken-requires same-length returns take-plain-requires same-length-2 same-length-3 returns-2
+    take-plain-requires-2 same-length-4 same-length-5 returns-3 take-chained-requires same-length-6 same-length-7 returns-4)

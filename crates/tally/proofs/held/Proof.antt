@@ -13,7 +13,7 @@ judge-requires : tie.Need-judge-requires
 judge-requires c κs = search needs
 
 returns : tie.Need-returns
-returns c = held-told (bodyIn (c .before .before .before .before .args .s) (length (now (c .before .before .before .before .args .zero))) (now (c .before .before .before .before .args .row))) (cellOf (c .before .before .before .before .args .s) (length (now (c .before .before .before .before .args .zero))) (now (c .before .before .before .before .args .row))) (c .before .judge .ensures)
+returns c = held-told (bodyIn _ (length (now (c .before .before .before .before .args .zero))) _) (cellOf _ _ _) (c .before .judge .ensures)
 
 pub held-spec : {M : Type 1} → statement M
 held-spec = tie.close (tie.spec judge-requires returns)

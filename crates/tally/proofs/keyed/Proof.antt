@@ -11,7 +11,7 @@ judge-requires : tie.Need-judge-requires
 judge-requires c κs = search needs
 
 returns : tie.Need-returns
-returns c = key-none (c .before .before .before .before .before .before .args .s) (length (now (c .before .before .before .before .before .before .args .zero))) (now (c .before .before .before .before .before .before .args .row)) (c .before .before .judge .ensures) _ (c .if1 .taken)
+returns c = key-none _ _ _ (c .before .before .judge .ensures) _ (c .if1 .taken)
 
 packet-in-requires : tie.Need-packet-in-requires
 packet-in-requires c κs = search needs
@@ -20,7 +20,10 @@ same-key-requires : tie.Need-same-key-requires
 same-key-requires c κs = search needs
 
 returns-2 : tie.Need-returns-2
-returns-2 c = key-told (c .before .before .before .before .before .before .before .before .args .s) (length (now (c .before .before .before .before .before .before .before .before .args .zero))) (now (c .before .before .before .before .before .before .before .before .args .row)) (c .before .before .before .before .judge .ensures) (c .before .before .if1 .left) (λ i. c .before .before .before .before .before .before .before .shared-slice-known .given i .fits) (c .before .before .before .before .before .before .before .before .pre .1) (c .before .packet-in .ensures) (c .same-key .ensures)
+returns-2 c =
+    let g = c .before .before .before .before in
+    key-told _ _ _ (g .judge .ensures) (c .before .before .if1 .left) (λ i. g .before .before .before .shared-slice-known .given i .fits)
+    (g .before .before .before .before .pre .1) (c .before .packet-in .ensures) (c .same-key .ensures)
 
 pub keyed-spec : {M : Type 1} → statement M
 keyed-spec = tie.close (tie.spec judge-requires returns packet-in-requires same-key-requires returns-2)

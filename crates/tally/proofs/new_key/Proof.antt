@@ -40,7 +40,11 @@ loop-less : tie.Need-loop-less Inv-loop μ-loop
 loop-less c = search needs
 
 loop-again : tie.Need-loop-again Inv-loop μ-loop
-loop-again c = tested-turn (c .before .before .before .before .loop .inv) (c .before .before .before .loop-test .taken) (c .before .keyed .ensures ∙ ap (λ (r : List ℕ). keyed (keyOf (now (c .before .before .before .before .before .before .before .before .args .q)) (readPacket (c .before .before .before .before .before .before .before .before .args .s) (now (c .before .before .before .before .before .before .before .before .args .q)))) (cellOf (c .before .before .before .before .before .before .before .before .args .s) (length (now (c .before .before .before .before .before .before .before .before .args .zero))) r)) (c .before .before .row .ensures)) (c .both .ensures)
+loop-again c =
+    let g = c .before .before .before .before .before .before .before .before .args in
+    tested-turn (c .before .before .before .before .loop .inv) (c .before .before .before .loop-test .taken)
+    (c .before .keyed .ensures ∙ ap (λ (r : List ℕ). keyed (keyOf (now (g .q)) (readPacket (g .s) (now (g .q))))
+    (cellOf (g .s) (length (now (g .zero))) r)) (c .before .before .row .ensures)) (c .both .ensures)
 
 returns : tie.Need-returns Inv-loop μ-loop
 unfolding newKeyTo

@@ -29,7 +29,8 @@ held-requires : tie.Need-held-requires Inv-loop μ-loop
 held-requires c κs = c .before .before .before .before .before .pre .0
 
 more-requires : tie.Need-more-requires Inv-loop μ-loop
-more-requires c κs = counted-low (c .before .before .before .loop .inv) (c .before .before .loop-test .taken) (c .before .before .before .before .before .before .pre .1)
+more-requires c κs =
+    counted-low (c .before .before .before .loop .inv) (c .before .before .loop-test .taken) (c .before .before .before .before .before .before .pre .1)
 
 add-i : tie.Need-add-i Inv-loop μ-loop
 add-i c = search needs
@@ -38,7 +39,11 @@ loop-less : tie.Need-loop-less Inv-loop μ-loop
 loop-less c = search needs
 
 loop-again : tie.Need-loop-again Inv-loop μ-loop
-loop-again c = counted-turn (c .before .before .before .before .loop .inv) (c .before .before .before .loop-test .taken) (c .before .held .ensures ∙ ap (λ (r : List ℕ). isHeld (cellOf (c .before .before .before .before .before .before .before .args .s) (length (now (c .before .before .before .before .before .before .before .args .zero))) r)) (c .before .before .row .ensures)) (c .more .ensures)
+loop-again c =
+    let g = c .before .before .before in
+    counted-turn (g .before .loop .inv) (g .loop-test .taken) (c .before .held .ensures ∙ ap
+    (λ (r : List ℕ). isHeld (cellOf (g .before .before .before .before .args .s) (length (now (g .before .before .before .before .args .zero))) r))
+    (c .before .before .row .ensures)) (c .more .ensures)
 
 returns : tie.Need-returns Inv-loop μ-loop
 unfolding segmentsIn

@@ -31,7 +31,18 @@ plus-requires-2 c κs = search needs
 
 returns : tie.Need-returns
 unfolding endSize
-returns c = simp (c .plus2 .ensures, c .before .plus .ensures, c .before .before .size-if3 .ensures, c .before .before .before .text-size2 .ensures, c .before .before .before .before .size-if2 .ensures, c .before .before .before .before .before .domain-size .ensures, c .before .before .before .before .before .before .size-if .ensures, c .before .before .before .before .before .before .before .text-size .ensures)
+returns c =
+    let g = c .before .before .before in
+    simp (
+      c .plus2 .ensures,
+      c .before .plus .ensures,
+      c .before .before .size-if3 .ensures,
+      g .text-size2 .ensures,
+      g .before .size-if2 .ensures,
+      g .before .before .domain-size .ensures,
+      g .before .before .before .size-if .ensures,
+      g .before .before .before .before .text-size .ensures,
+    )
 
 pub end-size-spec : {M : Type 1} → statement M
 end-size-spec =

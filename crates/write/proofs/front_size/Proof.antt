@@ -13,7 +13,14 @@ size-if-requires-2 : tie.Need-size-if-requires-2
 size-if-requires-2 c κs = search needs
 
 add-result : tie.Need-add-result
-add-result c = omega (arith, c .before .size-if .ensures, c .size-if2 .ensures, bit-top (c .before .before .args .has .source), bit-top (c .before .before .args .has .destination))
+add-result c =
+    omega (
+      arith,
+      c .before .size-if .ensures,
+      c .size-if2 .ensures,
+      bit-top (c .before .before .args .has .source),
+      bit-top (c .before .before .args .has .destination),
+    )
 
 returns : tie.Need-returns
 returns c = simp (c .size-if2 .ensures, c .before .size-if .ensures)

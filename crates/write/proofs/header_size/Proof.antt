@@ -13,7 +13,13 @@ front-size-requires : tie.Need-front-size-requires
 front-size-requires c κs = search needs
 
 add-a : tie.Need-add-a
-add-a c = omega (arith, c .front-size .ensures, bit-top (c .before .before .before .before .before .before .before .before .args .v .has .source), bit-top (c .before .before .before .before .before .before .before .before .args .v .has .destination))
+add-a c =
+    omega (
+      arith,
+      c .front-size .ensures,
+      bit-top (c .before .before .before .before .before .before .before .before .args .v .has .source),
+      bit-top (c .before .before .before .before .before .before .before .before .args .v .has .destination),
+    )
 
 middle-size-requires : tie.Need-middle-size-requires
 middle-size-requires c κs = search needs
@@ -30,7 +36,8 @@ plus-requires-2 c κs = search needs
 returns : tie.Need-returns
 returns c =
     let g = c .before .before .before .before .before .before .before .before .before .before .before .before .args in
-    header-size (g .s) (g .v) (lent (now (g .time)) (now (g .zone)) (now (g .name)) (now (g .domain)) (now (g .lengths)) (now (g .id))) (c .before .before .before .before .front-size .ensures) (c .before .before .before .middle-size .ensures) (c .before .before .end-size .ensures) (c .before .plus .ensures) (c .plus2 .ensures)
+    header-size (g .s) (g .v) _ (c .before .before .before .before .front-size .ensures) (c .before .before .before .middle-size .ensures)
+    (c .before .before .end-size .ensures) (c .before .plus .ensures) (c .plus2 .ensures)
 
 pub header-size-spec : {M : Type 1} → statement M
 header-size-spec =

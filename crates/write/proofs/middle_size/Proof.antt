@@ -28,7 +28,17 @@ plus-requires-2 c κs = search needs
 
 returns : tie.Need-returns
 unfolding middleSize
-returns c = simp (c .plus2 .ensures, c .before .plus .ensures, c .before .before .size-if3 .ensures, c .before .before .before .text-size .ensures, c .before .before .before .before .size-if2 .ensures, c .before .before .before .before .before .size-if .ensures, c .before .before .before .before .before .before .number-size .ensures)
+returns c =
+    let g = c .before .before .before in
+    simp (
+      c .plus2 .ensures,
+      c .before .plus .ensures,
+      c .before .before .size-if3 .ensures,
+      g .text-size .ensures,
+      g .before .size-if2 .ensures,
+      g .before .before .size-if .ensures,
+      g .before .before .before .number-size .ensures,
+    )
 
 pub middle-size-spec : {M : Type 1} → statement M
 middle-size-spec =

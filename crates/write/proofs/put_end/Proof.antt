@@ -20,7 +20,9 @@ same-length c = search needs
 
 returns : tie.Need-returns
 unfolding endPieces
-returns c = lays-both (c .before .before .before .before .before .before .before .before .before .before .text-if .ensures) (lays-both (c .before .before .before .before .before .before .domain-if .ensures) (c .before .before .blob-if .ensures))
+returns c =
+    lays-both (c .before .before .before .before .before .before .before .before .before .before .text-if .ensures)
+    (lays-both (c .before .before .before .before .before .before .domain-if .ensures) (c .before .before .blob-if .ensures))
 
 pub put-end-spec : {M : Type 1} → statement M
 put-end-spec =

@@ -34,9 +34,10 @@ same-length c = search needs
 returns : tie.Need-returns
 unfolding frontPieces
 returns c =
+    let g = c .before .before .before .before .before in
     lays-both
-    (c .before .before .before .before .before .before .before .before .before .before .before .before .before .wide-if .ensures)
-    (lays-both (c .before .before .before .before .before .before .before .before .wide-if2 .ensures) (rw (← (c .before .before .before .before .before .segmented .ensures)) (c .before .before .wide-if3 .ensures)))
+    (g .before .before .before .before .before .before .before .before .wide-if .ensures)
+    (lays-both (g .before .before .before .wide-if2 .ensures) (rw (← (g .segmented .ensures)) (c .before .before .wide-if3 .ensures)))
 
 pub put-front-spec : {M : Type 1} → statement M
 put-front-spec =

@@ -20,7 +20,9 @@ same-length c = search needs
 
 returns : tie.Need-returns
 unfolding middlePieces
-returns c = lays-both (c .before .before .before .before .before .before .before .before .before .before .number-if .ensures) (lays-both (c .before .before .before .before .before .before .block-if .ensures) (c .before .before .text-if .ensures))
+returns c =
+    lays-both (c .before .before .before .before .before .before .before .before .before .before .number-if .ensures)
+    (lays-both (c .before .before .before .before .before .before .block-if .ensures) (c .before .before .text-if .ensures))
 
 pub put-middle-spec : {M : Type 1} → statement M
 put-middle-spec =

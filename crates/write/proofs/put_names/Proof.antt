@@ -37,17 +37,27 @@ lay-number-requires-5 : tie.Need-lay-number-requires-5
 lay-number-requires-5 c κs = search needs
 
 same-length : tie.Need-same-length
-same-length c = search (needs, c .before .out5 .given, c .before .before .before .before .before .before .out4 .given, c .before .before .before .before .before .before .before .before .before .before .before .out3 .given, c .before .before .before .before .before .before .before .before .before .before .before .before .before .before .before .before .out2 .given, c .before .before .before .before .before .before .before .before .before .before .before .before .before .before .before .before .before .before .before .before .before .out .given)
+same-length c =
+    search (
+      needs,
+      c .before .out5 .given,
+      c .before .before .before .before .before .before .out4 .given,
+      c .before .before .before .before .before .before .before .before .before .before .before .out3 .given,
+      c .before .before .before .before .before .before .before .before .before .before .before .before .before .before .before .before .out2 .given,
+      c .before .before .before .before .before .before .before .before .before .before .before .before .before .before .before .before .before .before .before
+          .before .before .out .given,
+    )
 
 returns : tie.Need-returns
 unfolding namePieces
 returns c =
+    let g = c .before .before .before .before .before .before .before .before .before .before .before .before in
     lays-both
-    (c .before .before .before .before .before .before .before .before .before .before .before .before .before .before .before .before .before .before .before .before .before .before .lay-number .ensures)
+    (g .before .before .before .before .before .before .before .before .before .before .lay-number .ensures)
     (lays-both
-    (c .before .before .before .before .before .before .before .before .before .before .before .before .before .before .before .before .before .lay-number2 .ensures)
+    (g .before .before .before .before .before .lay-number2 .ensures)
     (lays-both
-    (c .before .before .before .before .before .before .before .before .before .before .before .before .lay-number3 .ensures)
+    (g .lay-number3 .ensures)
     (lays-both
     (c .before .before .before .before .before .before .before .lay-number4 .ensures)
     (c .before .before .lay-number5 .ensures))))

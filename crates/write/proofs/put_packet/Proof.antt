@@ -32,7 +32,14 @@ same-length c = search needs
 
 returns : tie.Need-returns
 unfolding packetPieces
-returns c = lays-both (c .before .before .before .before .before .before .before .before .before .before .before .before .before .before .before .before .before .before .before .before .before .before .before .before .before .before .put-primary .ensures) (lays-both (c .before .before .before .before .before .before .before .before .before .before .before .before .before .before .before .before .before .before .before .before .before .before .put-names .ensures) (lays-both (c .before .before .before .before .before .before .before .before .before .before .before .before .before .before .before .before .before .before .put-routing .ensures) (lays-both (c .before .before .before .before .before .before .before .before .before .before .before .before .before .before .put-front .ensures) (lays-both (c .before .before .before .before .before .before .before .before .before .before .put-middle .ensures) (lays-both (c .before .before .before .before .before .before .put-end .ensures) (c .before .before .lay .ensures))))))
+returns c =
+    let g = c .before .before .before .before .before .before .before .before .before .before .before .before .before .before in
+    let h = g .before .before .before .before in
+    lays-both (h .before .before .before .before .before .before .before .before .put-primary .ensures)
+    (lays-both (h .before .before .before .before .put-names .ensures)
+    (lays-both (h .put-routing .ensures) (lays-both (g .put-front .ensures)
+    (lays-both (c .before .before .before .before .before .before .before .before .before .before .put-middle .ensures)
+    (lays-both (c .before .before .before .before .before .before .put-end .ensures) (c .before .before .lay .ensures))))))
 
 pub put-packet-spec : {M : Type 1} → statement M
 put-packet-spec =

@@ -63,10 +63,11 @@ same-length c = search needs
 returns : tie.Need-returns
 unfolding routingPieces
 returns c =
-    let v = c .before .before .before .before .before .before .before .before .before .before .before .before .before .before .before .before .before .before .before .before .before .before .before .before .before .args .v in
-    let a = lays-as (routing-word (v .error) (v .qos) (v .session) (v .second .0)) (c .before .before .before .before .before .before .before .before .before .before .before .before .before .before .before .before .lay-number .ensures) in
+    let g = c .before .before .before .before .before .before .before .before .before .before .before in
+    let v = g .before .before .before .before .before .before .before .before .before .before .before .before .before .before .args .v in
+    let a = lays-as (routing-word _ (v .qos) _ _) (g .before .before .before .before .before .lay-number .ensures) in
     let d = lays-as (ap (wide 1) (c .before .before .before .present-octet .ensures)) (c .before .before .lay-number4 .ensures) in
-    lays-both a (lays-both (c .before .before .before .before .before .before .before .before .before .before .before .lay-number2 .ensures) (lays-both (c .before .before .before .before .before .before .before .lay-number3 .ensures) d))
+    lays-both a (lays-both (g .lay-number2 .ensures) (lays-both (c .before .before .before .before .before .before .before .lay-number3 .ensures) d))
 
 pub put-routing-spec : {M : Type 1} → statement M
 put-routing-spec =

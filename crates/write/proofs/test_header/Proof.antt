@@ -20,7 +20,14 @@ test-texts-requires c κs = search needs
 
 returns : tie.Need-returns
 unfolding headerChecks
-returns c = simp (c .test-texts .ensures, c .before .test-ids .ensures, c .before .before .test-routing .ensures, c .before .before .before .test-names .ensures, unlessAll-append)
+returns c =
+    simp (
+      c .test-texts .ensures,
+      c .before .test-ids .ensures,
+      c .before .before .test-routing .ensures,
+      c .before .before .before .test-names .ensures,
+      unlessAll-append,
+    )
 
 pub test-header-spec : {M : Type 1} → statement M
 test-header-spec =

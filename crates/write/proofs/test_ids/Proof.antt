@@ -32,7 +32,15 @@ unless-requires-3 c κs = search needs
 
 returns : tie.Need-returns
 unfolding idChecks unlessAll
-returns c = simp (c .unless3 .ensures, c .before .number-fits3 .ensures, c .before .before .unless2 .ensures, c .before .before .before .number-fits2 .ensures, c .before .before .before .before .unless .ensures, c .before .before .before .before .before .number-fits .ensures)
+returns c =
+    simp (
+      c .unless3 .ensures,
+      c .before .number-fits3 .ensures,
+      c .before .before .unless2 .ensures,
+      c .before .before .before .number-fits2 .ensures,
+      c .before .before .before .before .unless .ensures,
+      c .before .before .before .before .before .number-fits .ensures,
+    )
 
 pub test-ids-spec : {M : Type 1} → statement M
 test-ids-spec =

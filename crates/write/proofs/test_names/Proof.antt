@@ -28,7 +28,17 @@ unless-requires-7 c κs = search needs
 
 returns : tie.Need-returns
 unfolding nameChecks unlessAll
-returns c = simp (c .unless7 .ensures, c .before .before .unless6 .ensures, c .before .before .before .before .unless5 .ensures, c .before .before .before .before .before .before .unless4 .ensures, c .before .before .before .before .before .before .before .before .unless3 .ensures, c .before .before .before .before .before .before .before .before .before .before .unless2 .ensures, c .before .before .before .before .before .before .before .before .before .before .before .before .unless .ensures)
+returns c =
+    let g = c .before .before .before .before .before .before in
+    simp (
+      c .unless7 .ensures,
+      c .before .before .unless6 .ensures,
+      c .before .before .before .before .unless5 .ensures,
+      g .unless4 .ensures,
+      g .before .before .unless3 .ensures,
+      g .before .before .before .before .unless2 .ensures,
+      g .before .before .before .before .before .before .unless .ensures,
+    )
 
 pub test-names-spec : {M : Type 1} → statement M
 test-names-spec =

@@ -25,7 +25,14 @@ unless-requires-3 c κs = search needs
 
 returns : tie.Need-returns
 unfolding packetChecks unlessAll
-returns c = simp (c .unless3 .ensures, c .before .number-fits .ensures, c .before .before .before .segmented .ensures, c .before .before .before .before .unless2 .ensures, c .before .before .before .before .before .before .unless .ensures)
+returns c =
+    simp (
+      c .unless3 .ensures,
+      c .before .number-fits .ensures,
+      c .before .before .before .segmented .ensures,
+      c .before .before .before .before .unless2 .ensures,
+      c .before .before .before .before .before .before .unless .ensures,
+    )
 
 pub test-packet-spec : {M : Type 1} → statement M
 test-packet-spec =

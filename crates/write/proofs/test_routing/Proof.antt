@@ -22,7 +22,15 @@ unless-requires-5 c κs = search needs
 
 returns : tie.Need-returns
 unfolding routingChecks unlessAll
-returns c = simp (c .unless5 .ensures, c .before .before .unless4 .ensures, c .before .before .before .before .unless3 .ensures, c .before .before .before .before .before .before .unless2 .ensures, c .before .before .before .before .before .before .before .before .unless .ensures)
+returns c =
+    let g = c .before .before .before .before in
+    simp (
+      c .unless5 .ensures,
+      c .before .before .unless4 .ensures,
+      g .unless3 .ensures,
+      g .before .before .unless2 .ensures,
+      g .before .before .before .before .unless .ensures,
+    )
 
 pub test-routing-spec : {M : Type 1} → statement M
 test-routing-spec =

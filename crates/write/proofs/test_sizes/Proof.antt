@@ -20,7 +20,14 @@ unless-requires-4 : tie.Need-unless-requires-4
 unless-requires-4 c κs = search needs
 
 returns : tie.Need-returns
-returns c = simp (c .unless4 .ensures, c .before .unless3 .ensures, c .before .before .body-fits .ensures, c .before .before .before .unless2 .ensures, c .before .before .before .before .unless .ensures)
+returns c =
+    simp (
+      c .unless4 .ensures,
+      c .before .unless3 .ensures,
+      c .before .before .body-fits .ensures,
+      c .before .before .before .unless2 .ensures,
+      c .before .before .before .before .unless .ensures,
+    )
 
 pub test-sizes-spec : {M : Type 1} → statement M
 test-sizes-spec =

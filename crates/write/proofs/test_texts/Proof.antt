@@ -43,7 +43,23 @@ unless-requires-6 c κs = search needs
 
 returns : tie.Need-returns
 unfolding textChecks unlessAll
-returns c = simp (c .unless6 .ensures, c .before .text-fits4 .ensures, c .before .before .unless5 .ensures, c .before .before .before .lengths-fit .ensures, c .before .before .before .before .unless4 .ensures, c .before .before .before .before .before .text-fits3 .ensures, c .before .before .before .before .before .before .unless3 .ensures, c .before .before .before .before .before .before .before .text-fits2 .ensures, c .before .before .before .before .before .before .before .before .unless2 .ensures, c .before .before .before .before .before .before .before .before .before .text-fits .ensures, c .before .before .before .before .before .before .before .before .before .before .unless .ensures, c .before .before .before .before .before .before .before .before .before .before .before .exact-fits .ensures)
+returns c =
+    let g = c .before .before .before .before .before in
+    let h = g .before .before .before in
+    simp (
+      c .unless6 .ensures,
+      c .before .text-fits4 .ensures,
+      c .before .before .unless5 .ensures,
+      c .before .before .before .lengths-fit .ensures,
+      c .before .before .before .before .unless4 .ensures,
+      g .text-fits3 .ensures,
+      g .before .unless3 .ensures,
+      g .before .before .text-fits2 .ensures,
+      h .unless2 .ensures,
+      h .before .text-fits .ensures,
+      h .before .before .unless .ensures,
+      h .before .before .before .exact-fits .ensures,
+    )
 
 pub test-texts-spec : {M : Type 1} → statement M
 test-texts-spec =

@@ -19,7 +19,8 @@ test-parts-requires c κs = search needs
 
 returns : tie.Need-returns
 unfolding valueRefusal partsTest
-returns c = simp (c .test-parts .ensures, c .before .test-packet .ensures, c .before .before .test-header .ensures, c .before .before .before .test-settings .ensures)
+returns c =
+    simp (c .test-parts .ensures, c .before .test-packet .ensures, c .before .before .test-header .ensures, c .before .before .before .test-settings .ensures)
 
 pub test-values-spec : {M : Type 1} → statement M
 test-values-spec =

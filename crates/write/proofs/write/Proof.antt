@@ -26,13 +26,24 @@ test-sizes-requires c κs = search needs
 
 returns : tie.Need-returns
 returns c =
-    let g = c .before .before .before .before .before .before .before .before .before .before .before .before .before .before .before .args in
-    (refused-answer (g .s) (g .v) (g .o) (lent (now (g .time)) (now (g .zone)) (now (g .name)) (now (g .domain)) (now (g .lengths)) (now (g .id))) (now (g .body)) (c .before .before .before .before .before .header-size .ensures) (c .before .before .before .before .secondary-size .ensures) (c .before .before .before .packet-size .ensures) (length (now (g .out))) (c .before .before .before .before .before .before .test-values .ensures) (c .before .before .test-sizes .ensures) (c .if1 .taken), refused-output (g .s) (g .v) (g .o) (lent (now (g .time)) (now (g .zone)) (now (g .name)) (now (g .domain)) (now (g .lengths)) (now (g .id))) (now (g .body)) (c .before .before .before .before .before .header-size .ensures) (c .before .before .before .before .secondary-size .ensures) (c .before .before .before .packet-size .ensures) (now (g .out)) (c .before .before .before .before .before .before .test-values .ensures) (c .before .before .test-sizes .ensures) (c .if1 .taken))
+    let h = c .before .before .before in
+    let k = h .before .before in
+    let g = k .before .before .before .before .before .before .before .before .before .before .args in (
+      refused-answer (g .s) (g .v) (g .o) _ _ (k .header-size .ensures) (h .before .secondary-size .ensures) (h .packet-size .ensures) _
+          (k .before .test-values .ensures) (c .before .before .test-sizes .ensures) (c .if1 .taken),
+      refused-output (g .s) (g .v) (g .o) _ _ (k .header-size .ensures) (h .before .secondary-size .ensures) (h .packet-size .ensures) _
+          (k .before .test-values .ensures) (c .before .before .test-sizes .ensures) (c .if1 .taken),
+    )
 
 sub-n : tie.Need-sub-n
 sub-n c =
     let g = c .before .before .before .before .before .before .before .before .before .before .before .before .before .before .before .args in
-    omega (arith, fits (g .s) (g .v) (g .o) (lent (now (g .time)) (now (g .zone)) (now (g .name)) (now (g .domain)) (now (g .lengths)) (now (g .id))) (now (g .body)) (c .before .before .before .before .before .header-size .ensures) (c .before .before .before .before .secondary-size .ensures) (c .before .before .before .packet-size .ensures) (length (now (g .out))) (c .before .before .before .before .before .before .test-values .ensures) (c .before .before .test-sizes .ensures) (c .if1 .left) .least)
+    omega (
+      arith,
+      fits (g .s) (g .v) (g .o) _ (now (g .body)) (c .before .before .before .before .before .header-size .ensures)
+          (c .before .before .before .before .secondary-size .ensures) (c .before .before .before .packet-size .ensures) _
+          (c .before .before .before .before .before .before .test-values .ensures) (c .before .before .test-sizes .ensures) (c .if1 .left) .least,
+    )
 
 put-packet-requires : tie.Need-put-packet-requires
 put-packet-requires c κs = search needs
@@ -42,8 +53,15 @@ same-length c = search needs
 
 returns-2 : tie.Need-returns-2
 returns-2 c =
-    let g = c .before .before .before .before .before .before .before .before .before .before .before .before .before .before .before .before .before .before .before .args in
-    (written-answer (g .s) (g .v) (g .o) (lent (now (g .time)) (now (g .zone)) (now (g .name)) (now (g .domain)) (now (g .lengths)) (now (g .id))) (now (g .body)) (c .before .before .before .before .before .before .before .before .before .header-size .ensures) (c .before .before .before .before .before .before .before .before .secondary-size .ensures) (c .before .before .before .before .before .before .before .packet-size .ensures) (length (now (g .out))) (c .before .before .before .before .before .before .before .before .before .before .test-values .ensures) (c .before .before .before .before .before .before .test-sizes .ensures) (c .before .before .before .before .if1 .left), written-output (g .s) (g .v) (g .o) (lent (now (g .time)) (now (g .zone)) (now (g .name)) (now (g .domain)) (now (g .lengths)) (now (g .id))) (now (g .body)) (c .before .before .before .before .before .before .before .before .before .header-size .ensures) (c .before .before .before .before .before .before .before .before .secondary-size .ensures) (c .before .before .before .before .before .before .before .packet-size .ensures) (now (g .out)) (c .before .before .before .before .before .before .before .before .before .before .test-values .ensures) (c .before .before .before .before .before .before .test-sizes .ensures) (c .before .before .before .before .if1 .left) (c .before .before .put-packet .ensures))
+    let h = c .before .before .before .before .before .before in
+    let k = h .before .before in
+    let g = k .before .before .before .before .before .before .before .before .before .before .before .args in (
+      written-answer (g .s) (g .v) (g .o) _ _ (k .before .header-size .ensures) (k .secondary-size .ensures) (h .before .packet-size .ensures) _
+          (k .before .before .test-values .ensures) (h .test-sizes .ensures) (c .before .before .before .before .if1 .left),
+      written-output (g .s) (g .v) (g .o) _ _ (k .before .header-size .ensures) (k .secondary-size .ensures) (h .before .packet-size .ensures) _
+          (k .before .before .test-values .ensures) (h .test-sizes .ensures) (c .before .before .before .before .if1 .left)
+          (c .before .before .put-packet .ensures),
+    )
 
 pub write-spec : {M : Type 1} → statement M
 write-spec =
