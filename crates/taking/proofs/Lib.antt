@@ -11,7 +11,6 @@ pub mod Drawing
 pub mod Among
 pub mod Drawn
 pub mod Takings
-pub mod Beside
 pub mod Checked
 pub mod Keeps
 pub mod Tells
