@@ -17,7 +17,7 @@ use Rattle.cells.specs.Inner.{withinIn}
 use Rattle.taking.specs.declared.Copied.{Copied}
 use Rattle.messages.specs.Messages.{cellsOf, picked, amongIn, top}
 use Rattle.taking.specs.Taking.{message, tookIn, outWith, storeLess}
-use Rattle.clearing.specs.Cleared.{clearedTo}
+use Rattle.clearing.specs.Cleared.{clearedTo, zeroIf}
 use Rattle.taking.specs.Told.{takenOf}
 use Rattle.taking.specs.Follow.{segAt, placesFrom, bodiesAt, answer, opensAt, copiedOf, Opens}
 use Rattle.taking.proofs.Heads.{key-two}
@@ -89,17 +89,17 @@ module _ (s : Settings) (Z : ℕ) (st out : List ℕ) (n i b : ℕ) (ei : i ≡ 
 
     pub draw-store :
         {x k y : List ℕ} → x ≡ sets out 0 (segAt s Z st i .key ++ bodiesAt s Z st (cellsFrom s Z st n i)) → k ≡ part x 0 (2 + u .header) →
-        y ≡ clearedTo (λ j. withinIn k (u .counter .0) (u .until) (cellAt s Z st j)) Z n st → y ≡ storeLess s Z st n (tookIn s Z st n (length out))
+        y ≡ clearedTo (λ j. zeroIf Z (withinIn k (u .counter .0) (u .until) (cellAt s Z st j))) Z n st → y ≡ storeLess s Z st n (tookIn s Z st n (length out))
     unfolding storeLess copiedOf
     draw-store {x} {k} ex ek ey =
         let t = segAt s Z st i in
         let d : u .until ≡ suc (segAt s Z st i .counter) + length (m .places) =
         ap (λ (w : Copied). w .until) eu ∙ ap (λ (js : List ℕ). suc (segAt s Z st i .counter) + length js) (places-are s Z st n m) in
         ey
-        ∙ ap₂ (λ (l : List ℕ) (c : ℕ). clearedTo (λ j. withinIn l c (u .until) (cellAt s Z st j)) Z n st) (key-front ex ek) (ap (λ (w : Copied). w .counter .0) eu)
-        ∙ ap (λ (e : ℕ). clearedTo (λ j. withinIn (segAt s Z st i .key) (segAt s Z st i .counter) e (cellAt s Z st j)) Z n st) d
+        ∙ ap₂ (λ (l : List ℕ) (c : ℕ). clearedTo (λ j. zeroIf Z (withinIn l c (u .until) (cellAt s Z st j))) Z n st) (key-front ex ek) (ap (λ (w : Copied). w .counter .0) eu)
+        ∙ ap (λ (e : ℕ). clearedTo (λ j. zeroIf Z (withinIn (segAt s Z st i .key) (segAt s Z st i .counter) e (cellAt s Z st j))) Z n st) d
         ∙ cleared-same
-        (λ j. withinIn (segAt s Z st i .key) (segAt s Z st i .counter) (suc (segAt s Z st i .counter) + length (m .places)) (cellAt s Z st j))
-        (λ j. amongIn (segAt s Z st i ∷ map (segAt s Z st) (m .places)) (cellAt s Z st j)) Z n st
-        (λ j l. message-among s Z st n 4294967295 (segAt s Z st i) (m .places) (m .complete) (cellAt s Z st j))
+        (λ j. zeroIf Z (withinIn (segAt s Z st i .key) (segAt s Z st i .counter) (suc (segAt s Z st i .counter) + length (m .places)) (cellAt s Z st j)))
+        (λ j. zeroIf Z (amongIn (segAt s Z st i ∷ map (segAt s Z st) (m .places)) (cellAt s Z st j))) Z n st
+        (λ j l. ap (zeroIf Z) (message-among s Z st n 4294967295 (segAt s Z st i) (m .places) (m .complete) (cellAt s Z st j)))
         ∙ ap (storeLess s Z st n) (sym took-is)
