@@ -17,7 +17,7 @@ use Rattle.cells.specs.Segments.{Seg, carries, both}
 use Rattle.cells.specs.Rows.{Cell, free, held, broken}
 use Rattle.cells.specs.Order.{carriesIn, foundIn}
 use Rattle.cells.specs.Inner.{withinIn}
-use Rattle.messages.specs.Messages.{Role, first, middle, last, roleOf, linkBy, or, among, amongIn}
+use Rattle.messages.specs.Messages.{Role, first, middle, last, roleOf, linkBy, or, among, amongIn, top}
 use Rattle.taking.specs.Follow.{segAt, follow}
 use Rattle.messages.proofs.Found.{found-carries, found-held}
 use Rattle.taking.proofs.Following.{follow-none, follow-by}
@@ -107,28 +107,28 @@ module _ (s : Settings) (Z : ℕ) (st : List ℕ) (n : ℕ) (k : List ℕ) (t : 
           ap₂ (λ (a b : Bool). or a b) h (sym (between-none k t (suc c)) ∙ ap (between k t (suc c)) l)
           ∙ between-more k t c (c + length (j ∷ [])) m
 
-  pub follow-among : (f c : ℕ) (js : List ℕ) → follow s Z st n k f c ≡ some js → among (map seg js) t ≡ between k t c (c + length js)
+  pub follow-among : (f c : ℕ) (js : List ℕ) → follow suc top s Z st n k f c ≡ some js → among (map seg js) t ≡ between k t c (c + length js)
   unfolding follow
   follow-among zero c js e = let z : _≡_ {A = ℕ} 0 1 = cc in absurd (omega arith)
   follow-among (suc f) c js e = ⊎-elim (there (follow-among f (suc c))) nowhere (below-or (foundIn s Z st n k c) n)
     where
       there :
-          ((ks : List ℕ) → follow s Z st n k f (suc c) ≡ some ks → among (map seg ks) t ≡ between k t (suc c) (suc c + length ks)) →
+          ((ks : List ℕ) → follow suc top s Z st n k f (suc c) ≡ some ks → among (map seg ks) t ≡ between k t (suc c) (suc c + length ks)) →
           foundIn s Z st n k c < n → among (map seg js) t ≡ between k t c (c + length js)
       there rest h =
-          on-among (roleOf (seg (foundIn s Z st n k c) .flags)) c (foundIn s Z st n k c) (follow s Z st n k f (suc c)) js
+          on-among (roleOf (seg (foundIn s Z st n k c) .flags)) c (foundIn s Z st n k c) (follow suc top s Z st n k f (suc c)) js
           (found-is c h) rest
-          (sym (follow-by s Z st n k f c refl h refl) ∙ e)
+          (sym (follow-by suc top s Z st n k f c refl h refl) ∙ e)
 
       nowhere : n ≤ foundIn s Z st n k c → among (map seg js) t ≡ between k t c (c + length js)
       nowhere h =
-          let d : _≡_ {A = Option (List ℕ)} none (some js) = sym (follow-none s Z st n k f c refl h) ∙ e in
+          let d : _≡_ {A = Option (List ℕ)} none (some js) = sym (follow-none suc top s Z st n k f c refl h) ∙ e in
           let z : _≡_ {A = ℕ} 0 1 = cc in absurd (omega arith)
 
 -- ---- a message: its first and the others
 
 pub message-among :
-    (s : Settings) (Z : ℕ) (st : List ℕ) (n f : ℕ) (u : Seg) (js : List ℕ) → follow s Z st n (u .key) f (suc (u .counter)) ≡ some js → (y : Cell) →
+    (s : Settings) (Z : ℕ) (st : List ℕ) (n f : ℕ) (u : Seg) (js : List ℕ) → follow suc top s Z st n (u .key) f (suc (u .counter)) ≡ some js → (y : Cell) →
     withinIn (u .key) (u .counter) (suc (u .counter) + length js) y ≡ amongIn (u ∷ map (segAt s Z st) js) y
 unfolding among
 message-among s Z st n f u js e free = refl

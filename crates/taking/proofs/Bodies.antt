@@ -20,7 +20,7 @@ use Rattle.cells.specs.Segments.{segOf}
 use Rattle.cells.specs.Rows.{rowAt, packetIn}
 use Rattle.cells.specs.Order.{foundIn}
 use Rattle.messages.specs.declared.Piece.{Piece}
-use Rattle.messages.specs.Messages.{first, middle, last, roleOf, linkBy}
+use Rattle.messages.specs.Messages.{first, middle, last, roleOf, linkBy, top}
 use Rattle.messages.specs.Inner.{segIn, pieceOf}
 use Rattle.taking.specs.Follow.{segAt, onAt, follow, placesFrom, bodiesAt, Ready}
 
@@ -55,35 +55,35 @@ role-on f j r ks no2 h = go (eqb f 1) (eqb f 2) (ne-eqb f 2 no2) h
     go false false e u = mapped j r ks u
 
 module _ (s : Settings) (Z : ℕ) (st : List ℕ) (n : ℕ) (k : List ℕ) where
-  follow-step : (f c : ℕ) → 0 < f → follow s Z st n k f c ≡ onAt s Z st n (foundIn s Z st n k c) (follow s Z st n k (f - 1) (c + 1))
+  follow-step : (f c : ℕ) → 0 < f → follow suc top s Z st n k f c ≡ onAt s Z st n (foundIn s Z st n k c) (follow suc top s Z st n k (f - 1) (c + 1))
   unfolding follow
   follow-step f c h =
       let e : f ≡ suc (f - 1) = omega arith in
-      ap (λ (g : ℕ). follow s Z st n k g c) e
-      ∙ ap (λ (d : ℕ). onAt s Z st n (foundIn s Z st n k c) (follow s Z st n k (f - 1) d)) (sym (add-one c))
+      ap (λ (g : ℕ). follow suc top s Z st n k g c) e
+      ∙ ap (λ (d : ℕ). onAt s Z st n (foundIn s Z st n k c) (follow suc top s Z st n k (f - 1) d)) (sym (add-one c))
 
-  pub follow-none : (f c : ℕ) (ks : List ℕ) → f ≤ 0 → follow s Z st n k f c ≡ some ks → ⊥
+  pub follow-none : (f c : ℕ) (ks : List ℕ) → f ≤ 0 → follow suc top s Z st n k f c ≡ some ks → ⊥
   unfolding follow
   follow-none f c ks h e =
       let z : f ≡ 0 = omega arith in
-      let u : none ≡ some ks = ap (λ (g : ℕ). follow s Z st n k g c) (sym z) ∙ e in
+      let u : none ≡ some ks = ap (λ (g : ℕ). follow suc top s Z st n k g c) (sym z) ∙ e in
       let y : _≡_ {A = ℕ} 0 1 = cc in
       omega arith
 
-  module _ (f c : ℕ) (ks : List ℕ) (h : 0 < f) (e : follow s Z st n k f c ≡ some ks) {j : ℕ} (ej : j ≡ foundIn s Z st n k c) where
-    stepped : (ltb j n ≡ true) × (linkBy (roleOf (segAt s Z st j .flags)) j (follow s Z st n k (f - 1) (c + 1)) ≡ some ks)
+  module _ (f c : ℕ) (ks : List ℕ) (h : 0 < f) (e : follow suc top s Z st n k f c ≡ some ks) {j : ℕ} (ej : j ≡ foundIn s Z st n k c) where
+    stepped : (ltb j n ≡ true) × (linkBy (roleOf (segAt s Z st j .flags)) j (follow suc top s Z st n k (f - 1) (c + 1)) ≡ some ks)
     stepped =
-        taken (ltb j n) (linkBy (roleOf (segAt s Z st j .flags)) j (follow s Z st n k (f - 1) (c + 1))) ks
-        (ap (λ (i : ℕ). onAt s Z st n i (follow s Z st n k (f - 1) (c + 1))) ej ∙ sym (follow-step f c h) ∙ e)
+        taken (ltb j n) (linkBy (roleOf (segAt s Z st j .flags)) j (follow suc top s Z st n k (f - 1) (c + 1))) ks
+        (ap (λ (i : ℕ). onAt s Z st n i (follow suc top s Z st n k (f - 1) (c + 1))) ej ∙ sym (follow-step f c h) ∙ e)
 
     pub next-inside : j < n
     next-inside = ltb-true j n (stepped .0)
 
     pub next-last : segAt s Z st j .flags ≡ 2 → ks ≡ j ∷ []
-    next-last g = role-last (segAt s Z st j .flags) j (follow s Z st n k (f - 1) (c + 1)) ks g (stepped .1)
+    next-last g = role-last (segAt s Z st j .flags) j (follow suc top s Z st n k (f - 1) (c + 1)) ks g (stepped .1)
 
-    pub next-on : (segAt s Z st j .flags ≡ 2 → ⊥) → (js : List ℕ) × (ks ≡ j ∷ js) × (follow s Z st n k (f - 1) (c + 1) ≡ some js)
-    next-on g = role-on (segAt s Z st j .flags) j (follow s Z st n k (f - 1) (c + 1)) ks g (stepped .1)
+    pub next-on : (segAt s Z st j .flags ≡ 2 → ⊥) → (js : List ℕ) × (ks ≡ j ∷ js) × (follow suc top s Z st n k (f - 1) (c + 1) ≡ some js)
+    next-on g = role-on (segAt s Z st j .flags) j (follow suc top s Z st n k (f - 1) (c + 1)) ks g (stepped .1)
 
     next-some : (js : List ℕ) × (ks ≡ j ∷ js)
     next-some = ⊎-elim ends goes-on (bool (eqb (segAt s Z st j .flags) 2))
@@ -119,7 +119,7 @@ bodies-last s Z st j ks {x} e ex = bodies-first s Z st j [] ks e ex ∙ append-n
 -- what is done, over what is left to do: the run from the counter c on, its bodies from `at` on
 pub record Copying (s : Settings) (Z : ℕ) (st : List ℕ) (n : ℕ) (k js : List ℕ) (place : ℕ) (o : List ℕ) (start : ℕ) (out : List ℕ) (c left at : ℕ) : Type 0 where
   pub rest : List ℕ
-  pub ahead : follow s Z st n k left c ≡ some rest
+  pub ahead : follow suc top s Z st n k left c ≡ some rest
   pub octets : sets out at (bodiesAt s Z st rest) ≡ sets o place (bodiesAt s Z st js)
   pub room : at + length (bodiesAt s Z st rest) ≤ length out
   pub long : length out ≡ length o
@@ -127,11 +127,11 @@ pub record Copying (s : Settings) (Z : ℕ) (st : List ℕ) (n : ℕ) (k js : Li
   pub count : c + left ≤ 8589934591
 
 pub copying-first :
-    (s : Settings) (Z : ℕ) (st : List ℕ) (n : ℕ) (k : List ℕ) (c place : ℕ) (o : List ℕ) → c ≤ 4294967296 → Ready s Z st n k c place o →
-    Copying s Z st n k (placesFrom s Z st n k c) place o c o c 4294967295 place
+    (s : Settings) (Z : ℕ) (st : List ℕ) (n : ℕ) (k : List ℕ) (c place : ℕ) (o : List ℕ) → c ≤ 4294967296 → Ready suc top s Z st n k c place o →
+    Copying s Z st n k (placesFrom suc top s Z st n k c) place o c o c top place
 copying-first s Z st n k c place o h r =
     record {
-      rest = placesFrom s Z st n k c;
+      rest = placesFrom suc top s Z st n k c;
       ahead = r .complete;
       octets = refl;
       room = r .room;

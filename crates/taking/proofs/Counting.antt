@@ -15,7 +15,7 @@ use Rattle.cells.specs.Segments.{segOf}
 use Rattle.cells.specs.Rows.{rowAt, packetIn}
 use Rattle.cells.specs.Order.{foundIn}
 use Rattle.messages.specs.declared.Piece.{Piece}
-use Rattle.messages.specs.Messages.{Role, roleOf, linkBy}
+use Rattle.messages.specs.Messages.{Role, roleOf, linkBy, top}
 use Rattle.messages.specs.Inner.{pieceOf}
 use Rattle.taking.specs.Follow.{segAt, follow, total}
 use Rattle.messages.proofs.Found.{found-held, body-long, part-most}
@@ -23,11 +23,11 @@ use Rattle.taking.proofs.Following.{role-first, role-last, role-middle,
 
 -- what is left from the counter c on, and sum octets, come to what the whole run does
 pub record Counted (s : Settings) (Z : ℕ) (st : List ℕ) (n : ℕ) (k : List ℕ) (b from c left sum : ℕ) : Type 0 where
-  pub same : total s Z st sum (follow s Z st n k left c) ≡ total s Z st b (follow s Z st n k 4294967295 from)
-  pub steps : c + left ≡ from + 4294967295
+  pub same : total s Z st sum (follow suc top s Z st n k left c) ≡ total s Z st b (follow suc top s Z st n k top from)
+  pub steps : c + left ≡ from + top
   pub most : sum + left * 65542 ≤ b + 281500746448890
 
-pub counted-first : (s : Settings) (Z : ℕ) (st : List ℕ) (n : ℕ) (k : List ℕ) (b from : ℕ) → Counted s Z st n k b from from 4294967295 b
+pub counted-first : (s : Settings) (Z : ℕ) (st : List ℕ) (n : ℕ) (k : List ℕ) (b from : ℕ) → Counted s Z st n k b from from top b
 counted-first s Z st n k b from = record { same = refl; steps = refl; most = omega arith }
 
 -- ---- the segment in a cell that was found, as the code reads it
@@ -58,18 +58,18 @@ module _ (s : Settings) (Z : ℕ) (st : List ℕ) (n : ℕ) (k : List ℕ) (b fr
   one-less : left ≡ suc (left - 1)
   one-less = omega arith
 
-  whole-is : {o : Option (List ℕ)} → follow s Z st n k (suc (left - 1)) c ≡ o → total s Z st sum o ≡ total s Z st b (follow s Z st n k 4294967295 from)
-  whole-is e = ap (total s Z st sum) (sym e ∙ ap (λ (x : ℕ). follow s Z st n k x c) (sym one-less)) ∙ inv .same
+  whole-is : {o : Option (List ℕ)} → follow suc top s Z st n k (suc (left - 1)) c ≡ o → total s Z st sum o ≡ total s Z st b (follow suc top s Z st n k top from)
+  whole-is e = ap (total s Z st sum) (sym e ∙ ap (λ (x : ℕ). follow suc top s Z st n k x c) (sym one-less)) ∙ inv .same
 
-  pub counted-none : n ≤ j → 0 ≡ total s Z st b (follow s Z st n k 4294967295 from)
-  counted-none h = whole-is (follow-none s Z st n k (left - 1) c ej h)
+  pub counted-none : n ≤ j → 0 ≡ total s Z st b (follow suc top s Z st n k top from)
+  counted-none h = whole-is (follow-none suc top s Z st n k (left - 1) c ej h)
 
   module _ (h : j < n) {r : List ℕ} {u : Piece} (er : r ≡ rowAt Z st j) (eu : u ≡ pieceOf (readPacket s (packetIn 0 r))) where
     role-is : {x : Role} → roleOf (u .flags) ≡ x → roleOf (segAt s Z st j .flags) ≡ x
     role-is e = ap roleOf (sym (piece-flags s Z st n k c ej h er eu)) ∙ e
 
-    by : {x : Role} → roleOf (u .flags) ≡ x → total s Z st sum (linkBy x j (follow s Z st n k (left - 1) (suc c))) ≡ total s Z st b (follow s Z st n k 4294967295 from)
-    by e = whole-is (follow-by s Z st n k (left - 1) c ej h (role-is e))
+    by : {x : Role} → roleOf (u .flags) ≡ x → total s Z st sum (linkBy x j (follow suc top s Z st n k (left - 1) (suc c))) ≡ total s Z st b (follow suc top s Z st n k top from)
+    by e = whole-is (follow-by suc top s Z st n k (left - 1) c ej h (role-is e))
 
     module _ (o : Octets st) (d : b ≤ 65542) where
       pub counted-room : sum + u .length < 18446744073709551616
@@ -78,13 +78,13 @@ module _ (s : Settings) (Z : ℕ) (st : List ℕ) (n : ℕ) (k : List ℕ) (b fr
       pub counted-more : sum + u .length + 1 < 18446744073709551616
       counted-more = omega (arith, piece-most s Z st n k c ej h er eu o, inv .most)
 
-    pub counted-broken : u .flags ≡ 1 → 0 ≡ total s Z st b (follow s Z st n k 4294967295 from)
+    pub counted-broken : u .flags ≡ 1 → 0 ≡ total s Z st b (follow suc top s Z st n k top from)
     counted-broken e = by (role-first e)
 
-    pub counted-last : u .flags ≡ 2 → sum + u .length + 1 ≡ total s Z st b (follow s Z st n k 4294967295 from)
+    pub counted-last : u .flags ≡ 2 → sum + u .length + 1 ≡ total s Z st b (follow suc top s Z st n k top from)
     counted-last e =
         ap (λ (x : ℕ). sum + x + 1) (piece-long s Z st n k c ej h er eu)
-        ∙ sym (total-last s Z st n k sum j (follow s Z st n k (left - 1) (suc c)))
+        ∙ sym (total-last suc top s Z st n k sum j (follow suc top s Z st n k (left - 1) (suc c)))
         ∙ by (role-last e)
 
     pub counted-on :
@@ -92,10 +92,10 @@ module _ (s : Settings) (Z : ℕ) (st : List ℕ) (n : ℕ) (k : List ℕ) (b fr
     counted-on o x y =
         record {
           same =
-              ap₂ (λ (a d : ℕ). total s Z st a (follow s Z st n k (left - 1) d))
+              ap₂ (λ (a d : ℕ). total s Z st a (follow suc top s Z st n k (left - 1) d))
               (ap (λ (a : ℕ). sum + a) (piece-long s Z st n k c ej h er eu))
               (add-one c)
-              ∙ sym (total-on s Z st n k sum j (follow s Z st n k (left - 1) (suc c)))
+              ∙ sym (total-on suc top s Z st n k sum j (follow suc top s Z st n k (left - 1) (suc c)))
               ∙ by (role-middle x y);
           steps = omega (arith, inv .steps);
           most = omega (arith, inv .most, piece-most s Z st n k c ej h er eu o);
@@ -105,8 +105,8 @@ pub counter-room : {s : Settings} {Z : ℕ} {st : List ℕ} {n : ℕ} {k : List 
 counter-room inv h = omega (arith, inv .steps)
 
 -- no segment more is allowed
-pub counted-out : {s : Settings} {Z : ℕ} {st : List ℕ} {n : ℕ} {k : List ℕ} {b from c left sum : ℕ} → Counted s Z st n k b from c left sum → left ≤ 0 → 0 ≡ total s Z st b (follow s Z st n k 4294967295 from)
+pub counted-out : {s : Settings} {Z : ℕ} {st : List ℕ} {n : ℕ} {k : List ℕ} {b from c left sum : ℕ} → Counted s Z st n k b from c left sum → left ≤ 0 → 0 ≡ total s Z st b (follow suc top s Z st n k top from)
 unfolding follow
 counted-out {s} {Z} {st} {n} {k} {b} {from} {c} {left} {sum} inv h =
     let e : 0 ≡ left = omega arith in
-    ap (λ (x : ℕ). total s Z st sum (follow s Z st n k x c)) e ∙ inv .same
+    ap (λ (x : ℕ). total s Z st sum (follow suc top s Z st n k x c)) e ∙ inv .same

@@ -25,6 +25,7 @@ use Rattle.cells.specs.Order.{cellAt}
 use Rattle.cells.specs.Inner.{Asked}
 use Rattle.cells.proofs.Carries.{Holding, held-is}
 use Rattle.messages.specs.declared.Piece.{Piece}
+use Rattle.messages.specs.Messages.{top}
 use Rattle.messages.specs.Inner.{pieceOf}
 use Rattle.taking.specs.Follow.{segAt, follow, placesOf, placesFrom, bodiesAt, copiedOf, Ready, Opens}
 use Rattle.taking.proofs.Bodies.{body-there}
@@ -54,7 +55,7 @@ key-two s p o z =
     omega (arith, identification-long v)
 
 -- the places of a run that is complete
-places-are : (s : Settings) (Z : ℕ) (st : List ℕ) (n : ℕ) (k : List ℕ) (c : ℕ) (js : List ℕ) → follow s Z st n k 4294967295 c ≡ some js → placesFrom s Z st n k c ≡ js
+places-are : (s : Settings) (Z : ℕ) (st : List ℕ) (n : ℕ) (k : List ℕ) (c : ℕ) (js : List ℕ) → follow suc top s Z st n k top c ≡ some js → placesFrom suc top s Z st n k c ≡ js
 unfolding placesFrom
 places-are s Z st n k c js e = ap placesOf e
 
@@ -88,14 +89,14 @@ module _ (s : Settings) (Z : ℕ) (st : List ℕ) (n i : ℕ) (o : Octets st) (t
 
   -- the places of the others
   abbrev js : List ℕ
-  js = placesFrom s Z st n (segAt s Z st i .key) (suc (segAt s Z st i .counter))
+  js = placesFrom suc top s Z st n (segAt s Z st i .key) (suc (segAt s Z st i .counter))
 
-  others-are : placesFrom s Z st n (keyOf q (readPacket s q)) (h .ids .counter .0 + 1) ≡ js
-  others-are = ap₂ (λ (k : List ℕ) (c : ℕ). placesFrom s Z st n k c) key-is next-is
+  others-are : placesFrom suc top s Z st n (keyOf q (readPacket s q)) (h .ids .counter .0 + 1) ≡ js
+  others-are = ap₂ (λ (k : List ℕ) (c : ℕ). placesFrom suc top s Z st n k c) key-is next-is
 
   -- what is told
   pub head-told :
-      {m : ℕ} → m ≡ h .ids .counter .0 + 1 + length (placesFrom s Z st n (keyOf q (readPacket s q)) (h .ids .counter .0 + 1)) →
+      {m : ℕ} → m ≡ h .ids .counter .0 + 1 + length (placesFrom suc top s Z st n (keyOf q (readPacket s q)) (h .ids .counter .0 + 1)) →
       record { header = h .h; counter = h .ids .counter; until = m } ≡ copiedOf (segAt s Z st i) (length js)
   unfolding copiedOf
   head-told em =
@@ -114,7 +115,7 @@ module _ (s : Settings) (Z : ℕ) (st : List ℕ) (n i : ℕ) (o : Octets st) (t
   unfolding bodiesAt
   whole-is = ap₂ (λ (k b : List ℕ). k ++ (b ++ bodiesAt s Z st js)) (sym key-is) (sym body-is)
 
-  module _ {out : List ℕ} (w : Opens s Z st n i out) where
+  module _ {out : List ℕ} (w : Opens suc top s Z st n i out) where
     places-is : js ≡ w .places
     places-is = places-are s Z st n (segAt s Z st i .key) (suc (segAt s Z st i .counter)) (w .places) (w .complete)
 
@@ -135,10 +136,10 @@ module _ (s : Settings) (Z : ℕ) (st : List ℕ) (n i : ℕ) (o : Octets st) (t
       head-body-room = omega (arith, room, ap length eo, length-sets out 0 (keyOf q (readPacket s q)))
 
       module _ {at : ℕ} {two : List ℕ} (ea : at ≡ key + length x) (ew : two ≡ sets one key x) where
-        pub head-ready : Ready s Z st n (keyOf q (readPacket s q)) (h .ids .counter .0 + 1) at two
+        pub head-ready : Ready suc top s Z st n (keyOf q (readPacket s q)) (h .ids .counter .0 + 1) at two
         head-ready =
-            let f : follow s Z st n (keyOf q (readPacket s q)) 4294967295 (h .ids .counter .0 + 1) ≡ some (w .places) =
-            ap₂ (λ (k : List ℕ) (c : ℕ). follow s Z st n k 4294967295 c) key-is next-is ∙ w .complete in
+            let f : follow suc top s Z st n (keyOf q (readPacket s q)) top (h .ids .counter .0 + 1) ≡ some (w .places) =
+            ap₂ (λ (k : List ℕ) (c : ℕ). follow suc top s Z st n k top c) key-is next-is ∙ w .complete in
             let l = ap (λ (y : List ℕ). length (bodiesAt s Z st y)) others-are in
             record {
               complete = f ∙ ap some (sym (others-are ∙ places-is));
@@ -148,7 +149,7 @@ module _ (s : Settings) (Z : ℕ) (st : List ℕ) (n i : ℕ) (o : Octets st) (t
             }
 
         pub head-written :
-            {m : List ℕ} → m ≡ sets two at (bodiesAt s Z st (placesFrom s Z st n (keyOf q (readPacket s q)) (h .ids .counter .0 + 1))) →
+            {m : List ℕ} → m ≡ sets two at (bodiesAt s Z st (placesFrom suc top s Z st n (keyOf q (readPacket s q)) (h .ids .counter .0 + 1))) →
             m ≡ sets out 0 (segAt s Z st i .key ++ bodiesAt s Z st (i ∷ js))
         head-written em =
             em

@@ -158,18 +158,18 @@ module _ (s : Settings) (Z : ℕ) (st : List ℕ) (n i : ℕ) {r : List ℕ} (er
           ap suc
           (sym
           (length-append (t .body) (bodies (map (segAt s Z st) js))
-          ∙ ap (λ (y : List ℕ). length (t .body) + length y) (bodies-places s Z st n (t .key) js)))
+          ∙ ap (λ (y : List ℕ). length (t .body) + length y) (bodies-places suc top s Z st n (t .key) js)))
 
       pub run-first :
           {f b : ℕ} → f ≡ octetAt r 4 / 64 → f ≡ 1 →
-          b ≡ total s Z st (length q - u .at) (follow s Z st n (keyOf q (readPacket s q)) 4294967295 (u .counter + 1)) →
+          b ≡ total s Z st (length q - u .at) (follow suc top s Z st n (keyOf q (readPacket s q)) top (u .counter + 1)) →
           b ≡ answer (runIn suc top cs (cellAt s Z st i))
       run-first {f} {b} ef is-first eb =
           eb
-          ∙ ap₂ (λ (l : ℕ) (k : List ℕ). total s Z st l (follow s Z st n k 4294967295 (u .counter + 1))) long-is key-is
-          ∙ ap (λ (c : ℕ). total s Z st (length (t .body)) (follow s Z st n (t .key) 4294967295 c)) (add-one (u .counter) ∙ ap suc counter-is)
-          ∙ told (follow s Z st n (t .key) 4294967295 (suc (t .counter)))
-          ∙ ap (λ (o : Option (List Seg)). answer (opensBy first t o)) (sym (chain-places s Z st n (t .key) top (suc (t .counter))))
+          ∙ ap₂ (λ (l : ℕ) (k : List ℕ). total s Z st l (follow suc top s Z st n k top (u .counter + 1))) long-is key-is
+          ∙ ap (λ (c : ℕ). total s Z st (length (t .body)) (follow suc top s Z st n (t .key) top c)) (add-one (u .counter) ∙ ap suc counter-is)
+          ∙ told (follow suc top s Z st n (t .key) top (suc (t .counter)))
+          ∙ ap (λ (o : Option (List Seg)). answer (opensBy first t o)) (sym (chain-places suc top s Z st n (t .key) top (suc (t .counter))))
           ∙ ap (λ (y : Role). answer (opensBy y t (chain suc top top cs (t .key) (suc (t .counter)))))
           (sym (role-first (flags-told s Z st i there ∙ sym (flags-row ef) ∙ is-first)))
           ∙ sym (ap answer (runs there))

@@ -26,8 +26,8 @@ use Rattle.taking.proofs.Ends.{nothing-complete}
 use Rattle.taking.proofs.Drawing.{Message, the-message, message-held, picked-below, took-none, took-short}
 
 module _ (s : Settings) (Z : ℕ) (st : List ℕ) (n : ℕ) where
-  module _ {u : Picked} (eu : u ≡ pickedOf s Z st n) where
-    pub cell-is : u .cell ≡ lowest (opensAt s Z st n) n 0
+  module _ {u : Picked} (eu : u ≡ pickedOf suc top s Z st n) where
+    pub cell-is : u .cell ≡ lowest (opensAt suc top s Z st n) n 0
     unfolding pickedOf
     cell-is = ap (λ (x : Picked). x .cell) eu
 
@@ -36,7 +36,8 @@ module _ (s : Settings) (Z : ℕ) (st : List ℕ) (n : ℕ) where
     body-is = ap (λ (x : Picked). x .body) eu
 
     pub taking-none : (long : ℕ) → u .body ≡ 0 → tookIn s Z st n long ≡ unable 20
-    taking-none long e = took-none s Z st n long (sym body-is ∙ e)
+    unfolding tookIn
+    taking-none long e = took-none suc top s Z st n long (sym body-is ∙ e)
 
     module _ (more : u .body ≡ 0 → ⊥) where
       pub taking-least : 1 ≤ u .body
@@ -47,13 +48,13 @@ module _ (s : Settings) (Z : ℕ) (st : List ℕ) (n : ℕ) where
           positive (suc x) h = omega arith
 
       pub taking-below : u .cell < n
-      taking-below = let h = picked-below s Z st n (λ e. more (body-is ∙ e)) in omega (arith, cell-is)
+      taking-below = let h = picked-below suc top s Z st n (λ e. more (body-is ∙ e)) in omega (arith, cell-is)
 
       pub taking-body : suc (u .body - 1) ≡ answer (picked suc top (cellsOf s Z st n))
       taking-body = let e : suc (u .body - 1) ≡ u .body = omega (arith, taking-least) in e ∙ body-is
 
-      m : Message s Z st n (u .cell)
-      m = the-message s Z st n cell-is taking-below
+      m : Message suc top s Z st n (u .cell)
+      m = the-message suc top s Z st n cell-is taking-below
 
       module _ (o : Octets st) {r q : List ℕ} {h : Header} (er : r ≡ rowAt Z st (u .cell)) (eq : q ≡ packetIn 0 r) (eh : h ≡ readPacket s q) where
         read-is : h ≡ readPacket s (packetIn Z (rowAt Z st (u .cell)))
@@ -65,13 +66,14 @@ module _ (s : Settings) (Z : ℕ) (st : List ℕ) (n : ℕ) where
         key-long =
             let p = packetIn Z (rowAt Z st (u .cell)) in
             let plain = octets-part (rowAt Z st (u .cell)) 2 (number 2 (rowAt Z st (u .cell)) 6 + 7) (octets-part st (u .cell * Z) Z o) in
-            let a = accepted s p plain (message-held s Z st n cell-is taking-below .accepted) in
+            let a = accepted s p plain (message-held suc top s Z st n cell-is taking-below .accepted) in
             let v = valuesOf p (readPacket s p) .head in
             let l = ap length (a .key) ∙ length-append (identification v) (headerOctets s v) in
             omega (arith, a .h-is, identification-long v, ap (λ (x : Header). x .h) read-is)
 
         pub taking-short : (long : ℕ) → long < 2 + h .h + (u .body - 1) → tookIn s Z st n long ≡ unable 21
-        taking-short long k = let j : long < length (segAt s Z st (u .cell) .key) + (u .body - 1) = omega (arith, key-long) in took-short s Z st n m taking-body long j
+        unfolding tookIn
+        taking-short long k = let j : long < length (segAt s Z st (u .cell) .key) + (u .body - 1) = omega (arith, key-long) in took-short suc top s Z st n m taking-body long j
 
         pub taking-room : (long : ℕ) → 2 + h .h + (u .body - 1) ≤ long → length (segAt s Z st (u .cell) .key) + (u .body - 1) ≤ long
         taking-room long k = omega (arith, key-long)
@@ -81,4 +83,4 @@ pub took-nothing :
     (s : Settings) (Z : ℕ) (st : List ℕ) (n long : ℕ) → {r : ℕ} → r ≡ lowest (endsAt Z st) n 0 → n ≤ r →
     tookIn s Z st n long ≡ unable 20
 unfolding tookIn
-took-nothing s Z st n long e h = ap (λ (x : Option Run). drawn x long) (nothing-complete s Z st n e h)
+took-nothing s Z st n long e h = ap (λ (x : Option Run). drawn x long) (nothing-complete suc top s Z st n e h)

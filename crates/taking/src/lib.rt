@@ -90,7 +90,7 @@ fn follow(
 ) -> usize
     requires { ⌜ Lent s (now zero) (now store) n chained (now heads) (now links) ⌝ }
     requires { ⌜ Asked s (now q) stop × ((from ≤ 4294967296) × (b ≤ 65542)) ⌝ }
-    ensures { λ r. ⌜ r ≡ total s (length (now (zero .entry))) (now (store .entry)) b (followed s (length (now (zero .entry))) (now (store .entry)) n (keyOf (now (q .entry)) (readPacket s (now (q .entry)))) 4294967295 from) ⌝ }
+    ensures { λ r. ⌜ r ≡ total s (length (now (zero .entry))) (now (store .entry)) b (followed suc top s (length (now (zero .entry))) (now (store .entry)) n (keyOf (now (q .entry)) (readPacket s (now (q .entry)))) top from) ⌝ }
 {
     let z = zero.len();
     let mut c = from;
@@ -185,7 +185,7 @@ fn pick_message(
     links: &[u16; cells::CELLS_MOST],
 ) -> Picked
     requires { ⌜ Lent s (now zero) (now store) n chained (now heads) (now links) ⌝ }
-    ensures { λ r. ⌜ r ≡ pickedOf s (length (now (zero .entry))) (now (store .entry)) n ⌝ }
+    ensures { λ r. ⌜ r ≡ pickedOf suc top s (length (now (zero .entry))) (now (store .entry)) n ⌝ }
 {
     let mut i: usize = 0;
     while i < n {
@@ -239,9 +239,9 @@ fn copy_rest(
     requires { ⌜ Lent s (now zero) (now store) n chained (now heads) (now links) ⌝ }
     requires { ⌜ Asked s (now q) stop ⌝ }
     requires { ⌜ start ≤ 4294967296 ⌝ }
-    requires { ⌜ Ready s (length (now zero)) (now store) n (keyOf (now q) (readPacket s (now q))) start place (now out) ⌝ }
-    ensures { λ r. ⌜ r ≡ start + length (placesFrom s (length (now (zero .entry))) (now (store .entry)) n (keyOf (now (q .entry)) (readPacket s (now (q .entry)))) start) ⌝ }
-    ensures { λ r. ⌜ now (out .exit) ≡ sets (now (out .entry)) place (bodiesAt s (length (now (zero .entry))) (now (store .entry)) (placesFrom s (length (now (zero .entry))) (now (store .entry)) n (keyOf (now (q .entry)) (readPacket s (now (q .entry)))) start)) ⌝ }
+    requires { ⌜ Ready suc top s (length (now zero)) (now store) n (keyOf (now q) (readPacket s (now q))) start place (now out) ⌝ }
+    ensures { λ r. ⌜ r ≡ start + length (placesFrom suc top s (length (now (zero .entry))) (now (store .entry)) n (keyOf (now (q .entry)) (readPacket s (now (q .entry)))) start) ⌝ }
+    ensures { λ r. ⌜ now (out .exit) ≡ sets (now (out .entry)) place (bodiesAt s (length (now (zero .entry))) (now (store .entry)) (placesFrom suc top s (length (now (zero .entry))) (now (store .entry)) n (keyOf (now (q .entry)) (readPacket s (now (q .entry)))) start)) ⌝ }
 {
     let z = zero.len();
     let mut c = start;
@@ -275,9 +275,9 @@ fn copy_message(
 ) -> Copied
     requires { ⌜ Lent s (now zero) (now store) n chained (now heads) (now links) ⌝ }
     requires { ⌜ cellAt s (length (now zero)) (now store) i ≡ held (segAt s (length (now zero)) (now store) i) ⌝ }
-    requires { ⌜ Opens s (length (now zero)) (now store) n i (now out) ⌝ }
-    ensures { λ r. ⌜ r ≡ copiedOf (segAt s (length (now (zero .entry))) (now (store .entry)) i) (length (placesFrom s (length (now (zero .entry))) (now (store .entry)) n (segAt s (length (now (zero .entry))) (now (store .entry)) i .key) (suc (segAt s (length (now (zero .entry))) (now (store .entry)) i .counter)))) ⌝ }
-    ensures { λ r. ⌜ now (out .exit) ≡ sets (now (out .entry)) 0 (segAt s (length (now (zero .entry))) (now (store .entry)) i .key ++ bodiesAt s (length (now (zero .entry))) (now (store .entry)) (i ∷ placesFrom s (length (now (zero .entry))) (now (store .entry)) n (segAt s (length (now (zero .entry))) (now (store .entry)) i .key) (suc (segAt s (length (now (zero .entry))) (now (store .entry)) i .counter)))) ⌝ }
+    requires { ⌜ Opens suc top s (length (now zero)) (now store) n i (now out) ⌝ }
+    ensures { λ r. ⌜ r ≡ copiedOf (segAt s (length (now (zero .entry))) (now (store .entry)) i) (length (placesFrom suc top s (length (now (zero .entry))) (now (store .entry)) n (segAt s (length (now (zero .entry))) (now (store .entry)) i .key) (suc (segAt s (length (now (zero .entry))) (now (store .entry)) i .counter)))) ⌝ }
+    ensures { λ r. ⌜ now (out .exit) ≡ sets (now (out .entry)) 0 (segAt s (length (now (zero .entry))) (now (store .entry)) i .key ++ bodiesAt s (length (now (zero .entry))) (now (store .entry)) (i ∷ placesFrom suc top s (length (now (zero .entry))) (now (store .entry)) n (segAt s (length (now (zero .entry))) (now (store .entry)) i .key) (suc (segAt s (length (now (zero .entry))) (now (store .entry)) i .counter)))) ⌝ }
 {
     let r = cells::row(store, zero.len(), i);
     let q = cells::packet_in(r);
@@ -312,7 +312,7 @@ fn draw(
     links: &[u16; cells::CELLS_MOST],
 ) -> Taken
     requires { ⌜ Lent s (now zero) (now store) n chained (now heads) (now links) ⌝ }
-    requires { ⌜ i ≡ lowest (opensAt s (length (now zero)) (now store) n) n 0 ⌝ }
+    requires { ⌜ i ≡ lowest (opensAt suc top s (length (now zero)) (now store) n) n 0 ⌝ }
     requires { ⌜ (i < n) × (suc b ≡ answer (picked suc top (cellsOf s (length (now zero)) (now store) n))) ⌝ }
     requires { ⌜ length (segAt s (length (now zero)) (now store) i .key) + b ≤ length (now out) ⌝ }
     ensures { λ r. ⌜ r ≡ takenOf (tookIn s (length (now (zero .entry))) (now (store .entry)) n (length (now (out .entry)))) ⌝ }

@@ -1,6 +1,8 @@
 -- `taking::copy_rest` meets its contract. The loop's invariant: what is left of the run, laid behind what is laid, is the whole.
 -- Assumes nothing.
+use Prim.Native.Nat.{suc}
 use denote.Ref.{now}
+use Rattle.messages.specs.Messages.{top}
 use lib.ListN.{length}
 use native.Mathlib.Omega.{arith}
 use Rattle.packet.specs.Key.{keyOf}
@@ -14,7 +16,7 @@ use Rattle.taking.proofs.copy_rest.Tie as tie
 
 abbrev Inv-loop : tie.InvT-loop
 Inv-loop s store n zero q stop start out₀ place chained heads links z c₀ left₀ at₀ out c left at =
-    Copying s (length zero) store n (keyOf q (readPacket s q)) (placesFrom s (length zero) store n (keyOf q (readPacket s q)) start) place out₀ start out c
+    Copying s (length zero) store n (keyOf q (readPacket s q)) (placesFrom suc top s (length zero) store n (keyOf q (readPacket s q)) start) place out₀ start out c
     left at
 
 abbrev μ-loop : tie.MeasureT-loop
