@@ -108,7 +108,7 @@ module _ (s : Settings) (st z p : List ℕ) (n flags at long c : ℕ) (ez : z �
 
 -- flags and body compared as they stand in two packets
 pub rest-same :
-    (s : Settings) (r p : List ℕ) (flags at long : ℕ) {q : List ℕ} {u : Piece} {b : Bool} → q ≡ packetIn 0 r → u ≡ pieceOf (readPacket s (packetIn 0 r)) →
+    (s : Settings) (r p : List ℕ) (flags at long : ℕ) {q : List ℕ} {u : Piece} {b : Bool} → q ≡ packetIn r → u ≡ pieceOf (readPacket s (packetIn r)) →
     b ≡ both (eqb (u .flags) flags) (alike (part q (u .at) (u .length)) (part p at long)) → b ≡ sameRest (segIn s 0 r) (segWith s p flags at long 0)
 unfolding sameRest segOf segWith pieceOf
 rest-same s r p flags at long eq eu eb =

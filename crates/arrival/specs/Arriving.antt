@@ -11,11 +11,10 @@ use lib.Seq.{sets}
 use lib.Dec.{leb, ltb, eqb}
 use Rattle.octets.specs.Octets.{pick}
 use Rattle.walk.specs.declared.Settings.{Settings}
-use Rattle.walk.specs.Walk.{begun}
 use Rattle.packet.specs.Reading.{readPacket, segmented}
 use Rattle.cells.specs.Segments.{Seg, segOf, sameRest}
 use Rattle.cells.specs.Rows.{heldRow}
-use Rattle.cells.specs.Order.{isFree, lowest, cellAt, inOrder, countIn}
+use Rattle.cells.specs.Order.{isFree, lowest, cellAt, countIn, gate, through}
 use Rattle.messages.specs.Messages.{cellsOf, look}
 
 -- what an arrival comes to: a new segment with the cell it goes to
@@ -52,10 +51,7 @@ arrivedIn s Z st n p =
 
 -- a packet at any octets
 unfoldable pub arrived : Settings → ℕ → List ℕ → List ℕ → Arrived
-arrived s Z st p =
-    pick (eqb (begun s .refusal .number) 0)
-    (pick (inOrder s Z st) (arrivedIn s Z st (countIn Z st) p) (refused 16))
-    (refused 15)
+arrived s Z st p = through (gate s Z st) (arrivedIn s Z st (countIn Z st) p) refused
 
 -- the store behind it: a new segment's cell is written, and nothing else
 unfoldable pub storeWith : ℕ → List ℕ → List ℕ → Arrived → List ℕ

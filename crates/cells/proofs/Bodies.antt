@@ -28,7 +28,7 @@ module _ (s : Settings) (Z : ℕ) (st : List ℕ) (i : ℕ) where
   r = rowAt Z st i
 
   abbrev p : List ℕ
-  p = packetIn Z r
+  p = packetIn r
 
   -- as it is judged
   pub body-judged : {x : List ℕ} {t : Judged} → x ≡ r → t ≡ judgedOf (bodyIn s Z x) (cellOf s Z x) → t .at ≡ bodyAt s Z st i

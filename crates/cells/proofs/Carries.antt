@@ -27,17 +27,17 @@ use Rattle.cells.proofs.Transactions.{spans-transaction}
 
 -- what a row that is sound and not free holds
 pub record Holding (s : Settings) (Z : ℕ) (r : List ℕ) : Type 0 where
-  pub accepted : readPacket s (packetIn Z r) .refusal .number ≡ 0
-  pub segment : segmented (packetIn Z r) ≡ true
-  pub cell : cellOf s Z r ≡ held (segOf (packetIn Z r) (readPacket s (packetIn Z r)))
-  pub row : r ≡ heldRow Z (packetIn Z r)
-  pub fits : 2 + length (packetIn Z r) ≤ Z
+  pub accepted : readPacket s (packetIn r) .refusal .number ≡ 0
+  pub segment : segmented (packetIn r) ≡ true
+  pub cell : cellOf s Z r ≡ held (segOf (packetIn r) (readPacket s (packetIn r)))
+  pub row : r ≡ heldRow Z (packetIn r)
+  pub fits : 2 + length (packetIn r) ≤ Z
 
 pub free-cell : (s : Settings) (Z : ℕ) (r : List ℕ) → alike r (zeroRow Z) ≡ true → cellOf s Z r ≡ free
 unfolding cellOf
 free-cell s Z r e = rw e refl
 
-held-cell : (s : Settings) (Z : ℕ) (r : List ℕ) → alike r (zeroRow Z) ≡ false → holds s Z r ≡ true → cellOf s Z r ≡ held (segOf (packetIn Z r) (readPacket s (packetIn Z r)))
+held-cell : (s : Settings) (Z : ℕ) (r : List ℕ) → alike r (zeroRow Z) ≡ false → holds s Z r ≡ true → cellOf s Z r ≡ held (segOf (packetIn r) (readPacket s (packetIn r)))
 unfolding cellOf
 held-cell s Z r a b = rw (a, b) refl
 
@@ -48,15 +48,15 @@ broken-cell s Z r a b = rw (a, b) refl
 made : (s : Settings) (Z : ℕ) (r : List ℕ) → alike r (zeroRow Z) ≡ false → holds s Z r ≡ true → Holding s Z r
 unfolding holds mayHold
 made s Z r a b =
-    let x = both-true (alike r (heldRow Z (packetIn Z r))) (mayHold s Z (packetIn Z r)) b in
-    let y = both-true (leb (2 + length (packetIn Z r)) Z) (both (eqb (readPacket s (packetIn Z r) .refusal .number) 0) (segmented (packetIn Z r))) (x .1) in
-    let w = both-true (eqb (readPacket s (packetIn Z r) .refusal .number) 0) (segmented (packetIn Z r)) (y .1) in
+    let x = both-true (alike r (heldRow Z (packetIn r))) (mayHold s Z (packetIn r)) b in
+    let y = both-true (leb (2 + length (packetIn r)) Z) (both (eqb (readPacket s (packetIn r) .refusal .number) 0) (segmented (packetIn r))) (x .1) in
+    let w = both-true (eqb (readPacket s (packetIn r) .refusal .number) 0) (segmented (packetIn r)) (y .1) in
     record {
-      accepted = eqb-true (readPacket s (packetIn Z r) .refusal .number) 0 (w .0);
+      accepted = eqb-true (readPacket s (packetIn r) .refusal .number) 0 (w .0);
       segment = w .1;
       cell = held-cell s Z r a b;
-      row = alike-true r (heldRow Z (packetIn Z r)) (x .0);
-      fits = leb-true (2 + length (packetIn Z r)) Z (y .0);
+      row = alike-true r (heldRow Z (packetIn r)) (x .0);
+      fits = leb-true (2 + length (packetIn r)) Z (y .0);
     }
 
 pub holding : (s : Settings) (Z : ℕ) (r : List ℕ) → isSound (cellOf s Z r) ≡ true → alike r (zeroRow Z) ≡ false → Holding s Z r
@@ -113,16 +113,16 @@ judged-one s Z r {t} e h = go (cellOf s Z r) refl (ap kind (sym e) ∙ h)
 -- and tells where its body begins, and its counter
 pub judged-at :
     (s : Settings) (Z : ℕ) (r : List ℕ) {t : Judged} → t ≡ judgedOf (bodyIn s Z r) (cellOf s Z r) → Holding s Z r →
-    (t .kind ≡ 1) × ((t .at ≡ readPacket s (packetIn Z r) .body .at) × (t .counter ≡ readPacket s (packetIn Z r) .ids .counter .0))
+    (t .kind ≡ 1) × ((t .at ≡ readPacket s (packetIn r) .body .at) × (t .counter ≡ readPacket s (packetIn r) .ids .counter .0))
 unfolding segOf
 judged-at s Z r {t} e h =
     let f = e ∙ ap (judgedOf (bodyIn s Z r)) (h .cell) in
     (ap kind f, (ap (λ (x : Judged). x .at) f, ap (λ (x : Judged). x .counter) f))
 
 -- the counter of a segment that is held stands where its presence octet says
-pub held-counter : (s : Settings) (Z : ℕ) (r : List ℕ) → Octets r → Holding s Z r → counterIn (packetIn Z r) ≡ readPacket s (packetIn Z r) .ids .counter .0
+pub held-counter : (s : Settings) (Z : ℕ) (r : List ℕ) → Octets r → Holding s Z r → counterIn (packetIn r) ≡ readPacket s (packetIn r) .ids .counter .0
 unfolding counterIn placeIn
-held-counter s Z r o h = counter-told s (packetIn Z r) (octets-part r 2 (number 2 r 6 + 7) o) (h .accepted) (h .segment)
+held-counter s Z r o h = counter-told s (packetIn r) (octets-part r 2 (number 2 r 6 + 7) o) (h .accepted) (h .segment)
 
 -- ---- as the code tests it
 
@@ -131,7 +131,7 @@ module _ (s : Settings) (r z q : List ℕ) (stop c : ℕ) (o : Octets r) (a : As
   k = keyOf q (readPacket s q)
 
   abbrev p : List ℕ
-  p = packetIn (length z) r
+  p = packetIn r
 
   plain : Octets p
   plain = octets-part r 2 (number 2 r 6 + 7) o

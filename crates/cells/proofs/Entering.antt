@@ -33,8 +33,8 @@ both-yes false = refl
 
 -- a segment that is held, as one that is looked for
 asked-held :
-    (s : Settings) (Z : ℕ) (r : List ℕ) → Octets r → Holding s Z r → {q : List ℕ} {stop : ℕ} → q ≡ packetIn Z r →
-    stop ≡ readPacket s (packetIn Z r) .body .at → Asked s q stop
+    (s : Settings) (Z : ℕ) (r : List ℕ) → Octets r → Holding s Z r → {q : List ℕ} {stop : ℕ} → q ≡ packetIn r →
+    stop ≡ readPacket s (packetIn r) .body .at → Asked s q stop
 asked-held s Z r o h eq es =
     record {
       octets = rw eq (octets-part r 2 (number 2 r 6 + 7) o);
@@ -56,7 +56,7 @@ module _ (s : Settings) (st : List ℕ) (Z i : ℕ) {r : List ℕ} (er : r ≡ r
   there : Holding s Z r
   there = ⊎-elim (λ h. h) (λ w. absurd (⊎-elim (λ e. some (ap kind (told e))) (λ e. sound (ap kind (told e))) w)) (kinds s Z r)
 
-  pub asked : {q : List ℕ} → q ≡ packetIn Z r → Asked s q (t .at)
+  pub asked : {q : List ℕ} → q ≡ packetIn r → Asked s q (t .at)
   asked eq = asked-held s Z r (rw er (row-plain s Z st i o)) there eq (ap (λ (x : Judged). x .at) (told (there .cell)))
 
 -- ---- a cell, told where the body of its segment begins
@@ -78,15 +78,15 @@ module _ (s : Settings) (st : List ℕ) (Z i : ℕ) (o : Octets st) {stop : ℕ}
     unfolding bucketAt
     none-off c l = let w : bucketAt s Z st i ≡ chainsAll = ⊎-elim (λ e. ap bucketIn e) (λ e. ap bucketIn e) none in chained-skip c l (omega arith)
 
-  module _ (some : stop ≡ 0 → ⊥) {r q : List ℕ} (er : r ≡ rowAt Z st i) (eq : q ≡ packetIn Z r) {c : ℕ} (ec : c ≡ counterIn q) where
+  module _ (some : stop ≡ 0 → ⊥) {r q : List ℕ} (er : r ≡ rowAt Z st i) (eq : q ≡ packetIn r) {c : ℕ} (ec : c ≡ counterIn q) where
     abbrev p : List ℕ
-    p = packetIn Z (rowAt Z st i)
+    p = packetIn (rowAt Z st i)
 
     held-there : Holding s Z (rowAt Z st i)
     held-there = body-some s Z st i (λ e. some (es ∙ e))
 
     packet-is : q ≡ p
-    packet-is = eq ∙ ap (packetIn Z) er
+    packet-is = eq ∙ ap packetIn er
 
     pub asked-at : Asked s q stop
     asked-at = asked-held s Z (rowAt Z st i) (row-plain s Z st i o) held-there packet-is (es ∙ body-held s Z st i held-there)

@@ -108,7 +108,7 @@ not-both false b h = refl
 
 module _ (s : Settings) (Z : ℕ) (r : List ℕ) where
   abbrev p : List ℕ
-  p = packetIn Z r
+  p = packetIn r
 
   abbrev tested : Bool
   tested =

@@ -62,7 +62,7 @@ module _ (s : Settings) (r z k : List ℕ) (from to : ℕ) (o : Octets r) where
   here = cellOf s (length z) r
 
   abbrev p : List ℕ
-  p = packetIn (length z) r
+  p = packetIn r
 
   -- it holds a segment, or is none
   unless-held : (Holding s (length z) r → false ≡ withinIn k from to here) → false ≡ withinIn k from to here

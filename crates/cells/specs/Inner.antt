@@ -36,7 +36,7 @@ spansAlike p end q stop =
 
 -- where the body begins in the packet of a row, by reading it
 abbrev pub bodyIn : Settings → ℕ → List ℕ → ℕ
-bodyIn s Z r = readPacket s (packetIn Z r) .body .at
+bodyIn s Z r = readPacket s (packetIn r) .body .at
 
 -- a cell told in numbers, with the place of its body: 0 free, 1 held, 2 broken
 abbrev pub judgedOf : ℕ → Cell → Judged

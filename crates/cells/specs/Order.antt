@@ -9,6 +9,7 @@ use lib.ListN.{length}
 use lib.Dec.{leb, eqb}
 use Rattle.octets.specs.Octets.{pick}
 use Rattle.walk.specs.declared.Settings.{Settings}
+use Rattle.walk.specs.Walk.{begun}
 use Rattle.cells.specs.Segments.{carries, both}
 use Rattle.cells.specs.Rows.{Cell, free, held, broken, rowAt, cellOf}
 
@@ -76,6 +77,14 @@ sound s Z st n = allTo (λ i. isSound (cellAt s Z st i)) n
 
 unfoldable pub inOrder : Settings → ℕ → List ℕ → Bool
 inOrder s Z st = both (lengthFits Z (length st)) (both (sound s Z st (countIn Z st)) (distinct s Z st (countIn Z st)))
+
+-- what every call on a store tests before anything else: 15, then 16; 0 if both pass
+unfoldable pub gate : Settings → ℕ → List ℕ → ℕ
+gate s Z st = pick (eqb (begun s .refusal .number) 0) (pick (inOrder s Z st) 0 16) 15
+
+-- what a call comes to by that number: a if it is 0, and else the refusal by it
+abbrev pub through : {A : Type 0} → ℕ → A → (ℕ → A) → A
+through g a refuse = pick (eqb g 0) a (refuse g)
 
 -- the lowest of the first n cells with this key and counter; n where there is none
 unfoldable pub foundIn : Settings → ℕ → List ℕ → ℕ → List ℕ → ℕ → ℕ

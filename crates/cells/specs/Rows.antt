@@ -30,11 +30,11 @@ abbrev pub heldRow : ℕ → List ℕ → List ℕ
 heldRow Z p = 0x4d ∷ 0x53 ∷ p ++ replicate (Z - (2 + length p)) 0
 
 -- how long the packet in a row is, its length field says
-abbrev pub sizeIn : ℕ → List ℕ → ℕ
-sizeIn Z r = number 2 r 6 + 7
+abbrev pub sizeIn : List ℕ → ℕ
+sizeIn r = number 2 r 6 + 7
 
-abbrev pub packetIn : ℕ → List ℕ → List ℕ
-packetIn Z r = part r 2 (sizeIn Z r)
+abbrev pub packetIn : List ℕ → List ℕ
+packetIn r = part r 2 (sizeIn r)
 
 -- a packet that may be held: reading accepts it, it is segmented, and fits the cell behind the mark
 unfoldable pub mayHold : Settings → ℕ → List ℕ → Bool
@@ -42,9 +42,9 @@ mayHold s Z p = both (leb (2 + length p) Z) (both (eqb (readPacket s p .refusal 
 
 -- a row that holds one, just as it arrived
 unfoldable pub holds : Settings → ℕ → List ℕ → Bool
-holds s Z r = both (alike r (heldRow Z (packetIn Z r))) (mayHold s Z (packetIn Z r))
+holds s Z r = both (alike r (heldRow Z (packetIn r))) (mayHold s Z (packetIn r))
 
 unfoldable pub cellOf : Settings → ℕ → List ℕ → Cell
 cellOf s Z r =
     pick (alike r (zeroRow Z)) free
-    (pick (holds s Z r) (held (segOf (packetIn Z r) (readPacket s (packetIn Z r)))) broken)
+    (pick (holds s Z r) (held (segOf (packetIn r) (readPacket s (packetIn r)))) broken)

@@ -2,7 +2,7 @@
 -- leave is the store and the output behind the call, and they answer what it comes to; what `cut::count` answers and `cut::packet`
 -- writes are a message's count and its packets. So where demand 3 says that a call hands out a message, its answer and its output do.
 -- Assumes nothing.
-use Prim.Native.Nat.{ℕ, suc, _+_, _-_}
+use Prim.Native.Nat.{ℕ, zero, suc, _+_, _-_}
 use mathlib.Core.Path.{_≡_, refl, ap, sym, _∙_}
 use mathlib.Core.Logic.{_⊎_, inl, inr}
 use mathlib.Core.Bool.{Bool, true, false}
@@ -12,10 +12,10 @@ use native.Mathlib.Omega.{arith}
 use contract.Lifetimes as L
 use denote.Ref.{now}
 use lib.ListN.{length, take, drop}
-use lib.Dec.{leb, eqb}
+use lib.Dec.{leb}
 use Rattle.octets.specs.Octets.{pick}
 use Rattle.walk.specs.declared.Settings.{Settings}
-use Rattle.walk.specs.Walk.{begun, refusal}
+use Rattle.walk.specs.Walk.{refusal}
 use Rattle.sender.specs.declared.Sender.{Sender}
 use Rattle.write.specs.declared.HeaderValues.{HeaderValues}
 use Rattle.write.specs.Given.{Lent, lent}
@@ -24,13 +24,14 @@ use Rattle.cut.specs.Cutting.{countAnswer}
 use Rattle.cut.proofs.count.Reads as counts
 use Rattle.cut.proofs.packet.Reads as cuts
 use Rattle.fewest.proofs.Calls.{packet-wrote}
-use Rattle.cells.specs.Order.{inOrder, countIn, cellSize}
+use Rattle.cells.specs.Order.{countIn, cellSize, gate}
 use Rattle.messages.specs.Messages.{Run, cellsOf, picked, top}
 use Rattle.arrival.specs.Arriving.{Arrived, whole, stored, again, refused, arrived, storeWith}
 use Rattle.taking.specs.Taking.{Took, message, unable, writing, drawn, tookIn, took}
 use Rattle.taking.specs.declared.Taken.{Taken}
 use Rattle.arrival.specs.Told.{arrivalOf}
 use Rattle.taking.specs.Told.{takenOf}
+use Rattle.taking.proofs.Checked.{took-open, took-shut}
 use Rattle.store.proofs.arrive.Reads as arrives
 use Rattle.store.proofs.take.Reads as takes
 use Rattle.join.specs.Joining.{Joining, inPacket, unjoined, bodyFrom, tookAs, joinedBy, joining as joined}
@@ -132,13 +133,14 @@ drawn-not (some r) long e = go (leb (length (writing r)) long) e
     go false d = let z : _≡_ {A = ℕ} 21 0 = cc in omega arith
 
 took-not : (s : Settings) (Z : ℕ) (st : List ℕ) (long : ℕ) → took s Z st long ≡ unable 0 → ⊥
-unfolding took tookIn
-took-not s Z st long e = go (eqb (begun s .refusal .number) 0) (inOrder s Z st) e
+unfolding tookIn
+took-not s Z st long e = go (gate s Z st) refl
   where
-    go : (a b : Bool) → pick a (pick b (drawn (picked suc top (cellsOf s Z st (countIn Z st))) long) (unable 16)) (unable 15) ≡ unable 0 → ⊥
-    go true true d = drawn-not (picked suc top (cellsOf s Z st (countIn Z st))) long d
-    go true false d = let z : _≡_ {A = ℕ} 16 0 = cc in omega arith
-    go false b d = let z : _≡_ {A = ℕ} 15 0 = cc in omega arith
+    go : (g : ℕ) → gate s Z st ≡ g → ⊥
+    go zero h = drawn-not (picked suc top (cellsOf s Z st (countIn Z st))) long (took-open s Z st long h ∙ e)
+    go (suc g) h =
+        let d : unable (suc g) ≡ unable 0 = ap unable (sym h) ∙ sym (took-shut s Z st long (λ k. omega (arith, h, k))) ∙ e in
+        let z : _≡_ {A = ℕ} (suc g) 0 = cc in omega arith
 
 -- so an answer without a refusal is a message's
 joined-tells : (s : Settings) (Z : ℕ) (st p out : List ℕ) (x : Taken) → x .refusal .number ≡ 0 →

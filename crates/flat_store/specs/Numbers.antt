@@ -4,16 +4,13 @@
 -- Assumes nothing: these are definitions.
 use Prim.Native.Nat.{ℕ}
 use mathlib.Core.List.{List, [], _∷_}
-use lib.Dec.{eqb}
-use Rattle.octets.specs.Octets.{pick}
 use Rattle.walk.specs.declared.Settings.{Settings}
-use Rattle.cells.specs.Order.{countIn}
+use Rattle.cells.specs.Order.{countIn, gate, through}
 use Rattle.taking.specs.declared.Taken.{Taken}
 use Rattle.arrival.specs.Arriving.{Arrived}
 use Rattle.taking.specs.Taking.{Took}
 use Rattle.arrival.specs.Told.{Word, silent, said-whole, said-stored, said-held, Said, saidOf}
 use Rattle.taking.specs.Told.{takenOf}
-use Rattle.opening.specs.Inner.{gate}
 use Rattle.join.specs.Joining.{Joining}
 use Rattle.join.specs.Told.{Word as Place, silent as nowhere, said-packet, said-joined, Said as Says, said, joinedOf}
 
@@ -62,4 +59,4 @@ joinNumbers j = saysNumbers (said (joinedOf j))
 
 -- refusal, 15 or 16, and the number of cells
 unfoldable pub orderNumbers : Settings → ℕ → List ℕ → List ℕ
-orderNumbers s Z st = pick (eqb (gate s Z st) 0) (0 ∷ countIn Z st ∷ []) (gate s Z st ∷ 0 ∷ [])
+orderNumbers s Z st = through (gate s Z st) (0 ∷ countIn Z st ∷ []) (λ k. k ∷ 0 ∷ [])

@@ -79,9 +79,9 @@ key-seg s p z = key-two s p z
 pub held-two : (s : Settings) (Z : ℕ) (r : List ℕ) (t : Seg) → cellOf s Z r ≡ held t → 2 ≤ length (t .key)
 held-two s Z r t e =
     let h = holding s Z r (ap isSound e) (⊎-elim free-it (λ x. x) (bool (alike r (zeroRow Z)))) in
-    let d : held (segOf (packetIn Z r) (readPacket s (packetIn Z r))) ≡ held t = sym (h .cell) ∙ e in
-    let f : segOf (packetIn Z r) (readPacket s (packetIn Z r)) ≡ t = cc d in
-    subst (λ (u : Seg). 2 ≤ length (u .key)) f (key-seg s (packetIn Z r) (h .accepted))
+    let d : held (segOf (packetIn r) (readPacket s (packetIn r))) ≡ held t = sym (h .cell) ∙ e in
+    let f : segOf (packetIn r) (readPacket s (packetIn r)) ≡ t = cc d in
+    subst (λ (u : Seg). 2 ≤ length (u .key)) f (key-seg s (packetIn r) (h .accepted))
   where
     free-it : alike r (zeroRow Z) ≡ true → alike r (zeroRow Z) ≡ false
     free-it a = let b : free ≡ held t = sym (free-cell s Z r a) ∙ e in let z : _≡_ {A = ℕ} 0 1 = cc in absurd (omega arith)

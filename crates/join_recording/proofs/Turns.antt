@@ -8,8 +8,7 @@ use mathlib.Core.List.{List}
 use native.Mathlib.Omega.{arith}
 use lib.ListN.{length, take, drop, replicate, length-take, length-replicate}
 use Rattle.cells.specs.Rows.{zeroRow}
-use Rattle.cells.specs.Order.{countIn}
-use Rattle.opening.specs.Inner.{gate}
+use Rattle.cells.specs.Order.{countIn, gate}
 use Rattle.steps.specs.declared.Done.{Done}
 use Rattle.steps.specs.Stepping.{room, stepped, storeBehind}
 use Rattle.recording.specs.Recording.{settings, cellCount}

@@ -2,31 +2,30 @@
 -- any other new segment, is stored, in the lowest free cell.
 -- Assumes nothing.
 use Prim.Native.Nat.{ℕ, _+_, _/_, _≤_, _<_}
-use mathlib.Core.Path.{_≡_, refl, ap, _∙_}
+use mathlib.Core.Path.{_≡_, refl, ap, sym, _∙_}
 use mathlib.Core.Logic.{_⊎_, inl, inr}
 use mathlib.Core.Bool.{Bool, true, false}
 use mathlib.Core.List.{List, List·Memᴰ·head}
 use mathlib.Core.Option.{none}
 use native.Mathlib.Omega.{arith}
 use lib.ListN.{length}
-use lib.Dec.{eqb}
 use Rattle.octets.specs.Octets.{pick}
 use Rattle.octets.proofs.Lists.{bool}
 use Rattle.walk.specs.declared.Settings.{Settings}
-use Rattle.walk.specs.Walk.{begun}
 use Rattle.packet.specs.Reading.{readPacket, segmented}
 use Rattle.cells.specs.Segments.{Seg, carries}
 use Rattle.cells.specs.Rows.{Cell, free, held, broken}
-use Rattle.cells.specs.Order.{isFree, carriesIn, cellAt, countIn, inOrder}
+use Rattle.cells.specs.Order.{isFree, carriesIn, cellAt, countIn}
 use Rattle.messages.specs.Messages.{cellsOf, look, Run, segments, among}
 use Rattle.arrival.specs.Arriving.{stored, lowestFree, arrivedIn, arrived}
 use Rattle.taking.specs.Taking.{message, took}
 use Rattle.keeping.specs.Cells.{freed}
-use Rattle.messages.proofs.Picking.{pick-yes}
 use Rattle.messages.proofs.Listed.{among-below, Lowest, lowest-is, lowest-some}
 use Rattle.messages.proofs.Looking.{look-empty}
 use Rattle.messages.proofs.Order.{cells-inside}
 use Rattle.messages.proofs.Members.{In, among-yes}
+use Rattle.opening.proofs.Gate.{gate-by}
+use Rattle.arrival.proofs.Checked.{arrived-open}
 use Rattle.arrival.proofs.After.{segment, Stored, stored-told}
 use Rattle.taking.proofs.Keeps.{cell-taken, take-long, taken-keeps}
 use Rattle.taking.proofs.Tells.{taken-tells, segment-held}
@@ -71,15 +70,13 @@ module _ (s : Settings) (Z : ℕ) (st : List ℕ) (long : ℕ) (r : Run) (e : to
         look (cellsOf s Z (after s Z st r) (countIn Z st)) (segment s p .key) (segment s p .counter) ≡ none →
         (lowestFree s Z (after s Z st r) (countIn Z st) < countIn Z st)
         × (arrived s Z (after s Z st r) p ≡ stored (lowestFree s Z (after s Z st r) (countIn Z st)))
-    unfolding arrived
     new-stored new =
         let i : ℕ = lowestFree s Z (after s Z st r) (countIn Z st) in
         let h : Stored s Z (after s Z st r) (countIn Z st) p i = record { accepted = accepted; segmented = segs; fits = fits; new = new; place = room } in
         let t = taken-tells s Z st long r e in
         let n : countIn Z (after s Z st r) ≡ countIn Z st = ap (λ (k : ℕ). k / Z) (take-long Z st s (countIn Z st) (message r)) in (
           omega (arith, room .there .top),
-          pick-yes (eqb (begun s .refusal .number) 0) _ _ (t .settings)
-              ∙ pick-yes (inOrder s Z (after s Z st r)) _ _ (taken-keeps s Z st r (t .order))
+          sym (arrived-open s Z (after s Z st r) p (gate-by s Z (after s Z st r) (t .settings) (taken-keeps s Z st r (t .order))))
               ∙ ap (λ (k : ℕ). arrivedIn s Z (after s Z st r) k p) n
               ∙ stored-told s Z (after s Z st r) (countIn Z st) p i h,
         )

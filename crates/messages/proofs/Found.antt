@@ -41,7 +41,7 @@ body-long s p z =
     all-of-it = omega (arith, length-drop (ended s p .at) p)
 
 -- a packet in a row has at most 65,542 octets, and so has any part of it
-pub part-most : (r : List ℕ) (a b Z : ℕ) → Octets r → length (part (packetIn Z r) a b) ≤ 65542
-part-most r a b Z o =
+pub part-most : (r : List ℕ) (a b : ℕ) → Octets r → length (part (packetIn r) a b) ≤ 65542
+part-most r a b o =
     let t : number 2 r 6 < 65536 = number-top 2 r 6 o in
-    omega (arith, length-take b (drop a (packetIn Z r)), length-drop a (packetIn Z r), length-take (number 2 r 6 + 7) (drop 2 r))
+    omega (arith, length-take b (drop a (packetIn r)), length-drop a (packetIn r), length-take (number 2 r 6 + 7) (drop 2 r))

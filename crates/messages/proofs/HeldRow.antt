@@ -34,13 +34,13 @@ held-long Z p h = omega (arith, length-append p (replicate (Z - (2 + length p)) 
 
 -- a row that is just the held row of the packet in it, and that may be held
 row-held :
-    (s : Settings) (Z : ℕ) (r p : List ℕ) → packetIn Z r ≡ p → alike r (zeroRow Z) ≡ false → alike r (heldRow Z p) ≡ true → mayHold s Z p ≡ true →
+    (s : Settings) (Z : ℕ) (r p : List ℕ) → packetIn r ≡ p → alike r (zeroRow Z) ≡ false → alike r (heldRow Z p) ≡ true → mayHold s Z p ≡ true →
     cellOf s Z r ≡ held (segOf p (readPacket s p))
 unfolding cellOf holds
 row-held s Z r p e a b c = rw (a, e, b, c) refl
 
 module _ (s : Settings) (Z : ℕ) (p : List ℕ) (z : readPacket s p .refusal .number ≡ 0) where
-  size-held : sizeIn Z (heldRow Z p) ≡ length p
+  size-held : sizeIn (heldRow Z p) ≡ length p
   unfolding number
   size-held =
       let o = opens s p z in
@@ -50,7 +50,7 @@ module _ (s : Settings) (Z : ℕ) (p : List ℕ) (z : readPacket s p .refusal .n
       ap₂ (λ (x y : ℕ). (0 * 256 + x) * 256 + y + 7) a b ∙ sym (o .long)
 
   -- the packet in the held row of an accepted packet
-  pub packet-held : packetIn Z (heldRow Z p) ≡ p
+  pub packet-held : packetIn (heldRow Z p) ≡ p
   packet-held =
       ap (λ (n : ℕ). take n (p ++ replicate (Z - (2 + length p)) 0)) size-held
       ∙ take-at p (replicate (Z - (2 + length p)) 0) (length p) refl

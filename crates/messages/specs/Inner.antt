@@ -15,4 +15,4 @@ pieceOf h = record { flags = h .primary .flags; at = h .body .at; length = h .bo
 
 -- the segment in a row that holds one
 abbrev pub segIn : Settings → ℕ → List ℕ → Seg
-segIn s Z r = segOf (packetIn Z r) (readPacket s (packetIn Z r))
+segIn s Z r = segOf (packetIn r) (readPacket s (packetIn r))

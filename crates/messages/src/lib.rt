@@ -14,7 +14,7 @@ pub struct Piece {
 
 // The segment of a held cell.
 pub fn piece_in(s: Settings, row: &[u8]) -> Piece
-    ensures { λ r. ⌜ r ≡ pieceOf (readPacket s (packetIn 0 (now (row .entry)))) ⌝ }
+    ensures { λ r. ⌜ r ≡ pieceOf (readPacket s (packetIn (now (row .entry)))) ⌝ }
 {
     let p = cells::packet_in(row);
     let h = packet::read(s, p);

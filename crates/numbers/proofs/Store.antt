@@ -11,7 +11,7 @@ use Rattle.walk.specs.declared.Settings.{Settings}
 use Rattle.walk.specs.Walk.{begun}
 use Rattle.packet.specs.Reading.{readPacket, segmented}
 use Rattle.cells.specs.Segments.{Seg, segOf, sameRest}
-use Rattle.cells.specs.Order.{inOrder, countIn}
+use Rattle.cells.specs.Order.{inOrder, countIn, gate}
 use Rattle.messages.specs.Messages.{Run, cellsOf, look, picked as pickedFrom, top}
 use Rattle.arrival.specs.Arriving.{Arrived, whole, stored, again, refused, placed, beside, lowestFree, segmentArrived, arrivedIn, arrived, storeWith}
 use Rattle.taking.specs.Taking.{Took, message, unable, writing, drawn, tookIn, took}
@@ -22,6 +22,14 @@ use Rattle.join.specs.Told.{joinedOf}
 use Rattle.numbers.specs.Lists.{Numbered, ofReading, ofArrival, ofTaking, ofJoining}
 use Rattle.numbers.proofs.Among.{has, among, among-all, picked}
 use Rattle.numbers.proofs.Reading.{reading}
+
+-- settings and order: 15 or 16
+gated : (l : List ℕ) → has (0 ∷ l) 15 ≡ true → has (0 ∷ l) 16 ≡ true → (s : Settings) (Z : ℕ) (st : List ℕ) → Numbered l (gate s Z st)
+unfolding gate
+gated l a b s Z st =
+    picked (Numbered l) (eqb (begun s .refusal .number) 0) _ 15
+    (picked (Numbered l) (inOrder s Z st) 0 16 (among (0 ∷ l) 0 refl) (among (0 ∷ l) 16 b))
+    (among (0 ∷ l) 15 a)
 
 -- ---- arrival
 
@@ -42,15 +50,13 @@ segment-came s Z st n t = go (look (cellsOf s Z st n) (t .key) (t .counter))
 pub arrival : (s : Settings) (Z : ℕ) (st p : List ℕ) → Numbered ofArrival (saidOf (arrived s Z st p) .number)
 unfolding arrived arrivedIn
 arrival s Z st p =
-    picked Came (eqb (begun s .refusal .number) 0) _ (refused 15)
-    (picked Came (inOrder s Z st) _ (refused 16)
+    picked Came (eqb (gate s Z st) 0) _ (refused (gate s Z st))
     (picked Came (eqb (readPacket s p .refusal .number) 0) _ (refused (readPacket s p .refusal .number))
     (picked Came (segmented p) _ whole
     (picked Came (leb (2 + length p) Z) _ (refused 17) (segment-came s Z st (countIn Z st) (segOf p (readPacket s p))) (came 17 refl))
     (came 0 refl))
     (among-all (0 ∷ ofReading) (0 ∷ ofArrival) refl _ (reading s p)))
-    (came 16 refl))
-    (came 15 refl)
+    (gated ofArrival refl refl s Z st)
 
 -- ---- taking
 
@@ -63,9 +69,8 @@ some-taken n e = among (0 ∷ ofTaking) n e
 pub taking : (s : Settings) (Z : ℕ) (st : List ℕ) (long : ℕ) → Numbered ofTaking (takenOf (took s Z st long) .refusal .number)
 unfolding took tookIn
 taking s Z st long =
-    picked Taken (eqb (begun s .refusal .number) 0) _ (unable 15)
-    (picked Taken (inOrder s Z st) _ (unable 16) (go (pickedFrom suc top (cellsOf s Z st (countIn Z st)))) (some-taken 16 refl))
-    (some-taken 15 refl)
+    picked Taken (eqb (gate s Z st) 0) _ (unable (gate s Z st)) (go (pickedFrom suc top (cellsOf s Z st (countIn Z st))))
+    (gated ofTaking refl refl s Z st)
   where
     go : (o : Option Run) → Taken (drawn o long)
     go none = some-taken 20 refl

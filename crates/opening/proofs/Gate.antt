@@ -2,13 +2,13 @@
 -- Assumes nothing.
 use Prim.Native.Nat.{ℕ, _%_, _≤_}
 use mathlib.Core.Path.{_≡_, refl, ap, ap₂, sym, _∙_}
-use mathlib.Core.Logic.{⊎-elim}
+use mathlib.Core.Logic.{_⊎_, inl, inr, ⊎-elim}
 use mathlib.Core.Bool.{Bool, true, false}
 use mathlib.Core.List.{List}
 use native.Mathlib.Omega.{arith}
 use lib.ListN.{length}
 use lib.Dec.{leb, eqb}
-use borrow.Author.Tests.{leb-true, eq-eqb, ne-eqb}
+use borrow.Author.Tests.{leb-true, eqb-true, eq-eqb, ne-eqb}
 use Rattle.octets.specs.Octets.{pick}
 use Rattle.octets.proofs.Lists.{bool}
 use Rattle.walk.specs.declared.Settings.{Settings}
@@ -16,10 +16,10 @@ use Rattle.walk.specs.declared.Walk.{Walk}
 use Rattle.walk.specs.Walk.{begun, check, goes, refusal, timestampLeast, timestampMost}
 use Rattle.walk.specs.Inner.{asWalk}
 use Rattle.cells.specs.Segments.{both}
-use Rattle.cells.specs.Order.{cellsMost, lengthFits, countIn, sound as allSound, distinct, inOrder}
+use Rattle.cells.specs.Order.{cellsMost, lengthFits, countIn, sound as allSound, distinct, inOrder, gate, through}
 use Rattle.cells.proofs.Held.{both-true}
 use Rattle.opening.specs.declared.Opened.{Opened}
-use Rattle.opening.specs.Inner.{gate, openedOf}
+use Rattle.opening.specs.Inner.{openedOf}
 
 module _ (s : Settings) (Z : ℕ) (st : List ℕ) where
   -- what a store in order has
@@ -40,13 +40,13 @@ module _ (s : Settings) (Z : ℕ) (st : List ℕ) where
 
   -- ---- what is tested first
 
-  shut-by : {b : Bool} → eqb (begun s .refusal .number) 0 ≡ true → inOrder s Z st ≡ b → gate s Z st ≡ pick b 0 16
+  pub gate-by : {b : Bool} → eqb (begun s .refusal .number) 0 ≡ true → inOrder s Z st ≡ b → gate s Z st ≡ pick b 0 16
   unfolding gate
-  shut-by e f = rw (e, f) refl
+  gate-by e f = rw (e, f) refl
 
-  shut-15 : eqb (begun s .refusal .number) 0 ≡ false → gate s Z st ≡ 15
+  pub gate-15 : eqb (begun s .refusal .number) 0 ≡ false → gate s Z st ≡ 15
   unfolding gate
-  shut-15 e = rw e refl
+  gate-15 e = rw e refl
 
   shut-as : {k : ℕ} → gate s Z st ≡ k → (k ≡ 0 → ⊥) → record { refusal = refusal k; cells = 0 } ≡ openedOf s Z st
   unfolding openedOf
@@ -78,7 +78,7 @@ module _ (s : Settings) (Z : ℕ) (st : List ℕ) where
     pub open-t : (w .refusal .number ≡ 0 → ⊥) → record { refusal = w .refusal; cells = 0 } ≡ openedOf s Z st
     open-t h =
         ap (λ (x : ℕ). record { refusal = refusal x; cells = 0 }) (refusal-15 h)
-        ∙ shut-as (shut-15 (ne-eqb (begun s .refusal .number) 0 (λ x. h (number-is ∙ x)))) (λ x. omega arith)
+        ∙ shut-as (gate-15 (ne-eqb (begun s .refusal .number) 0 (λ x. h (number-is ∙ x)))) (λ x. omega arith)
 
     module _ (h : w .refusal .number ≡ 0) {n : ℕ} (en : n ≡ pick (inOrder s Z st) (countIn Z st) 0) where
       fine : eqb (begun s .refusal .number) 0 ≡ true
@@ -91,19 +91,36 @@ module _ (s : Settings) (Z : ℕ) (st : List ℕ) where
           in-it e = absurd (omega (arith, order-has e .least, en ∙ ap (λ (b : Bool). pick b (countIn Z st) 0) e))
 
           out-of-it : inOrder s Z st ≡ false → record { refusal = refusal 16; cells = 0 } ≡ openedOf s Z st
-          out-of-it e = let g : gate s Z st ≡ 16 = shut-by fine e in shut-as g (λ x. omega arith)
+          out-of-it e = let g : gate s Z st ≡ 16 = gate-by fine e in shut-as g (λ x. omega arith)
 
       pub open-held : (n ≡ 0 → ⊥) → record { refusal = w .refusal; cells = n } ≡ openedOf s Z st
       open-held k = ⊎-elim in-it out-of-it (bool (inOrder s Z st))
         where
           in-it : inOrder s Z st ≡ true → record { refusal = w .refusal; cells = n } ≡ openedOf s Z st
           in-it e =
-              let g : gate s Z st ≡ 0 = shut-by fine e in
+              let g : gate s Z st ≡ 0 = gate-by fine e in
               let m : n ≡ countIn Z st = en ∙ ap (λ (b : Bool). pick b (countIn Z st) 0) e in
               ap₂ (λ (x y : ℕ). record { refusal = refusal x; cells = y }) h m ∙ open-as g
 
           out-of-it : inOrder s Z st ≡ false → record { refusal = w .refusal; cells = n } ≡ openedOf s Z st
           out-of-it e = absurd (k (en ∙ ap (λ (b : Bool). pick b (countIn Z st) 0) e))
+
+-- ---- a call by the gate's number
+
+module _ {A : Type 0} (g : ℕ) (a : A) (refuse : ℕ → A) where
+  pub through-open : g ≡ 0 → through g a refuse ≡ a
+  through-open e = ap (λ (b : Bool). pick b a (refuse g)) (eq-eqb g 0 e)
+
+  pub through-shut : (g ≡ 0 → ⊥) → through g a refuse ≡ refuse g
+  through-shut h = ap (λ (b : Bool). pick b a (refuse g)) (ne-eqb g 0 h)
+
+  -- what is no refusal came through
+  pub through-tells : (x : A) → ((k : ℕ) → refuse k ≡ x → ⊥) → through g a refuse ≡ x → (g ≡ 0) × (a ≡ x)
+  through-tells x not e = told (bool (eqb g 0))
+    where
+      told : (eqb g 0 ≡ true) ⊎ (eqb g 0 ≡ false) → (g ≡ 0) × (a ≡ x)
+      told (inl y) = (eqb-true g 0 y, ap (λ (b : Bool). pick b a (refuse g)) (sym y) ∙ e)
+      told (inr y) = absurd (not g (ap (λ (b : Bool). pick b a (refuse g)) (sym y) ∙ e))
 
 -- ---- where the check passes
 

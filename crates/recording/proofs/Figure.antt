@@ -7,9 +7,8 @@ use mathlib.Core.Logic.{inl}
 use mathlib.Core.List.{List, [], _∷_, _++_, append-nil}
 use Rattle.octets.specs.Octets.{number, alike, wide}
 use Rattle.format.proofs.Figure14.{packet, reads}
-use Rattle.cells.specs.Order.{countIn, cellSize}
+use Rattle.cells.specs.Order.{countIn, cellSize, gate}
 use Rattle.arrival.specs.Arriving.{Arrived, whole, arrivedIn, arrived}
-use Rattle.opening.specs.Inner.{gate}
 use Rattle.arrival.proofs.Checked.{arrived-open}
 use Rattle.join.specs.Joining.{joinedBy, joining}
 use Rattle.steps.specs.Stepping.{room, wholly, cameBy, cameOf, framed, without, foundIn, came, stepped, storeBehind}

@@ -65,7 +65,7 @@ module _ (s : Settings) (Z : ℕ) (st : List ℕ) where
 
   -- too few to tell what follows
   abbrev pub Short : List ℕ → Type 0
-  Short w = (length w ≡ 0) ⊎ ((begins w ≡ true) × (length w < 2 + sizeIn 0 w))
+  Short w = (length w ≡ 0) ⊎ ((begins w ≡ true) × (length w < 2 + sizeIn w))
 
   wanting-by : (w : List ℕ) (b : Bool) (f : Found) → foundIn w ≡ f → stepBy s Z st b f ≡ wanting → (b ≡ false) × Short w
   wanting-by w true nothing e d = let z : _≡_ {A = ℕ} 0 1 = cc d in absurd (omega arith)

@@ -172,7 +172,7 @@ pub held-small : (s : Settings) (Z : ℕ) (r : List ℕ) (t : Seg) → cellOf s 
 unfolding segOf
 held-small s Z r t e =
     let h = held-is s Z r t e in
-    let p : List ℕ = packetIn Z r in
+    let p : List ℕ = packetIn r in
     let d : held (segOf p (readPacket s p)) ≡ held t = sym (h .cell) ∙ e in
     let same : segOf p (readPacket s p) ≡ t = cc d in
     record {

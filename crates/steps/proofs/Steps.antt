@@ -138,7 +138,7 @@ module _ (s : Settings) (Z : ℕ) (st w : List ℕ) (e : Bool) (out : List ℕ) 
     unfolding stepped
     step-cut h ed = cut-by (foundIn w) er h ed
 
-    pub step-whole : {q x y : List ℕ} → r ≡ Whole → q ≡ packetIn 0 w → Passes s Z st q out d x y → Steps d x y
+    pub step-whole : {q x y : List ℕ} → r ≡ Whole → q ≡ packetIn w → Passes s Z st q out d x y → Steps d x y
     unfolding stepped
     step-whole h eq a = whole-by (foundIn w) (λ p f. whole-tells w p f .1 .1 ∙ sym eq) er h a
 
@@ -159,7 +159,7 @@ module _ (s : Settings) (Z : ℕ) (st w : List ℕ) (e : Bool) where
       go false = omega arith
   used-by (whole p) h =
       let a = whole-tells w p h in
-      omega (arith, a .1 .0, ap length (a .1 .1), length-take (sizeIn 0 w) (drop 2 w))
+      omega (arith, a .1 .0, ap length (a .1 .1), length-take (sizeIn w) (drop 2 w))
 
   -- no more than are in hand
   pub used-most : usedBy (stepped s Z st w e) ≤ length w

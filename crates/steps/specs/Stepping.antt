@@ -38,7 +38,7 @@ begins x = alike (take 2 x) (take (length x) packetMark)
 unfoldable pub foundIn : List ℕ → Found
 foundIn x =
     pick (eqb (length x) 0) nothing
-    (pick (begins x) (pick (leb (2 + sizeIn 0 x) (length x)) (whole (packetIn 0 x)) cut) other)
+    (pick (begins x) (pick (leb (2 + sizeIn x) (length x)) (whole (packetIn x)) cut) other)
 
 -- ---- what a packet comes to
 

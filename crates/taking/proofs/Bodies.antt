@@ -96,11 +96,11 @@ module _ (s : Settings) (Z : ℕ) (st : List ℕ) (n : ℕ) (k : List ℕ) where
 
 -- ---- a body, as it stands in its row
 
-module _ (s : Settings) (Z : ℕ) (st : List ℕ) (j : ℕ) {r : List ℕ} {t : Piece} (er : r ≡ rowAt Z st j) (et : t ≡ pieceOf (readPacket s (packetIn 0 r))) where
-  pub body-there : part (packetIn 0 r) (t .at) (t .length) ≡ segAt s Z st j .body
+module _ (s : Settings) (Z : ℕ) (st : List ℕ) (j : ℕ) {r : List ℕ} {t : Piece} (er : r ≡ rowAt Z st j) (et : t ≡ pieceOf (readPacket s (packetIn r))) where
+  pub body-there : part (packetIn r) (t .at) (t .length) ≡ segAt s Z st j .body
   unfolding segOf pieceOf
   body-there =
-      ap (λ (u : Piece). part (packetIn 0 r) (u .at) (u .length)) et ∙ ap (λ (x : List ℕ). segIn s Z x .body) er
+      ap (λ (u : Piece). part (packetIn r) (u .at) (u .length)) et ∙ ap (λ (x : List ℕ). segIn s Z x .body) er
 
   pub flags-there : t .flags ≡ segAt s Z st j .flags
   unfolding segOf pieceOf
@@ -148,9 +148,9 @@ module _ {s : Settings} {Z : ℕ} {st : List ℕ} {n : ℕ} {k js : List ℕ} {p
   pub copying-inside : 0 < left → {j : ℕ} → j ≡ foundIn s Z st n k c → j < n
   copying-inside h ej = next-inside s Z st n k left c (w .rest) h (w .ahead) ej
 
-  module _ (h : 0 < left) {j : ℕ} {r : List ℕ} {t : Piece} (ej : j ≡ foundIn s Z st n k c) (er : r ≡ rowAt Z st j) (et : t ≡ pieceOf (readPacket s (packetIn 0 r))) where
+  module _ (h : 0 < left) {j : ℕ} {r : List ℕ} {t : Piece} (ej : j ≡ foundIn s Z st n k c) (er : r ≡ rowAt Z st j) (et : t ≡ pieceOf (readPacket s (packetIn r))) where
     abbrev x : List ℕ
-    x = part (packetIn 0 r) (t .at) (t .length)
+    x = part (packetIn r) (t .at) (t .length)
 
     body-is : x ≡ segAt s Z st j .body
     body-is = body-there s Z st j er et

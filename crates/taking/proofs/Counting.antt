@@ -32,9 +32,9 @@ counted-first s Z st n k b from = record { same = refl; steps = refl; most = ome
 
 -- ---- the segment in a cell that was found, as the code reads it
 
-module _ (s : Settings) (Z : ℕ) (st : List ℕ) (n : ℕ) (k : List ℕ) (c : ℕ) {j : ℕ} (ej : j ≡ foundIn s Z st n k c) (h : j < n) {r : List ℕ} {u : Piece} (er : r ≡ rowAt Z st j) (eu : u ≡ pieceOf (readPacket s (packetIn 0 r))) where
-  read-is : u ≡ pieceOf (readPacket s (packetIn Z (rowAt Z st j)))
-  read-is = eu ∙ ap (λ (x : List ℕ). pieceOf (readPacket s (packetIn Z x))) er
+module _ (s : Settings) (Z : ℕ) (st : List ℕ) (n : ℕ) (k : List ℕ) (c : ℕ) {j : ℕ} (ej : j ≡ foundIn s Z st n k c) (h : j < n) {r : List ℕ} {u : Piece} (er : r ≡ rowAt Z st j) (eu : u ≡ pieceOf (readPacket s (packetIn r))) where
+  read-is : u ≡ pieceOf (readPacket s (packetIn (rowAt Z st j)))
+  read-is = eu ∙ ap (λ (x : List ℕ). pieceOf (readPacket s (packetIn x))) er
 
   pub piece-flags : u .flags ≡ segAt s Z st j .flags
   unfolding segOf pieceOf
@@ -44,12 +44,12 @@ module _ (s : Settings) (Z : ℕ) (st : List ℕ) (n : ℕ) (k : List ℕ) (c : 
   unfolding segOf pieceOf
   piece-long =
       ap (λ (x : Piece). x .length) read-is
-      ∙ sym (body-long s (packetIn Z (rowAt Z st j)) (found-held s Z st n k c ej h .accepted))
+      ∙ sym (body-long s (packetIn (rowAt Z st j)) (found-held s Z st n k c ej h .accepted))
 
   pub piece-most : Octets st → u .length ≤ 65542
   unfolding segOf
   piece-most o =
-      let m = part-most (rowAt Z st j) (readPacket s (packetIn Z (rowAt Z st j)) .body .at) (readPacket s (packetIn Z (rowAt Z st j)) .body .length) Z (octets-part st (j * Z) Z o) in
+      let m = part-most (rowAt Z st j) (readPacket s (packetIn (rowAt Z st j)) .body .at) (readPacket s (packetIn (rowAt Z st j)) .body .length) (octets-part st (j * Z) Z o) in
       omega (arith, piece-long)
 
 -- ---- one turn
@@ -64,7 +64,7 @@ module _ (s : Settings) (Z : ℕ) (st : List ℕ) (n : ℕ) (k : List ℕ) (b fr
   pub counted-none : n ≤ j → 0 ≡ total s Z st b (follow suc top s Z st n k top from)
   counted-none h = whole-is (follow-none suc top s Z st n k (left - 1) c ej h)
 
-  module _ (h : j < n) {r : List ℕ} {u : Piece} (er : r ≡ rowAt Z st j) (eu : u ≡ pieceOf (readPacket s (packetIn 0 r))) where
+  module _ (h : j < n) {r : List ℕ} {u : Piece} (er : r ≡ rowAt Z st j) (eu : u ≡ pieceOf (readPacket s (packetIn r))) where
     role-is : {x : Role} → roleOf (u .flags) ≡ x → roleOf (segAt s Z st j .flags) ≡ x
     role-is e = ap roleOf (sym (piece-flags s Z st n k c ej h er eu)) ∙ e
 

@@ -68,7 +68,7 @@ module _ (s : Settings) (Z : ℕ) (st out : List ℕ) (n i b : ℕ) (ei : i ≡ 
     key-two-octets : 2 ≤ length (segAt s Z st i .key)
     unfolding segOf
     key-two-octets =
-        key-two s (packetIn Z (rowAt Z st i)) (octets-part (rowAt Z st i) 2 (number 2 (rowAt Z st i) 6 + 7) (octets-part st (i * Z) Z o))
+        key-two s (packetIn (rowAt Z st i)) (octets-part (rowAt Z st i) 2 (number 2 (rowAt Z st i) 6 + 7) (octets-part st (i * Z) Z o))
         (message-held suc top s Z st n ei below .accepted)
 
     header-is : 2 + u .header ≡ length (segAt s Z st i .key)

@@ -37,7 +37,7 @@ module _ (s : Settings) (Z : ℕ) (st : List ℕ) (i : ℕ) (h : Holding s Z (ro
   flags-told =
       let r = rowAt Z st i in
       let l : 2 < number 2 (rowAt Z st i) 6 + 7 = omega arith in
-      flags-same s (packetIn Z (rowAt Z st i)) (h .accepted)
+      flags-same s (packetIn (rowAt Z st i)) (h .accepted)
       ∙ ap (λ (x : ℕ). x / 64) (part-octet (rowAt Z st i) 2 (number 2 (rowAt Z st i) 6 + 7) 2 l)
 
 -- ---- what is looked for is held

@@ -60,12 +60,12 @@ unfolding placesFrom
 places-are s Z st n k c js e = ap placesOf e
 
 module _ (s : Settings) (Z : ℕ) (st : List ℕ) (n i : ℕ) (o : Octets st) (there : cellAt s Z st i ≡ held (segAt s Z st i))
-    {r q : List ℕ} {h : Header} {t : Piece} (er : r ≡ rowAt Z st i) (eq : q ≡ packetIn 0 r) (eh : h ≡ readPacket s q) (et : t ≡ pieceOf (readPacket s (packetIn 0 r))) where
+    {r q : List ℕ} {h : Header} {t : Piece} (er : r ≡ rowAt Z st i) (eq : q ≡ packetIn r) (eh : h ≡ readPacket s q) (et : t ≡ pieceOf (readPacket s (packetIn r))) where
   holds-it : Holding s Z (rowAt Z st i)
   holds-it = held-is s Z (rowAt Z st i) (segAt s Z st i) there
 
-  packet-is : q ≡ packetIn Z (rowAt Z st i)
-  packet-is = eq ∙ ap (λ (x : List ℕ). packetIn Z x) er
+  packet-is : q ≡ packetIn (rowAt Z st i)
+  packet-is = eq ∙ ap (λ (x : List ℕ). packetIn x) er
 
   pub head-asked : Asked s q (h .body .at)
   head-asked =
@@ -106,7 +106,7 @@ module _ (s : Settings) (Z : ℕ) (st : List ℕ) (n i : ℕ) (o : Octets st) (t
       λ k. record { header = e k; counter = record { 0 = counter-is k }; until = u k }
 
   abbrev x : List ℕ
-  x = part (packetIn 0 r) (t .at) (t .length)
+  x = part (packetIn r) (t .at) (t .length)
 
   body-is : x ≡ segAt s Z st i .body
   body-is = body-there s Z st i er et

@@ -32,7 +32,7 @@ use Rattle.messages.proofs.Distinct.{carries-true}
 
 -- as the code reads it
 pub piece-read :
-    (r : List ℕ) (stop : ℕ) {p x : List ℕ} {f : ℕ} → p ≡ packetIn 0 r → x ≡ part p stop (length p) → f ≡ octetAt r 4 / 64 →
+    (r : List ℕ) (stop : ℕ) {p x : List ℕ} {f : ℕ} → p ≡ packetIn r → x ≡ part p stop (length p) → f ≡ octetAt r 4 / 64 →
     record { flags = f; at = stop; length = length x } ≡ pieceIn r stop
 unfolding pieceIn
 piece-read r stop ep ex ef =
@@ -48,7 +48,7 @@ spans-end p q end stop e =
 
 module _ (s : Settings) (Z : ℕ) (st q : List ℕ) (n stop c : ℕ) {j : ℕ} (a : Asked s q stop) (o : Octets st) (ej : j ≡ foundIn s Z st n (keyOf q (readPacket s q)) c) (h : j < n) where
   abbrev p : List ℕ
-  p = packetIn Z (rowAt Z st j)
+  p = packetIn (rowAt Z st j)
 
   there : Holding s Z (rowAt Z st j)
   there = found-held s Z st n (keyOf q (readPacket s q)) c ej h
@@ -73,11 +73,11 @@ module _ (s : Settings) (Z : ℕ) (st q : List ℕ) (n stop c : ℕ) {j : ℕ} (
   long-is : length (part p stop (length p)) ≡ readPacket s p .body .length
   long-is = omega (arith, length-take (length p) (drop stop p), length-drop stop p, at-is, accepted s p plain (there .accepted) .body-end)
 
-  pub piece-found : {r : List ℕ} {u : Piece} → r ≡ rowAt Z st j → u ≡ pieceIn r stop → u ≡ pieceOf (readPacket s (packetIn 0 r))
+  pub piece-found : {r : List ℕ} {u : Piece} → r ≡ rowAt Z st j → u ≡ pieceIn r stop → u ≡ pieceOf (readPacket s (packetIn r))
   unfolding pieceIn pieceOf segOf
   piece-found {r} er eu =
       let f : octetAt (rowAt Z st j) 4 / 64 ≡ readPacket s p .primary .flags = sym (flags-told s Z st j there) in
       eu
       ∙ ap (λ (y : List ℕ). pieceIn y stop) er
       ∙ (λ i. record { flags = f i; at = at-is i; length = long-is i })
-      ∙ ap (λ (y : List ℕ). pieceOf (readPacket s (packetIn Z y))) (sym er)
+      ∙ ap (λ (y : List ℕ). pieceOf (readPacket s (packetIn y))) (sym er)

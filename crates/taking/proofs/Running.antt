@@ -54,7 +54,7 @@ module _ (s : Settings) (Z : ℕ) (st : List ℕ) (n i : ℕ) {r : List ℕ} (er
   t = segAt s Z st i
 
   abbrev p : List ℕ
-  p = packetIn Z (rowAt Z st i)
+  p = packetIn (rowAt Z st i)
 
   runs : Holding s Z (rowAt Z st i) → runIn suc top cs (cellAt s Z st i) ≡ opensBy (roleOf (t .flags)) t (chain suc top top cs (t .key) (suc (t .counter)))
   unfolding runFrom
@@ -93,12 +93,12 @@ module _ (s : Settings) (Z : ℕ) (st : List ℕ) (n i : ℕ) {r : List ℕ} (er
     pub run-other : (u .kind ≡ 1 → ⊥) → 0 ≡ answer (runIn suc top cs (cellAt s Z st i))
     run-other ne = unless-held (λ h. absurd (ne (judged-at s Z (rowAt Z st i) judged-there h .0)))
 
-    module _ {q : List ℕ} (eq : q ≡ packetIn 0 r) (o : Octets st) (one : u .kind ≡ 1) where
+    module _ {q : List ℕ} (eq : q ≡ packetIn r) (o : Octets st) (one : u .kind ≡ 1) where
       there : Holding s Z (rowAt Z st i)
       there = judged-one s Z (rowAt Z st i) judged-there one
 
       packet-is : q ≡ p
-      packet-is = eq ∙ ap (packetIn Z) er
+      packet-is = eq ∙ ap packetIn er
 
       plain : Octets p
       plain = octets-part (rowAt Z st i) 2 (number 2 (rowAt Z st i) 6 + 7) (octets-part st (i * Z) Z o)
@@ -141,7 +141,7 @@ module _ (s : Settings) (Z : ℕ) (st : List ℕ) (n i : ℕ) {r : List ℕ} (er
       pub run-most : length q - u .at ≤ 65542
       unfolding segOf
       run-most =
-          let m = part-most (rowAt Z st i) (readPacket s p .body .at) (readPacket s p .body .length) Z (octets-part st (i * Z) Z o) in
+          let m = part-most (rowAt Z st i) (readPacket s p .body .at) (readPacket s p .body .length) (octets-part st (i * Z) Z o) in
           omega (arith, long-is)
 
       -- a counter has 32 bits

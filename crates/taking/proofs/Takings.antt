@@ -56,15 +56,15 @@ module _ (s : Settings) (Z : ℕ) (st : List ℕ) (n : ℕ) where
       m : Message suc top s Z st n (u .cell)
       m = the-message suc top s Z st n cell-is taking-below
 
-      module _ (o : Octets st) {r q : List ℕ} {h : Header} (er : r ≡ rowAt Z st (u .cell)) (eq : q ≡ packetIn 0 r) (eh : h ≡ readPacket s q) where
-        read-is : h ≡ readPacket s (packetIn Z (rowAt Z st (u .cell)))
-        read-is = eh ∙ ap (readPacket s) (eq ∙ ap (packetIn Z) er)
+      module _ (o : Octets st) {r q : List ℕ} {h : Header} (er : r ≡ rowAt Z st (u .cell)) (eq : q ≡ packetIn r) (eh : h ≡ readPacket s q) where
+        read-is : h ≡ readPacket s (packetIn (rowAt Z st (u .cell)))
+        read-is = eh ∙ ap (readPacket s) (eq ∙ ap packetIn er)
 
         -- the key is two octets of identification and H octets of header
         pub key-long : length (segAt s Z st (u .cell) .key) ≡ 2 + h .h
         unfolding segOf
         key-long =
-            let p = packetIn Z (rowAt Z st (u .cell)) in
+            let p = packetIn (rowAt Z st (u .cell)) in
             let plain = octets-part (rowAt Z st (u .cell)) 2 (number 2 (rowAt Z st (u .cell)) 6 + 7) (octets-part st (u .cell * Z) Z o) in
             let a = accepted s p plain (message-held suc top s Z st n cell-is taking-below .accepted) in
             let v = valuesOf p (readPacket s p) .head in

@@ -10,4 +10,4 @@ use Rattle.messages.specs.declared.Piece.{Piece}
 -- what is kept of a segment, by the octets of its row, told where its packet's body begins
 unfoldable pub pieceIn : List ℕ → ℕ → Piece
 pieceIn r stop =
-    record { flags = octetAt r 4 / 64; at = stop; length = length (part (packetIn 0 r) stop (length (packetIn 0 r))) }
+    record { flags = octetAt r 4 / 64; at = stop; length = length (part (packetIn r) stop (length (packetIn r))) }

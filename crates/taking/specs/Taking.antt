@@ -7,11 +7,10 @@ use mathlib.Core.List.{List, _++_}
 use mathlib.Core.Option.{Option, none, some}
 use lib.ListN.{length}
 use lib.Seq.{sets}
-use lib.Dec.{leb, eqb}
+use lib.Dec.{leb}
 use Rattle.octets.specs.Octets.{pick}
 use Rattle.walk.specs.declared.Settings.{Settings}
-use Rattle.walk.specs.Walk.{begun}
-use Rattle.cells.specs.Order.{cellAt, inOrder, countIn}
+use Rattle.cells.specs.Order.{cellAt, countIn, gate, through}
 use Rattle.clearing.specs.Cleared.{clearedTo, zeroIf}
 use Rattle.messages.specs.Messages.{cellsOf, Run, bodyOf, segments, picked, amongIn, top}
 
@@ -35,10 +34,7 @@ tookIn s Z st n long = drawn (picked suc top (cellsOf s Z st n)) long
 
 -- from any octets
 unfoldable pub took : Settings → ℕ → List ℕ → ℕ → Took
-took s Z st long =
-    pick (eqb (begun s .refusal .number) 0)
-    (pick (inOrder s Z st) (tookIn s Z st (countIn Z st) long) (unable 16))
-    (unable 15)
+took s Z st long = through (gate s Z st) (tookIn s Z st (countIn Z st) long) unable
 
 -- the output behind it
 unfoldable pub outWith : List ℕ → Took → List ℕ

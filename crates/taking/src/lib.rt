@@ -213,9 +213,9 @@ fn put_key(s: Settings, out: &mut [u8], q: &[u8], stop: usize) -> usize
 
 // The body of the segment in a row to a place of the output. The place behind it.
 fn put_body(out: &mut [u8], at: usize, row: &[u8], t: Piece) -> usize
-    requires { ⌜ at + length (part (packetIn 0 (now row)) (t .at) (t .length)) ≤ length (now out) ⌝ }
-    ensures { λ r. ⌜ r ≡ at + length (part (packetIn 0 (now (row .entry))) (t .at) (t .length)) ⌝ }
-    ensures { λ r. ⌜ now (out .exit) ≡ sets (now (out .entry)) at (part (packetIn 0 (now (row .entry))) (t .at) (t .length)) ⌝ }
+    requires { ⌜ at + length (part (packetIn (now row)) (t .at) (t .length)) ≤ length (now out) ⌝ }
+    ensures { λ r. ⌜ r ≡ at + length (part (packetIn (now (row .entry))) (t .at) (t .length)) ⌝ }
+    ensures { λ r. ⌜ now (out .exit) ≡ sets (now (out .entry)) at (part (packetIn (now (row .entry))) (t .at) (t .length)) ⌝ }
 {
     let p = cells::packet_in(row);
     octets::lay(out, at, cells::span(p, t.at, t.length))

@@ -66,7 +66,7 @@ module _ (s : Settings) (Z : ℕ) (r : List ℕ) {t : Judged} (et : t ≡ judged
     there = holding s Z r (is-sound (bodyIn s Z r) (cellOf s Z r) et one) not-free
 
     abbrev p : List ℕ
-    p = packetIn Z r
+    p = packetIn r
 
     body-is : t .at ≡ readPacket s p .body .at
     body-is = ap (λ (x : Judged). x .at) (et ∙ ap (judgedOf (bodyIn s Z r)) (there .cell))
@@ -91,7 +91,7 @@ module _ (s : Settings) (st : List ℕ) (Z i : ℕ) {r : List ℕ} (er : r ≡ r
   pub first-none : (t .kind ≡ 1 → ⊥) → false ≡ newKeyIn s Z st i (cellAt s Z st i)
   first-none h = other-first s Z st i (bodyIn s Z r) (cellOf s Z r) et h ∙ ap (newKeyIn s Z st i) (sym cell-is)
 
-  module _ (one : t .kind ≡ 1) {q : List ℕ} (eq : q ≡ packetIn Z r) where
+  module _ (one : t .kind ≡ 1) {q : List ℕ} (eq : q ≡ packetIn r) where
     pub first-asked : Octets st → Asked s q (t .at)
     first-asked o = asked s st Z i er et o (λ h. let z : _≡_ {A = ℕ} 1 2 = sym one ∙ h in omega arith) (λ h. let z : _≡_ {A = ℕ} 1 0 = sym one ∙ h in omega arith) eq
 
