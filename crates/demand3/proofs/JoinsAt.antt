@@ -28,7 +28,7 @@ use Rattle.demand3.specs.Joins.{NoneComplete}
 use Rattle.demand3.proofs.Exactly.{complete-found, complete-picks}
 use Rattle.demand3.proofs.Takings.{single-after, single-empty}
 use Rattle.demand3.proofs.Lone.{Lies, Lone, picked-lies, lone-step, idle-taken}
-use Rattle.demand3.proofs.Base.{to-complete}
+use Rattle.demand3.proofs.Base.{to-complete, complete-picks01}
 use Rattle.demand3.proofs.Called.{store-by}
 use Rattle.demand3.proofs.Sents.{end-is, no-wrap}
 use Rattle.demand3.proofs.Steps.{Kept, eventOf, event-no-take, arrival-cells, pick-no}
@@ -47,6 +47,19 @@ undrawn Z st p again e = refl
 undrawn Z st p (refused k) e = refl
 
 module _ (Z : ℕ) (one : 1 ≤ Z) (s : Settings) (n : ℕ) (u : InUse s n) where
+  cells-single : (l : List Call) → Single (cellsIn s Z n (storeBehind s Z n l))
+  cells-single l =
+      subst Single (sym (behind-cells s Z n one u l)) (single-after suc top (eventsIn s Z (emptyStore Z n) l) (empty n) (single-empty n))
+
+  counter-short : (m : Sending) → IsCut s Z m → endOf s m ≤ top
+  counter-short m k = omega (arith, end-is s Z m k, no-wrap s Z m k)
+
+  -- if nothing is picked, no message is complete
+  pub none-is : (l : List Call) → NoneComplete s Z n (storeBehind s Z n l) → (m : Sending) → IsCut s Z m → IsComplete s Z n m (storeBehind s Z n l) → ⊥
+  none-is l e m k d =
+      let z = complete-picks01 (cellsIn s Z n (storeBehind s Z n l)) (cells-single l) (keyIn s m) (startOf s m) (endOf s m) (counter-short m k) d in
+      Option·none-ne-some (z .0) (sym e ∙ z .1)
+
   module _ (l : List Call) (p out : List ℕ) (none′ : NoneComplete s Z n (storeBehind s Z n l)) where
     abbrev st : List ℕ
     st = storeBehind s Z n l
@@ -65,8 +78,7 @@ module _ (Z : ℕ) (one : 1 ≤ Z) (s : Settings) (n : ℕ) (u : InUse s n) wher
     kept = behind-keeps s Z n one u l
 
     single : Single cs
-    single =
-        subst Single (sym (behind-cells s Z n one u l)) (single-after suc top (eventsIn s Z (emptyStore Z n) l) (empty n) (single-empty n))
+    single = cells-single l
 
     then-single : Single then
     unfolding after
@@ -105,7 +117,7 @@ module _ (Z : ℕ) (one : 1 ≤ Z) (s : Settings) (n : ℕ) (u : InUse s n) wher
     -- if a message is complete with the packet, the joining picks it
     module _ (m : Sending) (k : IsCut s Z m) (d : IsComplete s Z n m (arrivedStore s Z st p)) where
       short : endOf s m ≤ top
-      short = omega (arith, end-is s Z m k, no-wrap s Z m k)
+      short = counter-short m k
 
       done : CompleteFrom then (keyIn s m) (startOf s m) (endOf s m)
       done = subst (λ (x : List Cell). CompleteFrom x (keyIn s m) (startOf s m) (endOf s m)) then-is d

@@ -28,6 +28,7 @@ pub mod Delivers
 pub mod Now
 pub mod Whole
 pub mod JoinsAt
+pub mod Holds
 pub mod Joins
 pub mod Cutter
 pub mod Bridges

@@ -120,7 +120,7 @@ module _ (next : ℕ → ℕ) (span : ℕ) (inj : (x y : ℕ) → next x ≡ nex
   -- ---- its taking
 
   module _ (cs : List Cell) (s : Single cs) (one : Lone cs) where
-    -- behind it nothing lies there
+    -- after it nothing lies there
     cleared-none : (r q : Run) → Lies cs r → Lies (clear (segments r) cs) q → ⊥
     cleared-none r q w v =
         let same : q ≡ r = one r q w (lies-again (clear (segments r) cs) cs q v all) in

@@ -1,6 +1,5 @@
 -- Joinings at a store where no message is complete, as a program that only joins makes them: the joining that completes a message hands
--- it out, and leaves nothing complete. The words of demand 3 that stand behind it: "it is complete exactly when all its segments have
--- arrived; its taking, with output long enough, gives the original".
+-- it out, and leaves nothing complete.
 -- Assumes nothing: these are definitions.
 use Prim.Native.Nat.{ℕ, suc, _+_, _≤_}
 use mathlib.Core.Path.{_≡_}
@@ -35,7 +34,7 @@ module _ (s : Settings) (Z n : ℕ) where
     pub nothing : NoneComplete (storeBehind s Z n (before ++ since))
     -- with it, all the message's segments have arrived
     pub all : AllCame s m (since ++ joining p out ∷ [])
-    -- "with output long enough"
+    -- the output has as many octets as identification, header and body
     pub enough : 2 + headerSize s m + bodySize s m ≤ length out
 
   -- the calls are joinings, and none of them is refused for want of output
