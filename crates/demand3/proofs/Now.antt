@@ -27,7 +27,7 @@ use Rattle.demand3.proofs.Carried.{traffic-of, untaken-of, behind-cells
 use Rattle.demand3.proofs.Delivers.{takes-of, hands-of}
 
 -- a packet handed over by some calls or by one more
-handed-more : (l : List Call) (p q : List ℕ) → Handed q (l ++ arrival p ∷ []) → Handed q l ⊎ (q ≡ p)
+pub handed-more : (l : List Call) (p q : List ℕ) → Handed q (l ++ arrival p ∷ []) → Handed q l ⊎ (q ≡ p)
 handed-more l p q h = go (List·Memᴰ·append-cases l (h .1))
   where
     same : arrival p ≡ h .0 → Brings q (h .0) → q ≡ p
