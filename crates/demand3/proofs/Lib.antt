@@ -9,6 +9,7 @@ pub mod Keeps
 pub mod Lasts
 pub mod Progress
 pub mod Rooms
+pub mod Lone
 pub mod Runs
 pub mod Demand
 pub mod Base
@@ -26,6 +27,9 @@ pub mod Carried
 pub mod Delivers
 pub mod Now
 pub mod Whole
+pub mod JoinsAt
+pub mod Holds
+pub mod Joins
 pub mod Cutter
 pub mod Bridges
 pub mod Acts

@@ -91,7 +91,7 @@ used-fewer us (held u ∷ cs) t h a = go (λ k. used-fewer us cs t k a) (List·M
 module _ (next : ℕ → ℕ) (span : ℕ) (inj : (x y : ℕ) → next x ≡ next y → x ≡ y) where
   module _ (own : Run) (o : Opened next own) (fits : length (own .rest) ≤ span) where
     -- the message is found where all of it is there
-    own-found : (cs : List Cell) → There cs (segments own) → Held (own .head) cs × Found next span cs own
+    pub own-found : (cs : List Cell) → There cs (segments own) → Held (own .head) cs × Found next span cs own
     own-found cs f = (
       look-held cs (own .head .key) (own .head .counter) (own .head) (f (own .head) (List·Memᴰ·head refl)) .0,
       record {

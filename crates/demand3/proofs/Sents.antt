@@ -23,7 +23,7 @@ use Rattle.demand3.proofs.AnyCut.{partOf}
 -- ---- rows of things
 
 module _ {A : Type 0} (f : ℕ → A) where
-  listed-in : (n i x : ℕ) → i ≤ x → x < i + n → List·Memᴰ (f x) (listed f n i)
+  pub listed-in : (n i x : ℕ) → i ≤ x → x < i + n → List·Memᴰ (f x) (listed f n i)
   unfolding listed
   listed-in zero i x a b = absurd (omega arith)
   listed-in (suc n) i x a b = go (listed-in n (suc i) x) (below-or i x)

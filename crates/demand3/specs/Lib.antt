@@ -8,3 +8,4 @@ pub mod Sendings
 pub mod Cutter
 pub mod Presupposed
 pub mod Whole
+pub mod Joins

@@ -1,0 +1,5 @@
+pub mod Framing
+pub mod Joinings
+pub mod Comes
+pub mod Delivered
+pub mod Recordings
