@@ -2,8 +2,8 @@
 
 use crate::told;
 use orlyukan::{
-    Arrived, Cut, CutPacket, Header, Joined, Next, Order, Reading, Recording, SegmentCounter, Sender, SequenceCount, Taken,
-    Which, Written,
+    Arrived, Cut, CutPacket, Header, Joined, Next, Order, Reading, Recording, Refusal, SegmentCounter, Sender, SequenceCount,
+    Taken, Which, Written,
 };
 
 /// The values of a packet beside its header's.
@@ -16,6 +16,9 @@ pub struct Numbers {
 
 pub trait Calls {
     fn name(&self) -> &'static str;
+    fn next_sequence_count(&self, sequence_count: SequenceCount) -> Result<SequenceCount, Refusal>;
+    fn after_packet(&self, sender: Sender) -> Result<Sender, Refusal>;
+    fn after_segment(&self, sender: Sender) -> Result<Sender, Refusal>;
     fn read(&self, t: u64, packet: &[u8]) -> Reading;
     fn write(&self, t: u64, header: &Header, numbers: Numbers, body: &[u8], out: &mut [u8]) -> Written;
     fn cut_count(&self, t: u64, p: u64, header: &Header, body_length: u64, sender: Sender) -> Cut;
@@ -35,6 +38,18 @@ pub struct Library;
 impl Calls for Library {
     fn name(&self) -> &'static str {
         "the library"
+    }
+
+    fn next_sequence_count(&self, sequence_count: SequenceCount) -> Result<SequenceCount, Refusal> {
+        orlyukan::next_sequence_count(sequence_count)
+    }
+
+    fn after_packet(&self, sender: Sender) -> Result<Sender, Refusal> {
+        orlyukan::after_packet(sender)
+    }
+
+    fn after_segment(&self, sender: Sender) -> Result<Sender, Refusal> {
+        orlyukan::after_segment(sender)
     }
 
     fn read(&self, t: u64, packet: &[u8]) -> Reading {
@@ -92,6 +107,18 @@ fn model_sender(sender: Sender) -> model::Sender {
 impl Calls for Model {
     fn name(&self) -> &'static str {
         "the model"
+    }
+
+    fn next_sequence_count(&self, sequence_count: SequenceCount) -> Result<SequenceCount, Refusal> {
+        model::next_sequence_count(sequence_count.0).map(SequenceCount).map_err(told::refusal)
+    }
+
+    fn after_packet(&self, sender: Sender) -> Result<Sender, Refusal> {
+        model::after_packet(model_sender(sender)).map(told::sender).map_err(told::refusal)
+    }
+
+    fn after_segment(&self, sender: Sender) -> Result<Sender, Refusal> {
+        model::after_segment(model_sender(sender)).map(told::sender).map_err(told::refusal)
     }
 
     fn read(&self, t: u64, packet: &[u8]) -> Reading {

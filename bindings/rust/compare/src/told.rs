@@ -98,12 +98,18 @@ pub fn written(answer: Result<usize, Refusal>) -> Written {
     }
 }
 
+pub fn refusal(refused: Refusal) -> orlyukan::Refusal {
+    orlyukan::Refusal(refused.0.into())
+}
+
+pub fn sender(sender: model::Sender) -> Sender {
+    let counter = sender.counter.map_or(Next::NoneLeft, |counter| Next::At(SegmentCounter(counter)));
+    Sender { sequence_count: SequenceCount(sender.sequence_count), counter }
+}
+
 pub fn cut(given: Sender, answer: Result<(u64, model::Sender), Refusal>) -> Cut {
     match answer {
-        Ok((count, after)) => {
-            let counter = after.counter.map_or(Next::NoneLeft, |counter| Next::At(SegmentCounter(counter)));
-            Cut { refusal: 0, count, sender: Sender { sequence_count: SequenceCount(after.sequence_count), counter } }
-        }
+        Ok((count, after)) => Cut { refusal: 0, count, sender: sender(after) },
         Err(Refusal(number)) => Cut { refusal: number.into(), count: 0, sender: given },
     }
 }

@@ -1,4 +1,4 @@
-//! The C header's calls and fields beside those of the wrappers: the same names, in the same order.
+//! The C header's calls, fields and numbers with a name beside those of the wrappers: the same names, the fields in the same order.
 
 const HEADER: &str = include_str!("../../../../include/orlyukan.h");
 const RAW: &str = include_str!("../../src/raw.rs");
@@ -64,4 +64,18 @@ fn calls() {
         count += 1;
     }
     assert_eq!(count, 13);
+}
+
+/// What an arrival comes to, which buffer holds a body, why a recording stopped.
+#[test]
+fn numbers() {
+    let defined = HEADER.lines().filter_map(|line| line.strip_prefix("#define ORL_"));
+    let mut count = 0;
+    for line in defined {
+        let words: Vec<&str> = line.split_whitespace().collect();
+        let declared = format!("pub const ORL_{}: u64 = {};", words[0], words[1]);
+        assert!(RAW.contains(&declared), "no {declared}");
+        count += 1;
+    }
+    assert_eq!(count, 9);
 }

@@ -2,12 +2,10 @@
 
 use crate::values::{hold, test_timestamp, Refusal, Sender, Values};
 use crate::write::{header_size, lay, test_values, Sequence};
-use crate::{CONTINUATION, FIRST, HEADER_LIMIT, LAST, PACKET_LIMIT, PRIMARY, SEQUENCE_COUNTS, UNSEGMENTED};
+use crate::{CONTINUATION, FIRST, HEADER_LIMIT, LAST, LAST_COUNTER, PACKET_LIMIT, PRIMARY, SEQUENCE_COUNTS, UNSEGMENTED};
 
 /// The largest message body.
 const BODY_LIMIT: u64 = 1_048_576;
-/// The last counter.
-const LAST_COUNTER: u64 = u32::MAX as u64;
 
 /// How a message is cut.
 struct Plan {
