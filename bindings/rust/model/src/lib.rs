@@ -9,6 +9,7 @@ mod join;
 mod read;
 mod recording;
 mod segment;
+mod sender;
 mod store;
 mod values;
 mod varint;
@@ -18,6 +19,7 @@ pub use cut::{count, packet};
 pub use join::{join, view, Joined, Which};
 pub use read::{read, Reading, Span};
 pub use recording::{join_recording, join_recording_into, recording_end, Stop};
+pub use sender::{after_packet, after_segment, next_sequence_count};
 pub use store::{arrive, in_order, take, Kind, Order, Taken, CELL, CELLS};
 pub use values::{Refusal, Sender, Values};
 pub use varint::{read_varint, write_varint};
@@ -38,3 +40,5 @@ pub const LAST: u8 = 2;
 pub const CONTINUATION: u8 = 0;
 /// How many sequence counts there are: 0 follows the last of them.
 pub const SEQUENCE_COUNTS: u64 = 16_384;
+/// The last counter.
+pub const LAST_COUNTER: u64 = u32::MAX as u64;

@@ -39,10 +39,10 @@ pub struct Values<'a> {
     pub authentication: &'a [u8],
 }
 
-/// A sender's two running numbers. The counter is `None` where none is left.
+/// A sender's two running numbers. The counter is `None` if none is left.
 #[derive(Clone, Copy, Debug, PartialEq, Eq)]
 pub struct Sender {
-    pub seq: u64,
+    pub sequence_count: u64,
     pub counter: Option<u64>,
 }
 
