@@ -13,7 +13,7 @@ use Rattle.octets.specs.Octets.{pick, octetAt, number}
 use Rattle.octets.proofs.Lists.{bool}
 use Rattle.walk.specs.declared.Settings.{Settings}
 use Rattle.cells.specs.Segments.{Seg, segOf}
-use Rattle.cells.specs.Rows.{Cell, free, held, broken, rowAt, zeroRow, packetIn}
+use Rattle.cells.specs.Rows.{Cell, held, rowAt, zeroRow, packetIn, segmentIn, bySegment}
 use Rattle.cells.specs.Order.{cellAt, lowest}
 use Rattle.cells.proofs.Held.{flags-same}
 use Rattle.cells.proofs.Transactions.{part-octet}
@@ -79,9 +79,11 @@ module _ (cs : List Cell) (no : (k : List ℕ) (c : ℕ) (t : Seg) → look cs k
 
   run-nothing : (x : Cell) → runIn suc top cs x ≡ none
   unfolding runFrom
-  run-nothing free = refl
-  run-nothing (held t) = opens-nothing (roleOf (t .flags)) t (chain suc top top cs (t .key) (suc (t .counter))) (chain-none top (t .key) (suc (t .counter)))
-  run-nothing broken = refl
+  run-nothing x = go (segmentIn x)
+    where
+      go : (o : Option Seg) → bySegment none (runFrom suc top cs) o ≡ none
+      go none = refl
+      go (some t) = opens-nothing (roleOf (t .flags)) t (chain suc top top cs (t .key) (suc (t .counter))) (chain-none top (t .key) (suc (t .counter)))
 
   pub pick-nothing : (xs : List Cell) → pickIn suc top cs xs ≡ none
   unfolding pickIn
