@@ -3,7 +3,8 @@
 use Prim.Native.Nat.{ℕ, _+_, _≤_}
 use mathlib.Core.Path.{_≡_, refl, ap, ap₂, sym, _∙_}
 use mathlib.Core.Logic.{_⊎_, inl, inr, ⊎-elim}
-use mathlib.Core.Bool.{Bool, true, false}
+use mathlib.Core.Bool.{Bool, true, false, false≢true}
+use mathlib.Core.Option.{none}
 use mathlib.Core.List.{List}
 use native.Mathlib.Omega.{arith}
 use lib.ListN.{length}
@@ -16,10 +17,11 @@ use Rattle.walk.specs.declared.Settings.{Settings}
 use Rattle.packet.specs.Reading.{readPacket, segmented}
 use Rattle.packet.specs.Key.{keyOf}
 use Rattle.cells.specs.Segments.{Seg, segOf, carries, both}
-use Rattle.cells.specs.Rows.{Cell, free, held, broken, zeroRow, heldRow, packetIn, mayHold, holds, cellOf}
+use Rattle.cells.specs.Rows.{free, held, broken, segmentIn, bySegment, zeroRow, heldRow, packetIn, mayHold, holds, cellOf}
 use Rattle.cells.specs.Order.{isSound, carriesIn}
 use Rattle.cells.specs.declared.Judged.{Judged}
 use Rattle.cells.specs.Inner.{placeIn, counterIn, spansAlike, bodyIn, judgedOf, Asked}
+use Rattle.cells.proofs.CellSegments.{held-not, judged-none}
 use Rattle.cells.proofs.Held.{both-true}
 use Rattle.cells.proofs.Counters.{counter-told}
 use Rattle.cells.proofs.SameKeys.{keys-same}
@@ -68,31 +70,20 @@ holding s Z r g a = ⊎-elim yes-it no-it (bool (holds s Z r))
     no-it : holds s Z r ≡ false → Holding s Z r
     no-it b = let e : isSound broken ≡ true = ap isSound (sym (broken-cell s Z r a b)) ∙ g in let z : _≡_ {A = ℕ} 0 1 = cc in absurd (omega arith)
 
--- a row holds a segment, or is free or broken
-pub kinds : (s : Settings) (Z : ℕ) (r : List ℕ) → Holding s Z r ⊎ ((cellOf s Z r ≡ free) ⊎ (cellOf s Z r ≡ broken))
+-- a row holds a segment, or none
+pub kinds : (s : Settings) (Z : ℕ) (r : List ℕ) → Holding s Z r ⊎ (segmentIn (cellOf s Z r) ≡ none)
 kinds s Z r =
     ⊎-elim
-    (λ a. inr (inl (free-cell s Z r a)))
-    (λ a. ⊎-elim (λ b. inl (made s Z r a b)) (λ b. inr (inr (broken-cell s Z r a b))) (bool (holds s Z r)))
+    (λ a. inr (ap segmentIn (free-cell s Z r a)))
+    (λ a. ⊎-elim (λ b. inl (made s Z r a b)) (λ b. inr (ap segmentIn (broken-cell s Z r a b))) (bool (holds s Z r)))
     (bool (alike r (zeroRow Z)))
 
 pub held-is : (s : Settings) (Z : ℕ) (r : List ℕ) (t : Seg) → cellOf s Z r ≡ held t → Holding s Z r
-held-is s Z r t e = ⊎-elim (λ h. h) (λ h. absurd (⊎-elim no-free no-broken h)) (kinds s Z r)
-  where
-    no-free : cellOf s Z r ≡ free → ⊥
-    no-free d = let f : free ≡ held t = sym d ∙ e in let z : _≡_ {A = ℕ} 0 1 = cc in omega arith
-
-    no-broken : cellOf s Z r ≡ broken → ⊥
-    no-broken d = let f : broken ≡ held t = sym d ∙ e in let z : _≡_ {A = ℕ} 0 1 = cc in omega arith
+held-is s Z r t e = ⊎-elim (λ h. h) (λ n. absurd (held-not (cellOf s Z r) e n)) (kinds s Z r)
 
 -- a row that carries something holds it
 pub carrying : (s : Settings) (Z : ℕ) (r k : List ℕ) (c : ℕ) → carriesIn k c (cellOf s Z r) ≡ true → Holding s Z r
-carrying s Z r k c e = go (cellOf s Z r) refl e
-  where
-    go : (x : Cell) → cellOf s Z r ≡ x → carriesIn k c x ≡ true → Holding s Z r
-    go free d f = let z : _≡_ {A = ℕ} 0 1 = cc in absurd (omega arith)
-    go (held t) d f = held-is s Z r t d
-    go broken d f = let z : _≡_ {A = ℕ} 0 1 = cc in absurd (omega arith)
+carrying s Z r k c e = ⊎-elim (λ h. h) (λ n. absurd (false≢true (sym (ap (bySegment false (carries k c)) n) ∙ e))) (kinds s Z r)
 
 -- so one that could only carry what it holds carries nothing where it does not
 unless-held : (s : Settings) (Z : ℕ) (r k : List ℕ) (c : ℕ) → (Holding s Z r → false ≡ carriesIn k c (cellOf s Z r)) → false ≡ carriesIn k c (cellOf s Z r)
@@ -103,12 +94,12 @@ abbrev kind : Judged → ℕ
 kind t = t .kind
 
 pub judged-one : (s : Settings) (Z : ℕ) (r : List ℕ) {t : Judged} → t ≡ judgedOf (bodyIn s Z r) (cellOf s Z r) → t .kind ≡ 1 → Holding s Z r
-judged-one s Z r {t} e h = go (cellOf s Z r) refl (ap kind (sym e) ∙ h)
+judged-one s Z r {t} e h = ⊎-elim (λ w. w) (λ n. absurd (not-one n)) (kinds s Z r)
   where
-    go : (x : Cell) → cellOf s Z r ≡ x → judgedOf (bodyIn s Z r) x .kind ≡ 1 → Holding s Z r
-    go free d f = absurd (omega (arith, f))
-    go (held u) d f = held-is s Z r u d
-    go broken d f = absurd (omega (arith, f))
+    not-one : segmentIn (cellOf s Z r) ≡ none → ⊥
+    not-one n =
+        let f = ap kind (sym e) ∙ h in
+        ⊎-elim (λ z. omega (arith, f, z)) (λ z. omega (arith, f, z)) (judged-none (bodyIn s Z r) (cellOf s Z r) n .0)
 
 -- and tells where its body begins, and its counter
 pub judged-at :

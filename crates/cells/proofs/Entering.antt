@@ -4,6 +4,7 @@ use Prim.Native.Nat.{ℕ, _+_, _<_}
 use mathlib.Core.Path.{_≡_, refl, ap, ap₂, sym, _∙_}
 use mathlib.Core.Logic.{_⊎_, ⊎-elim}
 use mathlib.Core.Bool.{Bool, true, false}
+use mathlib.Core.Option.{none}
 use mathlib.Core.List.{List}
 use native.Mathlib.Omega.{arith}
 use lib.ListN.{getD, set}
@@ -17,10 +18,11 @@ use Rattle.packet.specs.Reading.{readPacket}
 use Rattle.packet.specs.Key.{keyOf}
 use Rattle.cells.specs.declared.Judged.{Judged}
 use Rattle.cells.specs.Segments.{segOf, both}
-use Rattle.cells.specs.Rows.{Cell, free, broken, rowAt, packetIn, cellOf}
+use Rattle.cells.specs.Rows.{Cell, segmentIn, bySegment, rowAt, packetIn, cellOf}
 use Rattle.cells.specs.Order.{cellsMost, carriesIn, cellAt, newTo, newAt, foundIn}
 use Rattle.cells.specs.Inner.{counterIn, bodyIn, judgedOf, bodyAt, Asked}
 use Rattle.cells.specs.Chains.{chainsAll, bucketOf, keyIn, bucketIn, bucketAt, Chained}
+use Rattle.cells.proofs.CellSegments.{judged-none}
 use Rattle.cells.proofs.Carries.{Holding, kinds, held-counter}
 use Rattle.cells.proofs.Mixing.{key-asked}
 use Rattle.cells.proofs.Lowest.{none-new, some-known}
@@ -54,7 +56,10 @@ module _ (s : Settings) (st : List ℕ) (Z i : ℕ) {r : List ℕ} (er : r ≡ r
   kind x = x .kind
 
   there : Holding s Z r
-  there = ⊎-elim (λ h. h) (λ w. absurd (⊎-elim (λ e. some (ap kind (told e))) (λ e. sound (ap kind (told e))) w)) (kinds s Z r)
+  there = ⊎-elim (λ h. h) (λ n. absurd (not-none (judged-none (bodyIn s Z r) (cellOf s Z r) n .0))) (kinds s Z r)
+    where
+      not-none : (judgedOf (bodyIn s Z r) (cellOf s Z r) .kind ≡ 0) ⊎ (judgedOf (bodyIn s Z r) (cellOf s Z r) .kind ≡ 2) → ⊥
+      not-none w = ⊎-elim (λ e. some (ap kind et ∙ e)) (λ e. sound (ap kind et ∙ e)) w
 
   pub asked : {q : List ℕ} → q ≡ packetIn r → Asked s q (t .at)
   asked eq = asked-held s Z r (rw er (row-plain s Z st i o)) there eq (ap (λ (x : Judged). x .at) (told (there .cell)))
@@ -63,12 +68,12 @@ module _ (s : Settings) (st : List ℕ) (Z i : ℕ) {r : List ℕ} (er : r ≡ r
 
 module _ (s : Settings) (st : List ℕ) (Z i : ℕ) (o : Octets st) {stop : ℕ} (es : stop ≡ bodyAt s Z st i) where
   module _ (z : stop ≡ 0) where
-    none : (cellAt s Z st i ≡ free) ⊎ (cellAt s Z st i ≡ broken)
-    none = body-zero s Z st i o (sym es ∙ z)
+    no-segment : segmentIn (cellAt s Z st i) ≡ none
+    no-segment = body-zero s Z st i o (sym es ∙ z)
 
     none-true : newAt s Z st i (cellAt s Z st i) ≡ true
     unfolding newAt
-    none-true = ⊎-elim (λ e. ap (newAt s Z st i) e) (λ e. ap (newAt s Z st i) e) none
+    none-true = ap (bySegment true (λ t. newTo s Z st i (t .key) (t .counter))) no-segment
 
     pub none-apart : (a : Bool) → a ≡ both a (newAt s Z st i (cellAt s Z st i))
     none-apart a = sym (both-yes a) ∙ ap (both a) (sym none-true)
@@ -76,7 +81,9 @@ module _ (s : Settings) (st : List ℕ) (Z i : ℕ) (o : Octets st) {stop : ℕ}
     -- it is on no chain
     pub none-off : {H L : List ℕ} → Chained (bucketAt s Z st) H L i → i < cellsMost → Chained (bucketAt s Z st) H L (i + 1)
     unfolding bucketAt
-    none-off c l = let w : bucketAt s Z st i ≡ chainsAll = ⊎-elim (λ e. ap bucketIn e) (λ e. ap bucketIn e) none in chained-skip c l (omega arith)
+    none-off c l =
+        let w : bucketAt s Z st i ≡ chainsAll = ap (bySegment chainsAll (λ t. bucketOf (t .key) (t .counter))) no-segment in
+        chained-skip c l (omega arith)
 
   module _ (some : stop ≡ 0 → ⊥) {r q : List ℕ} (er : r ≡ rowAt Z st i) (eq : q ≡ packetIn r) {c : ℕ} (ec : c ≡ counterIn q) where
     abbrev p : List ℕ

@@ -19,3 +19,4 @@ pub mod Ordered
 pub mod Putting
 pub mod Laid
 pub mod Within
+pub mod CellSegments

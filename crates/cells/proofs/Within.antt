@@ -18,10 +18,10 @@ use Rattle.packet.specs.Reading.{readPacket}
 use Rattle.packet.specs.Key.{keyOf}
 use Rattle.cells.specs.declared.Judged.{Judged}
 use Rattle.cells.specs.Segments.{segOf, both}
-use Rattle.cells.specs.Rows.{Cell, free, held, broken, packetIn, cellOf}
-use Rattle.cells.specs.Inner.{placeIn, counterIn, bodyIn, judgedOf, withinIn, Asked}
+use Rattle.cells.specs.Rows.{Cell, bySegment, packetIn, cellOf}
+use Rattle.cells.specs.Inner.{placeIn, counterIn, bodyIn, judgedOf, within, withinIn, Asked}
 use Rattle.cells.specs.Chains.{keyIn}
-use Rattle.cells.proofs.Carries.{Holding, held-is, judged-one, judged-at, held-counter}
+use Rattle.cells.proofs.Carries.{Holding, kinds, judged-one, judged-at, held-counter}
 use Rattle.cells.proofs.Mixing.{key-asked}
 
 -- ---- a key
@@ -66,12 +66,7 @@ module _ (s : Settings) (r z k : List ℕ) (from to : ℕ) (o : Octets r) where
 
   -- it holds a segment, or is none
   unless-held : (Holding s (length z) r → false ≡ withinIn k from to here) → false ≡ withinIn k from to here
-  unless-held h = go here refl
-    where
-      go : (x : Cell) → cellOf s (length z) r ≡ x → false ≡ withinIn k from to here
-      go free d = sym (ap (withinIn k from to) d)
-      go (held t) d = h (held-is s (length z) r t d)
-      go broken d = sym (ap (withinIn k from to) d)
+  unless-held h = ⊎-elim h (λ e. sym (ap (bySegment false (within k from to)) e)) (kinds s (length z) r)
 
   told : Holding s (length z) r → withinIn k from to here ≡ both (both (leb from (counterIn p)) (ltb (counterIn p) to)) (alike k (keyOf p (readPacket s p)))
   unfolding segOf

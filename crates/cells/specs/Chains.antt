@@ -7,7 +7,7 @@ use mathlib.Core.List.{List, [], _∷_, _++_}
 use lib.ListN.{length, getD}
 use Rattle.octets.specs.Octets.{part}
 use Rattle.walk.specs.declared.Settings.{Settings}
-use Rattle.cells.specs.Rows.{Cell, free, held, broken}
+use Rattle.cells.specs.Rows.{Cell, segmentIn, bySegment}
 use Rattle.cells.specs.Order.{cellsMost, cellAt}
 use Rattle.cells.specs.Inner.{placeIn}
 
@@ -46,9 +46,7 @@ keyIn p end = part p 0 2 ++ (part p 6 (placeIn p - 6) ++ part p (placeIn p + 4) 
 
 -- the chain of a cell: none for one that holds no segment
 abbrev pub bucketIn : Cell → ℕ
-bucketIn free = chainsAll
-bucketIn (held t) = bucketOf (t .key) (t .counter)
-bucketIn broken = chainsAll
+bucketIn x = bySegment chainsAll (λ t. bucketOf (t .key) (t .counter)) (segmentIn x)
 
 unfoldable pub bucketAt : Settings → ℕ → List ℕ → ℕ → ℕ
 bucketAt s Z st i = bucketIn (cellAt s Z st i)

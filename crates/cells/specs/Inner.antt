@@ -9,9 +9,9 @@ use lib.Dec.{leb, ltb, eqb}
 use Rattle.octets.specs.Octets.{Octets, octetAt, part, number, alike}
 use Rattle.walk.specs.declared.Settings.{Settings}
 use Rattle.packet.specs.Reading.{readPacket, segmented}
-use Rattle.cells.specs.Segments.{both}
+use Rattle.cells.specs.Segments.{Seg, both}
 use Rattle.cells.specs.declared.Judged.{Judged}
-use Rattle.cells.specs.Rows.{Cell, free, held, broken, rowAt, packetIn}
+use Rattle.cells.specs.Rows.{Cell, free, held, broken, segmentIn, bySegment, rowAt, packetIn}
 use Rattle.cells.specs.Order.{cellAt}
 
 -- a row begins with the mark, and from n on is as the zero cell
@@ -44,11 +44,12 @@ judgedOf at free = record { kind = 0; at = 0; counter = 0 }
 judgedOf at (held t) = record { kind = 1; at = at; counter = t .counter }
 judgedOf at broken = record { kind = 2; at = 0; counter = 0 }
 
--- the cell holds a segment of this key, with a counter from c on and below d
+-- the segment has this key, and a counter from c on and below d; and a cell that holds such a one
+abbrev pub within : List ℕ → ℕ → ℕ → Seg → Bool
+within k c d t = both (both (leb c (t .counter)) (ltb (t .counter) d)) (alike k (t .key))
+
 abbrev pub withinIn : List ℕ → ℕ → ℕ → Cell → Bool
-withinIn k c d free = false
-withinIn k c d (held t) = both (both (leb c (t .counter)) (ltb (t .counter) d)) (alike k (t .key))
-withinIn k c d broken = false
+withinIn k c d x = bySegment false (within k c d) (segmentIn x)
 
 -- a segment whose key is looked for: what reading answered of it, and where its body begins
 pub record Asked (s : Settings) (q : List ℕ) (stop : ℕ) : Type 0 where

@@ -11,7 +11,7 @@ use Rattle.octets.specs.Octets.{pick}
 use Rattle.walk.specs.declared.Settings.{Settings}
 use Rattle.walk.specs.Walk.{begun}
 use Rattle.cells.specs.Segments.{carries, both}
-use Rattle.cells.specs.Rows.{Cell, free, held, broken, rowAt, cellOf}
+use Rattle.cells.specs.Rows.{Cell, free, held, broken, segmentIn, bySegment, rowAt, cellOf}
 
 -- "Cells of 1,024 octets"
 abbrev pub cellSize : ℕ
@@ -41,9 +41,7 @@ isSound broken = false
 
 -- the cell holds a segment of this key and counter
 abbrev pub carriesIn : List ℕ → ℕ → Cell → Bool
-carriesIn k c free = false
-carriesIn k c (held t) = carries k c t
-carriesIn k c broken = false
+carriesIn k c x = bySegment false (carries k c) (segmentIn x)
 
 -- the lowest of n numbers, from i on, of which a test holds: n + i where there is none
 unfoldable pub lowest : (ℕ → Bool) → ℕ → ℕ → ℕ
@@ -64,9 +62,7 @@ newTo s Z st n k c = allTo (λ j. not (carriesIn k c (cellAt s Z st j))) n
 
 -- no cell below i has the key and counter of this one
 unfoldable pub newAt : Settings → ℕ → List ℕ → ℕ → Cell → Bool
-newAt s Z st i free = true
-newAt s Z st i broken = true
-newAt s Z st i (held t) = newTo s Z st i (t .key) (t .counter)
+newAt s Z st i x = bySegment true (λ t. newTo s Z st i (t .key) (t .counter)) (segmentIn x)
 
 -- no two of the first n cells have equal key and counter
 unfoldable pub distinct : Settings → ℕ → List ℕ → ℕ → Bool

@@ -5,6 +5,7 @@
 use Prim.Native.Nat.{ℕ, _+_, _-_, _*_}
 use mathlib.Core.List.{List, _∷_, _++_}
 use mathlib.Core.Bool.{Bool}
+use mathlib.Core.Option.{Option, none, some}
 use lib.ListN.{length, replicate}
 use lib.Dec.{leb, eqb}
 use Rattle.octets.specs.Octets.{pick, part, number, alike}
@@ -17,6 +18,17 @@ pub data Cell : Type 0 where
   free : Cell
   held : Seg → Cell
   broken : Cell
+
+-- the segment that a cell holds; whatever else is told of the segments in cells goes through this
+abbrev pub segmentIn : Cell → Option Seg
+segmentIn free = none
+segmentIn (held t) = some t
+segmentIn broken = none
+
+-- what is told of a segment, if there is one, and else a
+abbrev pub bySegment : {A : Type 0} → A → (Seg → A) → Option Seg → A
+bySegment a f none = a
+bySegment a f (some t) = f t
 
 -- row number i of the store's octets
 abbrev pub rowAt : ℕ → List ℕ → ℕ → List ℕ

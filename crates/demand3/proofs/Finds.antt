@@ -8,7 +8,8 @@ use mathlib.Core.List.{List, [], _∷_, _++_, List·Memᴰ·head, List·Memᴰ·
 use native.Mathlib.Omega.{arith}
 use lib.ListN.{length}
 use Rattle.cells.specs.Segments.{Seg}
-use Rattle.cells.specs.Rows.{Cell, free, held, broken}
+use Rattle.cells.specs.Rows.{Cell, held, segmentIn, bySegment}
+use Rattle.cells.proofs.CellSegments.{segment-or}
 use Rattle.messages.specs.Messages.{Role, first, middle, last, Run, segments, orElse, look, linkBy, link, opensBy, chain, runFrom, runIn, pickIn, picked}
 use Rattle.messages.proofs.Distinct.{carries-true}
 use Rattle.demand3.specs.Complete.{Held, Single}
@@ -175,16 +176,18 @@ module _ (next : ℕ → ℕ) (span : ℕ) where
   pickIn-inv : (cs xs : List Cell) (r : Run) → pickIn next span cs xs ≡ some r → Lowest cs xs r × Found cs r
   unfolding pickIn
   pickIn-inv cs [] r e = absurd (Option·none-ne-some r e)
-  pickIn-inv cs (free ∷ xs) r e = let w = pickIn-inv cs xs r e in (in-lowest cs free xs r refl (w .0), w .1)
-  pickIn-inv cs (broken ∷ xs) r e = let w = pickIn-inv cs xs r e in (in-lowest cs broken xs r refl (w .0), w .1)
-  pickIn-inv cs (held t ∷ xs) r e = go (pickIn-inv cs xs r) (runFrom next span cs t) refl e
+  pickIn-inv cs (x ∷ xs) r e = go (pickIn-inv cs xs r) (runIn next span cs x) refl e
     where
-      go : (pickIn next span cs xs ≡ some r → Lowest cs xs r × Found cs r) → (o : Option Run) → runFrom next span cs t ≡ o →
-          orElse o (pickIn next span cs xs) ≡ some r → Lowest cs (held t ∷ xs) r × Found cs r
-      go ih none d e′ = let w = ih e′ in (in-lowest cs (held t) xs r d (w .0), w .1)
-      go ih (some y) d e′ =
-          let w = from-found cs t r (d ∙ e′) in
-          (([], xs, ap (λ (z : Seg). held z ∷ xs) (sym (w .0)), λ u m. absurd (List·Memᴰ·not-nil m)), w .1)
+      here : ((t : Seg) × (x ≡ held t)) ⊎ (segmentIn x ≡ none) → runIn next span cs x ≡ some r → Lowest cs (x ∷ xs) r × Found cs r
+      here (inl k) d =
+          let w = from-found cs (k .0) r (sym (ap (runIn next span cs) (k .1)) ∙ d) in
+          (([], xs, ap (λ (y : Cell). y ∷ xs) (k .1 ∙ ap held (sym (w .0))), λ u m. absurd (List·Memᴰ·not-nil m)), w .1)
+      here (inr n) d = absurd (Option·none-ne-some r (sym (ap (bySegment none (runFrom next span cs)) n) ∙ d))
+
+      go : (pickIn next span cs xs ≡ some r → Lowest cs xs r × Found cs r) → (o : Option Run) → runIn next span cs x ≡ o →
+          orElse o (pickIn next span cs xs) ≡ some r → Lowest cs (x ∷ xs) r × Found cs r
+      go ih none d e′ = let w = ih e′ in (in-lowest cs x xs r d (w .0), w .1)
+      go ih (some y) d e′ = here (segment-or x) (d ∙ e′)
 
   pub picked-lowest : (cs : List Cell) (r : Run) → picked next span cs ≡ some r → Lowest cs cs r × Found cs r
   picked-lowest cs r e = pickIn-inv cs cs r e

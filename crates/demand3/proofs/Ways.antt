@@ -14,7 +14,7 @@ use Rattle.octets.specs.Octets.{pick, part, alike}
 use Rattle.octets.proofs.Lists.{bool}
 use Rattle.walk.specs.declared.Settings.{Settings}
 use Rattle.cells.specs.Segments.{Seg, both}
-use Rattle.cells.specs.Rows.{Cell, free, held, broken}
+use Rattle.cells.specs.Rows.{Cell, segmentIn, bySegment}
 use Rattle.messages.specs.Messages.{Run, Role, first, middle, last, roleOf, cellsOf, orElse, look, link, opensBy, chain, runFrom, pickIn, picked, top}
 use Rattle.taking.specs.Taking.{Took, drawn, took}
 use Rattle.messages.proofs.Picking.{pick-yes}
@@ -151,9 +151,7 @@ module _ (s : Settings) (Z n : ℕ) where
 -- the segments of a key
 unfoldable pub ofKey : List ℕ → List Cell → List Seg
 ofKey k [] = []
-ofKey k (free ∷ cs) = ofKey k cs
-ofKey k (held t ∷ cs) = pick (alike k (t .key)) (t ∷ ofKey k cs) (ofKey k cs)
-ofKey k (broken ∷ cs) = ofKey k cs
+ofKey k (x ∷ cs) = let r = ofKey k cs in bySegment r (λ t. pick (alike k (t .key)) (t ∷ r) r) (segmentIn x)
 
 -- a last among some segments
 abbrev lastOr : Role → Seg → Option Seg → Option Seg
@@ -182,9 +180,8 @@ enough cs ts t (some u) =
     (some (heldFrom (u .counter - t .counter) cs (t .key) (suc (t .counter)))) none
 
 abbrev numberedFrom : List Cell → Cell → Option Run
-numberedFrom cs free = none
-numberedFrom cs (held t) = opensBy (roleOf (t .flags)) t (enough cs (ofKey (t .key) cs) t (lastOf (ofKey (t .key) cs)))
-numberedFrom cs broken = none
+numberedFrom cs x =
+    bySegment none (λ t. opensBy (roleOf (t .flags)) t (enough cs (ofKey (t .key) cs) t (lastOf (ofKey (t .key) cs)))) (segmentIn x)
 
 unfoldable pub numbered : List Cell → List Cell → Option Run
 numbered cs [] = none
@@ -200,9 +197,10 @@ abbrev pub transactionOf : List ℕ → List ℕ
 transactionOf k = part k 14 8
 
 abbrev matched : List ℕ → ℕ → Cell → Option Seg
-matched k c free = none
-matched k c (held t) = pick (both (eqb c (t .counter)) (alike (transactionOf k) (transactionOf (t .key)))) (some t) none
-matched k c broken = none
+matched k c x =
+    bySegment none
+    (λ t. pick (both (eqb c (t .counter)) (alike (transactionOf k) (transactionOf (t .key)))) (some t) none)
+    (segmentIn x)
 
 unfoldable pub match : List Cell → List ℕ → ℕ → Option Seg
 match [] k c = none
@@ -218,9 +216,7 @@ module _ (find : List Cell → List ℕ → ℕ → Option Seg) where
   opened cs t = let r = chainBy top cs (t .key) (suc (t .counter)) in opensBy (roleOf (t .flags)) t r
 
   abbrev openedIn : List Cell → Cell → Option Run
-  openedIn cs free = none
-  openedIn cs (held t) = opened cs t
-  openedIn cs broken = none
+  openedIn cs x = bySegment none (opened cs) (segmentIn x)
 
   unfoldable pub chosen : List Cell → List Cell → Option Run
   chosen cs [] = none
@@ -245,6 +241,8 @@ opened-same cs t = ap (opensBy (roleOf (t .flags)) t) (chain-same top cs (t .key
 pub chosen-same : (cs xs : List Cell) → chosen look cs xs ≡ pickIn suc top cs xs
 unfolding chosen pickIn
 chosen-same cs [] = refl
-chosen-same cs (free ∷ xs) = chosen-same cs xs
-chosen-same cs (held t ∷ xs) = ap₂ orElse (opened-same cs t) (chosen-same cs xs)
-chosen-same cs (broken ∷ xs) = chosen-same cs xs
+chosen-same cs (x ∷ xs) = ap₂ orElse (go (segmentIn x)) (chosen-same cs xs)
+  where
+    go : (o : Option Seg) → bySegment none (opened look cs) o ≡ bySegment none (runFrom suc top cs) o
+    go none = refl
+    go (some t) = opened-same cs t

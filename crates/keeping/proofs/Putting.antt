@@ -1,32 +1,29 @@
 -- A segment put into the lowest free cell of a list, and whether there is such a cell.
 -- Assumes nothing.
 use Prim.Native.Nat.{ℕ, zero, suc, _+_, _≤_, _<_}
-use mathlib.Core.Path.{_≡_, refl, ap, ap₂, sym, _∙_}
+use mathlib.Core.Path.{_≡_, ap, ap₂, sym, _∙_}
 use mathlib.Core.Logic.{_≢_, _⊎_, inl, inr}
 use mathlib.Core.Bool.{Bool, true, false}
 use mathlib.Core.List.{List, _∷_}
 use native.Mathlib.Omega.{arith}
 use lib.Dec.{ltb}
 use borrow.Author.Tests.{lt-ltb, le-ltb}
+use Rattle.octets.specs.Octets.{pick}
 use Rattle.octets.proofs.Lists.{bool}
 use Rattle.cells.specs.Segments.{Seg}
-use Rattle.cells.specs.Rows.{Cell, free, held, broken}
+use Rattle.cells.specs.Rows.{Cell, held}
 use Rattle.cells.specs.Order.{isFree, lowest}
 use Rattle.messages.specs.Messages.{listed, or}
 use Rattle.messages.proofs.Listed.{listed-same, lowest-end, lowest-hit, lowest-miss, lowest-is}
 use Rattle.keeping.specs.Cells.{put, hasFree}
 
-put-free : (c : Cell) (xs : List Cell) (t : Seg) → isFree c ≡ true → put (c ∷ xs) t ≡ held t ∷ xs
+pub put-free : (c : Cell) (xs : List Cell) (t : Seg) → isFree c ≡ true → put (c ∷ xs) t ≡ held t ∷ xs
 unfolding put
-put-free free xs t e = refl
-put-free (held u) xs t e = let z : _≡_ {A = ℕ} 0 1 = cc in absurd (omega arith)
-put-free broken xs t e = let z : _≡_ {A = ℕ} 0 1 = cc in absurd (omega arith)
+put-free c xs t e = ap (λ (b : Bool). pick b (held t ∷ xs) (c ∷ put xs t)) e
 
-put-on : (c : Cell) (xs : List Cell) (t : Seg) → isFree c ≡ false → put (c ∷ xs) t ≡ c ∷ put xs t
+pub put-on : (c : Cell) (xs : List Cell) (t : Seg) → isFree c ≡ false → put (c ∷ xs) t ≡ c ∷ put xs t
 unfolding put
-put-on free xs t e = let z : _≡_ {A = ℕ} 0 1 = cc in absurd (omega arith)
-put-on (held u) xs t e = refl
-put-on broken xs t e = refl
+put-on c xs t e = ap (λ (b : Bool). pick b (held t ∷ xs) (c ∷ put xs t)) e
 
 -- g is f but for the lowest free cell, which holds t
 pub listed-put :

@@ -4,7 +4,7 @@
 use Prim.Native.Nat.{ℕ, _+_, _/_, _≤_, _<_}
 use mathlib.Core.Path.{_≡_, refl, ap, sym, _∙_}
 use mathlib.Core.Logic.{_⊎_, inl, inr}
-use mathlib.Core.Bool.{Bool, true, false}
+use mathlib.Core.Bool.{Bool, true, false, true≢false}
 use mathlib.Core.List.{List, List·Memᴰ·head}
 use mathlib.Core.Option.{none}
 use native.Mathlib.Omega.{arith}
@@ -13,10 +13,10 @@ use Rattle.octets.specs.Octets.{pick}
 use Rattle.octets.proofs.Lists.{bool}
 use Rattle.walk.specs.declared.Settings.{Settings}
 use Rattle.packet.specs.Reading.{readPacket, segmented}
-use Rattle.cells.specs.Segments.{Seg, carries}
-use Rattle.cells.specs.Rows.{Cell, free, held, broken}
+use Rattle.cells.specs.Segments.{Seg}
+use Rattle.cells.specs.Rows.{Cell, free}
 use Rattle.cells.specs.Order.{isFree, carriesIn, cellAt, countIn}
-use Rattle.messages.specs.Messages.{cellsOf, look, Run, segments, among}
+use Rattle.messages.specs.Messages.{cellsOf, look, Run, segments, amongIn}
 use Rattle.arrival.specs.Arriving.{stored, lowestFree, arrivedIn, arrived}
 use Rattle.taking.specs.Taking.{message, took}
 use Rattle.keeping.specs.Cells.{freed}
@@ -30,22 +30,20 @@ use Rattle.arrival.proofs.After.{segment, Stored, stored-told}
 use Rattle.taking.proofs.Keeps.{cell-taken, take-long, taken-keeps}
 use Rattle.taking.proofs.Tells.{taken-tells, segment-held}
 use Rattle.keeping.proofs.Zeroed.{after, zeroed-free}
-use Rattle.messages.proofs.Distinct.{carries-true}
+use Rattle.messages.proofs.Distinct.{carries-held}
 
 -- a cell freed of some segments holds none of them
 freed-gone : (us : List Seg) (t : Seg) → In t us → (x : Cell) → carriesIn (t .key) (t .counter) (freed us x) ≡ false
-freed-gone us t m free = refl
-freed-gone us t m broken = refl
-freed-gone us t m (held u) = go (among us u) refl (bool (carries (t .key) (t .counter) u))
+freed-gone us t m x = go (amongIn us x) refl (bool (carriesIn (t .key) (t .counter) x))
   where
-    go : (b : Bool) → among us u ≡ b → (carries (t .key) (t .counter) u ≡ true) ⊎ (carries (t .key) (t .counter) u ≡ false) →
-        carriesIn (t .key) (t .counter) (pick b free (held u)) ≡ false
+    go : (b : Bool) → amongIn us x ≡ b → (carriesIn (t .key) (t .counter) x ≡ true) ⊎ (carriesIn (t .key) (t .counter) x ≡ false) →
+        carriesIn (t .key) (t .counter) (pick b free x) ≡ false
     go true d c = refl
     go false d (inr c) = c
     go false d (inl c) =
-        let a = carries-true (t .key) (t .counter) u c in
-        let f : among us u ≡ true = among-yes us t u m (a .0) (a .1) in
-        let z : _≡_ {A = ℕ} 0 1 = cc in absurd (omega arith)
+        let a = carries-held (t .key) (t .counter) x c in
+        let f : amongIn us x ≡ true = ap (amongIn us) (a .1) ∙ among-yes us t (a .0) m (a .2) (a .3) in
+        absurd (true≢false (sym f ∙ d))
 
 module _ (s : Settings) (Z : ℕ) (st : List ℕ) (long : ℕ) (r : Run) (e : took s Z st long ≡ message r) where
   -- S-13: no segment of the message is held any more

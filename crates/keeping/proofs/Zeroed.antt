@@ -3,15 +3,17 @@
 -- Assumes nothing.
 use Prim.Native.Nat.{ℕ, _<_}
 use mathlib.Core.Path.{_≡_, refl, ap, sym, _∙_}
-use mathlib.Core.Logic.{_↔_}
-use mathlib.Core.Bool.{Bool, true, false}
+use mathlib.Core.Logic.{_↔_, _⊎_, inl, inr}
+use mathlib.Core.Bool.{Bool, true, false, false≢true}
 use mathlib.Core.List.{List}
+use mathlib.Core.Option.{none}
 use native.Mathlib.Omega.{arith}
 use Rattle.octets.specs.Octets.{pick}
 use Rattle.walk.specs.declared.Settings.{Settings}
 use Rattle.cells.specs.Segments.{Seg}
-use Rattle.cells.specs.Rows.{Cell, free, held, broken, rowAt, zeroRow, cellOf}
+use Rattle.cells.specs.Rows.{Cell, free, held, rowAt, zeroRow, cellOf, segmentIn, bySegment}
 use Rattle.cells.specs.Order.{cellAt, countIn}
+use Rattle.cells.proofs.CellSegments.{segment-or}
 use Rattle.messages.specs.Messages.{Run, segments, among, amongIn}
 use Rattle.taking.specs.Taking.{message, took, storeLess}
 use Rattle.messages.proofs.Order.{cells-inside, order-tells}
@@ -22,9 +24,11 @@ use Rattle.taking.proofs.Tells.{taken-tells, segment-held}
 -- ---- the cells of some segments
 
 among-in : (us : List Seg) (x : Cell) → amongIn us x ≡ true → (u : Seg) × (x ≡ held u) × (among us u ≡ true)
-among-in us free e = let z : _≡_ {A = ℕ} 0 1 = cc in absurd (omega arith)
-among-in us (held u) e = (u, refl, e)
-among-in us broken e = let z : _≡_ {A = ℕ} 0 1 = cc in absurd (omega arith)
+among-in us x e = go (segment-or x)
+  where
+    go : ((u : Seg) × (x ≡ held u)) ⊎ (segmentIn x ≡ none) → (u : Seg) × (x ≡ held u) × (among us u ≡ true)
+    go (inl w) = (w .0, w .1, sym (ap (amongIn us) (w .1)) ∙ e)
+    go (inr n) = absurd (false≢true (sym (ap (bySegment false (among us)) n) ∙ e))
 
 -- the store after the message is taken
 abbrev pub after : Settings → ℕ → List ℕ → Run → List ℕ

@@ -4,16 +4,14 @@ use mathlib.Core.Bool.{Bool, false}
 use mathlib.Core.List.{List, [], _∷_, map}
 use Rattle.octets.specs.Octets.{pick}
 use Rattle.cells.specs.Segments.{Seg}
-use Rattle.cells.specs.Rows.{Cell, free, held, broken}
+use Rattle.cells.specs.Rows.{Cell, free, held}
 use Rattle.messages.specs.Messages.{amongIn, or}
 use Rattle.cells.specs.Order.{isFree}
 
 -- the lowest free cell takes the segment; a full store stays
 unfoldable pub put : List Cell → Seg → List Cell
 put [] t = []
-put (free ∷ xs) t = held t ∷ xs
-put (held u ∷ xs) t = held u ∷ put xs t
-put (broken ∷ xs) t = broken ∷ put xs t
+put (x ∷ xs) t = pick (isFree x) (held t ∷ xs) (x ∷ put xs t)
 
 unfoldable pub hasFree : List Cell → Bool
 hasFree [] = false

@@ -2,8 +2,9 @@
 -- Assumes nothing.
 use Prim.Native.Nat.{ℕ, _<_}
 use mathlib.Core.Path.{_≡_, refl, ap, sym, _∙_}
-use mathlib.Core.Logic.{⊎-elim, _↔_}
-use mathlib.Core.Bool.{Bool, true, false, not}
+use mathlib.Core.Logic.{_⊎_, inl, inr, ⊎-elim, _↔_}
+use mathlib.Core.Bool.{Bool, true, false, not, false≢true}
+use mathlib.Core.Option.{none}
 use mathlib.Core.List.{List}
 use native.Mathlib.Omega.{arith}
 use lib.Dec.{eqb}
@@ -12,8 +13,9 @@ use Rattle.octets.specs.Octets.{alike}
 use Rattle.octets.proofs.Lists.{bool, below-or, alike-true, alike-self}
 use Rattle.walk.specs.declared.Settings.{Settings}
 use Rattle.cells.specs.Segments.{Seg, carries}
-use Rattle.cells.specs.Rows.{Cell, free, held, broken}
+use Rattle.cells.specs.Rows.{Cell, held, segmentIn, bySegment}
 use Rattle.cells.specs.Order.{carriesIn, cellAt, newTo, newAt, distinct}
+use Rattle.cells.proofs.CellSegments.{segment-or}
 use Rattle.cells.proofs.Held.{both-true}
 use Rattle.cells.proofs.Apart.{all-at}
 use Rattle.cells.proofs.Lowest.{all-each}
@@ -29,6 +31,14 @@ carries-true k c t e =
 pub carries-yes : (k : List ℕ) (c : ℕ) (t : Seg) → k ≡ t .key → c ≡ t .counter → carries k c t ≡ true
 unfolding carries
 carries-yes k c t e d = rw (eq-eqb c (t .counter) d, e) (alike-self (t .key))
+
+-- a cell that carries a key and a counter holds such a segment
+pub carries-held : (k : List ℕ) (c : ℕ) (x : Cell) → carriesIn k c x ≡ true → (t : Seg) × (x ≡ held t) × (k ≡ t .key) × (c ≡ t .counter)
+carries-held k c x e = go (segment-or x)
+  where
+    go : ((t : Seg) × (x ≡ held t)) ⊎ (segmentIn x ≡ none) → (t : Seg) × (x ≡ held t) × (k ≡ t .key) × (c ≡ t .counter)
+    go (inl w) = let a = carries-true k c (w .0) (sym (ap (carriesIn k c) (w .1)) ∙ e) in (w .0, w .1, a .0, a .1)
+    go (inr n) = absurd (false≢true (sym (ap (bySegment false (carries k c)) n) ∙ e))
 
 -- ---- cells apart
 
@@ -64,23 +74,23 @@ module _ (s : Settings) (Z : ℕ) (st : List ℕ) where
 
   pub apart-distinct : (n : ℕ) → Apart s Z st n → distinct s Z st n ≡ true
   unfolding distinct newAt newTo
-  apart-distinct n h = all-each (λ i. newAt s Z st i (cellAt s Z st i)) n (λ i l. one i l (cellAt s Z st i) refl)
+  apart-distinct n h = all-each (λ i. newAt s Z st i (cellAt s Z st i)) n (λ i l. one i l (segment-or (cellAt s Z st i)))
     where
-      other : (i j : ℕ) (u : Seg) → i < n → j < i → cellAt s Z st i ≡ held u → (x : Cell) → cellAt s Z st j ≡ x → not (carriesIn (u .key) (u .counter) x) ≡ true
-      other i j u l m e free d = refl
-      other i j u l m e broken d = refl
-      other i j u l m e (held t) d = ⊎-elim same (λ b. ap not b) (bool (carries (u .key) (u .counter) t))
+      other : (i j : ℕ) (u : Seg) → i < n → j < i → cellAt s Z st i ≡ held u → not (carriesIn (u .key) (u .counter) (cellAt s Z st j)) ≡ true
+      other i j u l m e = ⊎-elim same (λ b. ap not b) (bool (carriesIn (u .key) (u .counter) (cellAt s Z st j)))
         where
-          same : carries (u .key) (u .counter) t ≡ true → not (carries (u .key) (u .counter) t) ≡ true
+          same : carriesIn (u .key) (u .counter) (cellAt s Z st j) ≡ true → not (carriesIn (u .key) (u .counter) (cellAt s Z st j)) ≡ true
           same b =
-              let a = carries-true (u .key) (u .counter) t b in
-              let k : i ≡ j = h i j u t l (omega arith) e d (a .0) (a .1) in
+              let w = carries-held (u .key) (u .counter) (cellAt s Z st j) b in
+              let k : i ≡ j = h i j u (w .0) l (omega arith) e (w .1) (w .2) (w .3) in
               absurd (omega arith)
 
-      one : (i : ℕ) → i < n → (x : Cell) → cellAt s Z st i ≡ x → newAt s Z st i x ≡ true
-      one i l free e = refl
-      one i l broken e = refl
-      one i l (held u) e = all-each (λ j. not (carriesIn (u .key) (u .counter) (cellAt s Z st j))) i (λ j m. other i j u l m e (cellAt s Z st j) refl)
+      one : (i : ℕ) → i < n → ((u : Seg) × (cellAt s Z st i ≡ held u)) ⊎ (segmentIn (cellAt s Z st i) ≡ none) → newAt s Z st i (cellAt s Z st i) ≡ true
+      one i l (inl w) =
+          let u : Seg = w .0 in
+          new-at i (cellAt s Z st i) u (w .1)
+          ∙ all-each (λ j. not (carriesIn (u .key) (u .counter) (cellAt s Z st j))) i (λ j m. other i j u l m (w .1))
+      one i l (inr e) = ap (bySegment true (λ t. newTo s Z st i (t .key) (t .counter))) e
 
   -- exactly
   pub distinct-exactly : (n : ℕ) → distinct s Z st n ≡ true ↔ Apart s Z st n

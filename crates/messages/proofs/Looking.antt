@@ -5,12 +5,13 @@ use mathlib.Core.Path.{_≡_, refl, ap, sym, _∙_}
 use mathlib.Core.Logic.{_⊎_, inl, inr}
 use mathlib.Core.Bool.{Bool, true, false}
 use mathlib.Core.List.{List}
-use mathlib.Core.Option.{Option, none, some}
+use mathlib.Core.Option.{Option, none, some, Option·none-ne-some, Option·some-ne-none}
 use native.Mathlib.Omega.{arith}
 use Rattle.octets.specs.Octets.{pick}
 use Rattle.cells.specs.Segments.{Seg, carries}
-use Rattle.cells.specs.Rows.{Cell, free, held, broken}
+use Rattle.cells.specs.Rows.{Cell, held, segmentIn, bySegment}
 use Rattle.cells.specs.Order.{carriesIn}
+use Rattle.cells.proofs.CellSegments.{segment-or}
 use Rattle.messages.specs.Messages.{listed, orElse, heldAs, look}
 use Rattle.messages.proofs.Listed.{Among, among-first, among-more, among-cases}
 
@@ -22,27 +23,35 @@ module _ (k : List ℕ) (c : ℕ) where
   pick-some false t u e = let z : _≡_ {A = ℕ} 0 1 = cc in absurd (omega arith)
 
   -- what a cell gives is what it holds
-  held-some : (x : Cell) (t : Seg) → heldAs k c x ≡ some t → (x ≡ held t) × (carries k c t ≡ true)
-  held-some free t e = let z : _≡_ {A = ℕ} 0 1 = cc in absurd (omega arith)
-  held-some (held u) t e = let a = pick-some (carries k c u) u t e in (ap held (a .1), ap (carries k c) (sym (a .1)) ∙ a .0)
-  held-some broken t e = let z : _≡_ {A = ℕ} 0 1 = cc in absurd (omega arith)
+  pub held-some : (x : Cell) (t : Seg) → heldAs k c x ≡ some t → (x ≡ held t) × (carries k c t ≡ true)
+  held-some x t e = go (segment-or x)
+    where
+      go : ((u : Seg) × (x ≡ held u)) ⊎ (segmentIn x ≡ none) → (x ≡ held t) × (carries k c t ≡ true)
+      go (inl w) =
+          let a = pick-some (carries k c (w .0)) (w .0) t (sym (ap (heldAs k c) (w .1)) ∙ e) in
+          (w .1 ∙ ap held (a .1), ap (carries k c) (sym (a .1)) ∙ a .0)
+      go (inr n) = absurd (Option·none-ne-some t (sym (ap (bySegment none (λ u. pick (carries k c u) (some u) none)) n) ∙ e))
 
   pub held-yes : (x : Cell) (t : Seg) → x ≡ held t → carries k c t ≡ true → heldAs k c x ≡ some t
   held-yes x t e d = ap (heldAs k c) e ∙ ap (λ (b : Bool). pick b (some t) none) d
 
   pub held-none : (x : Cell) → carriesIn k c x ≡ false → heldAs k c x ≡ none
-  held-none free e = refl
-  held-none (held t) e = ap (λ (b : Bool). pick b (some t) none) e
-  held-none broken e = refl
+  held-none x e = go (segmentIn x) e
+    where
+      go : (o : Option Seg) → bySegment false (carries k c) o ≡ false → bySegment none (λ t. pick (carries k c t) (some t) none) o ≡ none
+      go none d = refl
+      go (some t) d = ap (λ (b : Bool). pick b (some t) none) d
 
   none-held : (x : Cell) → heldAs k c x ≡ none → carriesIn k c x ≡ false
-  none-held free e = refl
-  none-held (held t) e = go (carries k c t) e
+  none-held x e = go (segmentIn x) e
     where
-      go : (b : Bool) → pick b (some t) none ≡ none → b ≡ false
-      go true d = let z : _≡_ {A = ℕ} 0 1 = cc in absurd (omega arith)
-      go false d = refl
-  none-held broken e = refl
+      by : (t : Seg) (b : Bool) → pick b (some t) none ≡ none → b ≡ false
+      by t true d = absurd (Option·some-ne-none t d)
+      by t false d = refl
+
+      go : (o : Option Seg) → bySegment none (λ t. pick (carries k c t) (some t) none) o ≡ none → bySegment false (carries k c) o ≡ false
+      go none d = refl
+      go (some t) d = by t (carries k c t) d
 
 -- ---- one before another
 

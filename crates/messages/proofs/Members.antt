@@ -6,10 +6,11 @@ use mathlib.Core.Path.{_≡_, refl, ap, sym, _∙_, subst}
 use mathlib.Core.Logic.{_⊎_, inl, inr}
 use mathlib.Core.Bool.{Bool, true, false}
 use mathlib.Core.List.{List, [], _∷_, List·Memᴰ, List·Memᴰ·head, List·Memᴰ·tail, List·Memᴰ·cases-cons, List·Memᴰ·not-nil}
-use mathlib.Core.Option.{Option, none, some}
+use mathlib.Core.Option.{Option, none, some, Option·none-ne-some}
 use native.Mathlib.Omega.{arith}
 use Rattle.cells.specs.Segments.{Seg, carries}
-use Rattle.cells.specs.Rows.{Cell, free, held, broken}
+use Rattle.cells.specs.Rows.{Cell, held, segmentIn, bySegment}
+use Rattle.cells.proofs.CellSegments.{segment-or}
 use Rattle.messages.specs.Messages.{listed, look, Role, first, middle, last, roleOf, Run, segments, linkBy, link, opensBy, chain, runFrom, runIn, pickIn, or, among}
 use Rattle.messages.proofs.Listed.{Among, among-first, among-more}
 use Rattle.messages.proofs.Distinct.{carries-true, carries-yes}
@@ -104,11 +105,14 @@ module _ (next : ℕ → ℕ) (span : ℕ) (cs : List Cell) where
     opening (suc n) i r e = go (opening n (suc i) r) (or-some (runIn next span cs (f i)) (pickIn next span cs (listed f n (suc i))) r e)
       where
         here : (x : Cell) → runIn next span cs x ≡ some r → (x ≡ held (r .head)) × (chain next span span cs (r .head .key) (next (r .head .counter)) ≡ some (r .rest))
-        here free d = let z : _≡_ {A = ℕ} 0 1 = cc in absurd (omega arith)
-        here (held t) d =
-            let a = run-tells t r d in
-            (ap held (sym (a .0)), ap (λ (y : Seg). chain next span span cs (y .key) (next (y .counter))) (a .0) ∙ a .1)
-        here broken d = let z : _≡_ {A = ℕ} 0 1 = cc in absurd (omega arith)
+        here x d = by (segment-or x)
+          where
+            by : ((t : Seg) × (x ≡ held t)) ⊎ (segmentIn x ≡ none) →
+                (x ≡ held (r .head)) × (chain next span span cs (r .head .key) (next (r .head .counter)) ≡ some (r .rest))
+            by (inl w) =
+                let a = run-tells (w .0) r (sym (ap (runIn next span cs) (w .1)) ∙ d) in
+                (w .1 ∙ ap held (sym (a .0)), ap (λ (y : Seg). chain next span span cs (y .key) (next (y .counter))) (a .0) ∙ a .1)
+            by (inr n) = absurd (Option·none-ne-some r (sym (ap (bySegment none (runFrom next span cs)) n) ∙ d))
 
         go :
             (pickIn next span cs (listed f n (suc i)) ≡ some r →

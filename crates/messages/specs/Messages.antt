@@ -11,7 +11,7 @@ use lib.Dec.{eqb}
 use Rattle.octets.specs.Octets.{pick}
 use Rattle.walk.specs.declared.Settings.{Settings}
 use Rattle.cells.specs.Segments.{Seg, carries}
-use Rattle.cells.specs.Rows.{Cell, free, held, broken}
+use Rattle.cells.specs.Rows.{Cell, segmentIn, bySegment}
 use Rattle.cells.specs.Order.{cellAt}
 
 -- the highest counter, and so the most steps from a first to its last
@@ -35,9 +35,7 @@ orElse (some a) b = some a
 
 -- the segment in a cell, where it has this key and counter
 abbrev pub heldAs : List ℕ → ℕ → Cell → Option Seg
-heldAs k c free = none
-heldAs k c (held t) = pick (carries k c t) (some t) none
-heldAs k c broken = none
+heldAs k c x = bySegment none (λ t. pick (carries k c t) (some t) none) (segmentIn x)
 
 -- what the cells hold under a key and a counter
 unfoldable pub look : List Cell → List ℕ → ℕ → Option Seg
@@ -98,9 +96,7 @@ module _ (next : ℕ → ℕ) (span : ℕ) where
 
   -- the complete message that the segment in a cell opens
   abbrev pub runIn : List Cell → Cell → Option Run
-  runIn cs free = none
-  runIn cs (held t) = runFrom cs t
-  runIn cs broken = none
+  runIn cs x = bySegment none (runFrom cs) (segmentIn x)
 
   -- among all cells cs, the message that opens in the lowest of some of them
   unfoldable pub pickIn : List Cell → List Cell → Option Run
@@ -122,6 +118,4 @@ among [] t = false
 among (u ∷ us) t = or (carries (u .key) (u .counter) t) (among us t)
 
 abbrev pub amongIn : List Seg → Cell → Bool
-amongIn us free = false
-amongIn us (held t) = among us t
-amongIn us broken = false
+amongIn us x = bySegment false (among us) (segmentIn x)

@@ -19,7 +19,7 @@ use Rattle.packet.specs.declared.Header.{Header}
 use Rattle.packet.specs.Reading.{readPacket, counterSize}
 use Rattle.packet.specs.Key.{keyOf, counterPlace}
 use Rattle.cells.specs.Segments.{Seg, segOf}
-use Rattle.cells.specs.Rows.{Cell, free, held, broken, rowAt, packetIn, cellOf}
+use Rattle.cells.specs.Rows.{Cell, held, rowAt, packetIn, cellOf, segmentIn, bySegment}
 use Rattle.cells.proofs.Carries.{held-is}
 use Rattle.cells.specs.Order.{cellAt, countIn}
 use Rattle.messages.specs.Messages.{listed, cellsOf, look, Role, first, middle, last, roleOf, Run, bodies, bodyOf, segments, linkBy, link, chain, picked, top}
@@ -37,9 +37,7 @@ use Rattle.steps.specs.Stepping.{room}
 
 -- a cell holds a segment of this counter or a higher one
 abbrev fromOn : ℕ → Cell → ℕ
-fromOn c free = 0
-fromOn c (held t) = pick (leb c (t .counter)) 1 0
-fromOn c broken = 0
+fromOn c x = bySegment 0 (λ t. pick (leb c (t .counter)) 1 0) (segmentIn x)
 
 -- how many of n cells do
 unfoldable cellsFrom : (ℕ → Cell) → ℕ → ℕ → ℕ → ℕ
@@ -47,22 +45,26 @@ cellsFrom f c zero i = 0
 cellsFrom f c (suc n) i = fromOn c (f i) + cellsFrom f c n (suc i)
 
 one-most : (c : ℕ) (x : Cell) → fromOn c x ≤ 1
-one-most c free = omega arith
-one-most c (held t) = go (leb c (t .counter))
+one-most c x = of (segmentIn x)
   where
     go : (b : Bool) → pick b 1 0 ≤ 1
     go true = omega arith
     go false = omega arith
-one-most c broken = omega arith
+
+    of : (o : Option Seg) → bySegment 0 (λ t. pick (leb c (t .counter)) 1 0) o ≤ 1
+    of none = omega arith
+    of (some t) = go (leb c (t .counter))
 
 one-fewer : (c : ℕ) (x : Cell) → fromOn (suc c) x ≤ fromOn c x
-one-fewer c free = omega arith
-one-fewer c (held t) = go (below-or (t .counter) (suc c))
+one-fewer c x = of (segmentIn x)
   where
-    go : (t .counter < suc c) ⊎ (suc c ≤ t .counter) → pick (leb (suc c) (t .counter)) 1 0 ≤ pick (leb c (t .counter)) 1 0
-    go (inl h) = rw (lt-leb (suc c) (t .counter) h) (omega arith)
-    go (inr h) = rw (le-leb (suc c) (t .counter) h, le-leb c (t .counter) (omega arith)) (omega arith)
-one-fewer c broken = omega arith
+    go : (t : Seg) → (t .counter < suc c) ⊎ (suc c ≤ t .counter) → pick (leb (suc c) (t .counter)) 1 0 ≤ pick (leb c (t .counter)) 1 0
+    go t (inl h) = rw (lt-leb (suc c) (t .counter) h) (omega arith)
+    go t (inr h) = rw (le-leb (suc c) (t .counter) h, le-leb c (t .counter) (omega arith)) (omega arith)
+
+    of : (o : Option Seg) → bySegment 0 (λ t. pick (leb (suc c) (t .counter)) 1 0) o ≤ bySegment 0 (λ t. pick (leb c (t .counter)) 1 0) o
+    of none = omega arith
+    of (some t) = go t (below-or (t .counter) (suc c))
 
 -- the counter itself
 one-less : (t : Seg) (x : Cell) → x ≡ held t → suc (fromOn (suc (t .counter)) x) ≤ fromOn (t .counter) x

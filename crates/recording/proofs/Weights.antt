@@ -2,8 +2,8 @@
 -- packet has with its mark, and a taking takes off at least what it gives.
 -- Assumes nothing.
 use Prim.Native.Nat.{ℕ, zero, suc, _+_, _≤_, _<_}
-use mathlib.Core.Path.{_≡_, refl, ap, sym}
-use mathlib.Core.Logic.{_≢_, _⊎_, inl, inr}
+use mathlib.Core.Path.{_≡_, refl, ap, sym, _∙_}
+use mathlib.Core.Logic.{_≢_, _⊎_, inl, inr, ⊎-elim}
 use mathlib.Core.Bool.{Bool, true, false}
 use mathlib.Core.List.{List, [], _∷_, _++_}
 use mathlib.Core.Option.{Option, none, some}
@@ -19,8 +19,9 @@ use Rattle.format.specs.Told.{valuesOf}
 use Rattle.format.proofs.Frame.{identification-long}
 use Rattle.format.proofs.Accepting.{accepted}
 use Rattle.cells.specs.Segments.{Seg, segOf, carries}
-use Rattle.cells.specs.Rows.{Cell, free, held, broken}
+use Rattle.cells.specs.Rows.{Cell, free, held, segmentIn, bySegment}
 use Rattle.cells.specs.Order.{cellAt, countIn}
+use Rattle.cells.proofs.CellSegments.{segment-or, segment-freed}
 use Rattle.messages.specs.Messages.{listed, look, Role, first, middle, last, roleOf, Run, bodies, segments, linkBy, link, chain, or, among, amongIn, top}
 use Rattle.arrival.specs.Arriving.{stored, arrived, storeWith}
 use Rattle.taking.specs.Taking.{message, writing, took, storeLess}
@@ -83,9 +84,7 @@ abbrev pub weight : Seg → ℕ
 weight t = 6 + (length (t .key) + length (t .body))
 
 abbrev pub inCell : Cell → ℕ
-inCell free = 0
-inCell (held t) = weight t
-inCell broken = 0
+inCell x = bySegment 0 weight (segmentIn x)
 
 unfoldable weights : List Seg → ℕ
 weights [] = 0
@@ -158,17 +157,27 @@ module _ (f : ℕ → Cell) (n : ℕ) where
   abbrev left : List Seg → ℕ → ℕ
   left us j = inCell (freed us (f j))
 
+  -- a cell that holds none has no weight, freed or not
+  freed-nothing : (us : List Seg) (x : Cell) → segmentIn x ≡ none → inCell (freed us x) ≡ 0
+  freed-nothing us x n = ap (λ (o : Option Seg). bySegment 0 weight o) (segment-freed (amongIn us x) x ∙ ap (pick (amongIn us x) none) n) ∙ both-none (amongIn us x)
+    where
+      both-none : (b : Bool) → bySegment 0 weight (pick b none none) ≡ 0
+      both-none true = refl
+      both-none false = refl
+
   freed-less : (u : Seg) (us : List Seg) (x : Cell) → inCell (freed (u ∷ us) x) ≤ inCell (freed us x)
   unfolding among
-  freed-less u us free = omega arith
-  freed-less u us (held t) = go (carries (u .key) (u .counter) t) (among us t)
+  freed-less u us x =
+      ⊎-elim
+      (λ w. rw (w .1) (go (w .0) (carries (u .key) (u .counter) (w .0)) (among us (w .0))))
+      (λ n. rw (freed-nothing (u ∷ us) x n, freed-nothing us x n) (omega arith))
+      (segment-or x)
     where
-      go : (a b : Bool) → inCell (pick (or a b) free (held t)) ≤ inCell (pick b free (held t))
-      go true true = omega arith
-      go true false = omega arith
-      go false true = omega arith
-      go false false = omega arith
-  freed-less u us broken = omega arith
+      go : (t : Seg) (a b : Bool) → inCell (pick (or a b) free (held t)) ≤ inCell (pick b free (held t))
+      go t true true = omega arith
+      go t true false = omega arith
+      go t false true = omega arith
+      go t false false = omega arith
 
   freed-this : (u : Seg) (us : List Seg) (x : Cell) → x ≡ held u → among us u ≡ false → inCell (freed (u ∷ us) x) + weight u ≤ inCell (freed us x) + 0
   unfolding among
@@ -178,9 +187,7 @@ module _ (f : ℕ → Cell) (n : ℕ) where
 
   freed-none : (x : Cell) → inCell (freed [] x) ≤ inCell x
   unfolding among
-  freed-none free = omega arith
-  freed-none (held t) = omega arith
-  freed-none broken = omega arith
+  freed-none x = ⊎-elim (λ w. rw (w .1) (omega arith)) (λ n. omega (arith, freed-nothing [] x n)) (segment-or x)
 
   climbs-less : {c : ℕ} {ts : List Seg} → Climbs c ts → sum (left ts) n 0 + weights ts ≤ sum (λ j. inCell (f j)) n 0
   unfolding weights

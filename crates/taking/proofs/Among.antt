@@ -14,9 +14,9 @@ use Rattle.octets.specs.Octets.{alike}
 use Rattle.octets.proofs.Lists.{below-or}
 use Rattle.walk.specs.declared.Settings.{Settings}
 use Rattle.cells.specs.Segments.{Seg, carries, both}
-use Rattle.cells.specs.Rows.{Cell, free, held, broken}
+use Rattle.cells.specs.Rows.{Cell, held, segmentIn, bySegment}
 use Rattle.cells.specs.Order.{carriesIn, foundIn}
-use Rattle.cells.specs.Inner.{withinIn}
+use Rattle.cells.specs.Inner.{withinIn, within}
 use Rattle.messages.specs.Messages.{Role, first, middle, last, roleOf, linkBy, or, among, amongIn, top}
 use Rattle.taking.specs.Follow.{segAt, follow}
 use Rattle.messages.proofs.Found.{found-carries, found-held}
@@ -131,10 +131,15 @@ pub message-among :
     (s : Settings) (Z : ℕ) (st : List ℕ) (n f : ℕ) (u : Seg) (js : List ℕ) → follow suc top s Z st n (u .key) f (suc (u .counter)) ≡ some js → (y : Cell) →
     withinIn (u .key) (u .counter) (suc (u .counter) + length js) y ≡ amongIn (u ∷ map (segAt s Z st) js) y
 unfolding among
-message-among s Z st n f u js e free = refl
-message-among s Z st n f u js e broken = refl
-message-among s Z st n f u js e (held t) =
-    let l : u .counter < suc (u .counter) + length js = omega arith in
-    sym
-    (ap (or (carries (u .key) (u .counter) t)) (follow-among s Z st n (u .key) t f (suc (u .counter)) js e)
-    ∙ between-more (u .key) t (u .counter) (suc (u .counter) + length js) l)
+message-among s Z st n f u js e y = go (segmentIn y)
+  where
+    l : u .counter < suc (u .counter) + length js
+    l = omega arith
+
+    go : (o : Option Seg) →
+        bySegment false (within (u .key) (u .counter) (suc (u .counter) + length js)) o ≡ bySegment false (among (u ∷ map (segAt s Z st) js)) o
+    go none = refl
+    go (some t) =
+        sym
+        (ap (or (carries (u .key) (u .counter) t)) (follow-among s Z st n (u .key) t f (suc (u .counter)) js e)
+        ∙ between-more (u .key) t (u .counter) (suc (u .counter) + length js) l)

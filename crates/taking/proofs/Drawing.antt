@@ -5,7 +5,7 @@ use mathlib.Core.Path.{_≡_, refl, ap, ap₂, sym, _∙_}
 use mathlib.Core.Logic.{⊎-elim}
 use mathlib.Core.Bool.{Bool, true, false}
 use mathlib.Core.List.{List, _∷_, _++_, map}
-use mathlib.Core.Option.{Option, none, some, Option·map}
+use mathlib.Core.Option.{Option, none, some, Option·map, Option·none-ne-some}
 use native.Mathlib.Omega.{arith}
 use lib.ListN.{length, length-append}
 use borrow.Author.Tests.{le-leb, lt-leb}
@@ -14,9 +14,10 @@ use Rattle.octets.proofs.Lists.{bool, below-or}
 use Rattle.walk.specs.declared.Settings.{Settings}
 use Rattle.walk.specs.Walk.{refusal}
 use Rattle.cells.specs.Segments.{Seg}
-use Rattle.cells.specs.Rows.{Cell, free, held, broken, rowAt}
+use Rattle.cells.specs.Rows.{Cell, held, rowAt, bySegment}
 use Rattle.cells.specs.Order.{cellAt, lowest}
 use Rattle.cells.proofs.Carries.{Holding, held-is}
+use Rattle.cells.proofs.CellSegments.{segment-or}
 use Rattle.messages.specs.Messages.{Role, first, middle, last, roleOf, Run, bodyOf, listed, orElse, cellsOf, chain, opensBy, runFrom, runIn, pickIn, picked}
 use Rattle.taking.specs.Taking.{message, unable, writing, drawn}
 use Rattle.taking.specs.declared.Copied.{Copied}
@@ -113,9 +114,10 @@ module _ (next : ℕ → ℕ) (span : ℕ) (s : Settings) (Z : ℕ) (st : List �
 
   -- a cell that opens a run holds a segment
   opens-held : (i : ℕ) → (x : Cell) → cellAt s Z st i ≡ x → (r : Run) → runIn next span cs x ≡ some r → Holding s Z (rowAt Z st i)
-  opens-held i free e r h = let z : _≡_ {A = ℕ} 0 1 = cc in absurd (omega arith)
-  opens-held i (held t) e r h = held-is s Z (rowAt Z st i) t e
-  opens-held i broken e r h = let z : _≡_ {A = ℕ} 0 1 = cc in absurd (omega arith)
+  opens-held i x e r h =
+      ⊎-elim (λ w. held-is s Z (rowAt Z st i) (w .0) (e ∙ w .1))
+      (λ n. absurd (Option·none-ne-some r (sym (ap (bySegment none (runFrom next span cs)) n) ∙ h)))
+      (segment-or x)
 
   module _ {i : ℕ} (ei : i ≡ lowest (opensAt next span s Z st n) n 0) (below : i < n) where
     found-run : (r : Run) × (at i ≡ some r)

@@ -13,7 +13,7 @@ use Rattle.octets.specs.Octets.{pick, octetAt, number}
 use Rattle.octets.proofs.Lists.{bool}
 use Rattle.walk.specs.declared.Settings.{Settings}
 use Rattle.cells.specs.Segments.{Seg, segOf}
-use Rattle.cells.specs.Rows.{Cell, free, held, broken, rowAt, zeroRow, packetIn}
+use Rattle.cells.specs.Rows.{Cell, held, rowAt, zeroRow, packetIn, segmentIn, bySegment}
 use Rattle.cells.specs.Order.{cellAt, lowest}
 use Rattle.cells.proofs.Held.{flags-same}
 use Rattle.cells.proofs.Transactions.{part-octet}
@@ -79,9 +79,11 @@ module _ (next : ℕ → ℕ) (span : ℕ) (cs : List Cell) (no : (k : List ℕ)
 
   run-nothing : (x : Cell) → runIn next span cs x ≡ none
   unfolding runFrom
-  run-nothing free = refl
-  run-nothing (held t) = opens-nothing (roleOf (t .flags)) t (chain next span span cs (t .key) (next (t .counter))) (chain-none span (t .key) (next (t .counter)))
-  run-nothing broken = refl
+  run-nothing x = go (segmentIn x)
+    where
+      go : (o : Option Seg) → bySegment none (runFrom next span cs) o ≡ none
+      go none = refl
+      go (some t) = opens-nothing (roleOf (t .flags)) t (chain next span span cs (t .key) (next (t .counter))) (chain-none span (t .key) (next (t .counter)))
 
   pub pick-nothing : (xs : List Cell) → pickIn next span cs xs ≡ none
   unfolding pickIn

@@ -19,7 +19,7 @@ use Rattle.packet.specs.Reading.{readPacket}
 use Rattle.packet.specs.Key.{keyOf}
 use Rattle.format.proofs.Accepting.{accepted}
 use Rattle.cells.specs.Segments.{Seg, segOf}
-use Rattle.cells.specs.Rows.{Cell, free, broken, rowAt, packetIn, cellOf}
+use Rattle.cells.specs.Rows.{Cell, rowAt, packetIn, cellOf, bySegment}
 use Rattle.cells.specs.Order.{cellAt}
 use Rattle.cells.specs.declared.Judged.{Judged}
 use Rattle.cells.specs.Inner.{bodyIn, judgedOf, Asked}
@@ -62,13 +62,8 @@ module _ (s : Settings) (Z : ℕ) (st : List ℕ) (n i : ℕ) {r : List ℕ} (er
 
   -- a cell opens nothing unless it holds a segment
   unless-held : (Holding s Z (rowAt Z st i) → 0 ≡ answer (runIn suc top cs (cellAt s Z st i))) → 0 ≡ answer (runIn suc top cs (cellAt s Z st i))
-  unless-held f = ⊎-elim f (⊎-elim nothing nothing′) (kinds s Z (rowAt Z st i))
-    where
-      nothing : cellAt s Z st i ≡ free → 0 ≡ answer (runIn suc top cs (cellAt s Z st i))
-      nothing e = sym (ap (λ (y : Cell). answer (runIn suc top cs y)) e)
-
-      nothing′ : cellAt s Z st i ≡ broken → 0 ≡ answer (runIn suc top cs (cellAt s Z st i))
-      nothing′ e = sym (ap (λ (y : Cell). answer (runIn suc top cs y)) e)
+  unless-held f =
+      ⊎-elim f (λ e. sym (ap (λ (o : Option Seg). answer (bySegment none (runFrom suc top cs) o)) e)) (kinds s Z (rowAt Z st i))
 
   module _ {f : ℕ} (ef : f ≡ octetAt r 4 / 64) where
     flags-row : f ≡ octetAt (rowAt Z st i) 4 / 64

@@ -1,10 +1,11 @@
 -- A cell as the code judges it: whether it is held, and whether it has a key.
 -- Assumes nothing.
 use Prim.Native.Nat.{ℕ, _+_}
-use mathlib.Core.Path.{_≡_, refl, ap, ap₂, sym, _∙_}
+use mathlib.Core.Path.{_≡_, ap, ap₂, sym, _∙_}
 use mathlib.Core.Logic.{⊎-elim}
 use mathlib.Core.Bool.{Bool, true, false}
 use mathlib.Core.List.{List}
+use mathlib.Core.Option.{none}
 use native.Mathlib.Omega.{arith}
 use lib.Dec.{eqb}
 use Rattle.octets.specs.Octets.{Octets, number, alike}
@@ -14,45 +15,54 @@ use Rattle.walk.specs.declared.Settings.{Settings}
 use Rattle.packet.specs.Reading.{readPacket}
 use Rattle.packet.specs.Key.{keyOf}
 use Rattle.cells.specs.declared.Judged.{Judged}
-use Rattle.cells.specs.Segments.{segOf}
-use Rattle.cells.specs.Rows.{Cell, free, held, broken, rowAt, zeroRow, packetIn, cellOf}
+use Rattle.cells.specs.Segments.{segOf, Seg}
+use Rattle.cells.specs.Rows.{Cell, held, rowAt, zeroRow, packetIn, cellOf, segmentIn, bySegment}
 use Rattle.cells.specs.Order.{isSound, cellAt}
 use Rattle.cells.specs.Inner.{spansAlike, bodyIn, judgedOf, Asked}
 use Rattle.cells.proofs.Carries.{free-cell, Holding, holding}
+use Rattle.cells.proofs.CellSegments.{segment-or, judged-none}
 use Rattle.cells.proofs.SameKeys.{keys-same}
 use Rattle.cells.proofs.Entering.{asked}
 use Rattle.tally.specs.Counting.{isHeld, keyed, newKeyTo, newKeyIn}
+use borrow.Author.Tests.{eq-eqb, ne-eqb}
 
 abbrev kind : Judged → ℕ
 kind t = t .kind
 
 -- ---- by its number
 
-pub held-told : (at : ℕ) (d : Cell) {t : Judged} → t ≡ judgedOf at d → eqb (t .kind) 1 ≡ isHeld d
-held-told at free e = ap (λ (t : Judged). eqb (t .kind) 1) e
-held-told at (held u) e = ap (λ (t : Judged). eqb (t .kind) 1) e
-held-told at broken e = ap (λ (t : Judged). eqb (t .kind) 1) e
+module _ (at : ℕ) (d : Cell) {t : Judged} (e : t ≡ judgedOf at d) where
+  -- one that is held is judged so, and no other
+  held-one : (u : Seg) → d ≡ held u → t .kind ≡ 1
+  held-one u x = ap kind (e ∙ ap (judgedOf at) x)
 
-other-key : (at : ℕ) (d : Cell) (k : List ℕ) {t : Judged} → t ≡ judgedOf at d → (t .kind ≡ 1 → ⊥) → false ≡ keyed k d
-other-key at free k e h = refl
-other-key at (held u) k e h = absurd (h (ap kind e))
-other-key at broken k e h = refl
+  none-other : segmentIn d ≡ none → t .kind ≡ 1 → ⊥
+  none-other n h = ⊎-elim (λ z. omega (arith, ap kind e, z)) (λ z. omega (arith, ap kind e, z)) (judged-none at d n .0)
 
-other-first : (s : Settings) (Z : ℕ) (st : List ℕ) (i at : ℕ) (d : Cell) {t : Judged} → t ≡ judgedOf at d → (t .kind ≡ 1 → ⊥) → false ≡ newKeyIn s Z st i d
-other-first s Z st i at free e h = refl
-other-first s Z st i at (held u) e h = absurd (h (ap kind e))
-other-first s Z st i at broken e h = refl
+  not-one : (t .kind ≡ 1 → ⊥) → segmentIn d ≡ none
+  not-one h = ⊎-elim (λ w. absurd (h (held-one (w .0) (w .1)))) (λ n. n) (segment-or d)
 
-is-sound : (at : ℕ) (d : Cell) {t : Judged} → t ≡ judgedOf at d → t .kind ≡ 1 → isSound d ≡ true
-is-sound at free e h = refl
-is-sound at (held u) e h = refl
-is-sound at broken e h = let z : _≡_ {A = ℕ} 2 1 = sym (ap kind e) ∙ h in absurd (omega arith)
+  pub held-told : eqb (t .kind) 1 ≡ isHeld d
+  held-told =
+      ⊎-elim
+      (λ w. eq-eqb (t .kind) 1 (held-one (w .0) (w .1)) ∙ sym (ap isHeld (w .1)))
+      (λ n. ne-eqb (t .kind) 1 (none-other n) ∙ sym (ap (bySegment false (λ u. true)) n))
+      (segment-or d)
+
+  other-key : (k : List ℕ) → (t .kind ≡ 1 → ⊥) → false ≡ keyed k d
+  other-key k h = sym (ap (bySegment false (λ u. alike k (u .key))) (not-one h))
+
+  other-first : (s : Settings) (Z : ℕ) (st : List ℕ) (i : ℕ) → (t .kind ≡ 1 → ⊥) → false ≡ newKeyIn s Z st i d
+  other-first s Z st i h = sym (ap (bySegment false (λ u. newKeyTo s Z st i (u .key))) (not-one h))
+
+  is-sound : t .kind ≡ 1 → isSound d ≡ true
+  is-sound h = ⊎-elim (λ w. ap isSound (w .1)) (λ n. absurd (none-other n h)) (segment-or d)
 
 -- ---- a row
 
 module _ (s : Settings) (Z : ℕ) (r : List ℕ) {t : Judged} (et : t ≡ judgedOf (bodyIn s Z r) (cellOf s Z r)) where
   pub key-none : (k : List ℕ) → (t .kind ≡ 1 → ⊥) → false ≡ keyed k (cellOf s Z r)
-  key-none k h = other-key (bodyIn s Z r) (cellOf s Z r) k et h
+  key-none k h = other-key (bodyIn s Z r) (cellOf s Z r) et k h
 
   module _ (one : t .kind ≡ 1) where
     not-free : alike r (zeroRow Z) ≡ false
@@ -89,7 +99,7 @@ module _ (s : Settings) (st : List ℕ) (Z i : ℕ) {r : List ℕ} (er : r ≡ r
   cell-is = ap (cellOf s Z) (sym er)
 
   pub first-none : (t .kind ≡ 1 → ⊥) → false ≡ newKeyIn s Z st i (cellAt s Z st i)
-  first-none h = other-first s Z st i (bodyIn s Z r) (cellOf s Z r) et h ∙ ap (newKeyIn s Z st i) (sym cell-is)
+  first-none h = other-first (bodyIn s Z r) (cellOf s Z r) et s Z st i h ∙ ap (newKeyIn s Z st i) (sym cell-is)
 
   module _ (one : t .kind ≡ 1) {q : List ℕ} (eq : q ≡ packetIn r) where
     pub first-asked : Octets st → Asked s q (t .at)

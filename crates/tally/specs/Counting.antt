@@ -8,7 +8,7 @@ use mathlib.Core.Bool.{Bool, true, false, not}
 use lib.ListN.{length}
 use Rattle.octets.specs.Octets.{pick, alike}
 use Rattle.walk.specs.declared.Settings.{Settings}
-use Rattle.cells.specs.Rows.{Cell, free, held, broken}
+use Rattle.cells.specs.Rows.{Cell, segmentIn, bySegment}
 use Rattle.cells.specs.Order.{lengthFits, countIn, cellAt, allTo}
 use Rattle.tally.specs.declared.Tallied.{Tallied}
 
@@ -18,15 +18,11 @@ countTo f zero = 0
 countTo f (suc n) = countTo f n + pick (f n) 1 0
 
 abbrev pub isHeld : Cell → Bool
-isHeld free = false
-isHeld (held t) = true
-isHeld broken = false
+isHeld x = bySegment false (λ t. true) (segmentIn x)
 
 -- the cell holds a segment of this key
 abbrev pub keyed : List ℕ → Cell → Bool
-keyed k free = false
-keyed k (held t) = alike k (t .key)
-keyed k broken = false
+keyed k x = bySegment false (λ t. alike k (t .key)) (segmentIn x)
 
 -- none of the first n cells does
 unfoldable pub newKeyTo : Settings → ℕ → List ℕ → ℕ → List ℕ → Bool
@@ -34,9 +30,7 @@ newKeyTo s Z st n k = allTo (λ j. not (keyed k (cellAt s Z st j))) n
 
 -- the cell is held, and no cell below i has its key
 abbrev pub newKeyIn : Settings → ℕ → List ℕ → ℕ → Cell → Bool
-newKeyIn s Z st i free = false
-newKeyIn s Z st i (held t) = newKeyTo s Z st i (t .key)
-newKeyIn s Z st i broken = false
+newKeyIn s Z st i x = bySegment false (λ t. newKeyTo s Z st i (t .key)) (segmentIn x)
 
 -- the held cells among the first n, and their different keys: of each key the lowest cell counts
 unfoldable pub segmentsIn : Settings → ℕ → List ℕ → ℕ → ℕ
