@@ -175,21 +175,45 @@ module _ (ms : List Sending) (x : List ℕ) (g : RecordingOf ms x) where
 
   genuine : (k : List ℕ) (c : ℕ) (b : List ℕ) → List·Memᴰ (joined k c b) (framesOf x) → (m : Sending) → List·Memᴰ m ms → k ≡ keyIn settings m →
       (w : Sending) × List·Memᴰ w ms × (joined k c b ≡ frameOf w) × AllIn w x
-  genuine k c b f m h e =
-      let a = frame-at ps emptyStore (joined k c b) f in
-      let v = joined-came (a .packet) (cameOf settings Z (storeAlong (a .before)) (a .packet)) k c b (a .its) in
-      let r = v .0 in
-      let t = came-taken (storeAlong (a .before)) (a .packet) r (v .1) in
-      let u = callsOf (a .before) in
-      let st = storeBehind settings Z cellCount u in
-      let took : tookBy settings Z st (joining (a .packet) output) ≡ some (message r) =
-      ap (λ (y : List ℕ). tookBy settings Z y (joining (a .packet) output)) (calls-store (a .before)) ∙ t .1 in
-      let key : r .head .key ≡ keyIn settings m = cc (v .2, e) in
-      let w =
-      genuine-at u (callsOf (a .after)) (joining (a .packet) output) (ap callsOf (a .place) ∙ at-call (a .before) (a .packet) (a .after) (t .0)) r took m h key in (
+  genuine k c b f m h e = by (genuine-at u (callsOf (a .after)) call place r took m h key)
+    where
+      a : Framed emptyStore ps (joined k c b)
+      a = frame-at ps emptyStore (joined k c b) f
+
+      v : (r : Run) × (cameOf settings Z (storeAlong (a .before)) (a .packet) ≡ messageOf r) ×
+          (joined k c b ≡ joined (r .head .key) (r .head .counter) (bodyOf r))
+      v = joined-came (a .packet) (cameOf settings Z (storeAlong (a .before)) (a .packet)) k c b (a .its)
+
+      r : Run
+      r = v .0
+
+      call : Call
+      call = joining (a .packet) output
+
+      u : List Call
+      u = callsOf (a .before)
+
+      st : List ℕ
+      st = storeBehind settings Z cellCount u
+
+      t : (short (a .packet) ≡ true) × (tookBy settings Z (storeAlong (a .before)) call ≡ some (message r))
+      t = came-taken (storeAlong (a .before)) (a .packet) r (v .1)
+
+      place : calls ≡ u ++ call ∷ callsOf (a .after)
+      place = ap callsOf (a .place) ∙ at-call (a .before) (a .packet) (a .after) (t .0)
+
+      took : tookBy settings Z st call ≡ some (message r)
+      took = ap (λ (y : List ℕ). tookBy settings Z y call) (calls-store (a .before)) ∙ t .1
+
+      key : r .head .key ≡ keyIn settings m
+      key = cc (v .2, e)
+
+      by : (w : Sending) × List·Memᴰ w ms × (keyIn settings w ≡ keyIn settings m) × Delivers settings Z cellCount w st call →
+          (w : Sending) × List·Memᴰ w ms × (joined k c b ≡ frameOf w) × AllIn w x
+      by w = (
         w .0,
         w .1,
-        v .2 ∙ run-frame (w .0) st (joining (a .packet) output) r took (key ∙ sym (w .2)) (w .3),
+        v .2 ∙ run-frame (w .0) st call r took (key ∙ sym (w .2)) (w .3),
         all-in (a .before) (a .packet) (a .after) (a .place) (w .0) (w .3),
       )
 
