@@ -6,3 +6,4 @@ pub mod Recordings
 pub mod Marks
 pub mod Unsegmented
 pub mod Rooms
+pub mod DayRecording

@@ -1,17 +1,16 @@
 -- Every message all of whose segments are in a recording is written, and under a message's key nothing that is not a message: by demand
 -- 3 over the joinings of the recording's packets, which leave nothing complete in the store.
 -- Assumes nothing.
-use Prim.Native.Nat.{ℕ, _+_, _≤_, _<_}
+use Prim.Native.Nat.{ℕ, _+_, _<_}
 use mathlib.Core.Path.{_≡_, refl, ap, sym, _∙_, subst}
 use mathlib.Core.Logic.{_≢_, _⊎_, inl, inr}
 use mathlib.Core.Bool.{true}
-use mathlib.Core.Option.{none, some}
-use mathlib.Core.List.{List, [], _∷_, _++_, append-assoc, List·Memᴰ, List·Memᴰ·head, List·Memᴰ·cases-cons, List·Memᴰ·not-nil, List·Memᴰ·append-cases, Memᴰ·append-left, Memᴰ·append-right}
+use mathlib.Core.Option.{some}
+use mathlib.Core.List.{List, [], _∷_, _++_, List·Memᴰ, List·Memᴰ·head, List·Memᴰ·cases-cons, List·Memᴰ·not-nil, Memᴰ·append-left, Memᴰ·append-right}
 use native.Mathlib.Omega.{arith}
-use native.Mathlib.Nat.{add-zero}
 use lib.ListN.{length}
 use borrow.Author.Tests.{le-leb}
-use Rattle.packet.specs.Reading.{readPacket, segmented}
+use Rattle.packet.specs.Reading.{readPacket}
 use Rattle.cells.specs.Segments.{segOf}
 use Rattle.cells.specs.Order.{cellAt}
 use Rattle.messages.specs.Messages.{Run, bodyOf, look}
@@ -21,7 +20,7 @@ use Rattle.steps.specs.Stepping.{longest, Came, over, refused, kept, wholly, me
 use Rattle.recording.specs.Recording.{settings, cellCount, emptyStore}
 use Rattle.demand3.specs.Calls.{Call, arrival, joining, Brings, Handed, arrivedStore, tookBy, storeAfter}
 use Rattle.demand3.specs.Sendings.{Sending, ReadsAs, manyOf, segmentAt, keyIn, startOf}
-use Rattle.demand3.specs.Presupposed.{AllCame, MayCome, Traffic, Room, Given, storeBehind, cellsIn, fresh, Untaken}
+use Rattle.demand3.specs.Presupposed.{AllCame, Traffic, Room, Given, storeBehind, cellsIn, fresh, Untaken}
 use Rattle.demand3.specs.Whole.{Delivers}
 use Rattle.demand3.proofs.ReadAs.{own-fits}
 use Rattle.demand3.proofs.Now.{handed-more, arrived-more}
@@ -29,10 +28,10 @@ use Rattle.demand3.proofs.Whole.{demand3·whole, genuine·whole}
 use Rattle.demand3.proofs.JoinsAt.{none-is}
 use Rattle.demand3.proofs.Joins.{only-joins·whole}
 use Rattle.demand3.proofs.Holds.{held-came, Taken, taken-or}
-use Rattle.tiles.specs.Along.{packetsOf, storeFrom, storeAlong, Frame, wholePacket, joined, framesBy, framesFrom, framesOf}
-use Rattle.tiles.specs.Written.{AllIn, RecordingOf, RoomAlong, cellsAlong, frameOf, RecordingDelivers, RecordingGenuine}
+use Rattle.tiles.specs.Along.{packetsOf, storeAlong, Frame, wholePacket, joined, framesBy, framesFrom, framesOf}
+use Rattle.tiles.specs.Written.{AllIn, RecordingOf, RoomAlong, frameOf, RecordingDelivers, RecordingGenuine}
 use Rattle.tiles.proofs.Framing.{Z, packets-octets, Framed, frame-at, at-frame}
-use Rattle.tiles.proofs.Joinings.{output, short, callsOf, calls-store, Call-at, call-at, at-call, handed-in, in-handed}
+use Rattle.tiles.proofs.Joinings.{output, short, callsOf, calls-store, call-at, at-call, handed-in, in-handed}
 use Rattle.tiles.proofs.Comes.{came-taken, taken-came, in-use, one-octet, calls-join}
 use Rattle.tiles.proofs.Delivered.{run-counter, run-frame}
 

@@ -1,7 +1,7 @@
 -- A recording of at most 32 packets always has room, by the same of the joinings.
 -- Assumes nothing.
 use Prim.Native.Nat.{ℕ, _+_, _≤_}
-use mathlib.Core.Path.{_≡_, refl, ap, sym, _∙_}
+use mathlib.Core.Path.{refl, ap, sym, _∙_}
 use mathlib.Core.Logic.{inr}
 use mathlib.Core.Bool.{Bool, true, false}
 use mathlib.Core.List.{List, [], _∷_, _++_}
@@ -16,9 +16,9 @@ use Rattle.keeping.specs.Cells.{hasFree}
 use Rattle.steps.specs.Stepping.{longest}
 use Rattle.recording.specs.Recording.{settings, cellCount}
 use Rattle.demand3.specs.Calls.{joining, packetsIn}
-use Rattle.demand3.specs.Presupposed.{storeBehind, cellsIn}
+use Rattle.demand3.specs.Presupposed.{cellsIn}
 use Rattle.demand3.proofs.Roomy.{room·whole}
-use Rattle.tiles.specs.Along.{packetsOf, storeAlong}
+use Rattle.tiles.specs.Along.{packetsOf}
 use Rattle.tiles.specs.Written.{RecordingRoom}
 use Rattle.tiles.proofs.Framing.{Z}
 use Rattle.tiles.proofs.Joinings.{output, short, callsOf, calls-store, at-call}

@@ -21,9 +21,9 @@ use Rattle.steps.specs.Stepping.{longest, room, Came, over, kept, wholly, refus
 use Rattle.recording.specs.Recording.{settings, cellCount, emptyStore}
 use Rattle.demand3.proofs.Steps.{Kept, arrived-is}
 use Rattle.demand3.proofs.Carried.{behind-keeps}
-use Rattle.tiles.specs.Along.{packetsOf, storeAlong, Frame, wholePacket, joined, framesBy, framesFrom, framesOf}
+use Rattle.tiles.specs.Along.{packetsOf, storeAlong, wholePacket, joined, framesBy, framesFrom, framesOf}
 use Rattle.tiles.specs.Written.{RecordingWhole}
-use Rattle.tiles.proofs.Framing.{Z, Framed, frame-at, at-frame}
+use Rattle.tiles.proofs.Framing.{Z, frame-at, at-frame}
 use Rattle.tiles.proofs.Joinings.{short, callsOf, calls-store}
 use Rattle.tiles.proofs.Comes.{in-use, one-octet}
 
