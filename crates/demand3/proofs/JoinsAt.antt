@@ -20,7 +20,7 @@ use Rattle.join.specs.Joining.{lessTaken}
 use Rattle.demand3.specs.Complete.{Single}
 use Rattle.demand3.specs.Traffic.{takes, empty, takenFrom, stepped, after}
 use Rattle.demand3.specs.Base.{CompleteFrom}
-use Rattle.demand3.specs.Calls.{Call, arrival, joining, goesOn, arrivedStore, draws, storeAt, storeBy, tookBy}
+use Rattle.demand3.specs.Calls.{Call, joining, goesOn, arrivedStore, draws, storeAt, storeBy, tookBy}
 use Rattle.demand3.specs.Sendings.{Sending, keyIn, startOf, endOf, IsCut}
 use Rattle.demand3.specs.Presupposed.{InUse, emptyStore, storeBehind, cellsIn}
 use Rattle.demand3.specs.Whole.{IsComplete, Picks}

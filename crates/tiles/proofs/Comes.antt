@@ -6,7 +6,7 @@ use mathlib.Core.Path.{_≡_, refl, ap, sym, _∙_, subst}
 use mathlib.Core.Logic.{_≢_}
 use mathlib.Core.Bool.{Bool, true, false}
 use mathlib.Core.Option.{Option, none, some}
-use mathlib.Core.List.{List, [], _∷_, _++_}
+use mathlib.Core.List.{List}
 use native.Mathlib.Omega.{arith}
 use lib.ListN.{length}
 use lib.Dec.{eqb}
@@ -15,8 +15,8 @@ use Rattle.messages.specs.Messages.{Run, picked, top}
 use Rattle.arrival.specs.Arriving.{Arrived, whole, stored, again, refused, arrived, storeWith}
 use Rattle.taking.specs.Taking.{Took, message, unable, writing, took}
 use Rattle.join.specs.Joining.{tookAs, joinedBy, joining as joiningOf}
-use Rattle.steps.specs.Stepping.{room, Came, over, kept, refused as refusedBy, message as messageOf, cameBy, cameOf}
-use Rattle.recording.specs.Recording.{settings, cellCount, emptyStore}
+use Rattle.steps.specs.Stepping.{room, over, kept, refused as refusedBy, message as messageOf, cameBy, cameOf}
+use Rattle.recording.specs.Recording.{settings, cellCount}
 use Rattle.recording.proofs.Rooms.{message-fits}
 use Rattle.demand3.specs.Traffic.{takenFrom}
 use Rattle.demand3.specs.Calls.{Call, joining, goesOn, draws, storeAt, tookBy}

@@ -1,8 +1,7 @@
 -- A call that hands out a message takes a run with the message's key, first counter and body.
 -- Assumes nothing.
-use Prim.Native.Nat.{ℕ, _+_, _≤_}
+use Prim.Native.Nat.{ℕ, _+_}
 use mathlib.Core.Path.{_≡_, ap, sym, _∙_}
-use mathlib.Core.Bool.{true}
 use mathlib.Core.Option.{some, Option·map, Option·some-injective}
 use mathlib.Core.List.{List, _++_, append-cancel-left}
 use native.Mathlib.Omega.{arith}
@@ -21,7 +20,7 @@ use Rattle.demand3.specs.Whole.{Delivers}
 use Rattle.demand3.proofs.Called.{out-by}
 use Rattle.demand3.proofs.Simulates.{by-took}
 use Rattle.recording.specs.Recording.{settings, cellCount}
-use Rattle.tiles.specs.Along.{Frame, joined}
+use Rattle.tiles.specs.Along.{joined}
 use Rattle.tiles.specs.Written.{frameOf}
 use Rattle.tiles.proofs.Framing.{Z}
 

@@ -28,7 +28,7 @@ octetsOf l = together (map frameOctets l)
 -- ---- what is written
 
 -- if it stops, there are no more packets
-stop-none : (f : ℕ) (x : List ℕ) (d : Found) → foundIn x ≡ d → past d ≡ 0 → packetsFrom f x ≡ []
+pub stop-none : (f : ℕ) (x : List ℕ) (d : Found) → foundIn x ≡ d → past d ≡ 0 → packetsFrom f x ≡ []
 unfolding packetsFrom
 stop-none zero x d e h = refl
 stop-none (suc f) x d e h = ap (λ (k : Found). inFront k (packetsFrom f (drop (past k) x))) e ∙ by d h

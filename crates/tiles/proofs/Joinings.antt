@@ -1,35 +1,22 @@
 -- A recording's packets as calls that demand 3 speaks of: a packet of at most 32,768 octets is joined, with 65,536 octets of output. The
 -- store along the packets is the store after these calls, and the packets handed over are the recording's.
 -- Assumes nothing.
-use Prim.Native.Nat.{ℕ, zero, suc, _≤_}
-use mathlib.Core.Path.{_≡_, refl, ap, sym, _∙_, subst}
-use mathlib.Core.Logic.{_≢_, _⊎_, inl, inr}
+use Prim.Native.Nat.{ℕ}
+use mathlib.Core.Path.{_≡_, refl, ap, sym, _∙_}
+use mathlib.Core.Logic.{_⊎_, inl, inr}
 use mathlib.Core.Bool.{Bool, true, false}
-use mathlib.Core.Option.{Option, none, some}
 use mathlib.Core.List.{List, [], _∷_, _++_, append-assoc, List·Memᴰ, List·Memᴰ·head, List·Memᴰ·tail, List·Memᴰ·cases-cons, List·Memᴰ·not-nil, Memᴰ·append-right}
 use native.Mathlib.Omega.{arith}
 use lib.ListN.{length, replicate, length-replicate}
-use lib.Dec.{leb, eqb}
+use lib.Dec.{leb}
 use Rattle.octets.specs.Octets.{pick}
-use Rattle.octets.proofs.Lists.{bool}
-use Rattle.cells.specs.Rows.{Cell}
-use Rattle.cells.specs.Order.{countIn}
-use Rattle.messages.specs.Messages.{Run, cellsOf, picked, top}
-use Rattle.arrival.specs.Arriving.{Arrived, whole, stored, again, refused, arrived, storeWith}
-use Rattle.taking.specs.Taking.{Took, message, unable, writing, took}
-use Rattle.join.specs.Joining.{tookAs, joinedBy, joining as joiningOf, storeJoined}
-use Rattle.steps.specs.Stepping.{longest, room, Came, over, kept, refused as refusedBy, message as messageOf, cameBy, cameOf, storeAfter as stepStore}
+use Rattle.join.specs.Joining.{storeJoined}
+use Rattle.steps.specs.Stepping.{longest, room, storeAfter as stepStore}
 use Rattle.recording.specs.Recording.{settings, cellCount, emptyStore}
-use Rattle.recording.proofs.Rooms.{message-fits}
-use Rattle.demand3.specs.Traffic.{takenFrom, after}
-use Rattle.demand3.specs.Calls.{Call, joining, Brings, Handed, goesOn, draws, storeAt, storeBy, storeAfter, tookBy}
-use Rattle.demand3.specs.Presupposed.{InUse, storeBehind, cellsIn}
-use Rattle.demand3.specs.Joins.{OnlyJoins}
-use Rattle.demand3.proofs.Takings.{nothing-picked, picked-taken}
-use Rattle.demand3.proofs.Steps.{Kept, took-is}
+use Rattle.demand3.specs.Traffic.{after}
+use Rattle.demand3.specs.Calls.{Call, joining, Brings, Handed, storeBy, storeAfter}
+use Rattle.demand3.specs.Presupposed.{storeBehind}
 use Rattle.demand3.proofs.Events.{append-split, one-split, none-split}
-use Rattle.demand3.proofs.Simulates.{at-keeps}
-use Rattle.demand3.proofs.Carried.{behind-keeps}
 use Rattle.tiles.specs.Along.{storeFrom}
 use Rattle.tiles.proofs.Framing.{Z}
 

@@ -1,17 +1,16 @@
 -- Every message all of whose segments are in a recording is written, and under a message's key nothing that is not a message: by demand
 -- 3 over the joinings of the recording's packets, which leave nothing complete in the store.
 -- Assumes nothing.
-use Prim.Native.Nat.{ℕ, _+_, _≤_, _<_}
+use Prim.Native.Nat.{ℕ, _+_, _<_}
 use mathlib.Core.Path.{_≡_, refl, ap, sym, _∙_, subst}
 use mathlib.Core.Logic.{_≢_, _⊎_, inl, inr}
 use mathlib.Core.Bool.{true}
-use mathlib.Core.Option.{none, some}
-use mathlib.Core.List.{List, [], _∷_, _++_, append-assoc, List·Memᴰ, List·Memᴰ·head, List·Memᴰ·cases-cons, List·Memᴰ·not-nil, List·Memᴰ·append-cases, Memᴰ·append-left, Memᴰ·append-right}
+use mathlib.Core.Option.{some}
+use mathlib.Core.List.{List, [], _∷_, _++_, List·Memᴰ, List·Memᴰ·head, List·Memᴰ·cases-cons, List·Memᴰ·not-nil, Memᴰ·append-left, Memᴰ·append-right}
 use native.Mathlib.Omega.{arith}
-use native.Mathlib.Nat.{add-zero}
 use lib.ListN.{length}
 use borrow.Author.Tests.{le-leb}
-use Rattle.packet.specs.Reading.{readPacket, segmented}
+use Rattle.packet.specs.Reading.{readPacket}
 use Rattle.cells.specs.Segments.{segOf}
 use Rattle.cells.specs.Order.{cellAt}
 use Rattle.messages.specs.Messages.{Run, bodyOf, look}
@@ -21,7 +20,7 @@ use Rattle.steps.specs.Stepping.{longest, Came, over, refused, kept, wholly, me
 use Rattle.recording.specs.Recording.{settings, cellCount, emptyStore}
 use Rattle.demand3.specs.Calls.{Call, arrival, joining, Brings, Handed, arrivedStore, tookBy, storeAfter}
 use Rattle.demand3.specs.Sendings.{Sending, ReadsAs, manyOf, segmentAt, keyIn, startOf}
-use Rattle.demand3.specs.Presupposed.{AllCame, MayCome, Traffic, Room, Given, storeBehind, cellsIn, fresh, Untaken}
+use Rattle.demand3.specs.Presupposed.{AllCame, Traffic, Room, Given, storeBehind, cellsIn, fresh, Untaken}
 use Rattle.demand3.specs.Whole.{Delivers}
 use Rattle.demand3.proofs.ReadAs.{own-fits}
 use Rattle.demand3.proofs.Now.{handed-more, arrived-more}
@@ -29,10 +28,10 @@ use Rattle.demand3.proofs.Whole.{demand3·whole, genuine·whole}
 use Rattle.demand3.proofs.JoinsAt.{none-is}
 use Rattle.demand3.proofs.Joins.{only-joins·whole}
 use Rattle.demand3.proofs.Holds.{held-came, Taken, taken-or}
-use Rattle.tiles.specs.Along.{packetsOf, storeFrom, storeAlong, Frame, wholePacket, joined, framesBy, framesFrom, framesOf}
-use Rattle.tiles.specs.Written.{AllIn, RecordingOf, RoomAlong, cellsAlong, frameOf, RecordingDelivers, RecordingGenuine}
+use Rattle.tiles.specs.Along.{packetsOf, storeAlong, Frame, wholePacket, joined, framesBy, framesFrom, framesOf}
+use Rattle.tiles.specs.Written.{AllIn, RecordingOf, RoomAlong, frameOf, RecordingDelivers, RecordingGenuine}
 use Rattle.tiles.proofs.Framing.{Z, packets-octets, Framed, frame-at, at-frame}
-use Rattle.tiles.proofs.Joinings.{output, short, callsOf, calls-store, Call-at, call-at, at-call, handed-in, in-handed}
+use Rattle.tiles.proofs.Joinings.{output, short, callsOf, calls-store, call-at, at-call, handed-in, in-handed}
 use Rattle.tiles.proofs.Comes.{came-taken, taken-came, in-use, one-octet, calls-join}
 use Rattle.tiles.proofs.Delivered.{run-counter, run-frame}
 
@@ -175,21 +174,45 @@ module _ (ms : List Sending) (x : List ℕ) (g : RecordingOf ms x) where
 
   genuine : (k : List ℕ) (c : ℕ) (b : List ℕ) → List·Memᴰ (joined k c b) (framesOf x) → (m : Sending) → List·Memᴰ m ms → k ≡ keyIn settings m →
       (w : Sending) × List·Memᴰ w ms × (joined k c b ≡ frameOf w) × AllIn w x
-  genuine k c b f m h e =
-      let a = frame-at ps emptyStore (joined k c b) f in
-      let v = joined-came (a .packet) (cameOf settings Z (storeAlong (a .before)) (a .packet)) k c b (a .its) in
-      let r = v .0 in
-      let t = came-taken (storeAlong (a .before)) (a .packet) r (v .1) in
-      let u = callsOf (a .before) in
-      let st = storeBehind settings Z cellCount u in
-      let took : tookBy settings Z st (joining (a .packet) output) ≡ some (message r) =
-      ap (λ (y : List ℕ). tookBy settings Z y (joining (a .packet) output)) (calls-store (a .before)) ∙ t .1 in
-      let key : r .head .key ≡ keyIn settings m = cc (v .2, e) in
-      let w =
-      genuine-at u (callsOf (a .after)) (joining (a .packet) output) (ap callsOf (a .place) ∙ at-call (a .before) (a .packet) (a .after) (t .0)) r took m h key in (
+  genuine k c b f m h e = by (genuine-at u (callsOf (a .after)) call place r took m h key)
+    where
+      a : Framed emptyStore ps (joined k c b)
+      a = frame-at ps emptyStore (joined k c b) f
+
+      v : (r : Run) × (cameOf settings Z (storeAlong (a .before)) (a .packet) ≡ messageOf r) ×
+          (joined k c b ≡ joined (r .head .key) (r .head .counter) (bodyOf r))
+      v = joined-came (a .packet) (cameOf settings Z (storeAlong (a .before)) (a .packet)) k c b (a .its)
+
+      r : Run
+      r = v .0
+
+      call : Call
+      call = joining (a .packet) output
+
+      u : List Call
+      u = callsOf (a .before)
+
+      st : List ℕ
+      st = storeBehind settings Z cellCount u
+
+      t : (short (a .packet) ≡ true) × (tookBy settings Z (storeAlong (a .before)) call ≡ some (message r))
+      t = came-taken (storeAlong (a .before)) (a .packet) r (v .1)
+
+      place : calls ≡ u ++ call ∷ callsOf (a .after)
+      place = ap callsOf (a .place) ∙ at-call (a .before) (a .packet) (a .after) (t .0)
+
+      took : tookBy settings Z st call ≡ some (message r)
+      took = ap (λ (y : List ℕ). tookBy settings Z y call) (calls-store (a .before)) ∙ t .1
+
+      key : r .head .key ≡ keyIn settings m
+      key = cc (v .2, e)
+
+      by : (w : Sending) × List·Memᴰ w ms × (keyIn settings w ≡ keyIn settings m) × Delivers settings Z cellCount w st call →
+          (w : Sending) × List·Memᴰ w ms × (joined k c b ≡ frameOf w) × AllIn w x
+      by w = (
         w .0,
         w .1,
-        v .2 ∙ run-frame (w .0) st (joining (a .packet) output) r took (key ∙ sym (w .2)) (w .3),
+        v .2 ∙ run-frame (w .0) st call r took (key ∙ sym (w .2)) (w .3),
         all-in (a .before) (a .packet) (a .after) (a .place) (w .0) (w .3),
       )
 

@@ -1,11 +1,14 @@
 -- A recording, packet by packet: its packets, the store along them, and what is written as a list of frames.
 -- Assumes nothing: these are definitions.
-use Prim.Native.Nat.{ℕ, zero, suc}
+use Prim.Native.Nat.{ℕ, zero, suc, _+_}
+use mathlib.Core.Path.{_≡_}
 use mathlib.Core.List.{List, [], _∷_, _++_}
 use lib.ListN.{length, drop}
+use Rattle.octets.specs.Octets.{number}
 use Rattle.cells.specs.Order.{cellSize}
 use Rattle.messages.specs.Messages.{bodyOf}
-use Rattle.steps.specs.Stepping.{Found, nothing, other, cut, whole, foundIn, Came, over, refused, kept, wholly, message, cameOf, storeAfter, framed, without}
+use Rattle.steps.specs.Stepping.{packetMark, Found, nothing, other, cut, whole, foundIn, storeAfter, framed, without}
+use Rattle.steps.specs.Stepping.{Came, over, refused, kept, wholly, message, cameOf}
 use Rattle.recording.specs.Recording.{settings, emptyStore}
 use Rattle.recording.specs.Ending.{past}
 
@@ -28,6 +31,15 @@ packetsFrom (suc f) x =
 -- no more packets than octets
 abbrev pub packetsOf : List ℕ → List (List ℕ)
 packetsOf x = packetsFrom (length x) x
+
+-- the other way: packets, each after its mark, as they stand in a recording
+unfoldable pub marked : List (List ℕ) → List ℕ
+marked [] = []
+marked (p ∷ ps) = packetMark ++ (p ++ marked ps)
+
+-- a packet is as long as its length field says
+abbrev pub Sized : List ℕ → Type 0
+Sized p = length p ≡ number 2 p 4 + 7
 
 -- ---- the store
 

@@ -17,9 +17,10 @@ use Rattle.messages.specs.Messages.{look}
 use Rattle.keeping.specs.Cells.{hasFree}
 use Rattle.demand3.specs.Sendings.{Sending, ReadsAs, wholeBody, manyOf, segmentAt, keyIn, startOf, IsCut}
 use Rattle.demand3.specs.Presupposed.{MayCome, cellsIn}
-use Rattle.steps.specs.Stepping.{longest}
+use Rattle.steps.specs.Stepping.{foundIn, longest}
 use Rattle.recording.specs.Recording.{settings, cellCount, recorded}
-use Rattle.tiles.specs.Along.{packetsOf, storeAlong, Frame, wholePacket, joined, frameOctets, framesOf}
+use Rattle.recording.specs.Ending.{past}
+use Rattle.tiles.specs.Along.{packetsOf, marked, Sized, storeAlong, Frame, wholePacket, joined, frameOctets, framesOf}
 
 -- ---- a recording of messages
 
@@ -41,6 +42,11 @@ pub record RecordingOf (ms : List Sending) (x : List ℕ) : Type 0 where
   -- cell, as all above 32,768 octets are; or of a key that no message has
   pub packets : (p : List ℕ) → List·Memᴰ p (packetsOf x) → MayCome settings cellSize ms p
 
+-- the packets of a recording are those that were laid into it, each after its mark, up to a rest with which it stops
+abbrev pub RecordingPackets : Type 0
+RecordingPackets = (ps : List (List ℕ)) (rest : List ℕ) → ((p : List ℕ) → List·Memᴰ p ps → Sized p) → past (foundIn rest) ≡ 0 →
+    packetsOf (marked ps ++ rest) ≡ ps
+
 -- the 32 cells of the store after some of its packets
 abbrev pub cellsAlong : List (List ℕ) → List Cell
 cellsAlong ps = cellsIn settings cellSize cellCount (storeAlong ps)
@@ -51,6 +57,10 @@ RoomAlong x = (before after : List (List ℕ)) (p : List ℕ) → packetsOf x �
     readPacket settings p .refusal .number ≡ 0 → segmented p ≡ true → 2 + length p ≤ cellSize →
     look (cellsAlong before) (segOf p (readPacket settings p) .key) (segOf p (readPacket settings p) .counter) ≡ none →
     hasFree (cellsAlong before) ≡ true
+
+-- a recording of at most 32 packets always has room
+abbrev pub RecordingRoom : Type 0
+RecordingRoom = (x : List ℕ) → length (packetsOf x) ≤ cellCount → RoomAlong x
 
 -- ---- what is written
 
