@@ -29,8 +29,8 @@ use Rattle.demand3.proofs.JoinsAt.{none-is}
 use Rattle.demand3.proofs.Joins.{only-joins·whole}
 use Rattle.demand3.proofs.Holds.{held-came, Taken, taken-or}
 use Rattle.tiles.specs.Along.{packetsOf, storeAlong, Frame, wholePacket, joined, framesBy, framesFrom, framesOf}
-use Rattle.tiles.specs.Written.{AllIn, RecordingOf, RoomAlong, frameOf, RecordingDelivers, RecordingGenuine}
-use Rattle.tiles.proofs.Framing.{Z, packets-octets, Framed, frame-at, at-frame}
+use Rattle.tiles.specs.Written.{AllIn, RecordingOf, RoomAlong, frameOf, RecordingDelivers, RecordingHas, RecordingGenuine}
+use Rattle.tiles.proofs.Framing.{Z, packets-octets, Framed, frame-at, at-frame, frame-stands}
 use Rattle.tiles.proofs.Joinings.{output, short, callsOf, calls-store, call-at, at-call, handed-in, in-handed}
 use Rattle.tiles.proofs.Comes.{came-taken, taken-came, in-use, one-octet, calls-join}
 use Rattle.tiles.proofs.Delivered.{run-counter, run-frame}
@@ -223,3 +223,6 @@ recording-delivers ms x g room = delivers ms x g room
 
 pub recording-genuine : RecordingGenuine
 recording-genuine ms x g = genuine ms x g
+
+pub recording-has : RecordingHas
+recording-has ms x g room m h all = frame-stands x (frameOf m) (delivers ms x g room m h all)
