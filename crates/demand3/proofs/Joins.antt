@@ -41,7 +41,7 @@ last-is l c d h = go (List·Memᴰ·append-cases l h)
     go (inr k) = only (List·Memᴰ·cases-cons k)
 
 -- the packet of a joining
-joining-brings : (p out q : List ℕ) (c : Call) → c ≡ joining p out → Brings q c → q ≡ p
+pub joining-brings : (p out q : List ℕ) (c : Call) → c ≡ joining p out → Brings q c → q ≡ p
 joining-brings p out q c e (inl d) =
     let f : joining p out ≡ arrival q = sym e ∙ d in
     let z : _≡_ {A = ℕ} 0 1 = cc f in

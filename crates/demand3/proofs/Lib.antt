@@ -37,6 +37,7 @@ pub mod Roomy
 pub mod Day
 pub mod DayComes
 pub mod DayRun
+pub mod DayJoins
 pub mod DayEnd
 pub mod Ways
 pub mod Refuted

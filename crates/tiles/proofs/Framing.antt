@@ -4,7 +4,7 @@ use Prim.Native.Nat.{ℕ, zero, suc}
 use mathlib.Core.Path.{_≡_, refl, ap, sym, _∙_, subst}
 use mathlib.Core.Logic.{_⊎_, inl, inr}
 use mathlib.Core.Bool.{true}
-use mathlib.Core.List.{List, [], _∷_, _++_, map, List·Memᴰ, List·Memᴰ·cases-cons, List·Memᴰ·not-nil, List·Memᴰ·append-cases, Memᴰ·append-left, Memᴰ·append-right}
+use mathlib.Core.List.{List, [], _∷_, _++_, map, append-assoc, List·Memᴰ, List·Memᴰ·cases-cons, List·Memᴰ·not-nil, List·Memᴰ·append-cases, Memᴰ·append-left, Memᴰ·append-right}
 use native.Mathlib.Omega.{arith}
 use lib.ListN.{length, drop}
 use Rattle.octets.specs.Octets.{Octets}
@@ -16,8 +16,8 @@ use Rattle.steps.specs.Stepping.{Found, nothing, other, cut, whole, foundIn, Ca
 use Rattle.steps.proofs.Showing.{whole-tells}
 use Rattle.recording.specs.Recording.{settings, emptyStore, recordedFrom, recorded}
 use Rattle.recording.specs.Ending.{past}
-use Rattle.tiles.specs.Along.{inFront, packetsFrom, storeFrom, Frame, frameOctets, framesBy, framesFrom}
-use Rattle.tiles.specs.Written.{RecordingFrames}
+use Rattle.tiles.specs.Along.{inFront, packetsFrom, storeFrom, Frame, frameOctets, framesBy, framesFrom, framesOf}
+use Rattle.tiles.specs.Written.{Stands, RecordingFrames}
 
 abbrev pub Z : ℕ
 Z = cellSize
@@ -121,3 +121,21 @@ unfolding framesFrom storeFrom
 at-frame [] p after st w h = Memᴰ·append-left (framesFrom (storeAfter settings Z st p) after) h
 at-frame (q ∷ before) p after st w h =
     Memᴰ·append-right (framesBy q (cameOf settings Z st q)) (at-frame before p after (storeAfter settings Z st q) w h)
+
+-- a frame's octets stand in what is written
+stands-in : (l : List Frame) (w : Frame) → List·Memᴰ w l → Stands (frameOctets w) (octetsOf l)
+unfolding together
+stands-in [] w h = absurd (List·Memᴰ·not-nil h)
+stands-in (v ∷ l) w h = go (stands-in l w) (List·Memᴰ·cases-cons h)
+  where
+    go : (List·Memᴰ w l → Stands (frameOctets w) (octetsOf l)) → (w ≡ v) ⊎ List·Memᴰ w l → Stands (frameOctets w) (frameOctets v ++ octetsOf l)
+    go ih (inl e) = ([], octetsOf l, ap (λ (y : Frame). frameOctets y ++ octetsOf l) (sym e))
+    go ih (inr k) =
+        let a = ih k in (
+          frameOctets v ++ a .0,
+          a .1,
+          ap (λ (y : List ℕ). frameOctets v ++ y) (a .2) ∙ sym (append-assoc (frameOctets v) (a .0) (frameOctets w ++ a .1)),
+        )
+
+pub frame-stands : (x : List ℕ) (w : Frame) → List·Memᴰ w (framesOf x) → Stands (frameOctets w) (recorded x)
+frame-stands x w h = let a = stands-in (framesOf x) w h in (a .0, a .1, recording-frames x ∙ a .2)

@@ -14,8 +14,9 @@ use Rattle.join.specs.Joining.{storeJoined}
 use Rattle.steps.specs.Stepping.{longest, room, storeAfter as stepStore}
 use Rattle.recording.specs.Recording.{settings, cellCount, emptyStore}
 use Rattle.demand3.specs.Traffic.{after}
-use Rattle.demand3.specs.Calls.{Call, joining, Brings, Handed, storeBy, storeAfter}
+use Rattle.demand3.specs.Calls.{Call, joining, Handed, storeBy, storeAfter}
 use Rattle.demand3.specs.Presupposed.{storeBehind}
+use Rattle.demand3.proofs.Joins.{joining-brings}
 use Rattle.demand3.proofs.Events.{append-split, one-split, none-split}
 use Rattle.tiles.specs.Along.{storeFrom}
 use Rattle.tiles.proofs.Framing.{Z}
@@ -109,12 +110,8 @@ unfolding callsOf
 handed-in [] q h = absurd (List·Memᴰ·not-nil (h .1))
 handed-in (p ∷ ps) q h = go (short p) (h .1) (handed-in ps q)
   where
-    same : h .0 ≡ joining p output → Brings q (h .0) → q ≡ p
-    same e (inl d) = let z : _≡_ {A = ℕ} 0 1 = cc (sym e ∙ d) in absurd (omega arith)
-    same e (inr d) = let f : joining p output ≡ joining q (d .0) = sym e ∙ d .1 in cc f
-
     by : (Handed q (callsOf ps) → List·Memᴰ q ps) → (h .0 ≡ joining p output) ⊎ List·Memᴰ (h .0) (callsOf ps) → List·Memᴰ q (p ∷ ps)
-    by ih (inl e) = List·Memᴰ·head (same e (h .2))
+    by ih (inl e) = List·Memᴰ·head (joining-brings p output q (h .0) e (h .2))
     by ih (inr k) = List·Memᴰ·tail (ih (h .0, k, h .2))
 
     go : (b : Bool) → List·Memᴰ (h .0) (pick b (joining p output ∷ []) [] ++ callsOf ps) → (Handed q (callsOf ps) → List·Memᴰ q ps) → List·Memᴰ q (p ∷ ps)

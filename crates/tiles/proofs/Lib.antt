@@ -7,3 +7,4 @@ pub mod Marks
 pub mod Unsegmented
 pub mod Rooms
 pub mod DayRecording
+pub mod Calls

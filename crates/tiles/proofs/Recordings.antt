@@ -18,7 +18,7 @@ use Rattle.taking.specs.Taking.{message}
 use Rattle.keeping.specs.Cells.{hasFree}
 use Rattle.steps.specs.Stepping.{longest, Came, over, refused, kept, wholly, message as messageOf, cameOf}
 use Rattle.recording.specs.Recording.{settings, cellCount, emptyStore}
-use Rattle.demand3.specs.Calls.{Call, arrival, joining, Brings, Handed, arrivedStore, tookBy, storeAfter}
+use Rattle.demand3.specs.Calls.{Call, arrival, joining, Handed, arrivedStore, tookBy, storeAfter}
 use Rattle.demand3.specs.Sendings.{Sending, ReadsAs, manyOf, segmentAt, keyIn, startOf}
 use Rattle.demand3.specs.Presupposed.{AllCame, Traffic, Room, Given, storeBehind, cellsIn, fresh, Untaken}
 use Rattle.demand3.specs.Whole.{Delivers}
@@ -26,11 +26,11 @@ use Rattle.demand3.proofs.ReadAs.{own-fits}
 use Rattle.demand3.proofs.Now.{handed-more, arrived-more}
 use Rattle.demand3.proofs.Whole.{demand3·whole, genuine·whole}
 use Rattle.demand3.proofs.JoinsAt.{none-is}
-use Rattle.demand3.proofs.Joins.{only-joins·whole}
+use Rattle.demand3.proofs.Joins.{joining-brings, only-joins·whole}
 use Rattle.demand3.proofs.Holds.{held-came, Taken, taken-or}
 use Rattle.tiles.specs.Along.{packetsOf, storeAlong, Frame, wholePacket, joined, framesBy, framesFrom, framesOf}
-use Rattle.tiles.specs.Written.{AllIn, RecordingOf, RoomAlong, frameOf, RecordingDelivers, RecordingGenuine}
-use Rattle.tiles.proofs.Framing.{Z, packets-octets, Framed, frame-at, at-frame}
+use Rattle.tiles.specs.Written.{AllIn, RecordingOf, RoomAlong, frameOf, RecordingDelivers, RecordingHas, RecordingGenuine}
+use Rattle.tiles.proofs.Framing.{Z, packets-octets, Framed, frame-at, at-frame, frame-stands}
 use Rattle.tiles.proofs.Joinings.{output, short, callsOf, calls-store, call-at, at-call, handed-in, in-handed}
 use Rattle.tiles.proofs.Comes.{came-taken, taken-came, in-use, one-octet, calls-join}
 use Rattle.tiles.proofs.Delivered.{run-counter, run-frame}
@@ -83,14 +83,10 @@ module _ (ms : List Sending) (x : List ℕ) (g : RecordingOf ms x) where
   all-came : (m : Sending) → List·Memᴰ m ms → AllIn m x → AllCame settings m calls
   all-came m h f i l = let a = f i l in (a .0, in-handed ps (a .0) (a .1) (own-short m h i l (a .0) (a .1) (a .2)), a .2)
 
-  brought : (q : List ℕ) (c : Call) (p : List ℕ) → c ≡ joining q output → Brings p c → p ≡ q
-  brought q c p e (inl d) = let z : _≡_ {A = ℕ} 0 1 = cc (sym e ∙ d) in absurd (omega arith)
-  brought q c p e (inr d) = let f : joining q output ≡ joining p (d .0) = sym e ∙ d .1 in cc f
-
   room-of : RoomAlong x → Room settings Z cellCount calls
   room-of room u v c p e b ok seg fit new =
       let a = call-at ps u c v e in
-      let same : p ≡ a .packet = brought (a .packet) c p (a .call) b in
+      let same : p ≡ a .packet = joining-brings (a .packet) output p c (a .call) b in
       let there : storeBehind settings Z cellCount u ≡ storeAlong (a .before) =
       ap (storeBehind settings Z cellCount) (a .earlier) ∙ calls-store (a .before) in
       let place : ps ≡ a .before ++ p ∷ a .after = a .place ∙ ap (λ (q : List ℕ). a .before ++ q ∷ a .after) (sym same) in
@@ -223,3 +219,6 @@ recording-delivers ms x g room = delivers ms x g room
 
 pub recording-genuine : RecordingGenuine
 recording-genuine ms x g = genuine ms x g
+
+pub recording-has : RecordingHas
+recording-has ms x g room m h all = frame-stands x (frameOf m) (delivers ms x g room m h all)

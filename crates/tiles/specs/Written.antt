@@ -15,9 +15,9 @@ use Rattle.cells.specs.Rows.{Cell}
 use Rattle.cells.specs.Order.{cellSize}
 use Rattle.messages.specs.Messages.{look}
 use Rattle.keeping.specs.Cells.{hasFree}
-use Rattle.demand3.specs.Sendings.{Sending, ReadsAs, wholeBody, manyOf, segmentAt, keyIn, startOf, IsCut}
+use Rattle.demand3.specs.Sendings.{Sending, ReadsAs, wholeBody, manyOf, segmentAt, identificationOf, headerOf, keyIn, startOf, IsCut}
 use Rattle.demand3.specs.Presupposed.{MayCome, cellsIn}
-use Rattle.steps.specs.Stepping.{foundIn, longest}
+use Rattle.steps.specs.Stepping.{foundIn, longest, framed}
 use Rattle.recording.specs.Recording.{settings, cellCount, recorded}
 use Rattle.recording.specs.Ending.{past}
 use Rattle.tiles.specs.Along.{packetsOf, marked, Sized, storeAlong, Frame, wholePacket, joined, frameOctets, framesOf}
@@ -68,6 +68,10 @@ RecordingRoom = (x : List ℕ) → length (packetsOf x) ≤ cellCount → RoomAl
 abbrev pub frameOf : Sending → Frame
 frameOf m = joined (keyIn settings m) (startOf settings m) (wholeBody m)
 
+-- some octets stand in others, in one piece
+abbrev pub Stands : List ℕ → List ℕ → Type 0
+Stands w y = (before : List ℕ) × (after : List ℕ) × (y ≡ before ++ (w ++ after))
+
 -- what is written is its frames, one after the other, and nothing else; whatever the recording
 abbrev pub RecordingFrames : Type 0
 RecordingFrames = (x : List ℕ) → recorded x ≡ together (map frameOctets (framesOf x))
@@ -77,6 +81,11 @@ RecordingFrames = (x : List ℕ) → recorded x ≡ together (map frameOctets (f
 abbrev pub RecordingDelivers : Type 0
 RecordingDelivers = (ms : List Sending) (x : List ℕ) → RecordingOf ms x → RoomAlong x → (m : Sending) → List·Memᴰ m ms → AllIn m x →
     List·Memᴰ (frameOf m) (framesOf x)
+
+-- the same of the octets: somewhere in what is written stand 4D 4D, the length, then identification, header and body
+abbrev pub RecordingHas : Type 0
+RecordingHas = (ms : List Sending) (x : List ℕ) → RecordingOf ms x → RoomAlong x → (m : Sending) → List·Memᴰ m ms → AllIn m x →
+    Stands (framed (identificationOf settings m ++ headerOf settings m ++ wholeBody m)) (recorded x)
 
 -- whatever is joined and written under a message's key is one of the messages of that key, whole, and all its segments are in the
 -- recording; with room or without
