@@ -7,11 +7,11 @@ ghost use lib.ListN.{length};
 ghost use Rattle.cells.specs.Order.{countIn};
 ghost use Rattle.arrival.specs.Arriving.{arrived, storeWith};
 ghost use Rattle.taking.specs.Taking.{took, outWith, storeLess};
-ghost use Rattle.arrival.specs.Told.{wordOf as kindOf, said as saidOf};
+ghost use Rattle.arrival.specs.Told.{wordOf};
 ghost use Rattle.join.specs.Joining.{joining, storeJoined, outJoined};
-ghost use Rattle.join.specs.Told.{wordOf as bufferOf, said as saysOf};
+ghost use Rattle.join.specs.Told.{bufferNumber};
 ghost use Rattle.walk.specs.Walk.{settingsOf};
-ghost use Rattle.flat_store.specs.Numbers.{wordNumber, saidNumbers, arriveNumbers, takenNumbers, takeNumbers, placeNumber, saysNumbers, joinNumbers, orderNumbers};
+ghost use Rattle.flat_store.specs.Numbers.{arrivalNumbers, arriveNumbers, takenNumbers, takeNumbers, joinedNumbers, joinNumbers, orderNumbers};
 ghost use Rattle.flat_store.specs.Views.{insideNumbers, viewNumbers};
 use arrival::Arrival;
 use arrival::Kind;
@@ -21,7 +21,7 @@ use taking::Taken;
 use walk::Settings;
 
 fn kind_number(k: Kind) -> u64
-    ensures { λ r. ⌜ r ≡ wordNumber (kindOf k) ⌝ }
+    ensures { λ r. ⌜ r ≡ wordOf k ⌝ }
 {
     match k {
         Kind::Whole => 1,
@@ -31,7 +31,7 @@ fn kind_number(k: Kind) -> u64
 }
 
 fn arrival_numbers(a: Arrival) -> [u64; 2]
-    ensures { λ r. ⌜ r ≡ saidNumbers (saidOf a) ⌝ }
+    ensures { λ r. ⌜ r ≡ arrivalNumbers a ⌝ }
 {
     match a {
         Arrival::Answer(k) => [0, kind_number(k)],
@@ -72,7 +72,7 @@ pub fn take(t: u64, store: &mut [u8], out: &mut [u8]) -> [u64; 4]
 }
 
 fn which_number(w: Which) -> u64
-    ensures { λ r. ⌜ r ≡ placeNumber (bufferOf w) ⌝ }
+    ensures { λ r. ⌜ r ≡ bufferNumber w ⌝ }
 {
     match w {
         Which::Nothing => 0,
@@ -82,7 +82,7 @@ fn which_number(w: Which) -> u64
 }
 
 fn joined_numbers(j: Joined) -> [u64; 7]
-    ensures { λ r. ⌜ r ≡ saysNumbers (saysOf j) ⌝ }
+    ensures { λ r. ⌜ r ≡ joinedNumbers j ⌝ }
 {
     let refusal = j.refusal;
     let which = j.which;

@@ -15,7 +15,7 @@ use Rattle.cells.specs.Order.{inOrder, countIn, gate}
 use Rattle.messages.specs.Messages.{Run, cellsOf, look, picked as pickedFrom, top}
 use Rattle.arrival.specs.Arriving.{Arrived, whole, stored, again, refused, placed, beside, lowestFree, segmentArrived, arrivedIn, arrived, storeWith}
 use Rattle.taking.specs.Taking.{Took, message, unable, writing, drawn, tookIn, took}
-use Rattle.arrival.specs.Told.{saidOf}
+use Rattle.arrival.specs.Told.{said, arrivalOf}
 use Rattle.taking.specs.Told.{takenOf}
 use Rattle.join.specs.Joining.{tookAs, joinedBy, joining}
 use Rattle.join.specs.Told.{joinedOf}
@@ -34,7 +34,7 @@ gated l a b s Z st =
 -- ---- arrival
 
 abbrev Came : Arrived → Type 0
-Came a = Numbered ofArrival (saidOf a .number)
+Came a = Numbered ofArrival (said (arrivalOf a) .number)
 
 came : (n : ℕ) → has (0 ∷ ofArrival) n ≡ true → Numbered ofArrival n
 came n e = among (0 ∷ ofArrival) n e
@@ -47,7 +47,7 @@ segment-came s Z st n t = go (look (cellsOf s Z st n) (t .key) (t .counter))
     go none = picked Came (ltb (lowestFree s Z st n) n) (stored (lowestFree s Z st n)) (refused 19) (came 0 refl) (came 19 refl)
     go (some u) = picked Came (sameRest u t) again (refused 18) (came 0 refl) (came 18 refl)
 
-pub arrival : (s : Settings) (Z : ℕ) (st p : List ℕ) → Numbered ofArrival (saidOf (arrived s Z st p) .number)
+pub arrival : (s : Settings) (Z : ℕ) (st p : List ℕ) → Numbered ofArrival (said (arrivalOf (arrived s Z st p)) .number)
 unfolding arrived arrivedIn
 arrival s Z st p =
     picked Came (eqb (gate s Z st) 0) _ (refused (gate s Z st))
