@@ -75,7 +75,7 @@ recording-frames x = frames-from (length x) emptyStore x
 -- ---- its packets are octets
 
 whole-octets : (x p : List ℕ) → foundIn x ≡ whole p → Octets x → Octets p
-whole-octets x p e o = subst Octets (sym (whole-tells x p e .1 .1)) (octets-part x 2 (sizeIn 0 x) o)
+whole-octets x p e o = subst Octets (sym (whole-tells x p e .1 .1)) (octets-part x 2 (sizeIn x) o)
 
 pub packets-octets : (f : ℕ) (x : List ℕ) → Octets x → (p : List ℕ) → List·Memᴰ p (packetsFrom f x) → Octets p
 unfolding packetsFrom

@@ -21,7 +21,7 @@ module _ (p t : List ℕ) (n : Sized p) where
   x = packetMark ++ (p ++ t)
 
   -- its length field, by the recording
-  size-is : sizeIn 0 x ≡ length p
+  size-is : sizeIn x ≡ length p
   unfolding number
   size-is =
       let a : octetAt (p ++ t) 4 ≡ octetAt p 4 = List·getD-append p t 0 4 (omega arith) in
