@@ -18,4 +18,5 @@ pub mod Ordering
 pub mod Ordered
 pub mod Putting
 pub mod Laid
+pub mod Reaches
 pub mod Within
