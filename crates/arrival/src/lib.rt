@@ -14,6 +14,7 @@ ghost use Rattle.messages.specs.Inner.{segIn};
 ghost use Rattle.arrival.specs.Arriving.{refused as refusedBy, placed, segmentArrived, arrivedIn, storeWith};
 ghost use Rattle.arrival.specs.Told.{arrivalOf};
 ghost use Rattle.arrival.specs.Inner.{segWith};
+use packet::SegmentCounter;
 use walk::Refusal;
 use walk::Settings;
 
@@ -70,15 +71,15 @@ fn store_segment(
     flags: u8,
     at: usize,
     long: usize,
-    counter: u32,
+    counter: SegmentCounter,
 ) -> Arrival
     requires { ⌜ now zero ≡ zeroRow (length (now zero)) ⌝ }
     requires { ⌜ Asked s (now p) at ⌝ }
     requires { ⌜ 2 + length (now p) ≤ length (now zero) ⌝ }
-    ensures { λ r. ⌜ r ≡ arrivalOf (segmentArrived s (length (now (zero .entry))) (now (store .entry)) n (segWith s (now (p .entry)) flags at long counter)) ⌝ }
-    ensures { λ r. ⌜ now (store .exit) ≡ storeWith (length (now (zero .entry))) (now (store .entry)) (now (p .entry)) (segmentArrived s (length (now (zero .entry))) (now (store .entry)) n (segWith s (now (p .entry)) flags at long counter)) ⌝ }
+    ensures { λ r. ⌜ r ≡ arrivalOf (segmentArrived s (length (now (zero .entry))) (now (store .entry)) n (segWith s (now (p .entry)) flags at long (counter .0))) ⌝ }
+    ensures { λ r. ⌜ now (store .exit) ≡ storeWith (length (now (zero .entry))) (now (store .entry)) (now (p .entry)) (segmentArrived s (length (now (zero .entry))) (now (store .entry)) n (segWith s (now (p .entry)) flags at long (counter .0))) ⌝ }
 {
-    let j = cells::find(s, store, n, zero, p, at, counter as u64);
+    let j = cells::find(s, store, n, zero, p, at, counter);
     if n <= j {
         return store_new(store, n, zero, p);
     }
@@ -118,6 +119,6 @@ pub fn arrive_in(s: Settings, store: &mut [u8], n: usize, zero: &[u8], p: &[u8])
         primary.flags,
         body.at,
         body.length,
-        counter.0,
+        counter,
     )
 }

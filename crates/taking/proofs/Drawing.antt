@@ -21,6 +21,7 @@ use Rattle.cells.proofs.CellSegments.{segment-or}
 use Rattle.messages.specs.Messages.{Role, first, middle, last, roleOf, Run, bodyOf, listed, orElse, cellsOf, chain, opensBy, runFrom, runIn, pickIn, picked}
 use Rattle.taking.specs.Taking.{message, unable, writing, drawn}
 use Rattle.taking.specs.declared.Copied.{Copied}
+use Rattle.taking.specs.declared.Measured.the-variants.{Long}
 use Rattle.taking.specs.Told.{takenOf}
 use Rattle.taking.specs.Follow.{segAt, follow, placesFrom, placesOf, bodiesAt, answer, isSome, opensAt, copiedOf, Opens}
 use Rattle.messages.proofs.Looks.{lowest-holds}
@@ -96,11 +97,11 @@ module _ (next : ℕ → ℕ) (span : ℕ) (s : Settings) (Z : ℕ) (st : List �
           let k : suc i + m ≤ lowest (opensAt next span s Z st n) m (suc i) = omega (arith, ap low e) in
           pick-on (at i) _ e ∙ rest k
 
-  pub picked-below : (answer (picked next span cs) ≡ 0 → ⊥) → lowest (opensAt next span s Z st n) n 0 < n
+  pub picked-below : (picked next span cs ≡ none → ⊥) → lowest (opensAt next span s Z st n) n 0 < n
   picked-below h =
       ⊎-elim
       (λ l. l)
-      (λ l. let k : 0 + n ≤ lowest (opensAt next span s Z st n) n 0 = omega arith in absurd (h (ap answer (pick-none n 0 k))))
+      (λ l. let k : 0 + n ≤ lowest (opensAt next span s Z st n) n 0 = omega arith in absurd (h (pick-none n 0 k)))
       (below-or (lowest (opensAt next span s Z st n) n 0) n)
 
   -- ---- the message
@@ -171,11 +172,11 @@ module _ (next : ℕ → ℕ) (span : ℕ) (s : Settings) (Z : ℕ) (st : List �
     unfolding placesFrom
     places-are = ap placesOf (m .complete)
 
-    module _ {b : ℕ} (eb : suc b ≡ answer (picked next span cs)) where
+    module _ {b : ℕ} (eb : Long b ≡ answer (picked next span cs)) where
       pub body-long : b ≡ length (bodiesAt s Z st (i ∷ m .places))
       body-long =
-          let e : suc b ≡ suc (length (bodyOf runOf)) = eb ∙ ap answer (m .run) in
-          let d : b ≡ length (bodyOf runOf) = omega arith in
+          let e : Long b ≡ Long (length (bodyOf runOf)) = eb ∙ ap answer (m .run) in
+          let d : b ≡ length (bodyOf runOf) = cc in
           d ∙ ap length body-is
 
       -- what is told of it
@@ -203,9 +204,5 @@ module _ (next : ℕ → ℕ) (span : ℕ) (s : Settings) (Z : ℕ) (st : List �
           ∙ ap (λ (c : Bool). pick c (message runOf) (unable 21)) (lt-leb (length (writing runOf)) long k)
 
   -- nothing is complete
-  pub took-none : (long : ℕ) → answer (picked next span cs) ≡ 0 → drawn (picked next span cs) long ≡ unable 20
-  took-none long e = none-drawn (picked next span cs) e
-    where
-      none-drawn : (o : Option Run) → answer o ≡ 0 → drawn o long ≡ unable 20
-      none-drawn none d = refl
-      none-drawn (some r) d = absurd (omega arith)
+  pub took-none : (long : ℕ) → picked next span cs ≡ none → drawn (picked next span cs) long ≡ unable 20
+  took-none long e = ap (λ (o : Option Run). drawn o long) e

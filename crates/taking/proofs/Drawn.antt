@@ -15,6 +15,7 @@ use Rattle.cells.specs.Rows.{held, rowAt, packetIn}
 use Rattle.cells.specs.Order.{cellAt, lowest}
 use Rattle.cells.specs.Inner.{withinIn}
 use Rattle.taking.specs.declared.Copied.{Copied}
+use Rattle.taking.specs.declared.Measured.the-variants.{Long}
 use Rattle.messages.specs.Messages.{cellsOf, picked, amongIn, top}
 use Rattle.taking.specs.Taking.{message, tookIn, outWith, storeLess}
 use Rattle.clearing.specs.Cleared.{clearedTo, zeroIf}
@@ -30,7 +31,7 @@ abbrev pub cellsFrom : Settings → ℕ → List ℕ → ℕ → ℕ → List �
 cellsFrom s Z st n i = i ∷ placesFrom suc top s Z st n (segAt s Z st i .key) (suc (segAt s Z st i .counter))
 
 module _ (s : Settings) (Z : ℕ) (st out : List ℕ) (n i b : ℕ) (ei : i ≡ lowest (opensAt suc top s Z st n) n 0) (below : i < n)
-    (eb : suc b ≡ answer (picked suc top (cellsOf s Z st n))) (room : length (segAt s Z st i .key) + b ≤ length out) where
+    (eb : Long b ≡ answer (picked suc top (cellsOf s Z st n))) (room : length (segAt s Z st i .key) + b ≤ length out) where
   m : Message suc top s Z st n i
   m = the-message suc top s Z st n ei below
 
@@ -90,17 +91,16 @@ module _ (s : Settings) (Z : ℕ) (st out : List ℕ) (n i b : ℕ) (ei : i ≡ 
 
     pub draw-store :
         {x k y : List ℕ} → x ≡ sets out 0 (segAt s Z st i .key ++ bodiesAt s Z st (cellsFrom s Z st n i)) → k ≡ part x 0 (2 + u .header) →
-        y ≡ clearedTo (λ j. zeroIf Z (withinIn k (u .counter .0) (u .until) (cellAt s Z st j))) Z n st → y ≡ storeLess s Z st n (tookIn s Z st n (length out))
+        y ≡ clearedTo (λ j. zeroIf Z (withinIn suc k (u .counter .0) (u .steps) (cellAt s Z st j))) Z n st → y ≡ storeLess s Z st n (tookIn s Z st n (length out))
     unfolding storeLess copiedOf
     draw-store {x} {k} ex ek ey =
-        let t = segAt s Z st i in
-        let d : u .until ≡ suc (segAt s Z st i .counter) + length (m .places) =
-        ap (λ (w : Copied). w .until) eu ∙ ap (λ (js : List ℕ). suc (segAt s Z st i .counter) + length js) (places-are suc top s Z st n m) in
+        let d : u .steps ≡ length (m .places) = ap (λ (w : Copied). w .steps) eu ∙ ap length (places-are suc top s Z st n m) in
         ey
-        ∙ ap₂ (λ (l : List ℕ) (c : ℕ). clearedTo (λ j. zeroIf Z (withinIn l c (u .until) (cellAt s Z st j))) Z n st) (key-front ex ek) (ap (λ (w : Copied). w .counter .0) eu)
-        ∙ ap (λ (e : ℕ). clearedTo (λ j. zeroIf Z (withinIn (segAt s Z st i .key) (segAt s Z st i .counter) e (cellAt s Z st j))) Z n st) d
+        ∙ ap₂ (λ (l : List ℕ) (c : ℕ). clearedTo (λ j. zeroIf Z (withinIn suc l c (u .steps) (cellAt s Z st j))) Z n st)
+        (key-front ex ek) (ap (λ (w : Copied). w .counter .0) eu)
+        ∙ ap (λ (e : ℕ). clearedTo (λ j. zeroIf Z (withinIn suc (segAt s Z st i .key) (segAt s Z st i .counter) e (cellAt s Z st j))) Z n st) d
         ∙ cleared-same
-        (λ j. zeroIf Z (withinIn (segAt s Z st i .key) (segAt s Z st i .counter) (suc (segAt s Z st i .counter) + length (m .places)) (cellAt s Z st j)))
+        (λ j. zeroIf Z (withinIn suc (segAt s Z st i .key) (segAt s Z st i .counter) (length (m .places)) (cellAt s Z st j)))
         (λ j. zeroIf Z (amongIn (segAt s Z st i ∷ map (segAt s Z st) (m .places)) (cellAt s Z st j))) Z n st
-        (λ j l. ap (zeroIf Z) (message-among s Z st n top (segAt s Z st i) (m .places) (m .complete) (cellAt s Z st j)))
+        (λ j l. ap (zeroIf Z) (message-among suc top s Z st n top (segAt s Z st i) (m .places) (m .complete) (cellAt s Z st j)))
         ∙ ap (storeLess s Z st n) (sym took-is)

@@ -16,6 +16,7 @@ use Rattle.cells.specs.Segments.{Seg}
 use Rattle.cells.specs.Rows.{held}
 use Rattle.cells.specs.Order.{cellAt, foundIn}
 use Rattle.messages.specs.Messages.{Role, first, middle, last, roleOf, bodies, cellsOf, look, link, linkBy, chain}
+use Rattle.taking.specs.declared.Measured.the-variants.{Long}
 use Rattle.taking.specs.Follow.{segAt, onAt, follow, bodiesAt, total}
 use Rattle.messages.proofs.Looks.{look-found, look-none}
 use Rattle.messages.proofs.Found.{found-held}
@@ -118,10 +119,13 @@ module _ (next : ℕ → ℕ) (span : ℕ) (s : Settings) (Z : ℕ) (st : List �
   pub total-on : (b j : ℕ) (r : Option (List ℕ)) → total s Z st b (linkBy middle j r) ≡ total s Z st (b + length (at j .body)) r
   unfolding bodiesAt
   total-on b j none = refl
-  total-on b j (some js) = let e : b + length (at j .body ++ bodiesAt s Z st js) ≡ b + length (at j .body) + length (bodiesAt s Z st js) = omega (arith, length-append (at j .body) (bodiesAt s Z st js)) in ap suc e
+  total-on b j (some js) =
+      let e : b + length (at j .body ++ bodiesAt s Z st js) ≡ b + length (at j .body) + length (bodiesAt s Z st js) =
+      omega (arith, length-append (at j .body) (bodiesAt s Z st js)) in
+      ap Long e
 
-  pub total-last : (b j : ℕ) (r : Option (List ℕ)) → total s Z st b (linkBy last j r) ≡ b + length (at j .body) + 1
+  pub total-last : (b j : ℕ) (r : Option (List ℕ)) → total s Z st b (linkBy last j r) ≡ Long (b + length (at j .body))
   unfolding bodiesAt
   total-last b j r =
-      let e : suc (b + length (at j .body ++ [])) ≡ b + length (at j .body) + 1 = omega (arith, length-append (at j .body) []) in
-      e
+      let e : b + length (at j .body ++ []) ≡ b + length (at j .body) = omega (arith, length-append (at j .body) []) in
+      ap Long e

@@ -8,6 +8,7 @@ pub mod Copying
 pub mod Bodies
 pub mod Heads
 pub mod Drawing
+pub mod Past
 pub mod Among
 pub mod Drawn
 pub mod Takings

@@ -13,7 +13,10 @@ use Rattle.cells.specs.Segments.{Seg}
 use Rattle.cells.specs.Rows.{rowAt, zeroRow}
 use Rattle.cells.specs.Order.{cellAt, foundIn, lowest}
 use Rattle.cells.specs.Chains.{Chained, bucketAt}
+use Rattle.taking.specs.declared.Measured.{Measured}
+use Rattle.taking.specs.declared.Measured.the-variants.{Long, Incomplete}
 use Rattle.taking.specs.declared.Picked.{Picked}
+use Rattle.taking.specs.declared.Picked.the-variants.{Message, Nothing}
 use Rattle.taking.specs.declared.Copied.{Copied}
 use Rattle.messages.specs.Messages.{roleOf, linkBy, Run, bodyOf, cellsOf, runIn, picked}
 use Rattle.messages.specs.Inner.{segIn}
@@ -39,15 +42,20 @@ bodiesAt s Z st (j ∷ js) = segAt s Z st j .body ++ bodiesAt s Z st js
 
 -- ---- as the code tells it
 
--- 0, or one more than b and the octets of the bodies
-abbrev pub total : Settings → ℕ → List ℕ → ℕ → Option (List ℕ) → ℕ
-total s Z st b none = 0
-total s Z st b (some js) = suc (b + length (bodiesAt s Z st js))
+-- b and the octets of the bodies, if the run is complete
+abbrev pub total : Settings → ℕ → List ℕ → ℕ → Option (List ℕ) → Measured
+total s Z st b none = Incomplete
+total s Z st b (some js) = Long (b + length (bodiesAt s Z st js))
 
--- 0, or one more than the octets of the message's body
-abbrev pub answer : Option Run → ℕ
-answer none = 0
-answer (some r) = suc (length (bodyOf r))
+-- the octets of the message's body
+abbrev pub answer : Option Run → Measured
+answer none = Incomplete
+answer (some r) = Long (length (bodyOf r))
+
+-- the message and the cell of its first
+abbrev pub chosen : ℕ → Option Run → Picked
+chosen i none = Nothing
+chosen i (some r) = Message i (length (bodyOf r))
 
 abbrev pub isSome : {A : Type 0} → Option A → Bool
 isSome none = false
@@ -57,10 +65,9 @@ isSome (some a) = true
 abbrev pub endsAt : ℕ → List ℕ → ℕ → Bool
 endsAt Z st i = eqb (octetAt (rowAt Z st i) 4 / 64) 2
 
--- what is told of a message that opens with t and has m more segments: H, its first counter, and the one behind its last
+-- what is told of a message that opens with t and has m more segments: H, its first counter, and m
 unfoldable pub copiedOf : Seg → ℕ → Copied
-copiedOf t m =
-    record { header = length (t .key) - 2; counter = record { 0 = t .counter }; until = suc (t .counter) + m }
+copiedOf t m = record { header = length (t .key) - 2; counter = record { 0 = t .counter }; steps = m }
 
 -- what a search is lent: tables that chain the first n cells where it goes by chains, and a zero cell
 abbrev pub Lent : Settings → List ℕ → List ℕ → ℕ → Bool → List ℕ → List ℕ → Type 0
@@ -84,8 +91,7 @@ module _ (next : ℕ → ℕ) (span : ℕ) where
   opensAt s Z st n i = isSome (runIn next span (cellsOf s Z st n) (cellAt s Z st i))
 
   unfoldable pub pickedOf : Settings → ℕ → List ℕ → ℕ → Picked
-  pickedOf s Z st n =
-      record { cell = lowest (opensAt s Z st n) n 0; body = answer (picked next span (cellsOf s Z st n)) }
+  pickedOf s Z st n = chosen (lowest (opensAt s Z st n) n 0) (picked next span (cellsOf s Z st n))
 
   -- a run is complete, and there is room for its bodies from a place on
   pub record Ready (s : Settings) (Z : ℕ) (st : List ℕ) (n : ℕ) (k : List ℕ) (c place : ℕ) (out : List ℕ) : Type 0 where

@@ -1,6 +1,6 @@
 -- `clearing::clear` meets its contract. The loop's invariant: those of the cells passed are zero, and the others are as they were.
 -- Assumes nothing.
-use Prim.Native.Nat.{ℕ, _-_}
+use Prim.Native.Nat.{ℕ, suc, _-_}
 use mathlib.Core.List.{List}
 use mathlib.Core.Logic.{⊎-elim}
 use mathlib.Core.Path.{ap, sym, _∙_}
@@ -17,11 +17,11 @@ use Rattle.clearing.proofs.clear.Statement.{statement}
 use Rattle.clearing.proofs.clear.Tie as tie
 
 abbrev Inv-loop : tie.InvT-loop
-Inv-loop s store₀ n zero key from to z i₀ store i =
-    Clearing (λ j. zeroIf (length zero) (withinIn key from to (cellAt s (length zero) store₀ j))) (length zero) n store₀ store i
+Inv-loop s store₀ n zero key first steps z i₀ store i =
+    Clearing (λ j. zeroIf (length zero) (withinIn suc key (first .0) steps (cellAt s (length zero) store₀ j))) (length zero) n store₀ store i
 
 abbrev μ-loop : tie.MeasureT-loop
-μ-loop s store₀ n zero key from to z i₀ store i = n - i
+μ-loop s store₀ n zero key first steps z i₀ store i = n - i
 
 loop-holds : tie.Need-loop-holds Inv-loop μ-loop
 loop-holds c = clearing-first _ _ _ _
@@ -47,7 +47,7 @@ loop-again c =
     let h = c .before .before .before .before in
     let k = h .before .loop .inv in
     let Z = length (now (g .args .zero)) in
-    let e = sym (clearing-told (λ (r : List ℕ). withinIn (now (g .args .key)) (g .args .from) (g .args .to) (cellOf (g .args .s) Z r))
+    let e = sym (clearing-told (λ (r : List ℕ). withinIn suc (now (g .args .key)) (g .args .first .0) (g .args .steps) (cellOf (g .args .s) Z r))
     Z k (c .before .before .row .ensures) (c .before .is-within .ensures)) in
     ⊎-elim
     (λ w. clearing-here (now (g .args .zero)) k (h .loop-test .taken) (ap (zeroIf Z) (e ∙ w .0 .taken) ∙ ap some (sym (g .pre))) (w .5 ∙ w .2 .ensures))
