@@ -28,7 +28,7 @@ module _ (s : Settings) (Z : ℕ) (st : List ℕ) (o : Octets st) where
   counter-low : (j : ℕ) → Holding s Z (rowAt Z st j) → segAt s Z st j .counter ≤ top
   unfolding segOf
   counter-low j h =
-      let p = packetIn Z (rowAt Z st j) in
+      let p = packetIn (rowAt Z st j) in
       let plain = octets-part (rowAt Z st j) 2 (number 2 (rowAt Z st j) 6 + 7) (octets-part st (j * Z) Z o) in
       let e : readPacket s p .ids .counter .0 < 256 ^ 4 = rw (sym (counter-told s p plain (h .accepted) (h .segment))) (number-top 4 p _ plain) in
       omega arith

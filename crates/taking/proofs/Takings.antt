@@ -63,7 +63,7 @@ module _ (s : Settings) (Z : ℕ) (st : List ℕ) (n : ℕ) {u : Picked} (eu : u
 
     module _ (o : Octets st) {r q : List ℕ} {h : Header} (er : r ≡ rowAt Z st cell) (eq : q ≡ packetIn r) (eh : h ≡ readPacket s q) where
       read-is : h ≡ readPacket s (packetIn (rowAt Z st cell))
-      read-is = eh ∙ ap (readPacket s) (eq ∙ ap (packetIn Z) er)
+      read-is = eh ∙ ap (readPacket s) (eq ∙ ap packetIn er)
 
       -- the key is two octets of identification and H octets of header
       pub key-long : length (segAt s Z st cell .key) ≡ 2 + h .h
