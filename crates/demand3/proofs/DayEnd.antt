@@ -37,6 +37,7 @@ use Rattle.demand3.proofs.Acts.{comes, lands, actEvents, acts-are, unta
 use Rattle.demand3.proofs.Day.{settings, cutting, three, succeeds, messages, of-three, header, three-many, three-cut, seg, stray, is-eight, is-nine}
 use Rattle.demand3.proofs.DayComes.{Fine, three-fine}
 use Rattle.demand3.proofs.DayRun.{lentOut, dawn, early, morning, atNoon, noon, evening, eight, nine, dawnActs, morningActs, noonActs, eveningActs, dawn-acts, morning-acts, noon-acts, evening-acts, day-acts, in-use, one, cells-are, joined-takes, taking-takes, traffic, given}
+use Rattle.sender.proofs.Stepping.{steps-suc}
 
 abbrev Z : ℕ
 Z = cellSize
@@ -172,7 +173,7 @@ handed =
         subst Fine (sym f) (three-fine 1 (omega arith) 79 (omega arith))
 
     first-counter : 7 ≡ segmentAt settings three 0 .counter
-    first-counter = omega (arith, the-start)
+    first-counter = omega (arith, the-start, steps-suc 0 (startOf settings three))
 
 -- identification, header and body, and behind them the output as it was
 pub written : outBy settings Z (storeBehind settings Z 4 morning) atNoon ≡ 0x18 ∷ 5 ∷ header ++ (1 ∷ 2 ∷ 3 ∷ 4 ∷ 5 ∷ 6 ∷ 7 ∷ 8 ∷ lentOut 4)

@@ -11,10 +11,11 @@ use lib.ListN.{length}
 use Rattle.cells.specs.Segments.{Seg}
 use Rattle.cells.specs.Rows.{Cell, held}
 use Rattle.messages.specs.Messages.{Role, first, middle, last, Run, segments, look, chain, runFrom, picked}
-use Rattle.demand3.specs.Complete.{Held, Single, Has, steps, Complete}
+use Rattle.demand3.specs.Complete.{Held, Single, Has, Complete}
 use Rattle.demand3.proofs.Looks.{look-held, look-at}
 use Rattle.demand3.proofs.Links.{Mem, roleIn, Linked, Opened, opened-key, linked-at, linked-last, linked-middle}
 use Rattle.demand3.proofs.Finds.{There, Joint, link-inv, Found, found-opened, found-there, found-from, Lowest, picked-lowest, picked-held, picked-some}
+use Rattle.sender.specs.Sending.{stepsOf}
 
 pub below-suc : (j n : ℕ) → j < suc n → (j ≡ n) ⊎ (j < n)
 below-suc zero zero h = inl refl
@@ -37,7 +38,7 @@ module _ (next : ℕ → ℕ) (span : ℕ) where
   pub there-complete :
       (cs : List Cell) (r : Run) → Opened next r → length (r .rest) ≤ span → There cs (segments r) →
       Complete next span cs (r .head .key) (r .head .counter) (length (r .rest))
-  unfolding steps
+  unfolding stepsOf
   there-complete cs r o l f = by (length (r .rest)) refl (some-rest (r .rest) (o .follows))
     where
       k : List ℕ
@@ -53,8 +54,8 @@ module _ (next : ℕ → ℕ) (span : ℕ) where
       in-cells : (t : Seg) → Mem t (segments r) → Held t cs
       in-cells t m = look-held cs (t .key) (t .counter) t (f t m) .0
 
-      has : (j : ℕ) (f′ : Role) → (t : Seg) × Mem t (r .rest) × (t .key ≡ k) × (t .counter ≡ steps next j (next c)) × (roleIn t ≡ f′) →
-          Has cs k (steps next j (next c)) f′
+      has : (j : ℕ) (f′ : Role) → (t : Seg) × Mem t (r .rest) × (t .key ≡ k) × (t .counter ≡ stepsOf next j (next c)) × (roleIn t ≡ f′) →
+          Has cs k (stepsOf next j (next c)) f′
       has j f′ z = (z .0, in-cells (z .0) (List·Memᴰ·tail (z .1)), z .2, z .3, z .4)
 
       by : (n : ℕ) → length (r .rest) ≡ n → 1 ≤ n → Complete next span cs k c n
@@ -64,10 +65,10 @@ module _ (next : ℕ → ℕ) (span : ℕ) where
           op : Has cs k c first
           op = (r .head, in-cells (r .head) (List·Memᴰ·head refl), refl, refl, o .opens)
 
-          cl : Has cs k (steps next (suc n) c) last
+          cl : Has cs k (stepsOf next (suc n) c) last
           cl = has n last (linked-last next k (next c) (r .rest) (o .follows) n e)
 
-          mid : (j : ℕ) → 0 < j → j < suc n → Has cs k (steps next j c) middle
+          mid : (j : ℕ) → 0 < j → j < suc n → Has cs k (stepsOf next j c) middle
           mid zero p q = absurd (omega arith)
           mid (suc j) p q = has j middle (linked-middle next k (next c) (r .rest) (o .follows) j (omega arith))
 
@@ -76,7 +77,7 @@ module _ (next : ℕ → ℕ) (span : ℕ) where
       (cs : List Cell) (r : Run) → Single cs → Opened next r →
       Complete next span cs (r .head .key) (r .head .counter) (length (r .rest)) →
       (t : Seg) → Mem t (segments r) → (u : Seg) × (look cs (t .key) (t .counter) ≡ some u)
-  unfolding steps
+  unfolding stepsOf
   complete-some cs r s o d t m = go (List·Memᴰ·cases-cons m)
     where
       found : (f : Role) → Has cs (r .head .key) (t .counter) f → (u : Seg) × (look cs (t .key) (t .counter) ≡ some u)
@@ -86,7 +87,7 @@ module _ (next : ℕ → ℕ) (span : ℕ) where
       go (inl e) = found first (rw (ap (λ (x : Seg). x .counter) e) (d .opens))
       go (inr h) = on (linked-at next (r .head .key) (next (r .head .counter)) (r .rest) (o .follows) t h)
         where
-          on : (j : ℕ) × (j < length (r .rest)) × (t .counter ≡ steps next j (next (r .head .counter))) →
+          on : (j : ℕ) × (j < length (r .rest)) × (t .counter ≡ stepsOf next j (next (r .head .counter))) →
               (u : Seg) × (look cs (t .key) (t .counter) ≡ some u)
           on z = ends (below-suc (suc (z .0)) (length (r .rest)) (suc-le-suc (z .1)))
             where
@@ -98,10 +99,10 @@ module _ (next : ℕ → ℕ) (span : ℕ) where
   -- ---- complete exactly if picked
 
   chain-complete :
-      (cs : List Cell) → Single cs → (n fuel : ℕ) (k : List ℕ) (c : ℕ) → n < fuel → Has cs k (steps next n c) last →
-      ((j : ℕ) → j < n → Has cs k (steps next j c) middle) →
+      (cs : List Cell) → Single cs → (n fuel : ℕ) (k : List ℕ) (c : ℕ) → n < fuel → Has cs k (stepsOf next n c) last →
+      ((j : ℕ) → j < n → Has cs k (stepsOf next j c) middle) →
       (r : List Seg) × (chain next span fuel cs k c ≡ some r) × (length r ≡ suc n)
-  unfolding chain steps
+  unfolding chain stepsOf
   chain-complete cs s n zero k c h l m = absurd (omega arith)
   chain-complete cs s zero (suc fuel) k c h l m = let v = has-look cs s k c last l in (v .0 ∷ [], rw (v .1) (rw (v .2)), refl)
   chain-complete cs s (suc n) (suc fuel) k c h l m =
@@ -113,7 +114,7 @@ module _ (next : ℕ → ℕ) (span : ℕ) where
   pub complete-found :
       (cs : List Cell) → Single cs → (k : List ℕ) (c n : ℕ) → Complete next span cs k c n →
       (r : Run) × Held (r .head) cs × Found next span cs r × (r .head .key ≡ k) × (r .head .counter ≡ c) × (length (r .rest) ≡ n)
-  unfolding steps
+  unfolding stepsOf
   complete-found cs s k c zero d = absurd (let h = d .onward in omega arith)
   complete-found cs s k c (suc n) d =
       let o = d .opens in

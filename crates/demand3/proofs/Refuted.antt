@@ -41,6 +41,7 @@ use Rattle.demand3.proofs.DayComes.{Fine, three-fine}
 use Rattle.demand3.proofs.DayRun.{lentOut, early, morning, atNoon, noon, evening, seven, nine, ten, noonActs, eveningActs, consed, day-acts, in-use, traffic}
 use Rattle.demand3.proofs.DayEnd.{cellsAtEnd, end-cells, theRun, the-key, the-start, promised}
 use Rattle.demand3.proofs.Ways.{goes, goesOn, behind, takenBy, by, ofKey, lastOf, heldFrom, numbered, numberWay, match, chainBy, opened, chosen, transactionWay}
+use Rattle.sender.specs.Sending.{stepsOf}
 
 abbrev Z : ℕ
 Z = cellSize
@@ -169,9 +170,9 @@ TellsIt by = (x y : List Call) (c : Call) (r : Run) → noon ++ evening ≡ x ++
 
 -- the store does so
 pub tells-it : TellsIt (λ cs c. tookBy settings Z (storeBehind settings Z 4 cs) c)
-unfolding place headOf split identification headerOctets fixedOctets presence frontOctets backOctets wide
+unfolding place stepsOf headOf split identification headerOctets fixedOctets presence frontOctets backOctets wide
 tells-it x y c r d e i =
-    let a : r .head .counter ≡ segmentAt settings three 0 .counter = omega (arith, i .1) in
+    let a : r .head .counter ≡ segmentAt settings three 0 .counter = i .1 in
     let v =
     soundness·whole settings 4 in-use messages [] x sooner three (List·Memᴰ·head refl) fresh .1 .takes c its .gives r e (i .0) 0
     (omega (arith, three-many)) a in

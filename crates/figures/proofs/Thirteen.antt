@@ -28,6 +28,7 @@ use Rattle.demand3.proofs.Steps.{eventOf, took-is}
 use Rattle.demand3.proofs.Events.{eventsIn}
 use Rattle.demand3.proofs.Carried.{behind-cells, behind-keeps}
 use Rattle.figures.specs.Table.{is, packet, written, taken, eight}
+use Rattle.sender.specs.Sending.{stepsOf}
 
 abbrev arrivals : List Call
 arrivals = arrival (packet 64 38 0 64) ∷ arrival (packet 64 38 1 36) ∷ []
@@ -43,11 +44,11 @@ abbrev closes : Seg
 closes = record { key = key; counter = 1; flags = 2; body = zeros 5 }
 
 first-comes : eventOf settings 1024 (packet 64 38 0 64) ≡ arrives opens
-unfolding nextCount wide alike numberAt begun check octets unless split presence identification fixedOctets frontOctets counterOctets backOctets headerOctets secondaryOctets dataOctets octetsOf primaryTests primaryOf octetField wideField sduField afterSdu afterArea afterService afterOperation afterVersion afterSession afterSecondary afterQualifier afterTransaction afterPresence fixedOf flagsOf presentOf idsOf textsOf bodyTest refusedHeader acceptedHeader readPacket counterPlace keyOf headOf sum nameChecks routingChecks idChecks textChecks headerChecks unlessAll settingsTest partsTest countersFit counterAt countAt packets rounded limitTest valueTests messageTests countRefusal flagsAt bodyAt packetAt packetRefusal packetOutput segOf mayHold
+unfolding nextCount wide alike numberAt begun check octets unless split presence identification fixedOctets frontOctets counterOctets backOctets headerOctets secondaryOctets dataOctets octetsOf primaryTests primaryOf octetField wideField sduField afterSdu afterArea afterService afterOperation afterVersion afterSession afterSecondary afterQualifier afterTransaction afterPresence fixedOf flagsOf presentOf idsOf textsOf bodyTest refusedHeader acceptedHeader readPacket counterPlace keyOf headOf sum nameChecks routingChecks idChecks textChecks headerChecks unlessAll settingsTest partsTest countersFit counterAt stepsOf countAt packets rounded limitTest valueTests messageTests countRefusal flagsAt bodyAt packetAt packetRefusal packetOutput segOf mayHold
 first-comes = refl
 
 last-comes : eventOf settings 1024 (packet 64 38 1 36) ≡ arrives closes
-unfolding nextCount wide alike numberAt begun check octets unless split presence identification fixedOctets frontOctets counterOctets backOctets headerOctets secondaryOctets dataOctets octetsOf primaryTests primaryOf octetField wideField sduField afterSdu afterArea afterService afterOperation afterVersion afterSession afterSecondary afterQualifier afterTransaction afterPresence fixedOf flagsOf presentOf idsOf textsOf bodyTest refusedHeader acceptedHeader readPacket counterPlace keyOf headOf sum nameChecks routingChecks idChecks textChecks headerChecks unlessAll settingsTest partsTest countersFit counterAt countAt packets rounded limitTest valueTests messageTests countRefusal flagsAt bodyAt packetAt packetRefusal packetOutput segOf mayHold
+unfolding nextCount wide alike numberAt begun check octets unless split presence identification fixedOctets frontOctets counterOctets backOctets headerOctets secondaryOctets dataOctets octetsOf primaryTests primaryOf octetField wideField sduField afterSdu afterArea afterService afterOperation afterVersion afterSession afterSecondary afterQualifier afterTransaction afterPresence fixedOf flagsOf presentOf idsOf textsOf bodyTest refusedHeader acceptedHeader readPacket counterPlace keyOf headOf sum nameChecks routingChecks idChecks textChecks headerChecks unlessAll settingsTest partsTest countersFit counterAt stepsOf countAt packets rounded limitTest valueTests messageTests countRefusal flagsAt bodyAt packetAt packetRefusal packetOutput segOf mayHold
 last-comes = refl
 
 events : eventsIn settings 1024 (emptyStore 1024 2) arrivals ≡ arrives opens ∷ arrives closes ∷ []
