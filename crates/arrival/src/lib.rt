@@ -12,9 +12,9 @@ ghost use Rattle.cells.specs.Order.{lowest};
 ghost use Rattle.cells.specs.Inner.{Asked};
 ghost use Rattle.messages.specs.Inner.{segIn};
 ghost use Rattle.arrival.specs.Arriving.{refused as refusedBy, placed, segmentArrived, arrivedIn, storeWith};
-ghost use Rattle.arrival.specs.Beside.{arrivedBeside};
 ghost use Rattle.arrival.specs.Told.{arrivalOf};
 ghost use Rattle.arrival.specs.Inner.{segWith};
+use packet::SegmentCounter;
 use walk::Refusal;
 use walk::Settings;
 
@@ -71,15 +71,15 @@ fn store_segment(
     flags: u8,
     at: usize,
     long: usize,
-    counter: u32,
+    counter: SegmentCounter,
 ) -> Arrival
     requires { ⌜ now zero ≡ zeroRow (length (now zero)) ⌝ }
     requires { ⌜ Asked s (now p) at ⌝ }
     requires { ⌜ 2 + length (now p) ≤ length (now zero) ⌝ }
-    ensures { λ r. ⌜ r ≡ arrivalOf (segmentArrived s (length (now (zero .entry))) (now (store .entry)) n (segWith s (now (p .entry)) flags at long counter)) ⌝ }
-    ensures { λ r. ⌜ now (store .exit) ≡ storeWith (length (now (zero .entry))) (now (store .entry)) (now (p .entry)) (segmentArrived s (length (now (zero .entry))) (now (store .entry)) n (segWith s (now (p .entry)) flags at long counter)) ⌝ }
+    ensures { λ r. ⌜ r ≡ arrivalOf (segmentArrived s (length (now (zero .entry))) (now (store .entry)) n (segWith s (now (p .entry)) flags at long (counter .0))) ⌝ }
+    ensures { λ r. ⌜ now (store .exit) ≡ storeWith (length (now (zero .entry))) (now (store .entry)) (now (p .entry)) (segmentArrived s (length (now (zero .entry))) (now (store .entry)) n (segWith s (now (p .entry)) flags at long (counter .0))) ⌝ }
 {
-    let j = cells::find(s, store, n, zero, p, at, counter as u64);
+    let j = cells::find(s, store, n, zero, p, at, counter);
     if n <= j {
         return store_new(store, n, zero, p);
     }
@@ -90,7 +90,7 @@ fn store_segment(
 }
 
 // A packet at the first n cells of any octets, beside a zero cell.
-pub fn arrive_on(s: Settings, store: &mut [u8], n: usize, zero: &[u8], p: &[u8]) -> Arrival
+pub fn arrive_in(s: Settings, store: &mut [u8], n: usize, zero: &[u8], p: &[u8]) -> Arrival
     requires { ⌜ now zero ≡ zeroRow (length (now zero)) ⌝ }
     ensures { λ r. ⌜ r ≡ arrivalOf (arrivedIn s (length (now (zero .entry))) (now (store .entry)) n (now (p .entry))) ⌝ }
     ensures { λ r. ⌜ now (store .exit) ≡ storeWith (length (now (zero .entry))) (now (store .entry)) (now (p .entry)) (arrivedIn s (length (now (zero .entry))) (now (store .entry)) n (now (p .entry))) ⌝ }
@@ -119,17 +119,6 @@ pub fn arrive_on(s: Settings, store: &mut [u8], n: usize, zero: &[u8], p: &[u8])
         primary.flags,
         body.at,
         body.length,
-        counter.0,
+        counter,
     )
-}
-
-// The same beside any octets: where they are not all zeros, no store is in order beside them.
-pub fn arrive_in(s: Settings, store: &mut [u8], n: usize, zero: &[u8], p: &[u8]) -> Arrival
-    ensures { λ r. ⌜ r ≡ arrivalOf (arrivedBeside s (now (zero .entry)) (now (store .entry)) n (now (p .entry))) ⌝ }
-    ensures { λ r. ⌜ now (store .exit) ≡ storeWith (length (now (zero .entry))) (now (store .entry)) (now (p .entry)) (arrivedBeside s (now (zero .entry)) (now (store .entry)) n (now (p .entry))) ⌝ }
-{
-    if !octets::zeros(zero) {
-        return refused(16);
-    }
-    arrive_on(s, store, n, zero, p)
 }

@@ -104,11 +104,11 @@ judged-one s Z r {t} e h = ⊎-elim (λ w. w) (λ n. absurd (not-one n)) (kinds 
 -- and tells where its body begins, and its counter
 pub judged-at :
     (s : Settings) (Z : ℕ) (r : List ℕ) {t : Judged} → t ≡ judgedOf (bodyIn s Z r) (cellOf s Z r) → Holding s Z r →
-    (t .kind ≡ 1) × ((t .at ≡ readPacket s (packetIn r) .body .at) × (t .counter ≡ readPacket s (packetIn r) .ids .counter .0))
+    (t .kind ≡ 1) × ((t .at ≡ readPacket s (packetIn r) .body .at) × (t .counter .0 ≡ readPacket s (packetIn r) .ids .counter .0))
 unfolding segOf
 judged-at s Z r {t} e h =
     let f = e ∙ ap (judgedOf (bodyIn s Z r)) (h .cell) in
-    (ap kind f, (ap (λ (x : Judged). x .at) f, ap (λ (x : Judged). x .counter) f))
+    (ap kind f, (ap (λ (x : Judged). x .at) f, ap (λ (x : Judged). x .counter .0) f))
 
 -- the counter of a segment that is held stands where its presence octet says
 pub held-counter : (s : Settings) (Z : ℕ) (r : List ℕ) → Octets r → Holding s Z r → counterIn (packetIn r) ≡ readPacket s (packetIn r) .ids .counter .0

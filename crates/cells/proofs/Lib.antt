@@ -18,5 +18,6 @@ pub mod Ordering
 pub mod Ordered
 pub mod Putting
 pub mod Laid
+pub mod Reaches
 pub mod Within
 pub mod CellSegments

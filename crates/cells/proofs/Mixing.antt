@@ -1,6 +1,6 @@
 -- A key mixed in its three parts is mixed whole, and chooses one of the chains.
 -- Assumes nothing.
-use Prim.Native.Nat.{ℕ, _+_, _-_, _%_, _≤_, _<_}
+use Prim.Native.Nat.{ℕ, _+_, _-_, _≤_, _<_}
 use mathlib.Core.Path.{_≡_, refl, ap, sym, _∙_}
 use mathlib.Core.Bool.{Bool}
 use mathlib.Core.List.{List, [], _∷_, _++_}
@@ -46,7 +46,7 @@ mixed-append m (x ∷ a) b = mixed-append (mixIn m x) a b
 
 pub bucket-told :
     (q : List ℕ) (stop c : ℕ) {a f t r : ℕ} → a ≡ mixed mixStart (part q 0 2) → f ≡ mixed a (part q 6 (placeIn q - 6)) →
-    t ≡ mixed f (part q (placeIn q + 4) (stop - (placeIn q + 4))) → r ≡ chainIn (mixIn t (c % 4294967296)) → r ≡ bucketOf (keyIn q stop) c
+    t ≡ mixed f (part q (placeIn q + 4) (stop - (placeIn q + 4))) → r ≡ chainIn (mixIn t c) → r ≡ bucketOf (keyIn q stop) c
 unfolding bucketOf keyIn
 bucket-told q stop c {a} {f} {t} ea ef et er =
     let u : List ℕ = part q 0 2 in
@@ -57,7 +57,7 @@ bucket-told q stop c {a} {f} {t} ea ef et er =
     ∙ ap (λ (n : ℕ). mixed n w) (ef ∙ ap (λ (n : ℕ). mixed n v) ea)
     ∙ sym (mixed-append (mixed mixStart u) v w)
     ∙ sym (mixed-append mixStart u (v ++ w)) in
-    er ∙ ap (λ (n : ℕ). chainIn (mixIn n (c % 4294967296))) e
+    er ∙ ap (λ (n : ℕ). chainIn (mixIn n c)) e
 
 -- it is one of the chains
 pub bucket-low : (k : List ℕ) (c : ℕ) → bucketOf k c < chainsAll

@@ -36,7 +36,7 @@ chainIn m = (m / 65536 + m) % chainsAll
 
 -- the whole key and the counter choose the chain
 unfoldable pub bucketOf : List ℕ → ℕ → ℕ
-bucketOf k c = chainIn (mixIn (mixed mixStart k) (c % 4294967296))
+bucketOf k c = chainIn (mixIn (mixed mixStart k) c)
 
 -- the key of a segment by its octets, told where its body begins
 unfoldable pub keyIn : List ℕ → ℕ → List ℕ

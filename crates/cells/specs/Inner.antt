@@ -5,8 +5,8 @@ use mathlib.Core.Path.{_≡_}
 use mathlib.Core.List.{List}
 use mathlib.Core.Bool.{Bool, true, false}
 use lib.ListN.{length, getD, drop, set}
-use lib.Dec.{leb, ltb, eqb}
-use Rattle.octets.specs.Octets.{Octets, octetAt, part, number, alike}
+use lib.Dec.{eqb}
+use Rattle.octets.specs.Octets.{pick, Octets, octetAt, part, number, alike}
 use Rattle.walk.specs.declared.Settings.{Settings}
 use Rattle.packet.specs.Reading.{readPacket, segmented}
 use Rattle.cells.specs.Segments.{Seg, both}
@@ -40,16 +40,22 @@ bodyIn s Z r = readPacket s (packetIn r) .body .at
 
 -- a cell told in numbers, with the place of its body: 0 free, 1 held, 2 broken
 abbrev pub judgedOf : ℕ → Cell → Judged
-judgedOf at free = record { kind = 0; at = 0; counter = 0 }
-judgedOf at (held t) = record { kind = 1; at = at; counter = t .counter }
-judgedOf at broken = record { kind = 2; at = 0; counter = 0 }
+judgedOf at free = record { kind = 0; at = 0; counter = record { 0 = 0 } }
+judgedOf at (held t) = record { kind = 1; at = at; counter = record { 0 = t .counter } }
+judgedOf at broken = record { kind = 2; at = 0; counter = record { 0 = 0 } }
 
--- the segment has this key, and a counter from c on and below d; and a cell that holds such a one
-abbrev pub within : List ℕ → ℕ → ℕ → Seg → Bool
-within k c d t = both (both (leb c (t .counter)) (ltb (t .counter) d)) (alike k (t .key))
+module _ (next : ℕ → ℕ) where
+  -- the counter x is c or one of m steps after it
+  unfoldable pub reaches : ℕ → ℕ → ℕ → Bool
+  reaches zero c x = eqb c x
+  reaches (suc m) c x = let r = reaches m (next c) x in pick (eqb c x) true r
 
-abbrev pub withinIn : List ℕ → ℕ → ℕ → Cell → Bool
-withinIn k c d x = bySegment false (within k c d) (segmentIn x)
+  -- the segment has this key, and its counter is c or one of m steps after it; and a cell that holds such a one
+  abbrev pub within : List ℕ → ℕ → ℕ → Seg → Bool
+  within k c m t = both (reaches m c (t .counter)) (alike k (t .key))
+
+  abbrev pub withinIn : List ℕ → ℕ → ℕ → Cell → Bool
+  withinIn k c m x = bySegment false (within k c m) (segmentIn x)
 
 -- a segment whose key is looked for: what reading answered of it, and where its body begins
 pub record Asked (s : Settings) (q : List ℕ) (stop : ℕ) : Type 0 where

@@ -8,7 +8,7 @@
 // Chains lead through the held cells, so that a key and a counter are found without a look at every cell: a number mixed from both
 // chooses the chain, `heads` has the highest cell of each chain and `links` the next lower one of each cell; 0 is none, and cell i is i + 1.
 ghost use mathlib.Core.Path.{_≡_};
-ghost use Prim.Native.Nat.{_+_, _*_, _/_, _%_, _≤_, _<_};
+ghost use Prim.Native.Nat.{suc, _+_, _*_, _/_, _≤_, _<_};
 ghost use lib.ListN.{length, getD, drop, set};
 ghost use lib.Seq.{sets};
 ghost use mathlib.Core.List.{_∷_};
@@ -16,12 +16,13 @@ ghost use Rattle.octets.specs.Octets.{pick, part, number, alike};
 ghost use lib.Dec.{eqb};
 ghost use Rattle.cells.specs.Segments.{both};
 ghost use Rattle.cells.specs.Rows.{rowAt, zeroRow, cellOf};
-ghost use Rattle.cells.specs.Inner.{heldRowTest, judgedOf, bodyIn, placeIn, counterIn, spansAlike, withinIn, Asked, bodyAt, bodiesTo, Bodies};
+ghost use Rattle.cells.specs.Inner.{heldRowTest, judgedOf, bodyIn, placeIn, counterIn, spansAlike, reaches, withinIn, Asked, bodyAt, bodiesTo, Bodies};
 ghost use mathlib.Core.Bool.{true};
 ghost use Rattle.packet.specs.Reading.{readPacket};
 ghost use Rattle.packet.specs.Key.{keyOf};
 ghost use Rattle.cells.specs.Order.{cellsMost, lowest, lengthFits, sound, cellAt, carriesIn, newTo, newAt, distinct, inOrder, countIn, foundIn};
 ghost use Rattle.cells.specs.Chains.{mixIn, mixed, chainIn, bucketOf, keyIn, chainsAll, bucketAt, Chained};
+use packet::SegmentCounter;
 use walk::Settings;
 
 // The octets of a cell.
@@ -73,10 +74,10 @@ pub fn counter_place(p: &[u8]) -> usize
 }
 
 // The segment counter that stands there.
-pub fn counter_in(p: &[u8]) -> u32
-    ensures { λ r. ⌜ r ≡ counterIn (now (p .entry)) ⌝ }
+pub fn counter_in(p: &[u8]) -> SegmentCounter
+    ensures { λ r. ⌜ r .0 ≡ counterIn (now (p .entry)) ⌝ }
 {
-    octets::be32(p, counter_place(p))
+    SegmentCounter(octets::be32(p, counter_place(p)))
 }
 
 // Whether two segments have the same key, told where their bodies begin.
@@ -119,7 +120,7 @@ fn is_held_row(row: &[u8], n: usize, zero: &[u8]) -> bool
 pub struct Judged {
     pub kind: u8,
     pub at: usize,
-    pub counter: u32,
+    pub counter: SegmentCounter,
 }
 
 // Whether a row is as the zero cell. A held one differs in its first octet, and is not compared any further.
@@ -141,7 +142,7 @@ pub fn judge(s: Settings, row: &[u8], zero: &[u8]) -> Judged
         return Judged {
             kind: 0,
             at: 0,
-            counter: 0,
+            counter: SegmentCounter(0),
         };
     }
     let p = packet_in(row);
@@ -159,13 +160,13 @@ pub fn judge(s: Settings, row: &[u8], zero: &[u8]) -> Judged
         return Judged {
             kind: 1,
             at: body.at,
-            counter: counter.0,
+            counter: counter,
         };
     }
     Judged {
         kind: 2,
         at: 0,
-        counter: 0,
+        counter: SegmentCounter(0),
     }
 }
 
@@ -206,16 +207,24 @@ pub fn count(len: usize, z: usize) -> usize
 
 // Whether a cell holds a segment with the key and counter of the one that is looked for. The cheap tests come first: the row is judged
 // only where counter and transaction id agree.
-pub fn carries_at(s: Settings, row: &[u8], zero: &[u8], q: &[u8], stop: usize, c: u64) -> bool
+pub fn carries_at(
+    s: Settings,
+    row: &[u8],
+    zero: &[u8],
+    q: &[u8],
+    stop: usize,
+    c: SegmentCounter,
+) -> bool
     requires { ⌜ now zero ≡ zeroRow (length (now zero)) ⌝ }
     requires { ⌜ Asked s (now q) stop ⌝ }
-    ensures { λ r. ⌜ r ≡ carriesIn (keyOf (now (q .entry)) (readPacket s (now (q .entry)))) c (cellOf s (length (now (zero .entry))) (now (row .entry))) ⌝ }
+    ensures { λ r. ⌜ r ≡ carriesIn (keyOf (now (q .entry)) (readPacket s (now (q .entry)))) (c .0) (cellOf s (length (now (zero .entry))) (now (row .entry))) ⌝ }
 {
     if octets::octet(row, 0) == 0 {
         return false;
     }
     let p = packet_in(row);
-    if counter_in(p) as u64 != c {
+    let d = counter_in(p);
+    if d.0 != c.0 {
         return false;
     }
     if octets::be64(p, TRANSACTION_PLACE) != octets::be64(q, TRANSACTION_PLACE) {
@@ -242,20 +251,33 @@ fn is_key(k: &[u8], p: &[u8], end: usize) -> bool
     octets::both(first, octets::both(second, third))
 }
 
-// Whether a cell holds a segment with this key and a counter from one number on and below another. The cheap tests come first.
-pub fn is_within(s: Settings, row: &[u8], zero: &[u8], k: &[u8], from: u64, to: u64) -> bool
+// Whether a counter is the first or one of so many steps after it.
+fn is_reached(first: SegmentCounter, steps: u32, c: SegmentCounter) -> bool
+    ensures { λ r. ⌜ r ≡ reaches suc steps (first .0) (c .0) ⌝ }
+{
+    if c.0 < first.0 {
+        return false;
+    }
+    c.0 - first.0 <= steps
+}
+
+// Whether a cell holds a segment with this key, its counter the first or one of so many steps after it. The cheap tests come first.
+pub fn is_within(
+    s: Settings,
+    row: &[u8],
+    zero: &[u8],
+    k: &[u8],
+    first: SegmentCounter,
+    steps: u32,
+) -> bool
     requires { ⌜ now zero ≡ zeroRow (length (now zero)) ⌝ }
-    ensures { λ r. ⌜ r ≡ withinIn (now (k .entry)) from to (cellOf s (length (now (zero .entry))) (now (row .entry))) ⌝ }
+    ensures { λ r. ⌜ r ≡ withinIn suc (now (k .entry)) (first .0) steps (cellOf s (length (now (zero .entry))) (now (row .entry))) ⌝ }
 {
     if octets::octet(row, 0) == 0 {
         return false;
     }
     let p = packet_in(row);
-    let c = counter_in(p) as u64;
-    if c < from {
-        return false;
-    }
-    if to <= c {
+    if !is_reached(first, steps, counter_in(p)) {
         return false;
     }
     let t = judge(s, row, zero);
@@ -273,11 +295,11 @@ pub fn find(
     zero: &[u8],
     q: &[u8],
     stop: usize,
-    c: u64,
+    c: SegmentCounter,
 ) -> usize
     requires { ⌜ now zero ≡ zeroRow (length (now zero)) ⌝ }
     requires { ⌜ Asked s (now q) stop ⌝ }
-    ensures { λ r. ⌜ r ≡ foundIn s (length (now (zero .entry))) (now (store .entry)) n (keyOf (now (q .entry)) (readPacket s (now (q .entry)))) c ⌝ }
+    ensures { λ r. ⌜ r ≡ foundIn s (length (now (zero .entry))) (now (store .entry)) n (keyOf (now (q .entry)) (readPacket s (now (q .entry)))) (c .0) ⌝ }
 {
     let z = zero.len();
     let mut j: usize = 0;
@@ -340,16 +362,16 @@ fn mix(start: u32, x: &[u8]) -> u32
 }
 
 // The chain by a mixed number and a counter.
-fn chain(m: u32, c: u64) -> usize
-    ensures { λ r. ⌜ r ≡ chainIn (mixIn m (c % 4294967296)) ⌝ }
+fn chain(m: u32, c: SegmentCounter) -> usize
+    ensures { λ r. ⌜ r ≡ chainIn (mixIn m (c .0)) ⌝ }
 {
-    let x = mix_in(m, (c % 4294967296) as u32) as usize;
+    let x = mix_in(m, c.0) as usize;
     (x / 65536 + x) % CHAINS
 }
 
 // The chain of the key of a segment, told where its body begins, beside a counter.
-pub fn bucket(q: &[u8], stop: usize, c: u64) -> usize
-    ensures { λ r. ⌜ r ≡ bucketOf (keyIn (now (q .entry)) stop) c ⌝ }
+pub fn bucket(q: &[u8], stop: usize, c: SegmentCounter) -> usize
+    ensures { λ r. ⌜ r ≡ bucketOf (keyIn (now (q .entry)) stop) (c .0) ⌝ }
 {
     let d = counter_place(q);
     let ids = mix(MIX_START, span(q, 0, 2));
@@ -366,7 +388,7 @@ fn find_on(
     zero: &[u8],
     q: &[u8],
     stop: usize,
-    c: u64,
+    c: SegmentCounter,
     b: usize,
     heads: &[u16; CHAINS],
     links: &[u16; CELLS_MOST],
@@ -374,8 +396,8 @@ fn find_on(
     requires { ⌜ now zero ≡ zeroRow (length (now zero)) ⌝ }
     requires { ⌜ Asked s (now q) stop ⌝ }
     requires { ⌜ Chained (bucketAt s (length (now zero)) (now store)) (now heads) (now links) n ⌝ }
-    requires { ⌜ b ≡ bucketOf (keyIn (now q) stop) c ⌝ }
-    ensures { λ r. ⌜ r ≡ foundIn s (length (now (zero .entry))) (now (store .entry)) n (keyOf (now (q .entry)) (readPacket s (now (q .entry)))) c ⌝ }
+    requires { ⌜ b ≡ bucketOf (keyIn (now q) stop) (c .0) ⌝ }
+    ensures { λ r. ⌜ r ≡ foundIn s (length (now (zero .entry))) (now (store .entry)) n (keyOf (now (q .entry)) (readPacket s (now (q .entry)))) (c .0) ⌝ }
 {
     let z = zero.len();
     let mut best = n;
@@ -398,7 +420,7 @@ pub fn find_by(
     zero: &[u8],
     q: &[u8],
     stop: usize,
-    c: u64,
+    c: SegmentCounter,
     chained: bool,
     heads: &[u16; CHAINS],
     links: &[u16; CELLS_MOST],
@@ -406,7 +428,7 @@ pub fn find_by(
     requires { ⌜ now zero ≡ zeroRow (length (now zero)) ⌝ }
     requires { ⌜ Asked s (now q) stop ⌝ }
     requires { ⌜ (chained ≡ true → Chained (bucketAt s (length (now zero)) (now store)) (now heads) (now links) n) ⌝ }
-    ensures { λ r. ⌜ r ≡ foundIn s (length (now (zero .entry))) (now (store .entry)) n (keyOf (now (q .entry)) (readPacket s (now (q .entry)))) c ⌝ }
+    ensures { λ r. ⌜ r ≡ foundIn s (length (now (zero .entry))) (now (store .entry)) n (keyOf (now (q .entry)) (readPacket s (now (q .entry)))) (c .0) ⌝ }
 {
     if chained {
         let b = bucket(q, stop, c);
@@ -434,7 +456,7 @@ fn is_new(
     zero: &[u8],
     q: &[u8],
     stop: usize,
-    c: u64,
+    c: SegmentCounter,
     b: usize,
     apart: bool,
     heads: &[u16; CHAINS],
@@ -443,8 +465,8 @@ fn is_new(
     requires { ⌜ now zero ≡ zeroRow (length (now zero)) ⌝ }
     requires { ⌜ Asked s (now q) stop ⌝ }
     requires { ⌜ Chained (bucketAt s (length (now zero)) (now store)) (now heads) (now links) i ⌝ }
-    requires { ⌜ b ≡ bucketOf (keyIn (now q) stop) c ⌝ }
-    ensures { λ r. ⌜ r ≡ both apart (newTo s (length (now (zero .entry))) (now (store .entry)) i (keyOf (now (q .entry)) (readPacket s (now (q .entry)))) c) ⌝ }
+    requires { ⌜ b ≡ bucketOf (keyIn (now q) stop) (c .0) ⌝ }
+    ensures { λ r. ⌜ r ≡ both apart (newTo s (length (now (zero .entry))) (now (store .entry)) i (keyOf (now (q .entry)) (readPacket s (now (q .entry)))) (c .0)) ⌝ }
 {
     if apart {
         return find_on(s, store, i, zero, q, stop, c, b, heads, links) == i;
@@ -500,7 +522,7 @@ fn enter(
         return apart;
     }
     let q = packet_in(row(store, zero.len(), i));
-    let c = counter_in(q) as u64;
+    let c = counter_in(q);
     let b = bucket(q, stop, c);
     let new = is_new(s, store, i, zero, q, stop, c, b, apart, heads, links);
     push(i, b, heads, links);

@@ -1,7 +1,6 @@
 mod Parts
 mod Coming
 mod Joins
-pub mod Beside
 pub mod Kept
 pub mod Inner
 mod Calls

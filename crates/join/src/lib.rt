@@ -11,7 +11,6 @@ ghost use Rattle.cells.specs.Rows.{zeroRow};
 ghost use Rattle.join.specs.Viewing.{inside, viewed};
 ghost use Rattle.join.specs.Joining.{unjoined, joining, storeJoined, outJoined};
 ghost use Rattle.join.specs.Told.{joinedOf};
-ghost use Rattle.join.specs.Beside.{joiningBeside, storeBeside, outBeside};
 ghost use Rattle.join.specs.Inner.{refusalIn, bodyIn, takenAs, joiningIn, storeJoinedIn, outJoinedIn};
 use arrival::Arrival;
 use arrival::Kind;
@@ -135,7 +134,7 @@ fn in_output(t: Taken) -> Joined
 }
 
 // Joining at the first n cells of any octets, beside a zero cell: neither settings nor order are tested.
-pub fn join_on(
+pub fn join_in(
     s: Settings,
     store: &mut [u8],
     n: usize,
@@ -148,33 +147,14 @@ pub fn join_on(
     ensures { λ r. ⌜ now (store .exit) ≡ storeJoinedIn s (length (now (zero .entry))) (now (store .entry)) n (now (p .entry)) (length (now (out .entry))) ⌝ }
     ensures { λ r. ⌜ now (out .exit) ≡ outJoinedIn s (length (now (zero .entry))) (now (store .entry)) n (now (p .entry)) (now (out .entry)) ⌝ }
 {
-    let got = arrival::arrive_on(s, store, n, zero, p);
+    let got = arrival::arrive_in(s, store, n, zero, p);
     let Arrival::Answer(kind) = got else {
         return refused(refusal_of(got));
     };
     if let Kind::Whole = kind {
         return in_packet(s, p);
     }
-    in_output(taking::take_on(s, store, n, zero, out))
-}
-
-// The same beside any octets: where they are not all zeros, no store is in order beside them.
-pub fn join_in(
-    s: Settings,
-    store: &mut [u8],
-    n: usize,
-    zero: &[u8],
-    p: &[u8],
-    out: &mut [u8],
-) -> Joined
-    ensures { λ r. ⌜ r ≡ joinedOf (joiningBeside s (now (zero .entry)) (now (store .entry)) n (now (p .entry)) (length (now (out .entry)))) ⌝ }
-    ensures { λ r. ⌜ now (store .exit) ≡ storeBeside s (now (zero .entry)) (now (store .entry)) n (now (p .entry)) (length (now (out .entry))) ⌝ }
-    ensures { λ r. ⌜ now (out .exit) ≡ outBeside s (now (zero .entry)) (now (store .entry)) n (now (p .entry)) (now (out .entry)) ⌝ }
-{
-    if !octets::zeros(zero) {
-        return refused(Refusal { number: 16 });
-    }
-    join_on(s, store, n, zero, p, out)
+    in_output(taking::take_in(s, store, n, zero, out))
 }
 
 // A packet arrives; its body is told where it came whole, else the complete message whose first lies in the lowest cell is taken out.

@@ -9,4 +9,3 @@ pub mod Distinct
 pub mod Order
 pub mod Empty
 pub mod Members
-pub mod Blank

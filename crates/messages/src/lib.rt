@@ -1,9 +1,16 @@
-// What arrival and taking both stand on: messages in the store by definition, with their laws, and the segment in its cell.
+// What arrival and taking both stand on: messages in the store by definition, with their laws, the segment in its cell, and the step
+// from a segment counter to the one that follows it.
 ghost use mathlib.Core.Path.{_≡_};
+ghost use Prim.Native.Nat.{suc, _+_, _<_};
 ghost use Rattle.packet.specs.Reading.{readPacket};
 ghost use Rattle.cells.specs.Rows.{packetIn};
+ghost use Rattle.messages.specs.Messages.{top};
 ghost use Rattle.messages.specs.Inner.{pieceOf};
+use packet::SegmentCounter;
 use walk::Settings;
+
+// The highest segment counter.
+pub const COUNTER_MOST: u32 = 4294967295;
 
 // A segment in its cell: its flags, and where its body stands in its packet.
 pub struct Piece {
@@ -25,4 +32,19 @@ pub fn piece_in(s: Settings, row: &[u8]) -> Piece
         at: body.at,
         length: body.length,
     }
+}
+
+// The counter that follows one: every run goes by this step. None follows the highest.
+pub fn next(c: SegmentCounter) -> SegmentCounter
+    requires { ⌜ c .0 < top ⌝ }
+    ensures { λ r. ⌜ r .0 ≡ suc (c .0) ⌝ }
+{
+    SegmentCounter(c.0 + 1)
+}
+
+// How many counters follow one.
+pub fn further(c: SegmentCounter) -> u32
+    ensures { λ r. ⌜ r + c .0 ≡ top ⌝ }
+{
+    COUNTER_MOST - c.0
 }

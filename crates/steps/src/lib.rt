@@ -185,7 +185,7 @@ fn join_behind(
 {
     let from: usize = FRAME;
     let to: usize = FRAME + ROOM;
-    join::join_on(s, store, n, zero, p, &mut out[from..to])
+    join::join_in(s, store, n, zero, p, &mut out[from..to])
 }
 
 // A packet that is not too long is joined, and what is to be written stands in the output.

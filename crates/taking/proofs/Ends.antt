@@ -19,7 +19,7 @@ use Rattle.cells.proofs.Held.{flags-same}
 use Rattle.cells.proofs.Transactions.{part-octet}
 use Rattle.cells.proofs.Carries.{Holding, held-is}
 use Rattle.cells.proofs.Lowest.{same-or}
-use Rattle.messages.specs.Messages.{Role, first, middle, last, roleOf, Run, orElse, listed, look, cellsOf, linkBy, link, opensBy, chain, runFrom, runIn, pickIn, picked, top}
+use Rattle.messages.specs.Messages.{Role, first, middle, last, roleOf, Run, orElse, listed, look, cellsOf, linkBy, link, opensBy, chain, runFrom, runIn, pickIn, picked}
 use Rattle.messages.proofs.Listed.{lowest-hit, lowest-miss}
 use Rattle.messages.proofs.Looking.{look-some}
 use Rattle.taking.specs.Follow.{segAt, endsAt}
@@ -57,7 +57,7 @@ role-of-last f e = go (eqb f 1) (eqb f 2) (λ x. eqb-true f 2 x) e
     go false true h d = h refl
     go false false h d = let z : _≡_ {A = ℕ} 0 1 = cc in absurd (omega arith)
 
-module _ (cs : List Cell) (no : (k : List ℕ) (c : ℕ) (t : Seg) → look cs k c ≡ some t → t .flags ≡ 2 → ⊥) where
+module _ (next : ℕ → ℕ) (span : ℕ) (cs : List Cell) (no : (k : List ℕ) (c : ℕ) (t : Seg) → look cs k c ≡ some t → t .flags ≡ 2 → ⊥) where
   link-none : (o : Option Seg) → ((t : Seg) → o ≡ some t → t .flags ≡ 2 → ⊥) → (r : Option (List Seg)) → r ≡ none → link o r ≡ none
   link-none none h r e = refl
   link-none (some t) h r e = go (roleOf (t .flags)) refl
@@ -67,28 +67,28 @@ module _ (cs : List Cell) (no : (k : List ℕ) (c : ℕ) (t : Seg) → look cs k
       go middle d = ap (Option·map (λ (ts : List Seg). t ∷ ts)) e
       go last d = absurd (h t refl (role-of-last (t .flags) d))
 
-  chain-none : (m : ℕ) (k : List ℕ) (c : ℕ) → chain suc top m cs k c ≡ none
+  chain-none : (m : ℕ) (k : List ℕ) (c : ℕ) → chain next span m cs k c ≡ none
   unfolding chain
   chain-none zero k c = refl
-  chain-none (suc m) k c = link-none (look cs k c) (no k c) (chain suc top m cs k (suc c)) (chain-none m k (suc c))
+  chain-none (suc m) k c = link-none (look cs k c) (no k c) (chain next span m cs k (next c)) (chain-none m k (next c))
 
   opens-nothing : (x : Role) (t : Seg) (r : Option (List Seg)) → r ≡ none → opensBy x t r ≡ none
   opens-nothing first t r e = ap (Option·map (λ (ts : List Seg). record { head = t; rest = ts })) e
   opens-nothing middle t r e = refl
   opens-nothing last t r e = refl
 
-  run-nothing : (x : Cell) → runIn suc top cs x ≡ none
+  run-nothing : (x : Cell) → runIn next span cs x ≡ none
   unfolding runFrom
   run-nothing x = go (segmentIn x)
     where
-      go : (o : Option Seg) → bySegment none (runFrom suc top cs) o ≡ none
+      go : (o : Option Seg) → bySegment none (runFrom next span cs) o ≡ none
       go none = refl
-      go (some t) = opens-nothing (roleOf (t .flags)) t (chain suc top top cs (t .key) (suc (t .counter))) (chain-none top (t .key) (suc (t .counter)))
+      go (some t) = opens-nothing (roleOf (t .flags)) t (chain next span span cs (t .key) (next (t .counter))) (chain-none span (t .key) (next (t .counter)))
 
-  pub pick-nothing : (xs : List Cell) → pickIn suc top cs xs ≡ none
+  pub pick-nothing : (xs : List Cell) → pickIn next span cs xs ≡ none
   unfolding pickIn
   pick-nothing [] = refl
-  pick-nothing (x ∷ xs) = ap (λ (o : Option Run). orElse o (pickIn suc top cs xs)) (run-nothing x) ∙ pick-nothing xs
+  pick-nothing (x ∷ xs) = ap (λ (o : Option Run). orElse o (pickIn next span cs xs)) (run-nothing x) ∙ pick-nothing xs
 
 -- ---- over the store
 
@@ -103,7 +103,7 @@ lowest-misses f (suc n) i h j a b = ⊎-elim here (on (lowest-misses f n (suc i)
     on : (suc i + n ≤ lowest f n (suc i) → (m : ℕ) → suc i ≤ m → m < suc i + n → f m ≡ false) → f i ≡ false → f j ≡ false
     on rest e = ⊎-elim (λ (d : j ≡ i). ap f d ∙ e) (λ (d : j ≡ i → ⊥). rest (omega (arith, lowest-miss f n i e)) j (omega (arith, d)) (omega arith)) (same-or j i)
 
-module _ (s : Settings) (Z : ℕ) (st : List ℕ) (n : ℕ) where
+module _ (next : ℕ → ℕ) (span : ℕ) (s : Settings) (Z : ℕ) (st : List ℕ) (n : ℕ) where
   no-last : n ≤ lowest (endsAt Z st) n 0 → (j : ℕ) → j < 0 + n → (t : Seg) → cellAt s Z st j ≡ held t → t .flags ≡ 2 → ⊥
   no-last h j l t e d =
       let there = held-is s Z (rowAt Z st j) t e in
@@ -117,9 +117,9 @@ module _ (s : Settings) (Z : ℕ) (st : List ℕ) (n : ℕ) where
       seg-same : {a b : Seg} → held a ≡ held b → a ≡ b
       seg-same x = cc
 
-  pub nothing-complete : {r : ℕ} → r ≡ lowest (endsAt Z st) n 0 → n ≤ r → picked suc top (cellsOf s Z st n) ≡ none
+  pub nothing-complete : {r : ℕ} → r ≡ lowest (endsAt Z st) n 0 → n ≤ r → picked next span (cellsOf s Z st n) ≡ none
   nothing-complete e h =
-      pick-nothing (cellsOf s Z st n)
+      pick-nothing next span (cellsOf s Z st n)
       (λ k c. look-any (λ t. t .flags ≡ 2 → ⊥) (cellAt s Z st) k c n 0 (no-last (omega (arith, e))))
       (cellsOf s Z st n)
 

@@ -11,7 +11,7 @@ use lib.Dec.{leb}
 use Rattle.octets.specs.Octets.{pick}
 use Rattle.walk.specs.declared.Settings.{Settings}
 use Rattle.cells.specs.Order.{cellAt, countIn, gate, through}
-use Rattle.clearing.specs.Cleared.{clearedTo}
+use Rattle.clearing.specs.Cleared.{clearedTo, zeroIf}
 use Rattle.messages.specs.Messages.{cellsOf, Run, bodyOf, segments, picked, amongIn, top}
 
 -- what a taking comes to
@@ -43,5 +43,5 @@ outWith out (unable k) = out
 
 -- the store behind it: just the message's cells are zero
 unfoldable pub storeLess : Settings → ℕ → List ℕ → ℕ → Took → List ℕ
-storeLess s Z st n (message r) = clearedTo (λ i. amongIn (segments r) (cellAt s Z st i)) Z n st
+storeLess s Z st n (message r) = clearedTo (λ i. zeroIf Z (amongIn (segments r) (cellAt s Z st i))) Z n st
 storeLess s Z st n (unable k) = st

@@ -15,7 +15,6 @@ ghost use Rattle.cells.specs.Order.{cellsMost, lowest, cellAt};
 ghost use Rattle.cells.specs.Inner.{Asked};
 ghost use Rattle.messages.specs.Messages.{cellsOf, runIn, picked, top};
 ghost use Rattle.taking.specs.Taking.{unable, tookIn, outWith, storeLess};
-ghost use Rattle.taking.specs.Beside.{tookBeside};
 ghost use Rattle.taking.specs.Told.{takenOf};
 ghost use Rattle.taking.specs.Inner.{pieceIn};
 ghost use Rattle.taking.specs.Follow.{segAt, follow as followed, placesFrom, bodiesAt, total, answer, opensAt, endsAt, pickedOf, copiedOf, Lent, Ready, Opens};
@@ -35,17 +34,23 @@ pub struct Taken {
     pub counter: SegmentCounter,
 }
 
-// A message that was picked: the cell of its first segment, and one more than the octets of its body; 0 where none is complete.
-struct Picked {
-    cell: usize,
-    body: usize,
+// How long the body of a run is, if the run is complete.
+enum Measured {
+    Long(usize),
+    Incomplete,
 }
 
-// A message that was copied: H, the counter of its first segment, and the one behind its last.
+// The complete message whose first lies in the lowest cell: that cell, and the octets of its body.
+enum Picked {
+    Message { cell: usize, body: usize },
+    Nothing,
+}
+
+// A message that was copied: H, the counter of its first segment, and how many segments follow it.
 struct Copied {
     header: usize,
     counter: SegmentCounter,
-    until: u64,
+    steps: u32,
 }
 
 // The one place where a taking is refused.
@@ -62,58 +67,57 @@ pub fn not_taken(k: u8) -> Taken
 
 // The segment in a cell that was found by the key of another, told where the other's body begins: so does this one's, and the header is
 // not read again.
-fn piece_with(row: &[u8], stop: usize) -> Piece
-    ensures { λ r. ⌜ r ≡ pieceIn (now (row .entry)) stop ⌝ }
+fn piece_with(row: &[u8], body_at: usize) -> Piece
+    ensures { λ r. ⌜ r ≡ pieceIn (now (row .entry)) «body_at» ⌝ }
 {
     let p = cells::packet_in(row);
-    let body = cells::span(p, stop, p.len());
+    let body = cells::span(p, body_at, p.len());
     Piece {
         flags: flags_in(row),
-        at: stop,
+        at: body_at,
         length: body.len(),
     }
 }
 
-// The segments with the key of q from a counter on, up to a last: one more than the octets of their bodies and b, or 0 where the
-// run is not complete.
+// The segments with the key of q whose counters follow the first, up to a last: the octets of their bodies and b.
 fn follow(
     s: Settings,
     store: &[u8],
     n: usize,
     zero: &[u8],
     q: &[u8],
-    stop: usize,
-    from: u64,
+    body_at: usize,
+    first: SegmentCounter,
     b: usize,
     chained: bool,
     heads: &[u16; cells::CHAINS],
     links: &[u16; cells::CELLS_MOST],
-) -> usize
+) -> Measured
     requires { ⌜ Lent s (now zero) (now store) n chained (now heads) (now links) ⌝ }
-    requires { ⌜ Asked s (now q) stop × ((from ≤ 4294967296) × (b ≤ 65542)) ⌝ }
-    ensures { λ r. ⌜ r ≡ total s (length (now (zero .entry))) (now (store .entry)) b (followed s (length (now (zero .entry))) (now (store .entry)) n (keyOf (now (q .entry)) (readPacket s (now (q .entry)))) 4294967295 from) ⌝ }
+    requires { ⌜ Asked s (now q) «body_at» × (b ≤ 65542) ⌝ }
+    ensures { λ r. ⌜ r ≡ total s (length (now (zero .entry))) (now (store .entry)) b (followed suc top s (length (now (zero .entry))) (now (store .entry)) n (keyOf (now (q .entry)) (readPacket s (now (q .entry)))) top (suc (first .0))) ⌝ }
 {
     let z = zero.len();
-    let mut c = from;
-    let mut left: u64 = 4294967295;
+    let mut c = first;
+    let mut left = messages::further(first);
     let mut sum = b;
     while 0 < left {
-        let j = cells::find_by(s, store, n, zero, q, stop, c, chained, heads, links);
+        c = messages::next(c);
+        let j = cells::find_by(s, store, n, zero, q, body_at, c, chained, heads, links);
         if n <= j {
-            return 0;
+            return Measured::Incomplete;
         }
-        let t = piece_with(cells::row(store, z, j), stop);
+        let t = piece_with(cells::row(store, z, j), body_at);
         sum += t.length;
         if t.flags == 1 {
-            return 0;
+            return Measured::Incomplete;
         }
         if t.flags == 2 {
-            return sum + 1;
+            return Measured::Long(sum);
         }
-        c += 1;
         left -= 1;
     }
-    0
+    Measured::Incomplete
 }
 
 // The sequence flags of the packet in a row.
@@ -137,7 +141,7 @@ fn lowest_last(store: &[u8], n: usize, z: usize) -> usize
     n
 }
 
-// One more than the octets of the body of the message that opens in cell i, or 0 where none does that is complete.
+// How long the body of the message is that opens in cell i.
 fn run_at(
     s: Settings,
     store: &[u8],
@@ -147,17 +151,17 @@ fn run_at(
     chained: bool,
     heads: &[u16; cells::CHAINS],
     links: &[u16; cells::CELLS_MOST],
-) -> usize
+) -> Measured
     requires { ⌜ Lent s (now zero) (now store) n chained (now heads) (now links) ⌝ }
     ensures { λ r. ⌜ r ≡ answer (runIn suc top (cellsOf s (length (now (zero .entry))) (now (store .entry)) n) (cellAt s (length (now (zero .entry))) (now (store .entry)) i)) ⌝ }
 {
     let r = cells::row(store, zero.len(), i);
     if flags_in(r) != 1 {
-        return 0;
+        return Measured::Incomplete;
     }
     let t = cells::judge(s, r, zero);
     if t.kind != 1 {
-        return 0;
+        return Measured::Incomplete;
     }
     let q = cells::packet_in(r);
     follow(
@@ -167,7 +171,7 @@ fn run_at(
         zero,
         q,
         t.at,
-        t.counter as u64 + 1,
+        t.counter,
         q.len() - t.at,
         chained,
         heads,
@@ -186,22 +190,25 @@ fn pick_message(
     links: &[u16; cells::CELLS_MOST],
 ) -> Picked
     requires { ⌜ Lent s (now zero) (now store) n chained (now heads) (now links) ⌝ }
-    ensures { λ r. ⌜ r ≡ pickedOf s (length (now (zero .entry))) (now (store .entry)) n ⌝ }
+    ensures { λ r. ⌜ r ≡ pickedOf suc top s (length (now (zero .entry))) (now (store .entry)) n ⌝ }
 {
     let mut i: usize = 0;
     while i < n {
         let b = run_at(s, store, n, zero, i, chained, heads, links);
-        if b != 0 {
-            return Picked { cell: i, body: b };
+        if let Measured::Long(body) = b {
+            return Picked::Message {
+                cell: i,
+                body: body,
+            };
         }
         i += 1;
     }
-    Picked { cell: n, body: 0 }
+    Picked::Nothing
 }
 
 // The key of a segment, told where its body begins, to the front of the output. The place behind it.
-fn put_key(s: Settings, out: &mut [u8], q: &[u8], stop: usize) -> usize
-    requires { ⌜ Asked s (now q) stop ⌝ }
+fn put_key(s: Settings, out: &mut [u8], q: &[u8], body_at: usize) -> usize
+    requires { ⌜ Asked s (now q) «body_at» ⌝ }
     requires { ⌜ length (keyOf (now q) (readPacket s (now q))) ≤ length (now out) ⌝ }
     ensures { λ r. ⌜ r ≡ length (keyOf (now (q .entry)) (readPacket s (now (q .entry)))) ⌝ }
     ensures { λ r. ⌜ now (out .exit) ≡ sets (now (out .entry)) 0 (keyOf (now (q .entry)) (readPacket s (now (q .entry)))) ⌝ }
@@ -209,7 +216,7 @@ fn put_key(s: Settings, out: &mut [u8], q: &[u8], stop: usize) -> usize
     let c = cells::counter_place(q);
     let ids = octets::lay(out, 0, cells::span(q, 0, 2));
     let fore = octets::lay(out, ids, cells::span(q, 6, c - 6));
-    octets::lay(out, fore, cells::span(q, c + 4, stop - (c + 4)))
+    octets::lay(out, fore, cells::span(q, c + 4, body_at - (c + 4)))
 }
 
 // The body of the segment in a row to a place of the output. The place behind it.
@@ -222,44 +229,45 @@ fn put_body(out: &mut [u8], at: usize, row: &[u8], t: Piece) -> usize
     octets::lay(out, at, cells::span(p, t.at, t.length))
 }
 
-// The bodies of a complete run from a counter on to a place of the output. The counter behind its last.
+// The bodies of the segments whose counters follow the first of a complete run, to a place of the output. How many there are.
 fn copy_rest(
     s: Settings,
     store: &[u8],
     n: usize,
     zero: &[u8],
     q: &[u8],
-    stop: usize,
-    start: u64,
+    body_at: usize,
+    first: SegmentCounter,
     out: &mut [u8],
     place: usize,
     chained: bool,
     heads: &[u16; cells::CHAINS],
     links: &[u16; cells::CELLS_MOST],
-) -> u64
+) -> u32
     requires { ⌜ Lent s (now zero) (now store) n chained (now heads) (now links) ⌝ }
-    requires { ⌜ Asked s (now q) stop ⌝ }
-    requires { ⌜ start ≤ 4294967296 ⌝ }
-    requires { ⌜ Ready s (length (now zero)) (now store) n (keyOf (now q) (readPacket s (now q))) start place (now out) ⌝ }
-    ensures { λ r. ⌜ r ≡ start + length (placesFrom s (length (now (zero .entry))) (now (store .entry)) n (keyOf (now (q .entry)) (readPacket s (now (q .entry)))) start) ⌝ }
-    ensures { λ r. ⌜ now (out .exit) ≡ sets (now (out .entry)) place (bodiesAt s (length (now (zero .entry))) (now (store .entry)) (placesFrom s (length (now (zero .entry))) (now (store .entry)) n (keyOf (now (q .entry)) (readPacket s (now (q .entry)))) start)) ⌝ }
+    requires { ⌜ Asked s (now q) «body_at» ⌝ }
+    requires { ⌜ Ready suc top s (length (now zero)) (now store) n (keyOf (now q) (readPacket s (now q))) (suc (first .0)) place (now out) ⌝ }
+    ensures { λ r. ⌜ r ≡ length (placesFrom suc top s (length (now (zero .entry))) (now (store .entry)) n (keyOf (now (q .entry)) (readPacket s (now (q .entry)))) (suc (first .0))) ⌝ }
+    ensures { λ r. ⌜ now (out .exit) ≡ sets (now (out .entry)) place (bodiesAt s (length (now (zero .entry))) (now (store .entry)) (placesFrom suc top s (length (now (zero .entry))) (now (store .entry)) n (keyOf (now (q .entry)) (readPacket s (now (q .entry)))) (suc (first .0)))) ⌝ }
 {
     let z = zero.len();
-    let mut c = start;
-    let mut left: u64 = 4294967295;
+    let mut c = first;
+    let mut left = messages::further(first);
+    let mut steps: u32 = 0;
     let mut at = place;
     while 0 < left {
-        let j = cells::find_by(s, store, n, zero, q, stop, c, chained, heads, links);
+        c = messages::next(c);
+        steps += 1;
+        let j = cells::find_by(s, store, n, zero, q, body_at, c, chained, heads, links);
         let r = cells::row(store, z, j);
-        let t = piece_with(r, stop);
+        let t = piece_with(r, body_at);
         at = put_body(out, at, r, t);
         if t.flags == 2 {
-            return c + 1;
+            return steps;
         }
-        c += 1;
         left -= 1;
     }
-    c
+    steps
 }
 
 // The message that opens in cell i to the output.
@@ -276,9 +284,9 @@ fn copy_message(
 ) -> Copied
     requires { ⌜ Lent s (now zero) (now store) n chained (now heads) (now links) ⌝ }
     requires { ⌜ cellAt s (length (now zero)) (now store) i ≡ held (segAt s (length (now zero)) (now store) i) ⌝ }
-    requires { ⌜ Opens s (length (now zero)) (now store) n i (now out) ⌝ }
-    ensures { λ r. ⌜ r ≡ copiedOf (segAt s (length (now (zero .entry))) (now (store .entry)) i) (length (placesFrom s (length (now (zero .entry))) (now (store .entry)) n (segAt s (length (now (zero .entry))) (now (store .entry)) i .key) (suc (segAt s (length (now (zero .entry))) (now (store .entry)) i .counter)))) ⌝ }
-    ensures { λ r. ⌜ now (out .exit) ≡ sets (now (out .entry)) 0 (segAt s (length (now (zero .entry))) (now (store .entry)) i .key ++ bodiesAt s (length (now (zero .entry))) (now (store .entry)) (i ∷ placesFrom s (length (now (zero .entry))) (now (store .entry)) n (segAt s (length (now (zero .entry))) (now (store .entry)) i .key) (suc (segAt s (length (now (zero .entry))) (now (store .entry)) i .counter)))) ⌝ }
+    requires { ⌜ Opens suc top s (length (now zero)) (now store) n i (now out) ⌝ }
+    ensures { λ r. ⌜ r ≡ copiedOf (segAt s (length (now (zero .entry))) (now (store .entry)) i) (length (placesFrom suc top s (length (now (zero .entry))) (now (store .entry)) n (segAt s (length (now (zero .entry))) (now (store .entry)) i .key) (suc (segAt s (length (now (zero .entry))) (now (store .entry)) i .counter)))) ⌝ }
+    ensures { λ r. ⌜ now (out .exit) ≡ sets (now (out .entry)) 0 (segAt s (length (now (zero .entry))) (now (store .entry)) i .key ++ bodiesAt s (length (now (zero .entry))) (now (store .entry)) (i ∷ placesFrom suc top s (length (now (zero .entry))) (now (store .entry)) n (segAt s (length (now (zero .entry))) (now (store .entry)) i .key) (suc (segAt s (length (now (zero .entry))) (now (store .entry)) i .counter)))) ⌝ }
 {
     let r = cells::row(store, zero.len(), i);
     let q = cells::packet_in(r);
@@ -286,16 +294,27 @@ fn copy_message(
     let ids = h.ids;
     let counter = ids.counter;
     let body = h.body;
-    let end = body.at;
     let t = messages::piece_in(s, r);
-    let key = put_key(s, out, q, end);
+    let key = put_key(s, out, q, body.at);
     let at = put_body(out, key, r, t);
-    let c = counter.0 as u64 + 1;
-    let until = copy_rest(s, store, n, zero, q, end, c, out, at, chained, heads, links);
+    let steps = copy_rest(
+        s,
+        store,
+        n,
+        zero,
+        q,
+        body.at,
+        counter,
+        out,
+        at,
+        chained,
+        heads,
+        links,
+    );
     Copied {
         header: h.h,
         counter: counter,
-        until: until,
+        steps: steps,
     }
 }
 
@@ -313,8 +332,8 @@ fn draw(
     links: &[u16; cells::CELLS_MOST],
 ) -> Taken
     requires { ⌜ Lent s (now zero) (now store) n chained (now heads) (now links) ⌝ }
-    requires { ⌜ i ≡ lowest (opensAt s (length (now zero)) (now store) n) n 0 ⌝ }
-    requires { ⌜ (i < n) × (suc b ≡ answer (picked suc top (cellsOf s (length (now zero)) (now store) n))) ⌝ }
+    requires { ⌜ i ≡ lowest (opensAt suc top s (length (now zero)) (now store) n) n 0 ⌝ }
+    requires { ⌜ (i < n) × (Measured.Long b ≡ answer (picked suc top (cellsOf s (length (now zero)) (now store) n))) ⌝ }
     requires { ⌜ length (segAt s (length (now zero)) (now store) i .key) + b ≤ length (now out) ⌝ }
     ensures { λ r. ⌜ r ≡ takenOf (tookIn s (length (now (zero .entry))) (now (store .entry)) n (length (now (out .entry)))) ⌝ }
     ensures { λ r. ⌜ now (out .exit) ≡ outWith (now (out .entry)) (tookIn s (length (now (zero .entry))) (now (store .entry)) n (length (now (out .entry)))) ⌝ }
@@ -323,7 +342,7 @@ fn draw(
     let t = copy_message(s, store, n, zero, i, out, chained, heads, links);
     let counter = t.counter;
     let key = cells::span(out, 0, 2 + t.header);
-    clearing::clear(s, store, n, zero, key, counter.0 as u64, t.until);
+    clearing::clear(s, store, n, zero, key, counter, t.steps);
     Taken {
         refusal: Refusal { number: 0 },
         header: t.header,
@@ -349,11 +368,9 @@ fn take_by(
     ensures { λ r. ⌜ now (store .exit) ≡ storeLess s (length (now (zero .entry))) (now (store .entry)) n (tookIn s (length (now (zero .entry))) (now (store .entry)) n (length (now (out .entry)))) ⌝ }
 {
     let m = pick_message(s, store, n, zero, chained, heads, links);
-    let cell = m.cell;
-    if m.body == 0 {
+    let Picked::Message { cell, body } = m else {
         return not_taken(20);
-    }
-    let b = m.body - 1;
+    };
     let h = packet::read(s, cells::packet_in(cells::row(store, zero.len(), cell)));
     let long = out.len();
     if long < 2 {
@@ -362,10 +379,10 @@ fn take_by(
     if long - 2 < h.h {
         return not_taken(21);
     }
-    if long - 2 - h.h < b {
+    if long - 2 - h.h < body {
         return not_taken(21);
     }
-    draw(s, store, n, zero, cell, b, out, chained, heads, links)
+    draw(s, store, n, zero, cell, body, out, chained, heads, links)
 }
 
 // The same by plain searches, without chains.
@@ -395,7 +412,7 @@ fn take_chained(s: Settings, store: &mut [u8], n: usize, zero: &[u8], out: &mut 
 }
 
 // The same: without a last segment nothing is searched, and chains are made only for many cells.
-pub fn take_on(s: Settings, store: &mut [u8], n: usize, zero: &[u8], out: &mut [u8]) -> Taken
+pub fn take_in(s: Settings, store: &mut [u8], n: usize, zero: &[u8], out: &mut [u8]) -> Taken
     requires { ⌜ now zero ≡ zeroRow (length (now zero)) ⌝ }
     ensures { λ r. ⌜ r ≡ takenOf (tookIn s (length (now (zero .entry))) (now (store .entry)) n (length (now (out .entry)))) ⌝ }
     ensures { λ r. ⌜ now (out .exit) ≡ outWith (now (out .entry)) (tookIn s (length (now (zero .entry))) (now (store .entry)) n (length (now (out .entry)))) ⌝ }
@@ -411,16 +428,4 @@ pub fn take_on(s: Settings, store: &mut [u8], n: usize, zero: &[u8], out: &mut [
         return take_plain(s, store, n, zero, out);
     }
     take_chained(s, store, n, zero, out)
-}
-
-// The same beside any octets: where they are not all zeros, no store is in order beside them.
-pub fn take_in(s: Settings, store: &mut [u8], n: usize, zero: &[u8], out: &mut [u8]) -> Taken
-    ensures { λ r. ⌜ r ≡ takenOf (tookBeside s (now (zero .entry)) (now (store .entry)) n (length (now (out .entry)))) ⌝ }
-    ensures { λ r. ⌜ now (out .exit) ≡ outWith (now (out .entry)) (tookBeside s (now (zero .entry)) (now (store .entry)) n (length (now (out .entry)))) ⌝ }
-    ensures { λ r. ⌜ now (store .exit) ≡ storeLess s (length (now (zero .entry))) (now (store .entry)) n (tookBeside s (now (zero .entry)) (now (store .entry)) n (length (now (out .entry)))) ⌝ }
-{
-    if !octets::zeros(zero) {
-        return not_taken(16);
-    }
-    take_on(s, store, n, zero, out)
 }

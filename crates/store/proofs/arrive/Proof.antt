@@ -4,7 +4,6 @@ use mathlib.Core.Path.{ap, sym, _∙_, refl}
 use denote.Ref.{now}
 use Rattle.arrival.specs.Told.{arrivalOf}
 use Rattle.arrival.specs.Arriving.{refused, storeWith, arrivedIn}
-use Rattle.arrival.proofs.Beside.{arrived-beside}
 use Rattle.arrival.proofs.Checked.{arrived-open, arrived-shut}
 use Rattle.opening.proofs.Gate.{opened-number, opened-gate, opened-cells}
 use borrow.Author.Needs.{needs}
@@ -31,7 +30,7 @@ slice-aggregate-arrive-in : tie.Need-slice-aggregate-arrive-in
 slice-aggregate-arrive-in c = search needs
 
 arrive-in-requires : tie.Need-arrive-in-requires
-arrive-in-requires c κs = search needs
+arrive-in-requires c κs = refl
 
 same-length-2 : tie.Need-same-length-2
 same-length-2 c = search needs
@@ -40,7 +39,7 @@ returns-2 : tie.Need-returns-2
 returns-2 c =
     let g = c .before .before .before .before .before .before .before .before .before .before .before .before .before .args in
     let h = c .before .before .before .before .before in
-    let e = arrived-beside _ _ (now (g .store)) _ refl (now (g .p)) ∙ ap (λ n. arrivedIn (g .s) 1024 (now (g .store)) n (now (g .p)))
+    let e = ap (λ n. arrivedIn (g .s) 1024 (now (g .store)) n (now (g .p)))
     (opened-cells _ 1024 _ (h .before .before .before .check .ensures) (h .if1 .left)) ∙ arrived-open _ 1024 _ _
     (opened-gate _ 1024 _ (h .before .before .before .check .ensures) (h .if1 .left)) in
     (c .before .before .arrive-in .ensures .0 ∙ ap arrivalOf e, c .before .before .arrive-in .ensures .1 ∙ ap (storeWith 1024 _ _) e)

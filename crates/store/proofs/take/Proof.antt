@@ -6,7 +6,6 @@ use lib.ListN.{length}
 use Rattle.cells.specs.Order.{countIn}
 use Rattle.taking.specs.Told.{takenOf}
 use Rattle.taking.specs.Taking.{unable, outWith, storeLess, tookIn}
-use Rattle.taking.proofs.Beside.{took-beside}
 use Rattle.taking.proofs.Checked.{took-open, took-shut}
 use Rattle.opening.proofs.Gate.{opened-number, opened-gate, opened-cells}
 use borrow.Author.Needs.{needs}
@@ -36,7 +35,7 @@ slice-aggregate-take-in : tie.Need-slice-aggregate-take-in
 slice-aggregate-take-in c = search needs
 
 take-in-requires : tie.Need-take-in-requires
-take-in-requires c κs = search needs
+take-in-requires c κs = refl
 
 same-length-2 : tie.Need-same-length-2
 same-length-2 c = search needs
@@ -50,7 +49,7 @@ returns-2 c =
     let h = c .before .before .before .before in
     let l = h .before .before .before .before in
     let n = opened-cells _ 1024 _ (l .before .before .before .check .ensures) (l .if1 .left) in
-    let e = took-beside _ _ (now (g .store)) _ refl (length (now (g .out))) ∙ ap (λ k. tookIn (g .s) 1024 (now (g .store)) k (length (now (g .out)))) n ∙
+    let e = ap (λ k. tookIn (g .s) 1024 (now (g .store)) k (length (now (g .out)))) n ∙
     took-open _ 1024 _ _ (opened-gate _ 1024 _ (l .before .before .before .check .ensures) (l .if1 .left)) in (
       h .take-in .ensures .0 ∙ ap takenOf e,
       (
