@@ -10,7 +10,7 @@ use native.Mathlib.Omega.{arith}
 use Rattle.octets.specs.Octets.{alike}
 use Rattle.cells.specs.Segments.{Seg, carries}
 use Rattle.cells.specs.Rows.{free, held}
-use Rattle.messages.specs.Messages.{Run, bodies, look, roleOf, chain, runFrom, pickIn, among, top}
+use Rattle.messages.specs.Messages.{Run, bodies, look, roleOf, restFrom, runFrom, pickIn, among, top}
 use Rattle.taking.specs.Taking.{message, unable}
 use Rattle.keeping.specs.Cells.{put, hasFree}
 use Rattle.demand3.specs.Traffic.{Sent, later, runOf, segmentsOf, arrives, takes, empty, takenFrom, stepped, after, OneOf, stepsIn}
@@ -126,19 +126,19 @@ sources = (ninth, (tenth, (seventh, (ninth, (eighth, (eighth, (stray, (eleventh,
 -- ---- the run
 
 has-room : roomIn suc top (empty 4) (noon ++ evening) ≡ true
-unfolding roomIn stepped takenFrom look carries alike put hasFree pickIn runFrom chain roleOf bodies among
+unfolding roomIn stepped takenFrom look carries alike put hasFree pickIn runFrom restFrom roleOf bodies among
 has-room = refl
 
 -- nothing complete; one octet too few; the first message; the second; and the first again
 pub its-takings :
     takings (empty 4) (noon ++ evening ++ takes 8 ∷ []) ≡
     unable 20 ∷ unable 21 ∷ message (runOf suc three) ∷ message (runOf suc two) ∷ message (runOf suc three) ∷ []
-unfolding takings stepped takenFrom look carries alike put hasFree pickIn runFrom chain roleOf bodies among runOf later
+unfolding takings stepped takenFrom look carries alike put hasFree pickIn runFrom restFrom roleOf bodies among runOf later
 its-takings = refl
 
 -- once it is taken, its cells are free, for others and for itself
 pub in-use : after suc top (empty 4) noon ≡ free ∷ held (seg 10 1 (6 ∷ [])) ∷ free ∷ free ∷ []
-unfolding after stepped takenFrom look carries alike put hasFree pickIn runFrom chain roleOf bodies among
+unfolding after stepped takenFrom look carries alike put hasFree pickIn runFrom restFrom roleOf bodies among
 in-use = refl
 
 pub given : Given01 4 messages (noon ++ evening)
@@ -149,7 +149,7 @@ given =
     }
 
 at-noon : takenFrom suc top (after suc top (empty 4) morning) 8 ≡ message (runOf suc three)
-unfolding after stepped takenFrom look carries alike put hasFree pickIn runFrom chain roleOf bodies among runOf later
+unfolding after stepped takenFrom look carries alike put hasFree pickIn runFrom restFrom roleOf bodies among runOf later
 at-noon = refl
 
 -- the first message was taken at noon
@@ -157,7 +157,7 @@ pub anew : Anew suc top 4 three noon
 anew = retaken morning 8 (runOf suc three) at-noon (sent-key suc three, sent-start suc three)
 
 left : leftIn suc top three (after suc top (empty 4) noon) evening ≡ true
-unfolding leftIn after stepped takenFrom look carries alike put hasFree pickIn runFrom chain roleOf bodies among
+unfolding leftIn after stepped takenFrom look carries alike put hasFree pickIn runFrom restFrom roleOf bodies among
 left = refl
 
 -- and not since

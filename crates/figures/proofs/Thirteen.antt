@@ -19,7 +19,7 @@ use Rattle.cut.specs.Cutting.{countersFit, counterAt, countAt, packets, rounded
 use Rattle.fewest.proofs.Figures.{settings, zeros}
 use Rattle.cells.specs.Segments.{Seg, segOf, carries}
 use Rattle.cells.specs.Rows.{Cell, held, mayHold}
-use Rattle.messages.specs.Messages.{cellsOf, look, roleOf, bodies, chain, runFrom, pickIn, top}
+use Rattle.messages.specs.Messages.{cellsOf, look, roleOf, bodies, restFrom, runFrom, pickIn, top}
 use Rattle.keeping.specs.Cells.{put}
 use Rattle.demand3.specs.Traffic.{Event, arrives, empty, takenFrom, stepped, after}
 use Rattle.demand3.specs.Calls.{Call, arrival, storeBy, storeAfter}
@@ -69,7 +69,7 @@ behind : cellsOf settings 1024 (storeBehind settings 1024 2 arrivals) 2 ≡ held
 behind = behind-cells settings 1024 2 one in-use arrivals ∙ ap (after suc top (empty 2)) events ∙ two-held
 
 sixty-one : written (takenFrom suc top (held opens ∷ held closes ∷ []) 61) ≡ is 61
-unfolding takenFrom look carries alike roleOf bodies chain runFrom pickIn
+unfolding takenFrom look carries alike roleOf bodies restFrom runFrom pickIn
 sixty-one = refl
 
 pub thirteen : taken eight 61 ≡ is 61
