@@ -17,10 +17,10 @@ use Rattle.packet.specs.Reading.{readPacket}
 use Rattle.packet.specs.Key.{keyOf}
 use Rattle.cells.specs.declared.Judged.{Judged}
 use Rattle.cells.specs.Segments.{segOf, both}
-use Rattle.cells.specs.Rows.{Cell, bySegment, packetIn, cellOf}
-use Rattle.cells.specs.Inner.{placeIn, counterIn, bodyIn, judgedOf, reaches, within, withinIn, Asked}
+use Rattle.cells.specs.Rows.{Cell, packetIn, cellOf, bySegment}
+use Rattle.cells.specs.Inner.{placeIn, counterIn, bodyIn, judgedOf, reaches, withinIn, Asked, within}
 use Rattle.cells.specs.Chains.{keyIn}
-use Rattle.cells.proofs.Carries.{Holding, kinds, judged-one, judged-at, held-counter}
+use Rattle.cells.proofs.Carries.{Holding, judged-one, judged-at, held-counter, kinds}
 use Rattle.cells.proofs.Mixing.{key-asked}
 
 -- ---- a key

@@ -20,6 +20,7 @@ use Rattle.packet.specs.Format.{Values, segment, octetsOf}
 use Rattle.sender.specs.declared.Sender.{Sender}
 use Rattle.sender.specs.declared.Next.{Next}
 use Rattle.sender.specs.declared.Next.the-variants.{At, NoneLeft}
+use Rattle.sender.proofs.Stepping.{steps-suc}
 use Rattle.write.specs.declared.HeaderValues.{HeaderValues}
 use Rattle.write.specs.declared.PacketValues.{PacketValues}
 use Rattle.write.specs.Given.{Lent, headOf, packetOf}
@@ -60,7 +61,7 @@ counter-same true (At c) i k h g = refl
 counter-same false (At c) i k h g =
     let a = leb-true (c .0 + k) (suc most32) g in
     let b : c .0 + i ≤ most32 = omega arith in
-    rw (le-leb (c .0 + i) most32 b)
+    rw (le-leb (c .0 + i) most32 b) (sym (steps-suc i (c .0)))
 counter-same true NoneLeft i k h g = refl
 counter-same false NoneLeft i k h g = let z : _≡_ {A = ℕ} 0 1 = cc in absurd (omega arith)
 

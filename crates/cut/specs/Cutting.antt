@@ -17,7 +17,7 @@ use Rattle.packet.specs.Numbers.{countMost, nextCount}
 use Rattle.sender.specs.declared.Sender.{Sender}
 use Rattle.sender.specs.declared.Next.{Next}
 use Rattle.sender.specs.declared.Next.the-variants.{At, NoneLeft}
-use Rattle.sender.specs.Sending.{afterPacket, afterSegment}
+use Rattle.sender.specs.Sending.{afterPacket, afterSegment, stepsOf}
 use Rattle.write.specs.declared.HeaderValues.{HeaderValues}
 use Rattle.write.specs.Given.{Lent, headOf, headerChecks, unlessAll}
 use Rattle.write.specs.Writing.{settingsTest, partsTest, fine}
@@ -61,9 +61,9 @@ unfoldable pub countersFit : Next → ℕ → Bool
 countersFit (At c) n = leb (c .0 + n) (suc most32)
 countersFit NoneLeft n = false
 
--- the counter of segment number i, where they fit
+-- the counter of segment number i, if they fit: i steps from the sender's
 unfoldable pub counterAt : Next → ℕ → ℕ
-counterAt (At c) i = c .0 + i
+counterAt (At c) i = stepsOf suc i (c .0)
 counterAt NoneLeft i = 0
 
 -- the sequence count of packet number i

@@ -31,6 +31,7 @@ use Rattle.demand3.specs.Sendings.{Sending, wholeBody, flagsIn, ReadsAs,
 use Rattle.demand3.specs.Cutter.{Cutting, countOf, packetOf, sendingOf, Succeeds}
 use Rattle.demand3.specs.Whole.{Delivers}
 use Rattle.demand3.proofs.ReadAs.{recounted-long, recounted-range, repeat-reads}
+use Rattle.sender.specs.Sending.{stepsOf}
 
 together-joined : (l : List (List ℕ)) → together l ≡ joined (λ (x : List ℕ). x) l
 unfolding together joined
@@ -96,9 +97,9 @@ module _ (s : Settings) (Z : ℕ) (m : Cutting) (k : Succeeds s Z m) where
     unfolding packetAt
     values-are =
         let f = flags-are i in
-        let c : pick (single P H B) 0 (counterAt (m .sender .next) i) ≡ place (m .sender .next) + i =
+        let c : pick (single P H B) 0 (counterAt (m .sender .next) i) ≡ stepsOf suc i (place (m .sender .next)) =
         ap (λ (b : Bool). pick b 0 (counterAt (m .sender .next) i)) is-cut ∙ counter-of (m .sender .next) (starts .start) i (starts .starts)
-        ∙ ap (λ (x : ℕ). x + i) (sym start-is) in
+        ∙ ap (stepsOf suc i) (sym start-is) in
         let b : bodyAt P H (m .body) i ≡ getD (firstOf (bodyAt P H (m .body)) (countOf s m .count)) i [] =
         sym (first-at (bodyAt P H (m .body)) (countOf s m .count) i [] (omega (arith, cutter-many))) in
         λ j. record { head = sendingOf s m .head; flags = f j; count = seqOf i; counter = c j; body = b j }

@@ -22,6 +22,7 @@ use Rattle.packet.specs.FixedPart.{octetField, wideField, sduField, afterSdu, a
 use Rattle.packet.specs.Reading.{primaryTests, primaryOf, idsOf, textsOf, bodyTest, refusedHeader, acceptedHeader, readPacket}
 use Rattle.packet.specs.Key.{counterPlace, keyOf}
 use Rattle.sender.specs.declared.Next.the-variants.{At}
+use Rattle.sender.specs.Sending.{stepsOf}
 use Rattle.write.specs.Given.{headOf, sum, nameChecks, routingChecks, idChecks, textChecks, headerChecks, unlessAll}
 use Rattle.write.specs.Writing.{settingsTest, partsTest}
 use Rattle.two_way.proofs.Figures.{header as values, texts}
@@ -220,23 +221,23 @@ two-at i l t e c h =
     repeat-event settings cellSize two two-cut i k c h ∙ ap arrives e
 
 pub is-seven : (c : ℕ) → c < 16384 → eventOf settings cellSize (of-three 0 c) ≡ arrives (seg 7 1 (1 ∷ 2 ∷ 3 ∷ []))
-unfolding place flagsIn firstOf bodyAt countAnswer countRefusal messageTests limitTest valueTests settingsTest partsTest unless unlessAll headerChecks nameChecks routingChecks idChecks textChecks sum packets rounded countersFit headOf split headerOctets fixedOctets frontOctets backOctets wide identification presence
+unfolding stepsOf place flagsIn firstOf bodyAt countAnswer countRefusal messageTests limitTest valueTests settingsTest partsTest unless unlessAll headerChecks nameChecks routingChecks idChecks textChecks sum packets rounded countersFit headOf split headerOctets fixedOctets frontOctets backOctets wide identification presence
 is-seven = three-at 0 (omega arith) (seg 7 1 (1 ∷ 2 ∷ 3 ∷ [])) refl
 
 pub is-eight : (c : ℕ) → c < 16384 → eventOf settings cellSize (of-three 1 c) ≡ arrives (seg 8 0 (4 ∷ 5 ∷ 6 ∷ []))
-unfolding place flagsIn firstOf bodyAt countAnswer countRefusal messageTests limitTest valueTests settingsTest partsTest unless unlessAll headerChecks nameChecks routingChecks idChecks textChecks sum packets rounded countersFit headOf split headerOctets fixedOctets frontOctets backOctets wide identification presence
+unfolding stepsOf place flagsIn firstOf bodyAt countAnswer countRefusal messageTests limitTest valueTests settingsTest partsTest unless unlessAll headerChecks nameChecks routingChecks idChecks textChecks sum packets rounded countersFit headOf split headerOctets fixedOctets frontOctets backOctets wide identification presence
 is-eight = three-at 1 (omega arith) (seg 8 0 (4 ∷ 5 ∷ 6 ∷ [])) refl
 
 pub is-nine : (c : ℕ) → c < 16384 → eventOf settings cellSize (of-three 2 c) ≡ arrives (seg 9 2 (7 ∷ 8 ∷ []))
-unfolding place flagsIn firstOf bodyAt countAnswer countRefusal messageTests limitTest valueTests settingsTest partsTest unless unlessAll headerChecks nameChecks routingChecks idChecks textChecks sum packets rounded countersFit headOf split headerOctets fixedOctets frontOctets backOctets wide identification presence
+unfolding stepsOf place flagsIn firstOf bodyAt countAnswer countRefusal messageTests limitTest valueTests settingsTest partsTest unless unlessAll headerChecks nameChecks routingChecks idChecks textChecks sum packets rounded countersFit headOf split headerOctets fixedOctets frontOctets backOctets wide identification presence
 is-nine = three-at 2 (omega arith) (seg 9 2 (7 ∷ 8 ∷ [])) refl
 
 pub is-ten : (c : ℕ) → c < 16384 → eventOf settings cellSize (of-two 0 c) ≡ arrives (seg 10 1 (21 ∷ 22 ∷ 23 ∷ []))
-unfolding flagsIn headOf split identification headerOctets fixedOctets presence frontOctets backOctets wide
+unfolding stepsOf flagsIn headOf split identification headerOctets fixedOctets presence frontOctets backOctets wide
 is-ten = two-at 0 (omega arith) (seg 10 1 (21 ∷ 22 ∷ 23 ∷ [])) refl
 
 pub is-eleven : (c : ℕ) → c < 16384 → eventOf settings cellSize (of-two 1 c) ≡ arrives (seg 11 2 (24 ∷ 25 ∷ 26 ∷ 27 ∷ 28 ∷ 29 ∷ 30 ∷ []))
-unfolding flagsIn headOf split identification headerOctets fixedOctets presence frontOctets backOctets wide
+unfolding stepsOf flagsIn headOf split identification headerOctets fixedOctets presence frontOctets backOctets wide
 is-eleven = two-at 1 (omega arith) (seg 11 2 (24 ∷ 25 ∷ 26 ∷ 27 ∷ 28 ∷ 29 ∷ 30 ∷ [])) refl
 
 abbrev pub stray : Seg

@@ -1,6 +1,6 @@
 -- The run of `Day`: each of its packets may come, and its two messages share no counter.
 -- Assumes nothing.
-use Prim.Native.Nat.{ℕ, _+_, _<_}
+use Prim.Native.Nat.{ℕ, _<_}
 use mathlib.Core.Path.{_≡_, refl, ap, sym, _∙_}
 use mathlib.Core.Logic.{_≢_, _⊎_, inl, inr}
 use mathlib.Core.List.{List, [], _∷_, List·Memᴰ, List·Memᴰ·head, List·Memᴰ·tail, List·Memᴰ·cases-cons, List·Memᴰ·not-nil}
@@ -20,6 +20,7 @@ use Rattle.demand3.specs.Sendings.{Sending, manyOf, segmentAt, keyIn, st
 use Rattle.demand3.specs.Presupposed.{MayCome, own, unsegmented, malformed, over-long, other-keyed}
 use Rattle.demand3.proofs.ReadAs.{repeat-reads, repeat-octets}
 use Rattle.demand3.proofs.Day.{settings, three, two, messages, of-three, of-two, header, theKey, single, stub, huge, other, single-octets, stub-octets, huge-octets, other-octets, three-many, two-many, three-cut, two-cut}
+use Rattle.sender.proofs.Stepping.{steps-suc}
 
 pub one-of : (m : Sending) → List·Memᴰ m messages → (m ≡ three) ⊎ (m ≡ two)
 one-of m h = go (List·Memᴰ·cases-cons h)
@@ -96,5 +97,4 @@ three-start = refl
 
 pub no-counter : (i j : ℕ) → i < manyOf settings three → j < manyOf settings two → segmentAt settings three i .counter ≢ segmentAt settings two j .counter
 no-counter i j l k e =
-    let f : startOf settings three + i ≡ startOf settings two + j = e in
-    omega (arith, three-start, three-many)
+    omega (arith, e, steps-suc i (startOf settings three), steps-suc j (startOf settings two), three-start, three-many)

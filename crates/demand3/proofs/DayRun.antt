@@ -14,7 +14,7 @@ use Rattle.octets.specs.Octets.{alike}
 use Rattle.cells.specs.Segments.{carries, sameRest}
 use Rattle.cells.specs.Rows.{Cell}
 use Rattle.cells.specs.Order.{cellSize}
-use Rattle.messages.specs.Messages.{look, roleOf, bodies, chain, runFrom, pickIn, among, top}
+use Rattle.messages.specs.Messages.{look, roleOf, bodies, restFrom, runFrom, pickIn, among, top}
 use Rattle.keeping.specs.Cells.{put, hasFree}
 use Rattle.messages.proofs.Empty.{empty-cells}
 use Rattle.demand3.specs.Traffic.{Event, arrives, passes, empty, takenFrom, stepped, after, Room as CellRoom}
@@ -251,7 +251,7 @@ traffic =
     apart′ m w (inr e) (inr f) = inl (e ∙ sym f)
 
 has-room : roomIn suc top (empty 4) (actEvents (empty 4) (noonActs ++ eveningActs)) ≡ true
-unfolding actEvents roomIn after stepped takenFrom look carries sameRest alike put hasFree pickIn runFrom chain roleOf bodies among
+unfolding actEvents roomIn after stepped takenFrom look carries sameRest alike put hasFree pickIn runFrom restFrom roleOf bodies among
 has-room = refl
 
 -- J-8: "whenever a new segment of any key arrives, a cell is free", with fewer cells than segments

@@ -21,8 +21,8 @@ use Rattle.demand3.specs.Traffic.{takes, takenFrom, stepped, after}
 use Rattle.demand3.specs.Promise.{LongEnough, HandsOut}
 use Rattle.demand3.proofs.Looks.{look-held}
 use Rattle.demand3.proofs.Links.{Mem, Opened}
-use Rattle.demand3.proofs.Finds.{There, Found, found-opened, found-there, chain-all, picked-lowest, picked-held, picked-some}
-use Rattle.demand3.proofs.Exactly.{complete-found, chain-short}
+use Rattle.demand3.proofs.Finds.{There, Found, found-opened, found-there, rest-all, picked-lowest, picked-held, picked-some}
+use Rattle.demand3.proofs.Exactly.{complete-found, rest-short}
 use Rattle.demand3.proofs.Beside.{among-mem, Off, found-apart}
 use Rattle.demand3.proofs.Takings.{picked-taken, taken-cells}
 use Rattle.demand3.proofs.Keeps.{Keeps, clear-off}
@@ -96,7 +96,7 @@ module _ (next : ℕ → ℕ) (span : ℕ) (inj : (x y : ℕ) → next x ≡ nex
       record {
         opens = o .opens;
         finds =
-            chain-all next span span cs (own .head .key) (next (own .head .counter)) (own .rest) (o .follows) fits
+            rest-all next span span cs (own .head .key) (next (own .head .counter)) (own .rest) (o .follows) fits
             (λ t m. f t (List·Memᴰ·tail m));
       },
     )
@@ -169,7 +169,7 @@ module _ (next : ℕ → ℕ) (span : ℕ) (inj : (x y : ℕ) → next x ≡ nex
       f = z .2
 
       short : length (own .rest) ≤ span
-      short = chain-short next span span cs (own .head .key) (next (own .head .counter)) (own .rest) (f .finds)
+      short = rest-short next span span cs (own .head .key) (next (own .head .counter)) (own .rest) (f .finds)
 
       all : There cs (segments own)
       all = found-there next span cs own s (z .1) f

@@ -19,7 +19,7 @@ use Rattle.fewest.specs.Runs.{place}
 use Rattle.cells.specs.Segments.{carries, sameRest}
 use Rattle.cells.specs.Order.{cellSize}
 use Rattle.taking.specs.declared.Taken.{Taken}
-use Rattle.messages.specs.Messages.{Run, look, roleOf, bodies, bodyOf, chain, runFrom, pickIn, picked, among, top}
+use Rattle.messages.specs.Messages.{Run, look, roleOf, bodies, bodyOf, restFrom, runFrom, pickIn, picked, among, top}
 use Rattle.taking.specs.Taking.{Took, message, unable}
 use Rattle.walk.specs.Walk.{refusal}
 use Rattle.taking.specs.Told.{takenOf}
@@ -40,7 +40,8 @@ use Rattle.demand3.proofs.Day.{settings, cutting, three, succeeds, mess
 use Rattle.demand3.proofs.DayComes.{Fine, three-fine}
 use Rattle.demand3.proofs.DayRun.{lentOut, early, morning, atNoon, noon, evening, seven, nine, ten, noonActs, eveningActs, consed, day-acts, in-use, traffic}
 use Rattle.demand3.proofs.DayEnd.{cellsAtEnd, end-cells, theRun, the-key, the-start, promised}
-use Rattle.demand3.proofs.Ways.{goes, goesOn, behind, takenBy, by, ofKey, lastOf, heldFrom, numbered, numberWay, match, chainBy, opened, chosen, transactionWay}
+use Rattle.demand3.proofs.Ways.{goes, goesOn, behind, takenBy, by, ofKey, lastOf, heldFrom, numbered, numberWay, match, restBy, opened, chosen, transactionWay}
+use Rattle.sender.specs.Sending.{stepsOf}
 
 abbrev Z : ℕ
 Z = cellSize
@@ -134,7 +135,7 @@ abbrev pub Once : (List Call → Call → Option Took) → Type 0
 Once by = (x y : List Call) (c d : Call) (r q : Run) → by x c ≡ some (message r) → by (x ++ c ∷ y) d ≡ some (message q) → ⊥
 
 picks-three : picked suc top cellsAtEnd ≡ some theRun
-unfolding look carries alike pickIn runFrom chain roleOf
+unfolding look carries alike pickIn runFrom restFrom roleOf
 picks-three = refl
 
 -- the store does so
@@ -169,9 +170,9 @@ TellsIt by = (x y : List Call) (c : Call) (r : Run) → noon ++ evening ≡ x ++
 
 -- the store does so
 pub tells-it : TellsIt (λ cs c. tookBy settings Z (storeBehind settings Z 4 cs) c)
-unfolding place headOf split identification headerOctets fixedOctets presence frontOctets backOctets wide
+unfolding place stepsOf headOf split identification headerOctets fixedOctets presence frontOctets backOctets wide
 tells-it x y c r d e i =
-    let a : r .head .counter ≡ segmentAt settings three 0 .counter = omega (arith, i .1) in
+    let a : r .head .counter ≡ segmentAt settings three 0 .counter = i .1 in
     let v =
     soundness·whole settings 4 in-use messages [] x sooner three (List·Memᴰ·head refl) fresh .1 .takes c its .gives r e (i .0) 0
     (omega (arith, three-many)) a in
@@ -238,7 +239,7 @@ abbrev mixed : Run
 mixed = record { head = seg 7 1 (1 ∷ 2 ∷ 3 ∷ []); rest = stray ∷ seg 9 2 (7 ∷ 8 ∷ []) ∷ [] }
 
 mixed-taken : takenBy transactionWay (behind transactionWay (empty 4) (noonActs ++ eveningActs)) (draw 31) ≡ some (message mixed)
-unfolding takenBy behind goesOn goes match chainBy opened chosen carries sameRest alike put hasFree roleOf bodies among
+unfolding takenBy behind goesOn goes match restBy opened chosen carries sameRest alike put hasFree roleOf bodies among
 mixed-taken = refl
 
 mixed-long : length (bodyOf mixed) ≡ 6

@@ -15,7 +15,7 @@ use Rattle.octets.proofs.Lists.{bool}
 use Rattle.walk.specs.declared.Settings.{Settings}
 use Rattle.cells.specs.Segments.{Seg, both}
 use Rattle.cells.specs.Rows.{Cell, segmentIn, bySegment}
-use Rattle.messages.specs.Messages.{Run, Role, first, middle, last, roleOf, cellsOf, orElse, look, link, opensBy, chain, runFrom, pickIn, picked, top}
+use Rattle.messages.specs.Messages.{Run, Role, first, middle, last, roleOf, cellsOf, orElse, look, link, opensBy, restFrom, runFrom, pickIn, picked, top}
 use Rattle.taking.specs.Taking.{Took, drawn, took}
 use Rattle.messages.proofs.Picking.{pick-yes}
 use Rattle.messages.proofs.Empty.{empty-cells}
@@ -208,12 +208,12 @@ match (x ∷ xs) k c = orElse (matched k c x) (match xs k c)
 
 -- the message that is found so: as the store finds its own, but with another finding of a segment
 module _ (find : List Cell → List ℕ → ℕ → Option Seg) where
-  unfoldable pub chainBy : ℕ → List Cell → List ℕ → ℕ → Option (List Seg)
-  chainBy zero cs k c = none
-  chainBy (suc n) cs k c = let r = chainBy n cs k (suc c) in link (find cs k c) r
+  unfoldable pub restBy : ℕ → List Cell → List ℕ → ℕ → Option (List Seg)
+  restBy zero cs k c = none
+  restBy (suc n) cs k c = let r = restBy n cs k (suc c) in link (find cs k c) r
 
   unfoldable pub opened : List Cell → Seg → Option Run
-  opened cs t = let r = chainBy top cs (t .key) (suc (t .counter)) in opensBy (roleOf (t .flags)) t r
+  opened cs t = let r = restBy top cs (t .key) (suc (t .counter)) in opensBy (roleOf (t .flags)) t r
 
   abbrev openedIn : List Cell → Cell → Option Run
   openedIn cs x = bySegment none (opened cs) (segmentIn x)
@@ -229,14 +229,14 @@ abbrev pub transactionWay : Way
 transactionWay = wayBy match
 
 -- with the store's finding it is the store's way
-chain-same : (n : ℕ) (cs : List Cell) (k : List ℕ) (c : ℕ) → chainBy look n cs k c ≡ chain suc top n cs k c
-unfolding chainBy chain
-chain-same zero cs k c = refl
-chain-same (suc n) cs k c = ap (link (look cs k c)) (chain-same n cs k (suc c))
+rest-same : (n : ℕ) (cs : List Cell) (k : List ℕ) (c : ℕ) → restBy look n cs k c ≡ restFrom suc top n cs k c
+unfolding restBy restFrom
+rest-same zero cs k c = refl
+rest-same (suc n) cs k c = ap (link (look cs k c)) (rest-same n cs k (suc c))
 
 opened-same : (cs : List Cell) (t : Seg) → opened look cs t ≡ runFrom suc top cs t
 unfolding opened runFrom
-opened-same cs t = ap (opensBy (roleOf (t .flags)) t) (chain-same top cs (t .key) (suc (t .counter)))
+opened-same cs t = ap (opensBy (roleOf (t .flags)) t) (rest-same top cs (t .key) (suc (t .counter)))
 
 pub chosen-same : (cs xs : List Cell) → chosen look cs xs ≡ pickIn suc top cs xs
 unfolding chosen pickIn

@@ -11,6 +11,7 @@ use Rattle.taking.specs.Taking.{message}
 use Rattle.demand3.specs.Complete.{Has}
 use Rattle.demand3.specs.Traffic.{Sent, stepsIn, segmentsOf, Event, arrives, empty, takenFrom, after, OneOf, Room}
 use Rattle.demand3.specs.Promise.{Original, AllCame, Untaken, Anew, Delivery, Promise}
+use Rattle.sender.specs.Sending.{stepsOf}
 
 -- "for one key, there is a first at counter c, a last at d, c < d, and continuations at each number between"
 pub record CompleteFrom (cs : List Cell) (k : List ℕ) (c d : ℕ) : Type 0 where
@@ -21,7 +22,7 @@ pub record CompleteFrom (cs : List Cell) (k : List ℕ) (c d : ℕ) : Type 0 whe
 
 -- the counter of the message's last
 abbrev pub final : Sent → ℕ
-final m = m .start + stepsIn m
+final m = stepsOf suc (stepsIn m) (m .start)
 
 abbrev pub Done01 : Sent → List Cell → Type 0
 Done01 m cs = CompleteFrom cs (m .key) (m .start) (final m)

@@ -1,6 +1,6 @@
 -- The messages of demand 3, "messages cut into two or more segments, each fitting a cell", cut in any way: header values, a first
--- counter, and the bodies of the segments, of any lengths. Segment i is the format's octets of these values with the counter start + i,
--- flags 01, 00 .., 10, body i, and any sequence count.
+-- counter, and the bodies of the segments, of any lengths. Segment i is the format's octets of these values with the counter i steps
+-- from the first, flags 01, 00 .., 10, body i, and any sequence count.
 -- Assumes nothing: these are definitions.
 use Prim.Native.Nat.{ℕ, suc, _+_, _-_, _≤_, _<_}
 use mathlib.Core.Path.{_≡_}
@@ -14,6 +14,7 @@ use Rattle.walk.specs.declared.Settings.{Settings}
 use Rattle.packet.specs.Format.{Head, Values, identification, headerOctets, octetsOf, InRange}
 use Rattle.packet.specs.Reading.{readPacket, segmented}
 use Rattle.cells.specs.Segments.{Seg, segOf}
+use Rattle.sender.specs.Sending.{stepsOf}
 
 -- a message as it was cut: what all its packets share, its first counter, and the bodies of its segments
 pub record Sending : Type 0 where
@@ -40,12 +41,15 @@ module _ (s : Settings) where
   abbrev pub manyOf : Sending → ℕ
   manyOf m = length (m .bodies)
 
-  -- the counters of its first and of its last
+  -- the counters of its first, of segment i, and of its last
   abbrev pub startOf : Sending → ℕ
   startOf m = m .start
 
+  abbrev pub counterIn : Sending → ℕ → ℕ
+  counterIn m i = stepsOf suc i (startOf m)
+
   abbrev pub endOf : Sending → ℕ
-  endOf m = startOf m + (manyOf m - 1)
+  endOf m = counterIn m (manyOf m - 1)
 
   -- the values of segment i, with this sequence count
   abbrev pub valuesAt : Sending → ℕ → ℕ → Values
@@ -54,7 +58,7 @@ module _ (s : Settings) where
         head = m .head;
         flags = flagsIn (manyOf m) i;
         count = c;
-        counter = startOf m + i;
+        counter = counterIn m i;
         body = getD (m .bodies) i [];
       }
 
@@ -76,7 +80,7 @@ module _ (s : Settings) where
   -- segment i, whatever its sequence count
   abbrev pub segmentAt : Sending → ℕ → Seg
   segmentAt m i =
-      record { key = keyIn m; counter = startOf m + i; flags = flagsIn (manyOf m) i; body = getD (m .bodies) i [] }
+      record { key = keyIn m; counter = counterIn m i; flags = flagsIn (manyOf m) i; body = getD (m .bodies) i [] }
 
   -- H and B
   abbrev pub headerSize : Sending → ℕ

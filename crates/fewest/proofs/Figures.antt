@@ -17,7 +17,7 @@ use Rattle.packet.specs.FixedPart.{afterSdu, afterArea, afterService, afterOper
 use Rattle.packet.specs.Reading.{primaryTests, primaryOf, idsOf, textsOf, bodyTest, acceptedHeader, readPacket}
 use Rattle.sender.specs.declared.Sender.{Sender}
 use Rattle.sender.specs.declared.Next.the-variants.{At, NoneLeft}
-use Rattle.sender.specs.Sending.{nextCounter, afterSegment}
+use Rattle.sender.specs.Sending.{nextCounter, afterSegment, stepsOf}
 use Rattle.write.specs.Given.{headOf, sum, nameChecks, routingChecks, idChecks, textChecks, headerChecks, unlessAll}
 use Rattle.write.specs.Writing.{settingsTest, partsTest}
 use Rattle.two_way.proofs.Figures.{header as values, texts}
@@ -75,7 +75,7 @@ abbrev pub repeated : List (List ℕ)
 repeated = firstOf (λ (i : ℕ). octetsAt settings 64 values texts (zeros 38) (sender 0) 0) 2
 
 repeated-long : length (joined (bodyOf settings) repeated) ≡ 66
-unfolding firstOf joined packetAt flagsAt bodyAt packets rounded countAt counterAt headOf split octetsOf identification dataOctets secondaryOctets fixedOctets presence frontOctets counterOctets backOctets headerOctets wide readPacket acceptedHeader primaryTests begun check octets numberAt primaryOf afterSdu afterArea afterService afterOperation afterVersion afterSession afterSecondary afterQualifier afterTransaction afterPresence fixedOf flagsOf presentOf idsOf textsOf bodyTest wideField
+unfolding firstOf joined packetAt flagsAt bodyAt packets rounded countAt counterAt stepsOf headOf split octetsOf identification dataOctets secondaryOctets fixedOctets presence frontOctets counterOctets backOctets headerOctets wide readPacket acceptedHeader primaryTests begun check octets numberAt primaryOf afterSdu afterArea afterService afterOperation afterVersion afterSession afterSecondary afterQualifier afterTransaction afterPresence fixedOf flagsOf presentOf idsOf textsOf bodyTest wideField
 repeated-long = refl
 
 -- does not carry the message: its bodies joined are 66 octets, not 38
@@ -87,7 +87,7 @@ repeats-refuted c =
 long-at :
     (length (octetsAt settings 64 values texts (zeros 38) (sender 0) 0) ≡ 64)
     × (length (octetsAt settings 64 values texts (zeros 38) (sender 0) 1) ≡ 36)
-unfolding packetAt flagsAt bodyAt packets rounded countAt counterAt headOf split octetsOf identification dataOctets secondaryOctets fixedOctets presence frontOctets counterOctets backOctets headerOctets wide
+unfolding packetAt flagsAt bodyAt packets rounded countAt counterAt stepsOf headOf split octetsOf identification dataOctets secondaryOctets fixedOctets presence frontOctets counterOctets backOctets headerOctets wide
 long-at = (refl, refl)
 
 -- nor does the call's promise allow it: packet 1 has 36 octets, and packet 0 has 64

@@ -17,6 +17,8 @@ use Rattle.packet.specs.Format.{Opt, segment, SettingsInRange, InRange}
 use Rattle.sender.specs.declared.Sender.{Sender}
 use Rattle.sender.specs.declared.Next.{Next}
 use Rattle.sender.specs.declared.Next.the-variants.{At, NoneLeft}
+use Rattle.sender.specs.Sending.{stepsOf}
+use Rattle.sender.proofs.Stepping.{steps-suc}
 use Rattle.write.specs.declared.HeaderValues.{HeaderValues}
 use Rattle.write.specs.Given.{Lent}
 use Rattle.write.specs.Writing.{settingsTest, fine}
@@ -85,7 +87,7 @@ unfolding countersFit
 fit-starts (At c) n g = record { start = c; starts = refl; fit = leb-true (c .0 + n) (suc most32) g }
 fit-starts NoneLeft n g = let z : _≡_ {A = ℕ} 0 1 = cc in absurd (omega arith)
 
-pub counter-of : (d : Next) (c : SegmentCounter) (i : ℕ) → d ≡ At c → counterAt d i ≡ c .0 + i
+pub counter-of : (d : Next) (c : SegmentCounter) (i : ℕ) → d ≡ At c → counterAt d i ≡ stepsOf suc i (c .0)
 unfolding counterAt
 counter-of d c i e = rw (e, counterAt)
 
@@ -131,7 +133,7 @@ module _ (s : Settings) (P : ℕ) (v : HeaderValues) (t : Lent) (body : List ℕ
   counter-range i l true e = refl
   counter-range i l false e =
       let k = counters e in
-      let c = counter-of (d .next) (k .start) i (k .starts) in
+      let c = counter-of (d .next) (k .start) i (k .starts) ∙ steps-suc i (k .start .0) in
       omega (arith, k .fit)
 
   body-octets : Octets body → (i : ℕ) (b : Bool) → Octets (pick b body (part body (i * chunk P H) (chunk P H)))

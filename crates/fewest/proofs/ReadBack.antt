@@ -2,7 +2,7 @@
 -- another, the flags, lengths at most P, and bodies that joined are the message's. So they are a list of packets that carries it, and
 -- the fewest (M-5): the bound is reached.
 -- Assumes nothing.
-use Prim.Native.Nat.{ℕ, suc, _+_, _*_, _≤_, _<_}
+use Prim.Native.Nat.{ℕ, suc, _*_, _≤_, _<_}
 use mathlib.Core.Path.{_≡_, refl, ap, sym, _∙_}
 use mathlib.Core.Logic.{inl, inr, ⊎-elim}
 use mathlib.Core.Bool.{Bool, true, false, not}
@@ -17,6 +17,8 @@ use Rattle.packet.specs.Format.{Values, segment, octetsOf}
 use Rattle.packet.specs.Numbers.{nextCount}
 use Rattle.packet.specs.Reading.{segmented}
 use Rattle.sender.specs.declared.Sender.{Sender}
+use Rattle.sender.specs.Sending.{stepsOf}
+use Rattle.sender.proofs.Stepping.{steps-suc, steps-last}
 use Rattle.write.specs.declared.HeaderValues.{HeaderValues}
 use Rattle.write.specs.Given.{Lent, headOf}
 use Rattle.format.specs.Told.{valuesOf}
@@ -54,7 +56,7 @@ module _ (s : Settings) (P : ℕ) (v : HeaderValues) (t : Lent) (body : List ℕ
       let f : told s p .flags ≡ flagsAt P H B i = ap (λ (u : Values). u .flags) x in
       let k = counters s P v t body d z e in
       let h = room s P v t body d z e in
-      let c : told s p .counter ≡ k .start .0 + i =
+      let c : told s p .counter ≡ stepsOf suc i (k .start .0) =
       ap (λ (u : Values). u .counter) x ∙ ap (λ (b : Bool). pick b 0 (counterAt (d .next) i)) e ∙ counter-of (d .next) (k .start) i (k .starts) in
       let y : bodyOf s p ≡ part body (i * chunk P H) (chunk P H) =
       body-told s p x ∙ ap (λ (b : Bool). pick b body (part body (i * chunk P H) (chunk P H))) e in
@@ -67,7 +69,7 @@ module _ (s : Settings) (P : ℕ) (v : HeaderValues) (t : Lent) (body : List ℕ
         start = k .start;
         starts = k .starts;
         counter = c;
-        counter-top = omega (arith, k .fit);
+        counter-top = omega (arith, k .fit, c ∙ steps-suc i (k .start .0));
         full-body = λ u. n ∙ piece-full P H B e h i body refl u;
         body-some = omega (arith, piece-some P H B e h i body refl l);
         body-top = omega (arith, piece-most P H B e h i body refl);
@@ -133,7 +135,7 @@ module _ (s : Settings) (P : ℕ) (v : HeaderValues) (t : Lent) (body : List ℕ
       let k = counters s P v t body d z e in
       let a = counter-told e i (omega arith) ∙ counter-of (d .next) (k .start) i (k .starts) in
       let b = counter-told e (suc i) l ∙ counter-of (d .next) (k .start) (suc i) (k .starts) in
-      omega arith
+      b ∙ steps-last suc i (k .start .0) ∙ ap suc (sym a)
 
   -- C-7
   pub packets-read-back : AllBack s P v t body d

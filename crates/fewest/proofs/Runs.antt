@@ -19,7 +19,8 @@ use Rattle.packet.specs.Numbers.{nextCount}
 use Rattle.sender.specs.declared.Sender.{Sender}
 use Rattle.sender.specs.declared.Next.{Next}
 use Rattle.sender.specs.declared.Next.the-variants.{At, NoneLeft}
-use Rattle.sender.specs.Sending.{afterPacket}
+use Rattle.sender.specs.Sending.{afterPacket, stepsOf}
+use Rattle.sender.proofs.Stepping.{steps-suc, steps-more}
 use Rattle.write.specs.Writing.{fine}
 use Rattle.cut.specs.Cutting.{afterSegments, counterAt, countAt, single, packets, headerLength, countRefusal, senderAfter, countAnswer, packetAt, givenAt}
 use Rattle.cut.specs.Inner.{counterAfter}
@@ -71,13 +72,13 @@ place-top (At c) h = omega arith
 place-top NoneLeft h = omega arith
 
 pub goes-none : (d : Sender) → Bits32 (d .next) → Goes d [] d
-unfolding firstOf joined countAt
+unfolding firstOf joined countAt stepsOf
 goes-none d h =
     record {
       counts = refl;
       count = refl;
       counters = refl;
-      next = sym (add-zero (place (d .next)));
+      next = refl;
       bits = h;
       top = place-top (d .next) h;
     }
@@ -101,15 +102,18 @@ goes-on {d} {e} {f} l m a b =
           ∙ ap (countAt (d .count .0)) (sym n);
       counters =
           c ∙ ap₂ _++_ (a .counters) (b .counters)
-          ∙ ap (λ (x : List ℕ). firstOf (λ (i : ℕ). place (d .next) + i) (length (countersOf l)) ++ x)
-          (first-same (λ (i : ℕ). place (e .next) + i) (λ (i : ℕ). place (d .next) + (length (countersOf l) + i)) (length (countersOf m))
-          (λ i h. omega (arith, a .next)))
-          ∙ sym (first-more (λ (i : ℕ). place (d .next) + i) (length (countersOf l)) (length (countersOf m)))
-          ∙ ap (firstOf (λ (i : ℕ). place (d .next) + i)) (sym k);
-      next = omega (arith, a .next, b .next);
+          ∙ ap (λ (x : List ℕ). firstOf (λ (i : ℕ). stepsOf suc i (place (d .next))) (length (countersOf l)) ++ x)
+          (first-same (λ (i : ℕ). stepsOf suc i (place (e .next))) (λ (i : ℕ). stepsOf suc (length (countersOf l) + i) (place (d .next)))
+          (length (countersOf m)) (λ i h. steps-on i))
+          ∙ sym (first-more (λ (i : ℕ). stepsOf suc i (place (d .next))) (length (countersOf l)) (length (countersOf m)))
+          ∙ ap (firstOf (λ (i : ℕ). stepsOf suc i (place (d .next)))) (sym k);
+      next = b .next ∙ steps-on (length (countersOf m)) ∙ ap (λ (x : ℕ). stepsOf suc x (place (d .next))) (sym k);
       bits = b .bits;
       top = b .top;
     }
+  where
+    steps-on : (i : ℕ) → stepsOf suc i (place (e .next)) ≡ stepsOf suc (length (countersOf l) + i) (place (d .next))
+    steps-on i = ap (stepsOf suc i) (a .next) ∙ steps-more suc (length (countersOf l)) i (place (d .next))
 
 -- ---- one message
 
@@ -152,23 +156,23 @@ module _ (d : Sender) (m : Message) (h : Bits32 (d .next)) where
   segment-given i = segment-is (m .limit) H B i
 
   whole-goes : single (m .limit) H B ≡ true → Goes d (firstOf given 1) (afterPacket d)
-  unfolding afterPacket countAt firstOf
+  unfolding afterPacket countAt firstOf stepsOf
   whole-goes e =
       let c = counters-whole given 1 (λ i. segment-given i ∙ ap not e) in
       record {
         counts = counts-given 1;
         count = refl;
-        counters = c ∙ ap (firstOf (λ (i : ℕ). place (d .next) + i)) (sym (ap length c));
-        next = omega (arith, ap length c);
+        counters = c ∙ ap (firstOf (λ (i : ℕ). stepsOf suc i (place (d .next)))) (sym (ap length c));
+        next = ap (λ (x : ℕ). stepsOf suc x (place (d .next))) (sym (ap length c));
         bits = h;
         top = place-top (d .next) h;
       }
 
-  counter-given : single (m .limit) H B ≡ false → (c : SegmentCounter) → d .next ≡ At c → (i : ℕ) → given i .counter ≡ place (d .next) + i
+  counter-given : single (m .limit) H B ≡ false → (c : SegmentCounter) → d .next ≡ At c → (i : ℕ) → given i .counter ≡ stepsOf suc i (place (d .next))
   unfolding packetAt
   counter-given e c x i =
       ap (λ (b : Bool). pick b 0 (counterAt (d .next) i)) e ∙ counter-of (d .next) c i x
-      ∙ ap (λ (n : ℕ). n + i) (sym (place-at (d .next) c x))
+      ∙ ap (stepsOf suc i) (sym (place-at (d .next) c x))
 
   cut-goes :
       countRefusal (m .settings) (m .limit) (m .values) (m .texts) B d .number ≡ 0 → single (m .limit) H B ≡ false →
@@ -177,10 +181,10 @@ module _ (d : Sender) (m : Message) (h : Bits32 (d .next)) where
       let n = packets (m .limit) H B in
       let k = counters (m .settings) (m .limit) (m .values) (m .texts) (m .body) d z e in
       let t : k .start .0 ≤ most32 = subst Bits32 (k .starts) h in
-      let c : countersOf (firstOf given n) ≡ firstOf (λ (i : ℕ). place (d .next) + i) n =
+      let c : countersOf (firstOf given n) ≡ firstOf (λ (i : ℕ). stepsOf suc i (place (d .next))) n =
       counters-segments given n (λ i. segment-given i ∙ ap not e)
-      ∙ first-same (λ (i : ℕ). given i .counter) (λ (i : ℕ). place (d .next) + i) n (λ i l. counter-given e (k .start) (k .starts) i) in
-      let y : length (countersOf (firstOf given n)) ≡ n = ap length c ∙ first-length (λ (i : ℕ). place (d .next) + i) n in
+      ∙ first-same (λ (i : ℕ). given i .counter) (λ (i : ℕ). stepsOf suc i (place (d .next))) n (λ i l. counter-given e (k .start) (k .starts) i) in
+      let y : length (countersOf (firstOf given n)) ≡ n = ap length c ∙ first-length (λ (i : ℕ). stepsOf suc i (place (d .next))) n in
       let p = place-at (d .next) (k .start) (k .starts) in
       let q : place (counterAfter n (d .next)) ≡ k .start .0 + n =
       ap (λ (x : Next). place (counterAfter n x)) (k .starts) ∙ place-after (k .start) n t (k .fit) in
@@ -188,8 +192,8 @@ module _ (d : Sender) (m : Message) (h : Bits32 (d .next)) where
       (record {
         counts = counts-given n;
         count = ap (countAt (d .count .0)) (sym (first-length given n));
-        counters = c ∙ ap (firstOf (λ (i : ℕ). place (d .next) + i)) (sym y);
-        next = omega arith;
+        counters = c ∙ ap (firstOf (λ (i : ℕ). stepsOf suc i (place (d .next)))) (sym y);
+        next = omega (arith, steps-suc (length (countersOf (firstOf given n))) (place (d .next)));
         bits = subst (λ (x : Next). Bits32 (counterAfter n x)) (sym (k .starts)) (bits-after (k .start) n t);
         top = omega (arith, k .fit);
       })

@@ -15,6 +15,7 @@ use Rattle.packet.specs.Reading.{segmented, readPacket}
 use Rattle.packet.specs.Key.{keyOf}
 use Rattle.sender.specs.declared.Sender.{Sender}
 use Rattle.sender.specs.declared.Next.the-variants.{At}
+use Rattle.sender.specs.Sending.{stepsOf}
 use Rattle.write.specs.declared.HeaderValues.{HeaderValues}
 use Rattle.write.specs.Given.{Lent, headOf}
 use Rattle.format.specs.Told.{valuesOf}
@@ -68,8 +69,8 @@ module _ (s : Settings) (P : ℕ) (v : HeaderValues) (t : Lent) (body : List ℕ
     -- the sender had a counter to start from
     pub start : SegmentCounter
     pub starts : d .next ≡ At start
-    -- the counter told is that and i
-    pub counter : told s p .counter ≡ start .0 + i
+    -- the counter told is i steps from that
+    pub counter : told s p .counter ≡ stepsOf suc i (start .0)
     -- and there is such a counter
     pub counter-top : told s p .counter ≤ most32
     -- each body but the last has C octets

@@ -1,6 +1,6 @@
 -- A run of messages of one sender, each counted by the numbers as the one before left them; refused ones may be among them.
 -- Assumes nothing: these are definitions.
-use Prim.Native.Nat.{ℕ, _+_, _≤_}
+use Prim.Native.Nat.{ℕ, _+_, _≤_, suc}
 use mathlib.Core.Path.{_≡_}
 use mathlib.Core.List.{List, [], _∷_, _++_, map}
 use lib.ListN.{length}
@@ -11,6 +11,7 @@ use Rattle.packet.specs.Format.{Values, segment, when}
 use Rattle.sender.specs.declared.Sender.{Sender}
 use Rattle.sender.specs.declared.Next.{Next}
 use Rattle.sender.specs.declared.Next.the-variants.{At, NoneLeft}
+use Rattle.sender.specs.Sending.{stepsOf}
 use Rattle.write.specs.declared.HeaderValues.{HeaderValues}
 use Rattle.write.specs.Given.{Lent}
 use Rattle.cut.specs.declared.Counted.{Counted}
@@ -72,9 +73,9 @@ pub record Goes (d : Sender) (l : List Values) (e : Sender) : Type 0 where
   -- and the sender behind has the next
   pub count : e .count .0 ≡ countAt (d .count .0) (length l)
   -- the counters of the segments go on by one for each segment, from the sender's
-  pub counters : countersOf l ≡ firstOf (λ (i : ℕ). place (d .next) + i) (length (countersOf l))
+  pub counters : countersOf l ≡ firstOf (λ (i : ℕ). stepsOf suc i (place (d .next))) (length (countersOf l))
   -- the sender behind has the next, or none is left
-  pub next : place (e .next) ≡ place (d .next) + length (countersOf l)
+  pub next : place (e .next) ≡ stepsOf suc (length (countersOf l)) (place (d .next))
   pub bits : Bits32 (e .next)
   -- none passes 4,294,967,295
   pub top : place (e .next) ≤ 4294967296

@@ -18,9 +18,10 @@ use Rattle.cut.specs.Cutting.{countersFit, counterAt, countAt, packets, rounded
 use Rattle.recording.proofs.Figure.{figure-14}
 use Rattle.figures.specs.Table.{Said, octets as said-octets, Row, table}
 use Rattle.figures.proofs.Thirteen.{thirteen}
+use Rattle.sender.specs.Sending.{stepsOf}
 
 pub figures : map (λ (r : Row). r .computed) table ≡ map (λ (r : Row). r .said) table
-unfolding nextCount wide numberAt write varintOctets final after read begun check octets unless number numberStep split presence identification fixedOctets frontOctets counterOctets backOctets headerOctets secondaryOctets dataOctets octetsOf primaryTests primaryOf octetField wideField sduField afterSdu afterArea afterService afterOperation afterVersion afterSession afterSecondary afterQualifier afterTransaction afterPresence fixedOf flagsOf presentOf idsOf textsOf bodyTest refusedHeader acceptedHeader readPacket headOf packetOf sum nameChecks routingChecks idChecks textChecks headerChecks packetChecks unlessAll settingsTest partsTest sizeTests valueRefusal writeRefusal writeOutput countersFit counterAt countAt packets rounded limitTest valueTests messageTests countRefusal countAnswer flagsAt bodyAt packetAt packetRefusal packetAnswer packetOutput
+unfolding nextCount wide numberAt write varintOctets final after read begun check octets unless number numberStep split presence identification fixedOctets frontOctets counterOctets backOctets headerOctets secondaryOctets dataOctets octetsOf primaryTests primaryOf octetField wideField sduField afterSdu afterArea afterService afterOperation afterVersion afterSession afterSecondary afterQualifier afterTransaction afterPresence fixedOf flagsOf presentOf idsOf textsOf bodyTest refusedHeader acceptedHeader readPacket headOf packetOf sum nameChecks routingChecks idChecks textChecks headerChecks packetChecks unlessAll settingsTest partsTest sizeTests valueRefusal writeRefusal writeOutput countersFit counterAt stepsOf countAt packets rounded limitTest valueTests messageTests countRefusal countAnswer flagsAt bodyAt packetAt packetRefusal packetAnswer packetOutput
 figures =
     ap₂ (λ (x y : Said). map (λ (r : Row). r .said) (take 26 table) ++ (x ∷ map (λ (r : Row). r .said) (take 2 (drop 27 table)) ++ (y ∷ [])))
     thirteen (ap said-octets figure-14)

@@ -11,7 +11,7 @@ use native.Mathlib.Omega.{arith}
 use Rattle.cells.specs.Segments.{Seg, carries}
 use Rattle.cells.specs.Rows.{Cell, held, segmentIn, bySegment}
 use Rattle.cells.proofs.CellSegments.{segment-or}
-use Rattle.messages.specs.Messages.{listed, look, Role, first, middle, last, roleOf, Run, segments, linkBy, link, opensBy, chain, runFrom, runIn, pickIn, or, among}
+use Rattle.messages.specs.Messages.{listed, look, Role, first, middle, last, roleOf, Run, segments, linkBy, link, opensBy, restFrom, runFrom, runIn, pickIn, or, among}
 use Rattle.messages.proofs.Listed.{Among, among-first, among-more}
 use Rattle.messages.proofs.Distinct.{carries-true, carries-yes}
 use Rattle.messages.proofs.Looking.{or-some, look-some}
@@ -74,13 +74,13 @@ opens-tells last t x m e = let z : _≡_ {A = ℕ} 0 1 = cc in absurd (omega ari
 
 module _ (next : ℕ → ℕ) (span : ℕ) (cs : List Cell) where
   -- each segment of a run is found under some counter
-  chain-found : (n : ℕ) (k : List ℕ) (c : ℕ) (ts : List Seg) → chain next span n cs k c ≡ some ts → (t : Seg) → In t ts → (d : ℕ) × (look cs k d ≡ some t)
-  unfolding chain
-  chain-found zero k c ts e t m = let z : _≡_ {A = ℕ} 0 1 = cc in absurd (omega arith)
-  chain-found (suc n) k c ts e t m = go (chain-found n k (next c)) (link-tells (look cs k c) (chain next span n cs k (next c)) ts e)
+  rest-found : (n : ℕ) (k : List ℕ) (c : ℕ) (ts : List Seg) → restFrom next span n cs k c ≡ some ts → (t : Seg) → In t ts → (d : ℕ) × (look cs k d ≡ some t)
+  unfolding restFrom
+  rest-found zero k c ts e t m = let z : _≡_ {A = ℕ} 0 1 = cc in absurd (omega arith)
+  rest-found (suc n) k c ts e t m = go (rest-found n k (next c)) (link-tells (look cs k c) (restFrom next span n cs k (next c)) ts e)
     where
-      go : ((us : List Seg) → chain next span n cs k (next c) ≡ some us → (u : Seg) → In u us → (d : ℕ) × (look cs k d ≡ some u)) →
-          (v : Seg) × (look cs k c ≡ some v) × ((ts ≡ v ∷ []) ⊎ ((us : List Seg) × (chain next span n cs k (next c) ≡ some us) × (ts ≡ v ∷ us))) →
+      go : ((us : List Seg) → restFrom next span n cs k (next c) ≡ some us → (u : Seg) → In u us → (d : ℕ) × (look cs k d ≡ some u)) →
+          (v : Seg) × (look cs k c ≡ some v) × ((ts ≡ v ∷ []) ⊎ ((us : List Seg) × (restFrom next span n cs k (next c) ≡ some us) × (ts ≡ v ∷ us))) →
           (d : ℕ) × (look cs k d ≡ some t)
       go ih w = on (w .2)
         where
@@ -88,37 +88,37 @@ module _ (next : ℕ → ℕ) (span : ℕ) (cs : List Cell) where
           at us f (inl a) = (c, w .1 ∙ ap some (sym a))
           at us f (inr a) = f a
 
-          on : (ts ≡ w .0 ∷ []) ⊎ ((us : List Seg) × (chain next span n cs k (next c) ≡ some us) × (ts ≡ w .0 ∷ us)) → (d : ℕ) × (look cs k d ≡ some t)
+          on : (ts ≡ w .0 ∷ []) ⊎ ((us : List Seg) × (restFrom next span n cs k (next c) ≡ some us) × (ts ≡ w .0 ∷ us)) → (d : ℕ) × (look cs k d ≡ some t)
           on (inl a) = at [] (λ x. absurd (List·Memᴰ·not-nil x)) (List·Memᴰ·cases-cons (subst (In t) a m))
           on (inr a) = at (a .0) (ih (a .0) (a .1) t) (List·Memᴰ·cases-cons (subst (In t) (a .2) m))
 
-  run-tells : (t : Seg) (r : Run) → runFrom next span cs t ≡ some r → (r .head ≡ t) × (chain next span span cs (t .key) (next (t .counter)) ≡ some (r .rest))
+  run-tells : (t : Seg) (r : Run) → runFrom next span cs t ≡ some r → (r .head ≡ t) × (restFrom next span span cs (t .key) (next (t .counter)) ≡ some (r .rest))
   unfolding runFrom
-  run-tells t r e = opens-tells (roleOf (t .flags)) t (chain next span span cs (t .key) (next (t .counter))) r e
+  run-tells t r e = opens-tells (roleOf (t .flags)) t (restFrom next span span cs (t .key) (next (t .counter))) r e
 
   module _ (f : ℕ → Cell) where
     -- what is picked opens in a cell
     pub opening : (n i : ℕ) (r : Run) → pickIn next span cs (listed f n i) ≡ some r →
-        (j : ℕ) × Among n i j × (f j ≡ held (r .head)) × (chain next span span cs (r .head .key) (next (r .head .counter)) ≡ some (r .rest))
+        (j : ℕ) × Among n i j × (f j ≡ held (r .head)) × (restFrom next span span cs (r .head .key) (next (r .head .counter)) ≡ some (r .rest))
     unfolding pickIn listed
     opening zero i r e = let z : _≡_ {A = ℕ} 0 1 = cc in absurd (omega arith)
     opening (suc n) i r e = go (opening n (suc i) r) (or-some (runIn next span cs (f i)) (pickIn next span cs (listed f n (suc i))) r e)
       where
-        here : (x : Cell) → runIn next span cs x ≡ some r → (x ≡ held (r .head)) × (chain next span span cs (r .head .key) (next (r .head .counter)) ≡ some (r .rest))
+        here : (x : Cell) → runIn next span cs x ≡ some r → (x ≡ held (r .head)) × (restFrom next span span cs (r .head .key) (next (r .head .counter)) ≡ some (r .rest))
         here x d = by (segment-or x)
           where
             by : ((t : Seg) × (x ≡ held t)) ⊎ (segmentIn x ≡ none) →
-                (x ≡ held (r .head)) × (chain next span span cs (r .head .key) (next (r .head .counter)) ≡ some (r .rest))
+                (x ≡ held (r .head)) × (restFrom next span span cs (r .head .key) (next (r .head .counter)) ≡ some (r .rest))
             by (inl w) =
                 let a = run-tells (w .0) r (sym (ap (runIn next span cs) (w .1)) ∙ d) in
-                (w .1 ∙ ap held (sym (a .0)), ap (λ (y : Seg). chain next span span cs (y .key) (next (y .counter))) (a .0) ∙ a .1)
+                (w .1 ∙ ap held (sym (a .0)), ap (λ (y : Seg). restFrom next span span cs (y .key) (next (y .counter))) (a .0) ∙ a .1)
             by (inr n) = absurd (Option·none-ne-some r (sym (ap (bySegment none (runFrom next span cs)) n) ∙ d))
 
         go :
             (pickIn next span cs (listed f n (suc i)) ≡ some r →
-            (j : ℕ) × Among n (suc i) j × (f j ≡ held (r .head)) × (chain next span span cs (r .head .key) (next (r .head .counter)) ≡ some (r .rest))) →
+            (j : ℕ) × Among n (suc i) j × (f j ≡ held (r .head)) × (restFrom next span span cs (r .head .key) (next (r .head .counter)) ≡ some (r .rest))) →
             (runIn next span cs (f i) ≡ some r) ⊎ (pickIn next span cs (listed f n (suc i)) ≡ some r) →
-            (j : ℕ) × Among (suc n) i j × (f j ≡ held (r .head)) × (chain next span span cs (r .head .key) (next (r .head .counter)) ≡ some (r .rest))
+            (j : ℕ) × Among (suc n) i j × (f j ≡ held (r .head)) × (restFrom next span span cs (r .head .key) (next (r .head .counter)) ≡ some (r .rest))
         go ih (inl d) = let a = here (f i) d in (i, among-first n i, a .0, a .1)
         go ih (inr d) = let a = ih d in (a .0, among-more (a .1), a .2, a .3)
 
@@ -127,12 +127,12 @@ pub picked-held : (next : ℕ → ℕ) (span : ℕ) (f : ℕ → Cell) (n : ℕ)
     (j : ℕ) × Among n 0 j × (f j ≡ held t)
 picked-held next span f n r e t m = go (List·Memᴰ·cases-cons m)
   where
-    a : (j : ℕ) × Among n 0 j × (f j ≡ held (r .head)) × (chain next span span (listed f n 0) (r .head .key) (next (r .head .counter)) ≡ some (r .rest))
+    a : (j : ℕ) × Among n 0 j × (f j ≡ held (r .head)) × (restFrom next span span (listed f n 0) (r .head .key) (next (r .head .counter)) ≡ some (r .rest))
     a = opening next span (listed f n 0) f n 0 r e
 
     go : (t ≡ r .head) ⊎ In t (r .rest) → (j : ℕ) × Among n 0 j × (f j ≡ held t)
     go (inl d) = (a .0, a .1, a .2 ∙ ap held (sym d))
     go (inr h) =
-        let b = chain-found next span (listed f n 0) span (r .head .key) (next (r .head .counter)) (r .rest) (a .3) t h in
+        let b = rest-found next span (listed f n 0) span (r .head .key) (next (r .head .counter)) (r .rest) (a .3) t h in
         let c = look-some f (r .head .key) (b .0) n 0 t (b .1) in
         (c .0, c .1, c .2)

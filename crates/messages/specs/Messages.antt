@@ -86,13 +86,13 @@ opensBy last t r = none
 
 module _ (next : ℕ → ℕ) (span : ℕ) where
   -- the segments of a key from the counter c on, up to a last, n of them at the most
-  unfoldable pub chain : ℕ → List Cell → List ℕ → ℕ → Option (List Seg)
-  chain zero cs k c = none
-  chain (suc n) cs k c = let r = chain n cs k (next c) in link (look cs k c) r
+  unfoldable pub restFrom : ℕ → List Cell → List ℕ → ℕ → Option (List Seg)
+  restFrom zero cs k c = none
+  restFrom (suc n) cs k c = let r = restFrom n cs k (next c) in link (look cs k c) r
 
   -- the complete message that a segment opens
   unfoldable pub runFrom : List Cell → Seg → Option Run
-  runFrom cs t = let r = chain span cs (t .key) (next (t .counter)) in opensBy (roleOf (t .flags)) t r
+  runFrom cs t = let r = restFrom span cs (t .key) (next (t .counter)) in opensBy (roleOf (t .flags)) t r
 
   -- the complete message that the segment in a cell opens
   abbrev pub runIn : List Cell → Cell → Option Run

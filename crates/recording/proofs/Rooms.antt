@@ -22,7 +22,7 @@ use Rattle.cells.specs.Segments.{Seg, segOf}
 use Rattle.cells.specs.Rows.{Cell, held, rowAt, packetIn, cellOf, segmentIn, bySegment}
 use Rattle.cells.proofs.Carries.{held-is}
 use Rattle.cells.specs.Order.{cellAt, countIn}
-use Rattle.messages.specs.Messages.{listed, cellsOf, look, Role, first, middle, last, roleOf, Run, bodies, bodyOf, segments, linkBy, link, chain, picked, top}
+use Rattle.messages.specs.Messages.{listed, cellsOf, look, Role, first, middle, last, roleOf, Run, bodies, bodyOf, segments, linkBy, link, restFrom, picked, top}
 use Rattle.arrival.specs.Arriving.{Arrived, whole, stored, again, refused, arrived, storeWith}
 use Rattle.taking.specs.Taking.{writing, drawn, tookIn, took, storeLess}
 use Rattle.messages.proofs.Distinct.{carries-true}
@@ -117,11 +117,11 @@ module _ (f : ℕ → Cell) where
             omega (arith, h t refl, k us refl, ap length g)
         go last q k d = let g : t ∷ [] ≡ ts = cc d in omega (arith, h t refl, ap length g)
 
-    chain-most : (m : ℕ) (k : List ℕ) (c : ℕ) (ts : List Seg) → chain suc top m (listed f n 0) k c ≡ some ts → length ts ≤ cellsFrom f c n 0
-    unfolding chain
-    chain-most zero k c ts e = let z : _≡_ {A = ℕ} 0 1 = cc e in absurd (omega arith)
-    chain-most (suc m) k c ts e =
-        link-most c (look (listed f n 0) k c) (chain suc top m (listed f n 0) k (suc c)) ts here (λ us d. chain-most m k (suc c) us d) e
+    rest-most : (m : ℕ) (k : List ℕ) (c : ℕ) (ts : List Seg) → restFrom suc top m (listed f n 0) k c ≡ some ts → length ts ≤ cellsFrom f c n 0
+    unfolding restFrom
+    rest-most zero k c ts e = let z : _≡_ {A = ℕ} 0 1 = cc e in absurd (omega arith)
+    rest-most (suc m) k c ts e =
+        link-most c (look (listed f n 0) k c) (restFrom suc top m (listed f n 0) k (suc c)) ts here (λ us d. rest-most m k (suc c) us d) e
       where
         here : (t : Seg) → look (listed f n 0) k c ≡ some t → suc (cellsFrom f (suc c) n 0) ≤ cellsFrom f c n 0
         here t d =
@@ -135,7 +135,7 @@ module _ (f : ℕ → Cell) where
         let a = opening suc top (listed f n 0) f n 0 r e in
         omega (
           arith,
-          chain-most top (r .head .key) (suc (r .head .counter)) (r .rest) (a .3),
+          rest-most top (r .head .key) (suc (r .head .counter)) (r .rest) (a .3),
           cells-less (r .head) n 0 (a .0) (a .1) (a .2),
           cells-most (r .head .counter) n 0,
         )

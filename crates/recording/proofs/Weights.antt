@@ -22,7 +22,7 @@ use Rattle.cells.specs.Segments.{Seg, segOf, carries}
 use Rattle.cells.specs.Rows.{Cell, free, held, segmentIn, bySegment}
 use Rattle.cells.specs.Order.{cellAt, countIn}
 use Rattle.cells.proofs.CellSegments.{segment-or, segment-freed}
-use Rattle.messages.specs.Messages.{listed, look, Role, first, middle, last, roleOf, Run, bodies, segments, linkBy, link, chain, or, among, amongIn, top}
+use Rattle.messages.specs.Messages.{listed, look, Role, first, middle, last, roleOf, Run, bodies, segments, linkBy, link, restFrom, or, among, amongIn, top}
 use Rattle.arrival.specs.Arriving.{stored, arrived, storeWith}
 use Rattle.taking.specs.Taking.{message, writing, took, storeLess}
 use Rattle.messages.proofs.Distinct.{carries-true, carries-yes}
@@ -131,11 +131,11 @@ module _ (f : ℕ → Cell) (n : ℕ) where
           let w : Climbs c (t ∷ []) = on (a .0) (a .1 .0) (a .1 .1) (a .1 .2) done in
           rw g at w
 
-  chain-climbs : (m : ℕ) (k : List ℕ) (c : ℕ) (ts : List Seg) → chain suc top m (listed f n 0) k c ≡ some ts → Climbs c ts
-  unfolding chain
-  chain-climbs zero k c ts e = let z : _≡_ {A = ℕ} 0 1 = cc e in absurd (omega arith)
-  chain-climbs (suc m) k c ts e =
-      link-climbs c (look (listed f n 0) k c) (chain suc top m (listed f n 0) k (suc c)) ts here (λ us d. chain-climbs m k (suc c) us d) e
+  rest-climbs : (m : ℕ) (k : List ℕ) (c : ℕ) (ts : List Seg) → restFrom suc top m (listed f n 0) k c ≡ some ts → Climbs c ts
+  unfolding restFrom
+  rest-climbs zero k c ts e = let z : _≡_ {A = ℕ} 0 1 = cc e in absurd (omega arith)
+  rest-climbs (suc m) k c ts e =
+      link-climbs c (look (listed f n 0) k c) (restFrom suc top m (listed f n 0) k (suc c)) ts here (λ us d. rest-climbs m k (suc c) us d) e
     where
       here : (t : Seg) → look (listed f n 0) k c ≡ some t → (t .counter ≡ c) × ((j : ℕ) × Among n 0 j × (f j ≡ held t))
       here t d = let a = look-some f k c n 0 t d in (sym (carries-true k c t (a .3) .1), (a .0, a .1, a .2))
@@ -259,7 +259,7 @@ module _ (s : Settings) (Z : ℕ) where
       let x = storeLess s Z st n (message r) in
       let f = cellAt s Z st in
       let a = opening suc top (listed f n 0) f n 0 r (taken-tells s Z st long r e .picked) in
-      let w = chain-climbs f n top (r .head .key) (suc (r .head .counter)) (r .rest) (a .3) in
+      let w = rest-climbs f n top (r .head .key) (suc (r .head .counter)) (r .rest) (a .3) in
       let g = climbs-less f n (on refl (a .0) (a .1) (a .2) w) in
       let m = sum-most (λ j. inCell (cellAt s Z x j)) (left f n (segments r)) n 0
       (λ j q. rw (cell-taken s Z st n r (cells-inside Z st) j (omega (arith, q .top))) (omega arith)) in

@@ -2,13 +2,18 @@
 -- Document 01, "Cutting": "After a message the sender's two running numbers move on together: by one for each packet in the sequence
 -- count, by one for each segment in the counter. A counter of 4,294,967,295 may be used; the state then says that none is left."
 -- Assumes nothing: these are definitions.
-use Prim.Native.Nat.{suc}
+use Prim.Native.Nat.{ℕ, zero, suc}
 use lib.Dec.{leb}
 use Rattle.octets.specs.Octets.{pick, most32}
 use Rattle.packet.specs.Numbers.{nextSequenceCount}
 use Rattle.sender.specs.declared.Sender.{Sender}
 use Rattle.sender.specs.declared.Next.{Next}
 use Rattle.sender.specs.declared.Next.the-variants.{At, NoneLeft}
+
+-- n steps of `next` from a number on: segment i of a message has the counter i steps from the message's first, where `next` is one more
+unfoldable pub stepsOf : (ℕ → ℕ) → ℕ → ℕ → ℕ
+stepsOf next zero c = c
+stepsOf next (suc n) c = stepsOf next n (next c)
 
 -- the counter after one that was used; none is left once the largest has been used, and stays so
 unfoldable pub nextCounter : Next → Next

@@ -13,7 +13,7 @@ use Rattle.octets.specs.Octets.{pick, alike}
 use Rattle.octets.proofs.Lists.{below-or}
 use Rattle.walk.specs.declared.Settings.{Settings}
 use Rattle.cells.specs.Segments.{Seg, carries, both}
-use Rattle.cells.specs.Rows.{Cell, held, segmentIn, bySegment}
+use Rattle.cells.specs.Rows.{Cell, segmentIn, bySegment}
 use Rattle.cells.specs.Order.{carriesIn, foundIn}
 use Rattle.cells.specs.Inner.{reaches, withinIn, within}
 use Rattle.messages.specs.Messages.{Role, first, middle, last, roleOf, linkBy, or, among, amongIn}
@@ -95,7 +95,6 @@ pub message-among :
 unfolding among
 message-among next span s Z st n f u js e y = go (segmentIn y)
   where
-    go : (o : Option Seg) →
-        bySegment false (within next (u .key) (u .counter) (length js)) o ≡ bySegment false (among (u ∷ map (segAt s Z st) js)) o
+    go : (o : Option Seg) → bySegment false (within next (u .key) (u .counter) (length js)) o ≡ bySegment false (among (u ∷ map (segAt s Z st) js)) o
     go none = refl
     go (some t) = sym (follow-among next span s Z st n (u .key) t f (u .counter) js e)

@@ -18,14 +18,14 @@ use Rattle.cells.specs.Rows.{Cell, held, rowAt, bySegment}
 use Rattle.cells.specs.Order.{cellAt, lowest}
 use Rattle.cells.proofs.Carries.{Holding, held-is}
 use Rattle.cells.proofs.CellSegments.{segment-or}
-use Rattle.messages.specs.Messages.{Role, first, middle, last, roleOf, Run, bodyOf, listed, orElse, cellsOf, chain, opensBy, runFrom, runIn, pickIn, picked}
+use Rattle.messages.specs.Messages.{Role, first, middle, last, roleOf, Run, bodyOf, listed, orElse, cellsOf, restFrom, opensBy, runFrom, runIn, pickIn, picked}
 use Rattle.taking.specs.Taking.{message, unable, writing, drawn}
 use Rattle.taking.specs.declared.Copied.{Copied}
 use Rattle.taking.specs.declared.Measured.the-variants.{Long}
 use Rattle.taking.specs.Told.{takenOf}
 use Rattle.taking.specs.Follow.{segAt, follow, placesFrom, placesOf, bodiesAt, answer, isSome, opensAt, copiedOf, Opens}
 use Rattle.messages.proofs.Looks.{lowest-holds}
-use Rattle.taking.proofs.Following.{chain-places, bodies-places}
+use Rattle.taking.proofs.Following.{rest-places, bodies-places}
 
 -- ---- what a run that was found has
 
@@ -33,7 +33,7 @@ has-some : {A : Type 0} (o : Option A) → isSome o ≡ true → (a : A) × (o �
 has-some none e = let z : _≡_ {A = ℕ} 0 1 = cc in absurd (omega arith)
 has-some (some a) e = (a, refl)
 
--- it opens with a first, and the others are a chain
+-- it opens with a first, and the others follow it
 opens-some : (x : Role) (t : Seg) (o : Option (List Seg)) (r : Run) → opensBy x t o ≡ some r → (ts : List Seg) × (o ≡ some ts) × (r ≡ record { head = t; rest = ts })
 opens-some first t none r e = let z : _≡_ {A = ℕ} 0 1 = cc in absurd (omega arith)
 opens-some first t (some ts) r e = let d : r ≡ record { head = t; rest = ts } = cc in (ts, refl, d)
@@ -137,14 +137,17 @@ module _ (next : ℕ → ℕ) (span : ℕ) (s : Settings) (Z : ℕ) (st : List �
         let k : lowest (opensAt next span s Z st n) n 0 < 0 + n = omega arith in
         pick-lowest n 0 k ∙ ap at (sym ei)
 
-    opened : opensBy (roleOf (segAt s Z st i .flags)) (segAt s Z st i) (chain next span span cs (segAt s Z st i .key) (next (segAt s Z st i .counter))) ≡ some (found-run .0)
+    opened : opensBy (roleOf (segAt s Z st i .flags)) (segAt s Z st i) (restFrom next span span cs (segAt s Z st i .key) (next (segAt s Z st i .counter))) ≡ some (found-run .0)
     unfolding runFrom
     opened = sym (ap (runIn next span cs) (holds .cell)) ∙ found-run .1
 
     pub the-message : Message i
     the-message =
-        let o = opens-some (roleOf (segAt s Z st i .flags)) (segAt s Z st i) (chain next span span cs (segAt s Z st i .key) (next (segAt s Z st i .counter))) (found-run .0) opened in
-        let m = mapped (map (segAt s Z st)) (follow next span s Z st n (segAt s Z st i .key) span (next (segAt s Z st i .counter))) (o .0) (sym (chain-places next span s Z st n (segAt s Z st i .key) span (next (segAt s Z st i .counter))) ∙ o .1) in
+        let o = opens-some (roleOf (segAt s Z st i .flags)) (segAt s Z st i) (restFrom next span span cs (segAt s Z st i .key) (next (segAt s Z st i .counter))) (found-run .0) opened in
+        let t = segAt s Z st i in
+        let m =
+        mapped (map (segAt s Z st)) (follow next span s Z st n (t .key) span (next (t .counter))) (o .0)
+        (sym (rest-places next span s Z st n (t .key) span (next (t .counter))) ∙ o .1) in
         record {
           places = m .0;
           cell = holds .cell;

@@ -19,7 +19,7 @@ use Rattle.cells.proofs.Held.{flags-same}
 use Rattle.cells.proofs.Transactions.{part-octet}
 use Rattle.cells.proofs.Carries.{Holding, held-is}
 use Rattle.cells.proofs.Lowest.{same-or}
-use Rattle.messages.specs.Messages.{Role, first, middle, last, roleOf, Run, orElse, listed, look, cellsOf, linkBy, link, opensBy, chain, runFrom, runIn, pickIn, picked}
+use Rattle.messages.specs.Messages.{Role, first, middle, last, roleOf, Run, orElse, listed, look, cellsOf, linkBy, link, opensBy, restFrom, runFrom, runIn, pickIn, picked}
 use Rattle.messages.proofs.Listed.{lowest-hit, lowest-miss}
 use Rattle.messages.proofs.Looking.{look-some}
 use Rattle.taking.specs.Follow.{segAt, endsAt}
@@ -67,10 +67,10 @@ module _ (next : ℕ → ℕ) (span : ℕ) (cs : List Cell) (no : (k : List ℕ)
       go middle d = ap (Option·map (λ (ts : List Seg). t ∷ ts)) e
       go last d = absurd (h t refl (role-of-last (t .flags) d))
 
-  chain-none : (m : ℕ) (k : List ℕ) (c : ℕ) → chain next span m cs k c ≡ none
-  unfolding chain
-  chain-none zero k c = refl
-  chain-none (suc m) k c = link-none (look cs k c) (no k c) (chain next span m cs k (next c)) (chain-none m k (next c))
+  rest-none : (m : ℕ) (k : List ℕ) (c : ℕ) → restFrom next span m cs k c ≡ none
+  unfolding restFrom
+  rest-none zero k c = refl
+  rest-none (suc m) k c = link-none (look cs k c) (no k c) (restFrom next span m cs k (next c)) (rest-none m k (next c))
 
   opens-nothing : (x : Role) (t : Seg) (r : Option (List Seg)) → r ≡ none → opensBy x t r ≡ none
   opens-nothing first t r e = ap (Option·map (λ (ts : List Seg). record { head = t; rest = ts })) e
@@ -83,7 +83,7 @@ module _ (next : ℕ → ℕ) (span : ℕ) (cs : List Cell) (no : (k : List ℕ)
     where
       go : (o : Option Seg) → bySegment none (runFrom next span cs) o ≡ none
       go none = refl
-      go (some t) = opens-nothing (roleOf (t .flags)) t (chain next span span cs (t .key) (next (t .counter))) (chain-none span (t .key) (next (t .counter)))
+      go (some t) = opens-nothing (roleOf (t .flags)) t (restFrom next span span cs (t .key) (next (t .counter))) (rest-none span (t .key) (next (t .counter)))
 
   pub pick-nothing : (xs : List Cell) → pickIn next span cs xs ≡ none
   unfolding pickIn

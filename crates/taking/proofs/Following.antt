@@ -1,4 +1,4 @@
--- A run followed by the places of its segments, and that it is the chain of what the cells hold.
+-- A run followed by the places of its segments, and that it is what the cells hold from a counter on.
 -- Assumes nothing.
 use Prim.Native.Nat.{ℕ, zero, suc, _+_, _≤_, _<_}
 use mathlib.Core.Path.{_≡_, refl, ap, sym, _∙_}
@@ -15,7 +15,7 @@ use Rattle.walk.specs.declared.Settings.{Settings}
 use Rattle.cells.specs.Segments.{Seg}
 use Rattle.cells.specs.Rows.{held}
 use Rattle.cells.specs.Order.{cellAt, foundIn}
-use Rattle.messages.specs.Messages.{Role, first, middle, last, roleOf, bodies, cellsOf, look, link, linkBy, chain}
+use Rattle.messages.specs.Messages.{Role, first, middle, last, roleOf, bodies, cellsOf, look, link, linkBy, restFrom}
 use Rattle.taking.specs.declared.Measured.the-variants.{Long}
 use Rattle.taking.specs.Follow.{segAt, onAt, follow, bodiesAt, total}
 use Rattle.messages.proofs.Looks.{look-found, look-none}
@@ -78,7 +78,7 @@ module _ (next : ℕ → ℕ) (span : ℕ) (s : Settings) (Z : ℕ) (st : List �
     unfolding follow
     follow-by h w = on-by h w (follow next span s Z st n k f (next c))
 
-  -- ---- as the chain of what the cells hold
+  -- ---- as what the cells hold from a counter on
 
   abbrev at : ℕ → Seg
   at j = segAt s Z st j
@@ -92,8 +92,8 @@ module _ (next : ℕ → ℕ) (span : ℕ) (s : Settings) (Z : ℕ) (st : List �
   link-by middle j (some js) = refl
   link-by last j r = refl
 
-  chain-step : (c : ℕ) (r : Option (List ℕ)) → link (look (cellsOf s Z st n) k c) (segs r) ≡ segs (onAt s Z st n (foundIn s Z st n k c) r)
-  chain-step c r = ⊎-elim there nowhere (below-or (foundIn s Z st n k c) n)
+  rest-step : (c : ℕ) (r : Option (List ℕ)) → link (look (cellsOf s Z st n) k c) (segs r) ≡ segs (onAt s Z st n (foundIn s Z st n k c) r)
+  rest-step c r = ⊎-elim there nowhere (below-or (foundIn s Z st n k c) n)
     where
       there : foundIn s Z st n k c < n → link (look (cellsOf s Z st n) k c) (segs r) ≡ segs (onAt s Z st n (foundIn s Z st n k c) r)
       there h =
@@ -104,10 +104,10 @@ module _ (next : ℕ → ℕ) (span : ℕ) (s : Settings) (Z : ℕ) (st : List �
       nowhere : n ≤ foundIn s Z st n k c → link (look (cellsOf s Z st n) k c) (segs r) ≡ segs (onAt s Z st n (foundIn s Z st n k c) r)
       nowhere h = ap (λ (o : Option Seg). link o (segs r)) (nowhere-look s Z st n k c h) ∙ ap segs (sym (on-none 0 c refl h r))
 
-  pub chain-places : (f c : ℕ) → chain next span f (cellsOf s Z st n) k c ≡ segs (follow next span s Z st n k f c)
-  unfolding chain follow
-  chain-places zero c = refl
-  chain-places (suc f) c = ap (link (look (cellsOf s Z st n) k c)) (chain-places f (next c)) ∙ chain-step c (follow next span s Z st n k f (next c))
+  pub rest-places : (f c : ℕ) → restFrom next span f (cellsOf s Z st n) k c ≡ segs (follow next span s Z st n k f c)
+  unfolding restFrom follow
+  rest-places zero c = refl
+  rest-places (suc f) c = ap (link (look (cellsOf s Z st n) k c)) (rest-places f (next c)) ∙ rest-step c (follow next span s Z st n k f (next c))
 
   -- ---- the octets of a run
 

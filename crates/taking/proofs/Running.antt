@@ -22,13 +22,13 @@ use Rattle.cells.specs.Order.{cellAt}
 use Rattle.cells.specs.declared.Judged.{Judged}
 use Rattle.cells.specs.Inner.{bodyIn, judgedOf, Asked}
 use Rattle.cells.proofs.Carries.{Holding, kinds, judged-one, judged-at}
-use Rattle.messages.specs.Messages.{Role, first, middle, last, roleOf, bodies, cellsOf, chain, opensBy, runFrom, runIn}
+use Rattle.messages.specs.Messages.{Role, first, middle, last, roleOf, bodies, cellsOf, restFrom, opensBy, runFrom, runIn}
 use Rattle.taking.specs.declared.Measured.{Measured}
 use Rattle.taking.specs.declared.Measured.the-variants.{Long, Incomplete}
 use Rattle.taking.specs.Follow.{segAt, follow, bodiesAt, total, answer}
 use Rattle.messages.proofs.Found.{body-long, part-most}
 use Rattle.taking.proofs.Ends.{flags-told}
-use Rattle.taking.proofs.Following.{role-first, chain-places, bodies-places}
+use Rattle.taking.proofs.Following.{role-first, rest-places, bodies-places}
 
 -- a segment that is no first opens nothing
 opens-none : (x : Role) (t : Seg) (r : Option (List Seg)) → (x ≡ first → ⊥) → opensBy x t r ≡ none
@@ -55,7 +55,7 @@ module _ (next : ℕ → ℕ) (span : ℕ) (s : Settings) (Z : ℕ) (st : List �
   abbrev p : List ℕ
   p = packetIn (rowAt Z st i)
 
-  runs : Holding s Z (rowAt Z st i) → runIn next span cs (cellAt s Z st i) ≡ opensBy (roleOf (t .flags)) t (chain next span span cs (t .key) (next (t .counter)))
+  runs : Holding s Z (rowAt Z st i) → runIn next span cs (cellAt s Z st i) ≡ opensBy (roleOf (t .flags)) t (restFrom next span span cs (t .key) (next (t .counter)))
   unfolding runFrom
   runs h = ap (runIn next span cs) (h .cell)
 
@@ -76,7 +76,7 @@ module _ (next : ℕ → ℕ) (span : ℕ) (s : Settings) (Z : ℕ) (st : List �
         sym
         (ap answer
         (runs h
-        ∙ opens-none (roleOf (t .flags)) t (chain next span span cs (t .key) (next (t .counter)))
+        ∙ opens-none (roleOf (t .flags)) t (restFrom next span span cs (t .key) (next (t .counter)))
         (λ y. ne (flags-row ∙ sym (flags-told s Z st i h) ∙ role-of-first (t .flags) y)))))
 
   -- nor does one that is not judged held
@@ -155,8 +155,8 @@ module _ (next : ℕ → ℕ) (span : ℕ) (s : Settings) (Z : ℕ) (st : List �
           ∙ ap₂ (λ (l : ℕ) (k : List ℕ). total s Z st l (follow next span s Z st n k span (next (u .counter .0)))) long-is key-is
           ∙ ap (λ (c : ℕ). total s Z st (length (t .body)) (follow next span s Z st n (t .key) span (next c))) counter-is
           ∙ told (follow next span s Z st n (t .key) span (next (t .counter)))
-          ∙ ap (λ (o : Option (List Seg)). answer (opensBy first t o)) (sym (chain-places next span s Z st n (t .key) span (next (t .counter))))
-          ∙ ap (λ (y : Role). answer (opensBy y t (chain next span span cs (t .key) (next (t .counter)))))
+          ∙ ap (λ (o : Option (List Seg)). answer (opensBy first t o)) (sym (rest-places next span s Z st n (t .key) span (next (t .counter))))
+          ∙ ap (λ (y : Role). answer (opensBy y t (restFrom next span span cs (t .key) (next (t .counter)))))
           (sym (role-first (flags-told s Z st i there ∙ sym (flags-row ef) ∙ is-first)))
           ∙ sym (ap answer (runs there))
         where
