@@ -14,7 +14,7 @@ use Rattle.packet.specs.Format.{fixedOctets, frontOctets, backOctets, headerOct
 use Rattle.write.specs.Given.{headOf}
 use Rattle.cells.specs.Segments.{carries, sameRest}
 use Rattle.cells.specs.Order.{cellSize}
-use Rattle.messages.specs.Messages.{look, roleOf, bodies, chain, runFrom, pickIn}
+use Rattle.messages.specs.Messages.{look, roleOf, bodies, restFrom, runFrom, pickIn}
 use Rattle.taking.specs.Taking.{message, unable}
 use Rattle.keeping.specs.Cells.{put, hasFree}
 use Rattle.demand3.specs.Traffic.{empty, takenFrom, stepped, after}
@@ -67,7 +67,7 @@ given =
 
 -- nothing is complete with the first segment alone
 takes-none : tookBy settings Z (storeBehind settings Z 4 []) stores ≡ some (unable 20)
-unfolding actEvents after stepped takenFrom look carries sameRest alike put hasFree pickIn runFrom chain roleOf bodies
+unfolding actEvents after stepped takenFrom look carries sameRest alike put hasFree pickIn runFrom restFrom roleOf bodies
 takes-none = joined-takes [] [] refl (empty 4) refl (of-two 0 3) (lentOut 33) ten (is-ten 3 (omega arith)) refl
 
 untaken : Untaken settings Z two (storeBehind settings Z 4 []) (stores ∷ [])

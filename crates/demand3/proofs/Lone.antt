@@ -20,7 +20,7 @@ use Rattle.demand3.specs.Traffic.{Event, takes, takenFrom, stepped}
 use Rattle.demand3.proofs.Looks.{carries-no, look-held, put-other, clear-held}
 use Rattle.demand3.proofs.Links.{Mem, Opened}
 use Rattle.demand3.proofs.Finds.{There, Found, found-opened, found-there, picked-lowest, picked-held, picked-some}
-use Rattle.demand3.proofs.Exactly.{chain-short}
+use Rattle.demand3.proofs.Exactly.{rest-short}
 use Rattle.demand3.proofs.Beside.{among-same, among-mem, put-single, clear-single, Beside, Off, found-apart}
 use Rattle.demand3.proofs.Takings.{picked-taken, too-short, nothing-picked, taken-cells, step-keeps}
 use Rattle.demand3.proofs.Lasts.{whole-beside}
@@ -71,7 +71,7 @@ module _ (next : ℕ → ℕ) (span : ℕ) (inj : (x y : ℕ) → next x ≡ nex
   lies-again : (cs xs : List Cell) (r : Run) → Lies cs r → There xs (segments r) → Lies xs r
   lies-again cs xs r w f =
       let o : Opened next r = found-opened next span cs r (w .found) in
-      let l : length (r .rest) ≤ span = chain-short next span span cs (r .head .key) (next (r .head .counter)) (r .rest) (w .found .finds) in
+      let l : length (r .rest) ≤ span = rest-short next span span cs (r .head .key) (next (r .head .counter)) (r .rest) (w .found .finds) in
       let z = own-found next span inj r o l xs f in
       record { first = z .0; found = z .1 }
 
