@@ -12,6 +12,7 @@ use Rattle.octets.proofs.Has.{octets-part}
 use Rattle.octets.proofs.Lists.{bool}
 use Rattle.walk.specs.declared.Settings.{Settings}
 use Rattle.packet.specs.Reading.{readPacket}
+use Rattle.packet.specs.declared.Header.{Header}
 use Rattle.packet.specs.Key.{keyOf}
 use Rattle.cells.specs.declared.Judged.{Judged}
 use Rattle.cells.specs.Segments.{segOf}
@@ -22,6 +23,8 @@ use Rattle.cells.proofs.Carries.{free-cell, Holding, holding}
 use Rattle.cells.proofs.SameKeys.{keys-same}
 use Rattle.cells.proofs.Entering.{asked}
 use Rattle.tally.specs.Counting.{isHeld, keyed, newKeyTo, newKeyIn}
+use Rattle.tally.specs.declared.Told.{Told}
+use Rattle.tally.specs.Telling.{keyAt, untold, toldBy, toldIn, toldAt}
 
 abbrev kind : Judged → ℕ
 kind t = t .kind
@@ -42,6 +45,11 @@ other-first : (s : Settings) (Z : ℕ) (st : List ℕ) (i at : ℕ) (d : Cell) {
 other-first s Z st i at free e h = refl
 other-first s Z st i at (held u) e h = absurd (h (ap kind e))
 other-first s Z st i at broken e h = refl
+
+other-told : (s : Settings) (Z : ℕ) (st : List ℕ) (i at : ℕ) (d : Cell) {t : Judged} → t ≡ judgedOf at d → (t .kind ≡ 1 → ⊥) → untold ≡ toldIn s Z st i d
+other-told s Z st i at free e h = refl
+other-told s Z st i at (held u) e h = absurd (h (ap kind e))
+other-told s Z st i at broken e h = refl
 
 is-sound : (at : ℕ) (d : Cell) {t : Judged} → t ≡ judgedOf at d → t .kind ≡ 1 → isSound d ≡ true
 is-sound at free e h = refl
@@ -82,6 +90,27 @@ module _ (s : Settings) (Z : ℕ) (r : List ℕ) {t : Judged} (et : t ≡ judged
         ∙ keys-same s q p (a .octets) (octets-part r 2 (number 2 r 6 + 7) o) (a .accepted) (there .accepted) (a .segment) (there .segment)
         ∙ sym (ap (keyed (keyOf q (readPacket s q))) (there .cell))
 
+-- ---- a segment's answers, from what reading told
+
+abbrev tellings : Header → ℕ → Told
+tellings h k =
+    record {
+      held = true;
+      key = k;
+      kind = h .primary .kind;
+      apid = h .primary .apid .0;
+      sdu = h .fixed .sdu;
+      transaction = h .fixed .transaction;
+      flags = h .primary .flags;
+      counter = h .ids .counter .0;
+    }
+
+pub told-fields :
+    (s : Settings) (Z : ℕ) (st : List ℕ) (i : ℕ) (q : List ℕ) {h : Header} {k : ℕ} → h ≡ readPacket s q → k ≡ keyAt s Z st i (keyOf q (readPacket s q)) →
+    tellings h k ≡ toldBy s Z st i (readPacket s q) (segOf q (readPacket s q))
+unfolding segOf
+told-fields s Z st i q eh ek = ap₂ tellings eh ek
+
 -- ---- cell i of a store
 
 module _ (s : Settings) (st : List ℕ) (Z i : ℕ) {r : List ℕ} (er : r ≡ rowAt Z st i) {t : Judged} (et : t ≡ judgedOf (bodyIn s Z r) (cellOf s Z r)) where
@@ -90,6 +119,9 @@ module _ (s : Settings) (st : List ℕ) (Z i : ℕ) {r : List ℕ} (er : r ≡ r
 
   pub first-none : (t .kind ≡ 1 → ⊥) → false ≡ newKeyIn s Z st i (cellAt s Z st i)
   first-none h = other-first s Z st i (bodyIn s Z r) (cellOf s Z r) et h ∙ ap (newKeyIn s Z st i) (sym cell-is)
+
+  pub told-none : (t .kind ≡ 1 → ⊥) → untold ≡ toldAt s Z st i
+  told-none h = other-told s Z st i (bodyIn s Z r) (cellOf s Z r) et h ∙ ap (toldIn s Z st i) (sym cell-is)
 
   module _ (one : t .kind ≡ 1) {q : List ℕ} (eq : q ≡ packetIn Z r) where
     pub first-asked : Octets st → Asked s q (t .at)
@@ -101,3 +133,10 @@ module _ (s : Settings) (st : List ℕ) (Z i : ℕ) {r : List ℕ} (er : r ≡ r
         e
         ∙ ap (λ (x : List ℕ). newKeyTo s Z st i (keyOf x (readPacket s x))) eq
         ∙ sym (ap (newKeyIn s Z st i) (cell-is ∙ there s Z r et one .cell))
+
+    pub told-told : {a : Told} → a ≡ toldBy s Z st i (readPacket s q) (segOf q (readPacket s q)) → a ≡ toldAt s Z st i
+    told-told e =
+        e
+        ∙ ap (λ (x : List ℕ). toldBy s Z st i (readPacket s x) (segOf x (readPacket s x))) eq
+        ∙ ap (λ (x : List ℕ). toldBy s Z st i (readPacket s (packetIn Z x)) (segOf (packetIn Z r) (readPacket s (packetIn Z r)))) er
+        ∙ sym (ap (toldIn s Z st i) (cell-is ∙ there s Z r et one .cell))
