@@ -13,6 +13,7 @@ use Rattle.octets.proofs.Has.{octets-part}
 use Rattle.octets.proofs.Lists.{bool}
 use Rattle.walk.specs.declared.Settings.{Settings}
 use Rattle.packet.specs.Reading.{readPacket}
+use Rattle.packet.specs.declared.Header.{Header}
 use Rattle.packet.specs.Key.{keyOf}
 use Rattle.cells.specs.declared.Judged.{Judged}
 use Rattle.cells.specs.Segments.{segOf, Seg}
@@ -24,6 +25,8 @@ use Rattle.cells.proofs.CellSegments.{segment-or, judged-none}
 use Rattle.cells.proofs.SameKeys.{keys-same}
 use Rattle.cells.proofs.Entering.{asked}
 use Rattle.tally.specs.Counting.{isHeld, keyed, newKeyTo, newKeyIn}
+use Rattle.tally.specs.declared.Told.{Told}
+use Rattle.tally.specs.Telling.{keyAt, untold, toldBy, toldIn, toldAt}
 use borrow.Author.Tests.{eq-eqb, ne-eqb}
 
 abbrev kind : Judged → ℕ
@@ -57,6 +60,9 @@ module _ (at : ℕ) (d : Cell) {t : Judged} (e : t ≡ judgedOf at d) where
 
   is-sound : t .kind ≡ 1 → isSound d ≡ true
   is-sound h = ⊎-elim (λ w. ap isSound (w .1)) (λ n. absurd (none-other n h)) (segment-or d)
+
+  other-told : (s : Settings) (Z : ℕ) (st : List ℕ) (i : ℕ) → (t .kind ≡ 1 → ⊥) → untold ≡ toldIn s Z st i d
+  other-told s Z st i h = sym (ap (bySegment untold (toldBy s Z st i (readPacket s (packetIn (rowAt Z st i))))) (not-one h))
 
 -- ---- a row
 
@@ -92,6 +98,27 @@ module _ (s : Settings) (Z : ℕ) (r : List ℕ) {t : Judged} (et : t ≡ judged
         ∙ keys-same s q p (a .octets) (octets-part r 2 (number 2 r 6 + 7) o) (a .accepted) (there .accepted) (a .segment) (there .segment)
         ∙ sym (ap (keyed (keyOf q (readPacket s q))) (there .cell))
 
+-- ---- a segment's answers, from what reading told
+
+abbrev tellings : Header → ℕ → Told
+tellings h k =
+    record {
+      held = true;
+      key = k;
+      kind = h .primary .kind;
+      apid = h .primary .apid .0;
+      sdu = h .fixed .sdu;
+      transaction = h .fixed .transaction;
+      flags = h .primary .flags;
+      counter = h .ids .counter .0;
+    }
+
+pub told-fields :
+    (s : Settings) (Z : ℕ) (st : List ℕ) (i : ℕ) (q : List ℕ) {h : Header} {k : ℕ} → h ≡ readPacket s q → k ≡ keyAt s Z st i (keyOf q (readPacket s q)) →
+    tellings h k ≡ toldBy s Z st i (readPacket s q) (segOf q (readPacket s q))
+unfolding segOf
+told-fields s Z st i q eh ek = ap₂ tellings eh ek
+
 -- ---- cell i of a store
 
 module _ (s : Settings) (st : List ℕ) (Z i : ℕ) {r : List ℕ} (er : r ≡ rowAt Z st i) {t : Judged} (et : t ≡ judgedOf (bodyIn s Z r) (cellOf s Z r)) where
@@ -100,6 +127,9 @@ module _ (s : Settings) (st : List ℕ) (Z i : ℕ) {r : List ℕ} (er : r ≡ r
 
   pub first-none : (t .kind ≡ 1 → ⊥) → false ≡ newKeyIn s Z st i (cellAt s Z st i)
   first-none h = other-first (bodyIn s Z r) (cellOf s Z r) et s Z st i h ∙ ap (newKeyIn s Z st i) (sym cell-is)
+
+  pub told-none : (t .kind ≡ 1 → ⊥) → untold ≡ toldAt s Z st i
+  told-none h = other-told (bodyIn s Z r) (cellOf s Z r) et s Z st i h ∙ ap (toldIn s Z st i) (sym cell-is)
 
   module _ (one : t .kind ≡ 1) {q : List ℕ} (eq : q ≡ packetIn r) where
     pub first-asked : Octets st → Asked s q (t .at)
@@ -111,3 +141,10 @@ module _ (s : Settings) (st : List ℕ) (Z i : ℕ) {r : List ℕ} (er : r ≡ r
         e
         ∙ ap (λ (x : List ℕ). newKeyTo s Z st i (keyOf x (readPacket s x))) eq
         ∙ sym (ap (newKeyIn s Z st i) (cell-is ∙ there s Z r et one .cell))
+
+    pub told-told : {a : Told} → a ≡ toldBy s Z st i (readPacket s q) (segOf q (readPacket s q)) → a ≡ toldAt s Z st i
+    told-told e =
+        e
+        ∙ ap (λ (x : List ℕ). toldBy s Z st i (readPacket s x) (segOf x (readPacket s x))) eq
+        ∙ ap (λ (x : List ℕ). toldBy s Z st i (readPacket s (packetIn x)) (segOf (packetIn r) (readPacket s (packetIn r)))) er
+        ∙ sym (ap (toldIn s Z st i) (cell-is ∙ there s Z r et one .cell))

@@ -19,6 +19,7 @@ use Rattle.keeping.specs.Cells.{hasFree}
 use Rattle.steps.specs.Stepping.{longest, Came, over, refused, kept, wholly, message as messageOf, cameOf}
 use Rattle.recording.specs.Recording.{settings, cellCount, emptyStore}
 use Rattle.demand3.specs.Calls.{Call, arrival, joining, Handed, arrivedStore, tookBy, storeAfter}
+use Rattle.sender.specs.Sending.{stepsOf}
 use Rattle.demand3.specs.Sendings.{Sending, ReadsAs, manyOf, segmentAt, keyIn, startOf}
 use Rattle.demand3.specs.Presupposed.{AllCame, Traffic, Room, Given, storeBehind, cellsIn, fresh, Untaken}
 use Rattle.demand3.specs.Whole.{Delivers}
@@ -113,7 +114,7 @@ module _ (ms : List Sending) (x : List ℕ) (g : RecordingOf ms x) where
       go (inr (inr d)) =
           absurd
           (d 0 0 (let a = g .cut m h .many in omega arith) (let a = g .cut w k .many in omega arith)
-          (ap (λ (n : ℕ). n + 0) s))
+          (ap (stepsOf suc 0) s))
 
   -- ---- every message is written
 
