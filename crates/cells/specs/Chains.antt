@@ -17,9 +17,19 @@ chainsAll = 4096
 
 -- ---- the chain of a key and a counter
 
--- a number mixed into a number of 32 bits
+-- mixed numbers have 32 bits, two halves of 16 each
+abbrev pub mixAll : ℕ
+mixAll = 4294967296
+
+abbrev pub mixHalf : ℕ
+mixHalf = 65536
+
+abbrev pub mixFactor : ℕ
+mixFactor = 16777619
+
+-- a number mixed into a mixed number
 abbrev pub mixIn : ℕ → ℕ → ℕ
-mixIn m x = (m * 16777619 + x) % 4294967296
+mixIn m x = (m * mixFactor + x) % mixAll
 
 -- octets mixed in, one after the other
 unfoldable pub mixed : ℕ → List ℕ → ℕ
@@ -32,7 +42,7 @@ mixStart = 2166136261
 
 -- a chain by the high and the low half of a mixed number
 abbrev pub chainIn : ℕ → ℕ
-chainIn m = (m / 65536 + m) % chainsAll
+chainIn m = (m / mixHalf + m) % chainsAll
 
 -- the whole key and the counter choose the chain
 unfoldable pub bucketOf : List ℕ → ℕ → ℕ

@@ -20,7 +20,7 @@ ghost use Rattle.cells.specs.Inner.{heldRowTest, judgedOf, bodyIn, place
 ghost use mathlib.Core.Bool.{true};
 ghost use Rattle.packet.specs.Reading.{readPacket};
 ghost use Rattle.packet.specs.Key.{keyOf};
-ghost use Rattle.cells.specs.Order.{cellsMost, lowest, lengthFits, sound, cellAt, carriesIn, newTo, newAt, distinct, inOrder, countIn, foundIn};
+ghost use Rattle.cells.specs.Order.{cellsMost, lowest, lengthFits, sound, cellAt, carriesIn, newTo, newAt, distinct, inOrder, countIn, foundIn, cellSize};
 ghost use Rattle.cells.specs.Chains.{mixIn, mixed, chainIn, bucketOf, keyIn, chainsAll, bucketAt, Chained};
 use packet::SegmentCounter;
 use walk::Settings;
@@ -607,7 +607,7 @@ pub fn in_order(s: Settings, store: &[u8], zero: &[u8]) -> usize
 
 // The same for cells of 1,024 octets, beside a zero cell made by repetition.
 pub fn order(s: Settings, store: &[u8]) -> usize
-    ensures { λ r. ⌜ r ≡ pick (inOrder s 1024 (now (store .entry))) (countIn 1024 (now (store .entry))) 0 ⌝ }
+    ensures { λ r. ⌜ r ≡ pick (inOrder s cellSize (now (store .entry))) (countIn cellSize (now (store .entry))) 0 ⌝ }
 {
     let zero = [0u8; CELL];
     in_order(s, store, &zero)

@@ -10,7 +10,7 @@ use Rattle.walk.specs.declared.Settings.{Settings}
 use Rattle.fields.specs.Form.{joined}
 use Rattle.packet.specs.declared.SegmentCounter.{SegmentCounter}
 use Rattle.packet.specs.Format.{Values, identification, headerOctets, octetsOf, InRange}
-use Rattle.packet.specs.Numbers.{nextCount}
+use Rattle.packet.specs.Numbers.{nextCount, countMost}
 use Rattle.packet.specs.Reading.{segmented, readPacket}
 use Rattle.packet.specs.Key.{keyOf}
 use Rattle.sender.specs.declared.Sender.{Sender}
@@ -21,6 +21,7 @@ use Rattle.write.specs.Given.{Lent, headOf}
 use Rattle.format.specs.Told.{valuesOf}
 use Rattle.cut.specs.Cutting.{countAt, single, chunk, packets, headerLength, givenAt}
 use Rattle.fewest.specs.Carrying.{bodyOf, firstOf}
+use Rattle.two_way.specs.Writable.{Bits64}
 
 -- lent texts are octets, and a transaction id has 64 bits
 pub record Lends (v : HeaderValues) (t : Lent) : Type 0 where
@@ -29,7 +30,7 @@ pub record Lends (v : HeaderValues) (t : Lent) : Type 0 where
   pub name : Octets (t .name)
   pub domain : Octets (t .domain)
   pub authentication : Octets (t .authentication)
-  pub transaction : v .transaction < 18446744073709551616
+  pub transaction : Bits64 (v .transaction)
 
 -- the values that reading tells of a packet
 abbrev pub told : Settings → List ℕ → Values
@@ -97,7 +98,7 @@ module _ (s : Settings) (P : ℕ) (v : HeaderValues) (t : Lent) (body : List ℕ
     -- the sequence count is the sender's, moved on by one for each packet before
     pub count : told s p .count ≡ countAt (d .count .0) i
     -- with the wrap: 0 follows 16,383
-    pub count-wraps : told s p .count ≡ (d .count .0 + i) % 16384
+    pub count-wraps : told s p .count ≡ (d .count .0 + i) % suc countMost
     -- it has at most P octets
     pub limit : length p ≤ P
     -- where one packet is enough: unsegmented, flags 11

@@ -59,7 +59,7 @@ countersOf l = joined counterIn l
 -- the counter that the next segment gets; one past the last if none is left
 unfoldable pub place : Next → ℕ
 place (At c) = c .0
-place NoneLeft = 4294967296
+place NoneLeft = suc most32
 
 -- a counter of 32 bits, as its type has it
 abbrev pub Bits32 : Next → Type 0
@@ -78,4 +78,4 @@ pub record Goes (d : Sender) (l : List Values) (e : Sender) : Type 0 where
   pub next : place (e .next) ≡ stepsOf suc (length (countersOf l)) (place (d .next))
   pub bits : Bits32 (e .next)
   -- none passes 4,294,967,295
-  pub top : place (e .next) ≤ 4294967296
+  pub top : place (e .next) ≤ suc most32

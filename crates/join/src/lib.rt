@@ -8,6 +8,7 @@ ghost use Prim.Native.Nat.{_<_};
 ghost use lib.ListN.{length};
 ghost use Rattle.packet.specs.Reading.{readPacket};
 ghost use Rattle.cells.specs.Rows.{zeroRow};
+ghost use Rattle.cells.specs.Order.{cellSize};
 ghost use Rattle.join.specs.Viewing.{inside, viewed};
 ghost use Rattle.join.specs.Joining.{unjoined, joining, storeJoined, outJoined};
 ghost use Rattle.join.specs.Told.{joinedOf};
@@ -159,9 +160,9 @@ pub fn join_in(
 
 // A packet arrives; its body is told where it came whole, else the complete message whose first lies in the lowest cell is taken out.
 pub fn join(s: Settings, store: &mut [u8], p: &[u8], out: &mut [u8]) -> Joined
-    ensures { λ r. ⌜ r ≡ joinedOf (joining s 1024 (now (store .entry)) (now (p .entry)) (length (now (out .entry)))) ⌝ }
-    ensures { λ r. ⌜ now (store .exit) ≡ storeJoined s 1024 (now (store .entry)) (now (p .entry)) (length (now (out .entry))) ⌝ }
-    ensures { λ r. ⌜ now (out .exit) ≡ outJoined s 1024 (now (store .entry)) (now (p .entry)) (now (out .entry)) ⌝ }
+    ensures { λ r. ⌜ r ≡ joinedOf (joining s cellSize (now (store .entry)) (now (p .entry)) (length (now (out .entry)))) ⌝ }
+    ensures { λ r. ⌜ now (store .exit) ≡ storeJoined s cellSize (now (store .entry)) (now (p .entry)) (length (now (out .entry))) ⌝ }
+    ensures { λ r. ⌜ now (out .exit) ≡ outJoined s cellSize (now (store .entry)) (now (p .entry)) (now (out .entry)) ⌝ }
 {
     let zero = [0u8; CELL];
     let o = opening::check(s, store, &zero);

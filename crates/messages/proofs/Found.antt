@@ -11,6 +11,7 @@ use Rattle.octets.proofs.Numbers.{number-top}
 use Rattle.walk.specs.declared.Settings.{Settings}
 use Rattle.packet.specs.declared.Header.{Header}
 use Rattle.packet.specs.Reading.{readPacket, acceptedHeader, ended}
+use Rattle.packet.specs.Format.{packetMost}
 use Rattle.format.proofs.Start.{answer}
 use Rattle.cells.specs.Rows.{rowAt, packetIn}
 use Rattle.cells.specs.Order.{carriesIn, cellAt, foundIn}
@@ -41,7 +42,7 @@ body-long s p z =
     all-of-it = omega (arith, length-drop (ended s p .at) p)
 
 -- a packet in a row has at most 65,542 octets, and so has any part of it
-pub part-most : (r : List ℕ) (a b : ℕ) → Octets r → length (part (packetIn r) a b) ≤ 65542
+pub part-most : (r : List ℕ) (a b : ℕ) → Octets r → length (part (packetIn r) a b) ≤ packetMost
 part-most r a b o =
     let t : number 2 r 6 < 65536 = number-top 2 r 6 o in
     omega (arith, length-take b (drop a (packetIn r)), length-drop a (packetIn r), length-take (number 2 r 6 + 7) (drop 2 r))

@@ -8,7 +8,7 @@ use mathlib.Core.Bool.{Bool, true, false}
 use mathlib.Core.List.{List, [], _∷_, _++_}
 use mathlib.Core.Option.{Option, none, some, Option·map}
 use lib.Dec.{eqb}
-use Rattle.octets.specs.Octets.{pick}
+use Rattle.octets.specs.Octets.{pick, most32}
 use Rattle.walk.specs.declared.Settings.{Settings}
 use Rattle.cells.specs.Segments.{Seg, carries}
 use Rattle.cells.specs.Rows.{Cell, segmentIn, bySegment}
@@ -16,7 +16,7 @@ use Rattle.cells.specs.Order.{cellAt}
 
 -- the highest counter, and so the most steps from a first to its last
 abbrev pub top : ℕ
-top = 4294967295
+top = most32
 
 -- n of a row of things, from number i on
 unfoldable pub listed : {A : Type 0} → (ℕ → A) → ℕ → ℕ → List A

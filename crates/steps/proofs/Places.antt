@@ -14,6 +14,7 @@ use Rattle.octets.proofs.Lists.{below-or}
 use Rattle.octets.proofs.Numbers.{number-top}
 use Rattle.cells.specs.Rows.{sizeIn, packetIn}
 use Rattle.steps.specs.Stepping.{packetMark, begins, foundIn, nothing, other, cut, whole}
+use Rattle.packet.specs.Format.{packetMost}
 
 -- the mark, as far as there are octets
 pub begins-as :
@@ -47,5 +48,5 @@ module _ (x : List ℕ) where
       found-whole h = rw (ne-eqb (length x) 0 some, b, le-leb (2 + sizeIn x) (length x) h) refl
 
 -- the longest packet that a length field tells of
-pub packet-most : (x : List ℕ) → Octets x → length (packetIn x) ≤ 65542
+pub packet-most : (x : List ℕ) → Octets x → length (packetIn x) ≤ packetMost
 packet-most x o = omega (arith, length-take (sizeIn x) (drop 2 x), number-top 2 x 6 o)

@@ -18,6 +18,7 @@ ghost use Rattle.join.specs.Told.{joinedOf};
 ghost use Rattle.steps.specs.Stepping.{foundIn, begins, room, longest, cameOf, cameBy, storeAfter, without, wrote, stepped, storeBehind, writtenBy};
 ghost use Rattle.steps.specs.Told.{standsOf, still as stillAs, doneCame, doneOf};
 ghost use Rattle.steps.specs.Inner.{takenIn, leftAs, framedAs, stopAs};
+ghost use Rattle.packet.specs.Format.{packetMost};
 use join::Joined;
 use join::Which;
 use walk::Refusal;
@@ -235,7 +236,7 @@ fn step_packet(
     requires { ⌜ gate s (length (now zero)) (now store) ≡ 0 ⌝ }
     requires { ⌜ n ≡ countIn (length (now zero)) (now store) ⌝ }
     requires { ⌜ 6 + room ≤ length (now out) ⌝ }
-    requires { ⌜ length (now p) ≤ 65542 ⌝ }
+    requires { ⌜ length (now p) ≤ packetMost ⌝ }
     ensures { λ r. ⌜ r ≡ doneCame (now (p .entry)) (cameOf s (length (now (zero .entry))) (now (store .entry)) (now (p .entry))) ⌝ }
     ensures { λ r. ⌜ now (store .exit) ≡ storeAfter s (length (now (zero .entry))) (now (store .entry)) (now (p .entry)) ⌝ }
     ensures { λ r. ⌜ now (out .exit) ≡ sets (now (out .entry)) 0 (wrote (now (p .entry)) (cameOf s (length (now (zero .entry))) (now (store .entry)) (now (p .entry)))) ⌝ }

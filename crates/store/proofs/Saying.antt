@@ -6,6 +6,7 @@ use denote.Ref.{now}
 use Rattle.arrival.specs.Arriving.{arrived}
 use Rattle.arrival.specs.Told.{said, arrivalOf}
 use Rattle.store.proofs.arrive.Reads as arrives
+use Rattle.cells.specs.Order.{cellSize}
 
-pub arrive-says : (κs : L.Lfts 2) (a : _) (r : _) (x : _) → arrives.Post κs a r x → said r ≡ said (arrivalOf (arrived (a .0) 1024 (now (a .1 .0)) (now (a .1 .1 .0))))
+pub arrive-says : (κs : L.Lfts 2) (a : _) (r : _) (x : _) → arrives.Post κs a r x → said r ≡ said (arrivalOf (arrived (a .0) cellSize (now (a .1 .0)) (now (a .1 .1 .0))))
 arrive-says κs a r x p = ap said (p .0)

@@ -5,7 +5,7 @@
 // keeps a store in order calls those, and saves the check.
 ghost use mathlib.Core.Path.{_≡_};
 ghost use lib.ListN.{length};
-ghost use Rattle.cells.specs.Order.{countIn};
+ghost use Rattle.cells.specs.Order.{countIn, cellSize};
 ghost use Rattle.arrival.specs.Arriving.{arrived, storeWith};
 ghost use Rattle.taking.specs.Taking.{took, outWith, storeLess};
 ghost use Rattle.arrival.specs.Told.{arrivalOf};
@@ -17,8 +17,8 @@ use walk::Settings;
 
 // A packet arrives.
 pub fn arrive(s: Settings, store: &mut [u8], p: &[u8]) -> Arrival
-    ensures { λ r. ⌜ r ≡ arrivalOf (arrived s 1024 (now (store .entry)) (now (p .entry))) ⌝ }
-    ensures { λ r. ⌜ now (store .exit) ≡ storeWith 1024 (now (store .entry)) (now (p .entry)) (arrived s 1024 (now (store .entry)) (now (p .entry))) ⌝ }
+    ensures { λ r. ⌜ r ≡ arrivalOf (arrived s cellSize (now (store .entry)) (now (p .entry))) ⌝ }
+    ensures { λ r. ⌜ now (store .exit) ≡ storeWith cellSize (now (store .entry)) (now (p .entry)) (arrived s cellSize (now (store .entry)) (now (p .entry))) ⌝ }
 {
     let zero = [0u8; CELL];
     let o = opening::check(s, store, &zero);
@@ -31,9 +31,9 @@ pub fn arrive(s: Settings, store: &mut [u8], p: &[u8]) -> Arrival
 
 // The complete message whose first lies in the lowest cell is taken out.
 pub fn take(s: Settings, store: &mut [u8], out: &mut [u8]) -> Taken
-    ensures { λ r. ⌜ r ≡ takenOf (took s 1024 (now (store .entry)) (length (now (out .entry)))) ⌝ }
-    ensures { λ r. ⌜ now (out .exit) ≡ outWith (now (out .entry)) (took s 1024 (now (store .entry)) (length (now (out .entry)))) ⌝ }
-    ensures { λ r. ⌜ now (store .exit) ≡ storeLess s 1024 (now (store .entry)) (countIn 1024 (now (store .entry))) (took s 1024 (now (store .entry)) (length (now (out .entry)))) ⌝ }
+    ensures { λ r. ⌜ r ≡ takenOf (took s cellSize (now (store .entry)) (length (now (out .entry)))) ⌝ }
+    ensures { λ r. ⌜ now (out .exit) ≡ outWith (now (out .entry)) (took s cellSize (now (store .entry)) (length (now (out .entry)))) ⌝ }
+    ensures { λ r. ⌜ now (store .exit) ≡ storeLess s cellSize (now (store .entry)) (countIn cellSize (now (store .entry))) (took s cellSize (now (store .entry)) (length (now (out .entry)))) ⌝ }
 {
     let zero = [0u8; CELL];
     let o = opening::check(s, store, &zero);

@@ -10,6 +10,7 @@ ghost use lib.Seq.{sets};
 ghost use Rattle.octets.specs.Octets.{octetAt, part};
 ghost use Rattle.packet.specs.Reading.{readPacket};
 ghost use Rattle.packet.specs.Key.{keyOf};
+ghost use Rattle.packet.specs.Format.{packetMost};
 ghost use Rattle.cells.specs.Rows.{zeroRow, packetIn, held};
 ghost use Rattle.cells.specs.Order.{cellsMost, lowest, cellAt};
 ghost use Rattle.cells.specs.Inner.{Asked};
@@ -94,7 +95,7 @@ fn follow(
     links: &[u16; cells::CELLS_MOST],
 ) -> Measured
     requires { ⌜ Lent s (now zero) (now store) n chained (now heads) (now links) ⌝ }
-    requires { ⌜ Asked s (now q) «body_at» × (b ≤ 65542) ⌝ }
+    requires { ⌜ Asked s (now q) «body_at» × (b ≤ packetMost) ⌝ }
     ensures { λ r. ⌜ r ≡ total s (length (now (zero .entry))) (now (store .entry)) b (followed suc top s (length (now (zero .entry))) (now (store .entry)) n (keyOf (now (q .entry)) (readPacket s (now (q .entry)))) top (suc (first .0))) ⌝ }
 {
     let z = zero.len();

@@ -11,7 +11,7 @@ ghost use Rattle.packet.specs.Reading.{readPacket};
 ghost use Rattle.packet.specs.Key.{keyOf};
 ghost use Rattle.cells.specs.Segments.{both};
 ghost use Rattle.cells.specs.Rows.{zeroRow, cellOf};
-ghost use Rattle.cells.specs.Order.{cellAt, cellsMost};
+ghost use Rattle.cells.specs.Order.{cellAt, cellsMost, cellSize};
 ghost use Rattle.cells.specs.Inner.{Asked};
 ghost use Rattle.tally.specs.Counting.{isHeld, keyed as keyedAs, newKeyTo, newKeyIn, segmentsIn, keysIn, leftIn};
 ghost use Rattle.cells.specs.Segments.{segOf};
@@ -119,7 +119,7 @@ fn keys(s: Settings, store: &[u8], n: usize, zero: &[u8]) -> usize
 
 // The segments left in a store, and their keys.
 pub fn left(s: Settings, store: &[u8]) -> Tallied
-    ensures { λ r. ⌜ r ≡ leftIn s 1024 (now (store .entry)) ⌝ }
+    ensures { λ r. ⌜ r ≡ leftIn s cellSize (now (store .entry)) ⌝ }
 {
     let zero = [0u8; cells::CELL];
     let n = cells::count(store.len(), zero.len());
