@@ -19,7 +19,7 @@ use Rattle.cells.specs.Rows.{Cell, free, held}
 use Rattle.cells.specs.Order.{cellSize}
 use Rattle.messages.specs.Messages.{Run, look, roleOf, bodies, restFrom, runFrom, pickIn, among, top}
 use Rattle.taking.specs.Taking.{message, unable}
-use Rattle.keeping.specs.Cells.{put, hasFree}
+use Rattle.demand3.specs.Cells.{put, hasFree}
 use Rattle.demand3.specs.Traffic.{Event, empty, takenFrom, stepped, after}
 use Rattle.demand3.specs.Promise.{Untaken as CellUntaken}
 use Rattle.demand3.specs.Calls.{arrival, taking, Brings, Handed, tookBy, outBy}

@@ -15,7 +15,7 @@ use Rattle.cells.specs.Segments.{carries, sameRest}
 use Rattle.cells.specs.Rows.{Cell}
 use Rattle.cells.specs.Order.{cellSize}
 use Rattle.messages.specs.Messages.{look, roleOf, bodies, restFrom, runFrom, pickIn, among, top}
-use Rattle.keeping.specs.Cells.{put, hasFree}
+use Rattle.demand3.specs.Cells.{put, hasFree}
 use Rattle.messages.proofs.Empty.{empty-cells}
 use Rattle.demand3.specs.Traffic.{Event, arrives, passes, empty, takenFrom, stepped, after, Room as CellRoom}
 use Rattle.demand3.specs.Calls.{Call, arrival, taking, joining, draws, tookBy}

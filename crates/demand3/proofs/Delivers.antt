@@ -20,8 +20,8 @@ use Rattle.walk.specs.Walk.{refusal}
 use Rattle.taking.specs.Told.{takenOf}
 use Rattle.messages.proofs.Picking.{pick-yes}
 use Rattle.taking.proofs.Tells.{taken-tells, segment-held}
-use Rattle.keeping.proofs.Zeroed.{zeroed-row, other-row}
-use Rattle.keeping.proofs.Untouched.{unable-same, unable-output}
+use Rattle.demand3.proofs.Zeroed.{zeroed-row, other-row}
+use Rattle.demand3.proofs.Untouched.{unable-same, unable-output}
 use Rattle.demand3.specs.Traffic.{bodyIn, takes, takenFrom, after}
 use Rattle.demand3.specs.Promise.{Original, Gives, Output, LongEnough as CellLongEnough, Handed}
 use Rattle.join.specs.Joining.{lessTaken}

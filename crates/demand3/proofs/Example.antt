@@ -12,7 +12,7 @@ use Rattle.cells.specs.Segments.{Seg, carries}
 use Rattle.cells.specs.Rows.{free, held}
 use Rattle.messages.specs.Messages.{Run, bodies, look, roleOf, restFrom, runFrom, pickIn, among, top}
 use Rattle.taking.specs.Taking.{message, unable}
-use Rattle.keeping.specs.Cells.{put, hasFree}
+use Rattle.demand3.specs.Cells.{put, hasFree}
 use Rattle.demand3.specs.Traffic.{Sent, later, runOf, segmentsOf, arrives, takes, empty, takenFrom, stepped, after, OneOf, stepsIn}
 use Rattle.demand3.specs.Promise.{AllCame, Untaken, Anew, retaken, Promise}
 use Rattle.demand3.specs.Base.{final, Done01, Given01}

@@ -11,7 +11,7 @@ use Rattle.cells.specs.Segments.{Seg}
 use Rattle.cells.specs.Rows.{Cell}
 use Rattle.messages.specs.Messages.{Run, segments, look}
 use Rattle.taking.specs.Taking.{message}
-use Rattle.keeping.specs.Cells.{put, clear}
+use Rattle.demand3.specs.Cells.{put, clear}
 use Rattle.demand3.specs.Complete.{Held, Single, Complete}
 use Rattle.demand3.specs.Traffic.{Event, takes, takenFrom, stepped, after}
 use Rattle.demand3.proofs.Looks.{carries-no, look-same, put-other, clear-kept}

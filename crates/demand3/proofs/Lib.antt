@@ -1,3 +1,9 @@
+pub mod Putting
+pub mod After
+pub mod Zeroed
+pub mod Untouched
+pub mod Repeats
+pub mod Lookups
 pub mod Looks
 pub mod Links
 pub mod Finds

@@ -17,8 +17,8 @@ use Rattle.cells.proofs.CellSegments.{free-none, segment-freed}
 use Rattle.messages.specs.Messages.{orElse, heldAs, look, among, amongIn}
 use Rattle.messages.proofs.Distinct.{carries-true}
 use Rattle.messages.proofs.Looking.{held-some, or-some, or-none}
-use Rattle.keeping.specs.Cells.{put, hasFree, freed, clear}
-use Rattle.keeping.proofs.Putting.{put-free, put-on}
+use Rattle.demand3.specs.Cells.{put, hasFree, freed, clear}
+use Rattle.demand3.proofs.Putting.{put-free, put-on}
 use Rattle.demand3.specs.Complete.{Held}
 
 -- ---- the test on a segment

@@ -15,7 +15,7 @@ use Rattle.cells.specs.Rows.{Cell, free, held}
 use Rattle.cells.specs.Order.{isFree}
 use Rattle.messages.specs.Messages.{Run, segments, picked, among, amongIn}
 use Rattle.taking.specs.Taking.{message, writing}
-use Rattle.keeping.specs.Cells.{clear, freed}
+use Rattle.demand3.specs.Cells.{clear, freed}
 use Rattle.demand3.specs.Complete.{Held, Single, Complete}
 use Rattle.demand3.specs.Traffic.{takes, takenFrom, stepped, after}
 use Rattle.demand3.specs.Promise.{LongEnough, HandsOut}

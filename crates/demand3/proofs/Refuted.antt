@@ -23,7 +23,7 @@ use Rattle.messages.specs.Messages.{Run, look, roleOf, bodies, bodyOf, restFrom
 use Rattle.taking.specs.Taking.{Took, message, unable}
 use Rattle.walk.specs.Walk.{refusal}
 use Rattle.taking.specs.Told.{takenOf}
-use Rattle.keeping.specs.Cells.{put, hasFree}
+use Rattle.demand3.specs.Cells.{put, hasFree}
 use Rattle.messages.proofs.Empty.{empty-cells}
 use Rattle.demand3.specs.Complete.{Held}
 use Rattle.demand3.specs.Traffic.{Event, passes, empty}

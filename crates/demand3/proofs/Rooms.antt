@@ -14,7 +14,7 @@ use Rattle.cells.specs.Segments.{Seg}
 use Rattle.cells.specs.Rows.{Cell, free, held}
 use Rattle.cells.specs.Order.{isFree}
 use Rattle.messages.specs.Messages.{segments, look, or}
-use Rattle.keeping.specs.Cells.{put, hasFree, freed}
+use Rattle.demand3.specs.Cells.{put, hasFree, freed}
 use Rattle.demand3.specs.Traffic.{Event, arrives, passes, takes, empty, stepped, after, Room}
 use Rattle.demand3.proofs.Takings.{step-keeps}
 use Rattle.demand3.proofs.Progress.{used, used-clear}

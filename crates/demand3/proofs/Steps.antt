@@ -24,7 +24,7 @@ use Rattle.cells.proofs.Held.{both-true}
 use Rattle.messages.specs.Messages.{cellsOf, look, top}
 use Rattle.arrival.specs.Arriving.{Arrived, whole, stored, again, refused, placed, beside, lowestFree, segmentArrived, arrivedIn, arrived, storeWith}
 use Rattle.taking.specs.Taking.{Took, message, unable, tookIn, took, storeLess}
-use Rattle.keeping.specs.Cells.{put}
+use Rattle.demand3.specs.Cells.{put}
 use Rattle.messages.proofs.Picking.{pick-yes}
 use Rattle.messages.proofs.Order.{cells-inside}
 use Rattle.opening.proofs.Gate.{gate-by}
@@ -33,7 +33,7 @@ use Rattle.arrival.proofs.After.{segment}
 use Rattle.arrival.proofs.Keeps.{arrive-long, arrive-keeps}
 use Rattle.taking.proofs.Checked.{took-open}
 use Rattle.taking.proofs.Keeps.{take-long, take-keeps}
-use Rattle.keeping.proofs.After.{cells-stored, has-free, cells-taken}
+use Rattle.demand3.proofs.After.{cells-stored, has-free, cells-taken}
 use Rattle.demand3.specs.Traffic.{Event, arrives, passes, takes, stowed, lessened, takenFrom, stepped}
 use Rattle.join.specs.Joining.{lessTaken}
 use Rattle.demand3.specs.Calls.{goesOn, arrivedStore}

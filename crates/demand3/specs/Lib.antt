@@ -1,3 +1,4 @@
+pub mod Cells
 pub mod Complete
 pub mod Traffic
 pub mod Promise

@@ -23,7 +23,7 @@ use Rattle.cells.specs.Rows.{Cell}
 use Rattle.cells.specs.Order.{cellsMost}
 use Rattle.messages.specs.Messages.{Run, cellsOf, look}
 use Rattle.taking.specs.Taking.{message}
-use Rattle.keeping.specs.Cells.{hasFree}
+use Rattle.demand3.specs.Cells.{hasFree}
 use Rattle.demand3.specs.Calls.{Call, Brings, Handed, tookBy, storeAfter}
 use Rattle.demand3.specs.Sendings.{Sending, ReadsAs, manyOf, segmentAt, keyIn, startOf, IsCut}
 

@@ -10,7 +10,7 @@ use Rattle.cells.specs.Segments.{Seg}
 use Rattle.cells.specs.Rows.{Cell}
 use Rattle.messages.specs.Messages.{Run, bodyOf, segments, picked}
 use Rattle.taking.specs.Taking.{message, unable, writing}
-use Rattle.keeping.specs.Cells.{clear}
+use Rattle.demand3.specs.Cells.{clear}
 use Rattle.demand3.specs.Complete.{Complete}
 use Rattle.demand3.specs.Traffic.{Sent, bodyIn, stepsIn, segmentsOf, Event, arrives, takes, empty, takenFrom, stepped, after, Traffic, Room}
 

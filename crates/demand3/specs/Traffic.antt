@@ -13,7 +13,7 @@ use Rattle.cells.specs.Segments.{Seg}
 use Rattle.cells.specs.Rows.{Cell, free}
 use Rattle.messages.specs.Messages.{Run, segments, look, picked}
 use Rattle.taking.specs.Taking.{Took, message, unable, drawn}
-use Rattle.keeping.specs.Cells.{put, hasFree, clear}
+use Rattle.demand3.specs.Cells.{put, hasFree, clear}
 
 -- ---- messages
 

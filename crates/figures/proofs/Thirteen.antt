@@ -20,7 +20,7 @@ use Rattle.fewest.proofs.Figures.{settings, zeros}
 use Rattle.cells.specs.Segments.{Seg, segOf, carries}
 use Rattle.cells.specs.Rows.{Cell, held, mayHold}
 use Rattle.messages.specs.Messages.{cellsOf, look, roleOf, bodies, restFrom, runFrom, pickIn, top}
-use Rattle.keeping.specs.Cells.{put}
+use Rattle.demand3.specs.Cells.{put}
 use Rattle.demand3.specs.Traffic.{Event, arrives, empty, takenFrom, stepped, after}
 use Rattle.demand3.specs.Calls.{Call, arrival, storeBy, storeAfter}
 use Rattle.demand3.specs.Presupposed.{InUse, emptyStore, storeBehind}

@@ -19,7 +19,7 @@ use Rattle.cells.specs.Order.{isFree, carriesIn, cellAt, countIn}
 use Rattle.messages.specs.Messages.{cellsOf, look, Run, segments, amongIn}
 use Rattle.arrival.specs.Arriving.{stored, lowestFree, arrivedIn, arrived}
 use Rattle.taking.specs.Taking.{message, took}
-use Rattle.keeping.specs.Cells.{freed}
+use Rattle.demand3.specs.Cells.{freed}
 use Rattle.messages.proofs.Listed.{among-below, Lowest, lowest-is, lowest-some}
 use Rattle.messages.proofs.Looking.{look-empty}
 use Rattle.messages.proofs.Order.{cells-inside}
@@ -29,7 +29,7 @@ use Rattle.arrival.proofs.Checked.{arrived-open}
 use Rattle.arrival.proofs.After.{segment, Stored, stored-told}
 use Rattle.taking.proofs.Keeps.{cell-taken, take-long, taken-keeps}
 use Rattle.taking.proofs.Tells.{taken-tells, segment-held}
-use Rattle.keeping.proofs.Zeroed.{after, zeroed-free}
+use Rattle.demand3.proofs.Zeroed.{after, zeroed-free}
 use Rattle.messages.proofs.Distinct.{carries-held}
 
 -- a cell freed of some segments holds none of them

@@ -15,8 +15,8 @@ use Rattle.arrival.specs.Arriving.{stored, lowestFree, arrivedIn, storeWith}
 use Rattle.arrival.proofs.After.{segment, stored-tells, cell-kept, cell-stored}
 use Rattle.taking.specs.Taking.{message, storeLess}
 use Rattle.taking.proofs.Keeps.{cell-taken}
-use Rattle.keeping.specs.Cells.{put, hasFree, freed, clear}
-use Rattle.keeping.proofs.Putting.{listed-put, listed-free}
+use Rattle.demand3.specs.Cells.{put, hasFree, freed, clear}
+use Rattle.demand3.proofs.Putting.{listed-put, listed-free}
 
 -- the segment is put into the lowest free cell
 pub cells-stored :
