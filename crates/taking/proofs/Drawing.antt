@@ -142,7 +142,8 @@ module _ (next : ℕ → ℕ) (span : ℕ) (s : Settings) (Z : ℕ) (st : List �
     pub the-message : Message i
     the-message =
         let o = opens-some (roleOf (segAt s Z st i .flags)) (segAt s Z st i) (chain next span span cs (segAt s Z st i .key) (next (segAt s Z st i .counter))) (found-run .0) opened in
-        let m = mapped (map (segAt s Z st)) (follow next span s Z st n (segAt s Z st i .key) span (next (segAt s Z st i .counter))) (o .0) (sym (chain-places next span s Z st n (segAt s Z st i .key) span (next (segAt s Z st i .counter))) ∙ o .1) in
+        let m = mapped (map (segAt s Z st)) (follow next span s Z st n (segAt s Z st i .key) span (next (segAt s Z st i .counter))) (o .0)
+        (sym (chain-places next span s Z st n (segAt s Z st i .key) span (next (segAt s Z st i .counter))) ∙ o .1) in
         record {
           places = m .0;
           cell = holds .cell;

@@ -6,7 +6,6 @@ use mathlib.Core.Logic.{⊎-elim}
 use mathlib.Core.Bool.{Bool, true, false}
 use mathlib.Core.List.{List}
 use native.Mathlib.Omega.{arith}
-use lib.Dec.{eqb}
 use Rattle.octets.specs.Octets.{Octets, number, alike}
 use Rattle.octets.proofs.Has.{octets-part}
 use Rattle.octets.proofs.Lists.{bool}
@@ -17,48 +16,48 @@ use Rattle.cells.specs.declared.Judged.{Judged}
 use Rattle.cells.specs.Segments.{segOf}
 use Rattle.cells.specs.Rows.{Cell, free, held, broken, rowAt, zeroRow, packetIn, cellOf}
 use Rattle.cells.specs.Order.{isSound, cellAt}
-use Rattle.cells.specs.Inner.{spansAlike, bodyIn, judgedOf, Asked}
-use Rattle.cells.proofs.Carries.{free-cell, Holding, holding}
+use Rattle.cells.specs.Inner.{spansAlike, bodyIn, judgedOf, toldHeld, Asked}
+use Rattle.cells.proofs.Carries.{free-cell, not-held, Holding, holding}
 use Rattle.cells.proofs.SameKeys.{keys-same}
 use Rattle.cells.proofs.Entering.{asked}
 use Rattle.tally.specs.Counting.{isHeld, keyed, newKeyTo, newKeyIn}
 
-abbrev kind : Judged → ℕ
-kind t = t .kind
+abbrev told : Judged → Bool
+told t = toldHeld (t .content)
 
--- ---- by its number
+-- ---- by what is told of it
 
-pub held-told : (at : ℕ) (d : Cell) {t : Judged} → t ≡ judgedOf at d → eqb (t .kind) 1 ≡ isHeld d
-held-told at free e = ap (λ (t : Judged). eqb (t .kind) 1) e
-held-told at (held u) e = ap (λ (t : Judged). eqb (t .kind) 1) e
-held-told at broken e = ap (λ (t : Judged). eqb (t .kind) 1) e
+pub held-told : (at : ℕ) (d : Cell) {t : Judged} → t ≡ judgedOf at d → toldHeld (t .content) ≡ isHeld d
+held-told at free e = ap told e
+held-told at (held u) e = ap told e
+held-told at broken e = ap told e
 
-other-key : (at : ℕ) (d : Cell) (k : List ℕ) {t : Judged} → t ≡ judgedOf at d → (t .kind ≡ 1 → ⊥) → false ≡ keyed k d
+other-key : (at : ℕ) (d : Cell) (k : List ℕ) {t : Judged} → t ≡ judgedOf at d → toldHeld (t .content) ≡ false → false ≡ keyed k d
 other-key at free k e h = refl
-other-key at (held u) k e h = absurd (h (ap kind e))
+other-key at (held u) k e h = absurd (not-held (ap told e) h)
 other-key at broken k e h = refl
 
-other-first : (s : Settings) (Z : ℕ) (st : List ℕ) (i at : ℕ) (d : Cell) {t : Judged} → t ≡ judgedOf at d → (t .kind ≡ 1 → ⊥) → false ≡ newKeyIn s Z st i d
+other-first : (s : Settings) (Z : ℕ) (st : List ℕ) (i at : ℕ) (d : Cell) {t : Judged} → t ≡ judgedOf at d → toldHeld (t .content) ≡ false → false ≡ newKeyIn s Z st i d
 other-first s Z st i at free e h = refl
-other-first s Z st i at (held u) e h = absurd (h (ap kind e))
+other-first s Z st i at (held u) e h = absurd (not-held (ap told e) h)
 other-first s Z st i at broken e h = refl
 
-is-sound : (at : ℕ) (d : Cell) {t : Judged} → t ≡ judgedOf at d → t .kind ≡ 1 → isSound d ≡ true
+is-sound : (at : ℕ) (d : Cell) {t : Judged} → t ≡ judgedOf at d → toldHeld (t .content) ≡ true → isSound d ≡ true
 is-sound at free e h = refl
 is-sound at (held u) e h = refl
-is-sound at broken e h = let z : _≡_ {A = ℕ} 2 1 = sym (ap kind e) ∙ h in absurd (omega arith)
+is-sound at broken e h = absurd (not-held h (ap told e))
 
 -- ---- a row
 
 module _ (s : Settings) (Z : ℕ) (r : List ℕ) {t : Judged} (et : t ≡ judgedOf (bodyIn s Z r) (cellOf s Z r)) where
-  pub key-none : (k : List ℕ) → (t .kind ≡ 1 → ⊥) → false ≡ keyed k (cellOf s Z r)
+  pub key-none : (k : List ℕ) → toldHeld (t .content) ≡ false → false ≡ keyed k (cellOf s Z r)
   key-none k h = other-key (bodyIn s Z r) (cellOf s Z r) k et h
 
-  module _ (one : t .kind ≡ 1) where
+  module _ (one : toldHeld (t .content) ≡ true) where
     not-free : alike r (zeroRow Z) ≡ false
     not-free =
         ⊎-elim
-        (λ e. let z : _≡_ {A = ℕ} 0 1 = ap (λ (d : Cell). judgedOf (bodyIn s Z r) d .kind) (sym (free-cell s Z r e)) ∙ sym (ap kind et) ∙ one in absurd (omega arith))
+        (λ e. absurd (not-held one (ap told et ∙ ap (λ (d : Cell). told (judgedOf (bodyIn s Z r) d)) (free-cell s Z r e))))
         (λ e. e)
         (bool (alike r (zeroRow Z)))
 
@@ -88,12 +87,12 @@ module _ (s : Settings) (st : List ℕ) (Z i : ℕ) {r : List ℕ} (er : r ≡ r
   cell-is : cellAt s Z st i ≡ cellOf s Z r
   cell-is = ap (cellOf s Z) (sym er)
 
-  pub first-none : (t .kind ≡ 1 → ⊥) → false ≡ newKeyIn s Z st i (cellAt s Z st i)
+  pub first-none : toldHeld (t .content) ≡ false → false ≡ newKeyIn s Z st i (cellAt s Z st i)
   first-none h = other-first s Z st i (bodyIn s Z r) (cellOf s Z r) et h ∙ ap (newKeyIn s Z st i) (sym cell-is)
 
-  module _ (one : t .kind ≡ 1) {q : List ℕ} (eq : q ≡ packetIn Z r) where
+  module _ (one : toldHeld (t .content) ≡ true) {q : List ℕ} (eq : q ≡ packetIn Z r) where
     pub first-asked : Octets st → Asked s q (t .at)
-    first-asked o = asked s st Z i er et o (λ h. let z : _≡_ {A = ℕ} 1 2 = sym one ∙ h in omega arith) (λ h. let z : _≡_ {A = ℕ} 1 0 = sym one ∙ h in omega arith) eq
+    first-asked o = asked s st Z i er et o one eq
 
     pub first-told : {b : Bool} → b ≡ newKeyTo s Z st i (keyOf q (readPacket s q)) → b ≡ newKeyIn s Z st i (cellAt s Z st i)
     unfolding segOf
