@@ -15,6 +15,7 @@ ghost use Rattle.arrival.specs.Arriving.{refused as refusedBy, placed, s
 ghost use Rattle.arrival.specs.Told.{arrivalOf};
 ghost use Rattle.arrival.specs.Inner.{segWith};
 use packet::SegmentCounter;
+use packet::UNSEGMENTED;
 use walk::Refusal;
 use walk::Settings;
 
@@ -104,7 +105,7 @@ pub fn arrive_in(s: Settings, store: &mut [u8], n: usize, zero: &[u8], p: &[u8])
     if refusal.number != 0 {
         return Arrival::Refused(refusal);
     }
-    if primary.flags == 3 {
+    if primary.flags == UNSEGMENTED {
         return Arrival::Answer(Kind::Whole);
     }
     if zero.len() < 2 + p.len() {

@@ -20,7 +20,7 @@ use Rattle.cells.specs.Segments.{Seg, segOf, carries, both}
 use Rattle.cells.specs.Rows.{free, held, broken, segmentIn, bySegment, zeroRow, heldRow, packetIn, mayHold, holds, cellOf}
 use Rattle.cells.specs.Order.{isSound, carriesIn}
 use Rattle.cells.specs.declared.Judged.{Judged}
-use Rattle.cells.specs.Inner.{placeIn, counterIn, spansAlike, bodyIn, judgedOf, Asked}
+use Rattle.cells.specs.Inner.{placeIn, counterIn, spansAlike, bodyIn, judgedOf, toldHeld, Asked}
 use Rattle.cells.proofs.CellSegments.{held-not, judged-none}
 use Rattle.cells.proofs.Held.{both-true}
 use Rattle.cells.proofs.Counters.{counter-told}
@@ -90,25 +90,24 @@ unless-held : (s : Settings) (Z : ℕ) (r k : List ℕ) (c : ℕ) → (Holding s
 unless-held s Z r k c h = ⊎-elim (λ e. h (carrying s Z r k c e)) (λ e. sym e) (bool (carriesIn k c (cellOf s Z r)))
 
 -- a row that is judged held is
-abbrev kind : Judged → ℕ
-kind t = t .kind
+abbrev held-told : Judged → Bool
+held-told t = toldHeld (t .content)
 
-pub judged-one : (s : Settings) (Z : ℕ) (r : List ℕ) {t : Judged} → t ≡ judgedOf (bodyIn s Z r) (cellOf s Z r) → t .kind ≡ 1 → Holding s Z r
-judged-one s Z r {t} e h = ⊎-elim (λ w. w) (λ n. absurd (not-one n)) (kinds s Z r)
-  where
-    not-one : segmentIn (cellOf s Z r) ≡ none → ⊥
-    not-one n =
-        let f = ap kind (sym e) ∙ h in
-        ⊎-elim (λ z. omega (arith, f, z)) (λ z. omega (arith, f, z)) (judged-none (bodyIn s Z r) (cellOf s Z r) n .0)
+pub not-held : {b : Bool} → b ≡ true → b ≡ false → ⊥
+not-held e f = let z : _≡_ {A = ℕ} 0 1 = cc in omega arith
+
+pub judged-one : (s : Settings) (Z : ℕ) (r : List ℕ) {t : Judged} → t ≡ judgedOf (bodyIn s Z r) (cellOf s Z r) → toldHeld (t .content) ≡ true → Holding s Z r
+judged-one s Z r {t} e h =
+    ⊎-elim (λ w. w) (λ n. absurd (not-held (ap held-told (sym e) ∙ h) (judged-none (bodyIn s Z r) (cellOf s Z r) n .0))) (kinds s Z r)
 
 -- and tells where its body begins, and its counter
 pub judged-at :
     (s : Settings) (Z : ℕ) (r : List ℕ) {t : Judged} → t ≡ judgedOf (bodyIn s Z r) (cellOf s Z r) → Holding s Z r →
-    (t .kind ≡ 1) × ((t .at ≡ readPacket s (packetIn r) .body .at) × (t .counter .0 ≡ readPacket s (packetIn r) .ids .counter .0))
+    (toldHeld (t .content) ≡ true) × ((t .at ≡ readPacket s (packetIn r) .body .at) × (t .counter .0 ≡ readPacket s (packetIn r) .ids .counter .0))
 unfolding segOf
 judged-at s Z r {t} e h =
     let f = e ∙ ap (judgedOf (bodyIn s Z r)) (h .cell) in
-    (ap kind f, (ap (λ (x : Judged). x .at) f, ap (λ (x : Judged). x .counter .0) f))
+    (ap held-told f, (ap (λ (x : Judged). x .at) f, ap (λ (x : Judged). x .counter .0) f))
 
 -- the counter of a segment that is held stands where its presence octet says
 pub held-counter : (s : Settings) (Z : ℕ) (r : List ℕ) → Octets r → Holding s Z r → counterIn (packetIn r) ≡ readPacket s (packetIn r) .ids .counter .0
@@ -166,11 +165,11 @@ module _ (s : Settings) (r z q : List ℕ) (stop c : ℕ) (o : Octets r) (a : As
       ∙ pick-false (eqb c (counterIn p))))
 
   module _ {t : Judged} (et : t ≡ judgedOf (bodyIn s (length z) r) (cellOf s (length z) r)) where
-    pub carries-not : (t .kind ≡ 1 → ⊥) → false ≡ carriesIn k c (cellOf s (length z) r)
-    carries-not h = unless-held s (length z) r k c (λ there. absurd (h (judged-at s (length z) r et there .0)))
+    pub carries-not : toldHeld (t .content) ≡ false → false ≡ carriesIn k c (cellOf s (length z) r)
+    carries-not h = unless-held s (length z) r k c (λ there. absurd (not-held (judged-at s (length z) r et there .0) h))
 
     pub carries-same :
-        {x : List ℕ} {n : ℕ} {b : Bool} → t .kind ≡ 1 → x ≡ p → n ≡ counterIn x → n ≡ c → b ≡ spansAlike q stop x (t .at) →
+        {x : List ℕ} {n : ℕ} {b : Bool} → toldHeld (t .content) ≡ true → x ≡ p → n ≡ counterIn x → n ≡ c → b ≡ spansAlike q stop x (t .at) →
         b ≡ carriesIn k c (cellOf s (length z) r)
     carries-same {x} {n} {b} one ex en ec eb =
         let there = judged-one s (length z) r et one in

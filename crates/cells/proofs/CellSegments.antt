@@ -10,7 +10,7 @@ use Rattle.octets.specs.Octets.{pick}
 use Rattle.cells.specs.Segments.{Seg}
 use Rattle.cells.specs.Rows.{Cell, free, held, broken, segmentIn}
 use Rattle.cells.specs.Order.{isFree}
-use Rattle.cells.specs.Inner.{judgedOf}
+use Rattle.cells.specs.Inner.{judgedOf, toldHeld}
 
 pub segment-or : (x : Cell) → ((t : Seg) × (x ≡ held t)) ⊎ (segmentIn x ≡ none)
 segment-or free = inr refl
@@ -37,9 +37,8 @@ pub segment-freed : (b : Bool) (x : Cell) → segmentIn (pick b free x) ≡ pick
 segment-freed true x = refl
 segment-freed false x = refl
 
--- as the code judges a cell that holds none: free or broken, with no body
-pub judged-none : (at : ℕ) (x : Cell) → segmentIn x ≡ none →
-    ((judgedOf at x .kind ≡ 0) ⊎ (judgedOf at x .kind ≡ 2)) × (judgedOf at x .at ≡ 0)
-judged-none at free e = (inl refl, refl)
+-- as the code judges a cell that holds none: not held, with no body
+pub judged-none : (at : ℕ) (x : Cell) → segmentIn x ≡ none → (toldHeld (judgedOf at x .content) ≡ false) × (judgedOf at x .at ≡ 0)
+judged-none at free e = (refl, refl)
 judged-none at (held t) e = absurd (Option·some-ne-none t e)
-judged-none at broken e = (inr refl, refl)
+judged-none at broken e = (refl, refl)

@@ -20,10 +20,9 @@ use Rattle.cells.specs.declared.Judged.{Judged}
 use Rattle.cells.specs.Segments.{segOf, both}
 use Rattle.cells.specs.Rows.{Cell, segmentIn, bySegment, rowAt, packetIn, cellOf}
 use Rattle.cells.specs.Order.{cellsMost, carriesIn, cellAt, newTo, newAt, foundIn}
-use Rattle.cells.specs.Inner.{counterIn, bodyIn, judgedOf, bodyAt, Asked}
+use Rattle.cells.specs.Inner.{counterIn, bodyIn, judgedOf, toldHeld, bodyAt, Asked}
 use Rattle.cells.specs.Chains.{chainsAll, bucketOf, keyIn, bucketIn, bucketAt, Chained}
-use Rattle.cells.proofs.CellSegments.{judged-none}
-use Rattle.cells.proofs.Carries.{Holding, kinds, held-counter}
+use Rattle.cells.proofs.Carries.{Holding, judged-one, judged-at, held-counter}
 use Rattle.cells.proofs.Mixing.{key-asked}
 use Rattle.cells.proofs.Lowest.{none-new, some-known}
 use Rattle.cells.proofs.Chaining.{chained-skip, chained-push}
@@ -48,21 +47,12 @@ asked-held s Z r o h eq es =
 -- ---- a row that is judged held
 
 module _ (s : Settings) (st : List ℕ) (Z i : ℕ) {r : List ℕ} (er : r ≡ rowAt Z st i) {t : Judged} (et : t ≡ judgedOf (bodyIn s Z r) (cellOf s Z r))
-    (o : Octets st) (sound : t .kind ≡ 2 → ⊥) (some : t .kind ≡ 0 → ⊥) where
-  told : {d : Cell} → cellOf s Z r ≡ d → t ≡ judgedOf (bodyIn s Z r) d
-  told e = et ∙ ap (judgedOf (bodyIn s Z r)) e
-
-  abbrev kind : Judged → ℕ
-  kind x = x .kind
-
+    (o : Octets st) (one : toldHeld (t .content) ≡ true) where
   there : Holding s Z r
-  there = ⊎-elim (λ h. h) (λ n. absurd (not-none (judged-none (bodyIn s Z r) (cellOf s Z r) n .0))) (kinds s Z r)
-    where
-      not-none : (judgedOf (bodyIn s Z r) (cellOf s Z r) .kind ≡ 0) ⊎ (judgedOf (bodyIn s Z r) (cellOf s Z r) .kind ≡ 2) → ⊥
-      not-none w = ⊎-elim (λ e. some (ap kind et ∙ e)) (λ e. sound (ap kind et ∙ e)) w
+  there = judged-one s Z r et one
 
   pub asked : {q : List ℕ} → q ≡ packetIn r → Asked s q (t .at)
-  asked eq = asked-held s Z r (rw er (row-plain s Z st i o)) there eq (ap (λ (x : Judged). x .at) (told (there .cell)))
+  asked eq = asked-held s Z r (rw er (row-plain s Z st i o)) there eq (judged-at s Z r et there .1 .0)
 
 -- ---- a cell, told where the body of its segment begins
 

@@ -18,9 +18,9 @@ use Rattle.packet.specs.Key.{keyOf}
 use Rattle.cells.specs.declared.Judged.{Judged}
 use Rattle.cells.specs.Segments.{segOf, both}
 use Rattle.cells.specs.Rows.{Cell, packetIn, cellOf, bySegment}
-use Rattle.cells.specs.Inner.{placeIn, counterIn, bodyIn, judgedOf, reaches, withinIn, Asked, within}
+use Rattle.cells.specs.Inner.{placeIn, counterIn, bodyIn, judgedOf, toldHeld, reaches, withinIn, Asked, within}
 use Rattle.cells.specs.Chains.{keyIn}
-use Rattle.cells.proofs.Carries.{Holding, judged-one, judged-at, held-counter, kinds}
+use Rattle.cells.proofs.Carries.{Holding, not-held, judged-one, judged-at, held-counter, kinds}
 use Rattle.cells.proofs.Mixing.{key-asked}
 
 -- ---- a key
@@ -93,10 +93,10 @@ module _ (s : Settings) (r z k : List ℕ) (first steps : ℕ) (o : Octets r) wh
     within-out e h = unless-held (λ there. sym (by-counter (sym h ∙ e) there))
 
     module _ {t : Judged} (et : t ≡ judgedOf (bodyIn s (length z) r) here) where
-      pub within-not : (t .kind ≡ 1 → ⊥) → false ≡ withinIn suc k first steps here
-      within-not h = unless-held (λ there. absurd (h (judged-at s (length z) r et there .0)))
+      pub within-not : toldHeld (t .content) ≡ false → false ≡ withinIn suc k first steps here
+      within-not h = unless-held (λ there. absurd (not-held (judged-at s (length z) r et there .0) h))
 
-      pub within-same : {a b : Bool} → t .kind ≡ 1 → a ≡ reaches suc steps first n → a ≡ true → b ≡ alike k (keyIn x (t .at)) → b ≡ withinIn suc k first steps here
+      pub within-same : {a b : Bool} → toldHeld (t .content) ≡ true → a ≡ reaches suc steps first n → a ≡ true → b ≡ alike k (keyIn x (t .at)) → b ≡ withinIn suc k first steps here
       within-same one ea in-it eb =
           let there = judged-one s (length z) r et one in
           let a : Asked s p (t .at) =

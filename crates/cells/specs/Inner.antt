@@ -10,6 +10,8 @@ use Rattle.octets.specs.Octets.{pick, Octets, octetAt, part, number, alike}
 use Rattle.walk.specs.declared.Settings.{Settings}
 use Rattle.packet.specs.Reading.{readPacket, segmented}
 use Rattle.cells.specs.Segments.{Seg, both}
+use Rattle.cells.specs.declared.Content.{Content}
+use Rattle.cells.specs.declared.Content.the-variants.{Free, Held, Broken}
 use Rattle.cells.specs.declared.Judged.{Judged}
 use Rattle.cells.specs.Rows.{Cell, free, held, broken, segmentIn, bySegment, rowAt, packetIn}
 use Rattle.cells.specs.Order.{cellAt}
@@ -38,11 +40,22 @@ spansAlike p end q stop =
 abbrev pub bodyIn : Settings → ℕ → List ℕ → ℕ
 bodyIn s Z r = readPacket s (packetIn r) .body .at
 
--- a cell told in numbers, with the place of its body: 0 free, 1 held, 2 broken
+-- what is told of a cell, with the place of its body
 abbrev pub judgedOf : ℕ → Cell → Judged
-judgedOf at free = record { kind = 0; at = 0; counter = record { 0 = 0 } }
-judgedOf at (held t) = record { kind = 1; at = at; counter = record { 0 = t .counter } }
-judgedOf at broken = record { kind = 2; at = 0; counter = record { 0 = 0 } }
+judgedOf at free = record { content = Free; at = 0; counter = record { 0 = 0 } }
+judgedOf at (held t) = record { content = Held; at = at; counter = record { 0 = t .counter } }
+judgedOf at broken = record { content = Broken; at = 0; counter = record { 0 = 0 } }
+
+-- what is told of a cell tells whether it holds a segment, and whether it is free or holds one
+abbrev pub toldHeld : Content → Bool
+toldHeld Free = false
+toldHeld Held = true
+toldHeld Broken = false
+
+abbrev pub toldSound : Content → Bool
+toldSound Free = true
+toldSound Held = true
+toldSound Broken = false
 
 module _ (next : ℕ → ℕ) where
   -- the counter x is c or one of m steps after it

@@ -16,7 +16,7 @@ use Rattle.cells.specs.Segments.{carries, sameRest}
 use Rattle.cells.specs.Order.{cellSize}
 use Rattle.messages.specs.Messages.{look, roleOf, bodies, restFrom, runFrom, pickIn}
 use Rattle.taking.specs.Taking.{message, unable}
-use Rattle.keeping.specs.Cells.{put, hasFree}
+use Rattle.demand3.specs.Cells.{put, hasFree}
 use Rattle.demand3.specs.Traffic.{empty, takenFrom, stepped, after}
 use Rattle.demand3.specs.Calls.{Call, joining, packetsIn, tookBy, storeAfter}
 use Rattle.demand3.specs.Sendings.{headerSize, bodySize}

@@ -13,7 +13,7 @@ use Rattle.cells.specs.Order.{cellSize}
 use Rattle.messages.specs.Messages.{Run, picked, top}
 use Rattle.messages.proofs.Empty.{empty-cells}
 use Rattle.taking.specs.Taking.{unable}
-use Rattle.keeping.specs.Cells.{hasFree}
+use Rattle.demand3.specs.Cells.{hasFree}
 use Rattle.demand3.specs.Traffic.{takes, empty}
 use Rattle.demand3.specs.Calls.{Call, arrival, joining, Brings, Handed, arrivedStore, storeAfter, tookBy}
 use Rattle.demand3.specs.Sendings.{IsCut}

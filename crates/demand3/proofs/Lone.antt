@@ -14,7 +14,7 @@ use Rattle.cells.specs.Rows.{Cell}
 use Rattle.messages.specs.Messages.{Run, segments, look, picked, among, or}
 use Rattle.messages.proofs.Distinct.{carries-true}
 use Rattle.taking.specs.Taking.{unable, writing}
-use Rattle.keeping.specs.Cells.{put, clear}
+use Rattle.demand3.specs.Cells.{put, clear}
 use Rattle.demand3.specs.Complete.{Held, Single}
 use Rattle.demand3.specs.Traffic.{Event, takes, takenFrom, stepped}
 use Rattle.demand3.proofs.Looks.{carries-no, look-held, put-other, clear-held}

@@ -39,6 +39,15 @@ pub struct SequenceCount(pub u16);
 
 pub struct SegmentCounter(pub u32);
 
+// The sequence flags: what a packet is in its message.
+pub const CONTINUATION: u8 = 0;
+
+pub const FIRST: u8 = 1;
+
+pub const LAST: u8 = 2;
+
+pub const UNSEGMENTED: u8 = 3;
+
 // The primary header: packet type, APID, sequence flags, sequence count.
 pub struct Primary {
     pub kind: u8,

@@ -24,7 +24,8 @@ use Rattle.taking.proofs.Following.{role-first, role-last, role-middle,
 
 -- ---- the segment in a cell that was found, as the code reads it
 
-module _ (s : Settings) (Z : ℕ) (st : List ℕ) (n : ℕ) (k : List ℕ) (c : ℕ) {j : ℕ} (ej : j ≡ foundIn s Z st n k c) (h : j < n) {r : List ℕ} {u : Piece} (er : r ≡ rowAt Z st j) (eu : u ≡ pieceOf (readPacket s (packetIn r))) where
+module _ (s : Settings) (Z : ℕ) (st : List ℕ) (n : ℕ) (k : List ℕ) (c : ℕ) {j : ℕ} (ej : j ≡ foundIn s Z st n k c) (h : j < n)
+    {r : List ℕ} {u : Piece} (er : r ≡ rowAt Z st j) (eu : u ≡ pieceOf (readPacket s (packetIn r))) where
   read-is : u ≡ pieceOf (readPacket s (packetIn (rowAt Z st j)))
   read-is = eu ∙ ap (λ (x : List ℕ). pieceOf (readPacket s (packetIn x))) er
 

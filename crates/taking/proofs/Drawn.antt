@@ -82,11 +82,17 @@ module _ (s : Settings) (Z : ℕ) (st out : List ℕ) (n i b : ℕ) (ei : i ≡ 
     key-front : {x k : List ℕ} → x ≡ sets out 0 (segAt s Z st i .key ++ bodiesAt s Z st (cellsFrom s Z st n i)) → k ≡ part x 0 (2 + u .header) → k ≡ segAt s Z st i .key
     key-front {x} ex ek =
         let f : 0 + length (segAt s Z st i .key ++ bodiesAt s Z st (cellsFrom s Z st n i)) ≤ length out =
-        omega
-        (arith, ap (λ (js : List ℕ). length (segAt s Z st i .key ++ bodiesAt s Z st js)) cells-are, length-append (segAt s Z st i .key) (bodiesAt s Z st (i ∷ m .places)), body-long suc top s Z st n m eb, room) in
+        omega (
+          arith,
+          ap (λ (js : List ℕ). length (segAt s Z st i .key ++ bodiesAt s Z st js)) cells-are,
+          length-append (segAt s Z st i .key) (bodiesAt s Z st (i ∷ m .places)),
+          body-long suc top s Z st n m eb,
+          room,
+        ) in
         ek
         ∙ ap₂ (λ (l : ℕ) (y : List ℕ). take l y) header-is (ex ∙ sets-eq (segAt s Z st i .key ++ bodiesAt s Z st (cellsFrom s Z st n i)) out 0 f)
-        ∙ ap (take (length (segAt s Z st i .key))) (append-assoc (segAt s Z st i .key) (bodiesAt s Z st (cellsFrom s Z st n i)) (drop (0 + length (segAt s Z st i .key ++ bodiesAt s Z st (cellsFrom s Z st n i))) out))
+        ∙ ap (take (length (segAt s Z st i .key))) (append-assoc (segAt s Z st i .key) (bodiesAt s Z st (cellsFrom s Z st n i))
+        (drop (0 + length (segAt s Z st i .key ++ bodiesAt s Z st (cellsFrom s Z st n i))) out))
         ∙ take-append-seam (segAt s Z st i .key) (bodiesAt s Z st (cellsFrom s Z st n i) ++ drop (0 + length (segAt s Z st i .key ++ bodiesAt s Z st (cellsFrom s Z st n i))) out)
 
     pub draw-store :

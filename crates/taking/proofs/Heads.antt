@@ -53,7 +53,9 @@ key-two s p o z =
     omega (arith, identification-long v)
 
 -- the places of a run that is complete
-places-are : (next : ℕ → ℕ) (span : ℕ) (s : Settings) (Z : ℕ) (st : List ℕ) (n : ℕ) (k : List ℕ) (c : ℕ) (js : List ℕ) → follow next span s Z st n k span c ≡ some js → placesFrom next span s Z st n k c ≡ js
+places-are :
+    (next : ℕ → ℕ) (span : ℕ) (s : Settings) (Z : ℕ) (st : List ℕ) (n : ℕ) (k : List ℕ) (c : ℕ) (js : List ℕ) →
+    follow next span s Z st n k span c ≡ some js → placesFrom next span s Z st n k c ≡ js
 unfolding placesFrom
 places-are next span s Z st n k c js e = ap placesOf e
 

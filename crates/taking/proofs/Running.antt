@@ -20,8 +20,8 @@ use Rattle.cells.specs.Segments.{Seg, segOf}
 use Rattle.cells.specs.Rows.{Cell, rowAt, packetIn, cellOf, bySegment}
 use Rattle.cells.specs.Order.{cellAt}
 use Rattle.cells.specs.declared.Judged.{Judged}
-use Rattle.cells.specs.Inner.{bodyIn, judgedOf, Asked}
-use Rattle.cells.proofs.Carries.{Holding, kinds, judged-one, judged-at}
+use Rattle.cells.specs.Inner.{bodyIn, judgedOf, toldHeld, Asked}
+use Rattle.cells.proofs.Carries.{Holding, not-held, kinds, judged-one, judged-at}
 use Rattle.messages.specs.Messages.{Role, first, middle, last, roleOf, bodies, cellsOf, restFrom, opensBy, runFrom, runIn}
 use Rattle.taking.specs.declared.Measured.{Measured}
 use Rattle.taking.specs.declared.Measured.the-variants.{Long, Incomplete}
@@ -84,10 +84,10 @@ module _ (next : ℕ → ℕ) (span : ℕ) (s : Settings) (Z : ℕ) (st : List �
     judged-there : u ≡ judgedOf (bodyIn s Z (rowAt Z st i)) (cellOf s Z (rowAt Z st i))
     judged-there = eu ∙ ap (λ (y : List ℕ). judgedOf (bodyIn s Z y) (cellOf s Z y)) er
 
-    pub run-other : (u .kind ≡ 1 → ⊥) → Incomplete ≡ answer (runIn next span cs (cellAt s Z st i))
-    run-other ne = unless-held (λ h. absurd (ne (judged-at s Z (rowAt Z st i) judged-there h .0)))
+    pub run-other : toldHeld (u .content) ≡ false → Incomplete ≡ answer (runIn next span cs (cellAt s Z st i))
+    run-other ne = unless-held (λ h. absurd (not-held (judged-at s Z (rowAt Z st i) judged-there h .0) ne))
 
-    module _ {q : List ℕ} (eq : q ≡ packetIn r) (o : Octets st) (one : u .kind ≡ 1) where
+    module _ {q : List ℕ} (eq : q ≡ packetIn r) (o : Octets st) (one : toldHeld (u .content) ≡ true) where
       there : Holding s Z (rowAt Z st i)
       there = judged-one s Z (rowAt Z st i) judged-there one
 

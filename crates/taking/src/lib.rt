@@ -20,6 +20,8 @@ ghost use Rattle.taking.specs.Told.{takenOf};
 ghost use Rattle.taking.specs.Inner.{pieceIn};
 ghost use Rattle.taking.specs.Follow.{segAt, follow as followed, placesFrom, bodiesAt, total, answer, opensAt, endsAt, pickedOf, copiedOf, Lent, Ready, Opens};
 use messages::Piece;
+use packet::FIRST;
+use packet::LAST;
 use packet::SegmentCounter;
 use walk::Refusal;
 use walk::Settings;
@@ -110,10 +112,10 @@ fn follow(
         }
         let t = piece_with(cells::row(store, z, j), body_at);
         sum += t.length;
-        if t.flags == 1 {
+        if t.flags == FIRST {
             return Measured::Incomplete;
         }
-        if t.flags == 2 {
+        if t.flags == LAST {
             return Measured::Long(sum);
         }
         left -= 1;
@@ -134,7 +136,7 @@ fn lowest_last(store: &[u8], n: usize, z: usize) -> usize
 {
     let mut i: usize = 0;
     while i < n {
-        if flags_in(cells::row(store, z, i)) == 2 {
+        if flags_in(cells::row(store, z, i)) == LAST {
             return i;
         }
         i += 1;
@@ -157,11 +159,11 @@ fn run_at(
     ensures { λ r. ⌜ r ≡ answer (runIn suc top (cellsOf s (length (now (zero .entry))) (now (store .entry)) n) (cellAt s (length (now (zero .entry))) (now (store .entry)) i)) ⌝ }
 {
     let r = cells::row(store, zero.len(), i);
-    if flags_in(r) != 1 {
+    if flags_in(r) != FIRST {
         return Measured::Incomplete;
     }
     let t = cells::judge(s, r, zero);
-    if t.kind != 1 {
+    if !cells::is_held(t) {
         return Measured::Incomplete;
     }
     let q = cells::packet_in(r);
@@ -263,7 +265,7 @@ fn copy_rest(
         let r = cells::row(store, z, j);
         let t = piece_with(r, body_at);
         at = put_body(out, at, r, t);
-        if t.flags == 2 {
+        if t.flags == LAST {
             return steps;
         }
         left -= 1;

@@ -7,7 +7,6 @@ use mathlib.Core.Bool.{Bool, true, false}
 use mathlib.Core.List.{List}
 use mathlib.Core.Option.{none}
 use native.Mathlib.Omega.{arith}
-use lib.Dec.{eqb}
 use Rattle.octets.specs.Octets.{Octets, number, alike}
 use Rattle.octets.proofs.Has.{octets-part}
 use Rattle.octets.proofs.Lists.{bool}
@@ -19,62 +18,58 @@ use Rattle.cells.specs.declared.Judged.{Judged}
 use Rattle.cells.specs.Segments.{segOf, Seg}
 use Rattle.cells.specs.Rows.{Cell, held, rowAt, zeroRow, packetIn, cellOf, segmentIn, bySegment}
 use Rattle.cells.specs.Order.{isSound, cellAt}
-use Rattle.cells.specs.Inner.{spansAlike, bodyIn, judgedOf, Asked}
-use Rattle.cells.proofs.Carries.{free-cell, Holding, holding}
+use Rattle.cells.specs.Inner.{spansAlike, bodyIn, judgedOf, toldHeld, Asked}
+use Rattle.cells.proofs.Carries.{free-cell, not-held, Holding, holding}
 use Rattle.cells.proofs.CellSegments.{segment-or, judged-none}
 use Rattle.cells.proofs.SameKeys.{keys-same}
 use Rattle.cells.proofs.Entering.{asked}
 use Rattle.tally.specs.Counting.{isHeld, keyed, newKeyTo, newKeyIn}
 use Rattle.tally.specs.declared.Told.{Told}
 use Rattle.tally.specs.Telling.{keyAt, untold, toldBy, toldIn, toldAt}
-use borrow.Author.Tests.{eq-eqb, ne-eqb}
 
-abbrev kind : Judged → ℕ
-kind t = t .kind
+abbrev told : Judged → Bool
+told t = toldHeld (t .content)
 
--- ---- by its number
+-- ---- by what is told of it
 
 module _ (at : ℕ) (d : Cell) {t : Judged} (e : t ≡ judgedOf at d) where
   -- one that is held is judged so, and no other
-  held-one : (u : Seg) → d ≡ held u → t .kind ≡ 1
-  held-one u x = ap kind (e ∙ ap (judgedOf at) x)
+  held-one : (u : Seg) → d ≡ held u → toldHeld (t .content) ≡ true
+  held-one u x = ap told (e ∙ ap (judgedOf at) x)
 
-  none-other : segmentIn d ≡ none → t .kind ≡ 1 → ⊥
-  none-other n h = ⊎-elim (λ z. omega (arith, ap kind e, z)) (λ z. omega (arith, ap kind e, z)) (judged-none at d n .0)
+  none-other : segmentIn d ≡ none → toldHeld (t .content) ≡ false
+  none-other n = ap told e ∙ judged-none at d n .0
 
-  not-one : (t .kind ≡ 1 → ⊥) → segmentIn d ≡ none
-  not-one h = ⊎-elim (λ w. absurd (h (held-one (w .0) (w .1)))) (λ n. n) (segment-or d)
+  not-one : toldHeld (t .content) ≡ false → segmentIn d ≡ none
+  not-one h = ⊎-elim (λ w. absurd (not-held (held-one (w .0) (w .1)) h)) (λ n. n) (segment-or d)
 
-  pub held-told : eqb (t .kind) 1 ≡ isHeld d
+  pub held-told : toldHeld (t .content) ≡ isHeld d
   held-told =
-      ⊎-elim
-      (λ w. eq-eqb (t .kind) 1 (held-one (w .0) (w .1)) ∙ sym (ap isHeld (w .1)))
-      (λ n. ne-eqb (t .kind) 1 (none-other n) ∙ sym (ap (bySegment false (λ u. true)) n))
-      (segment-or d)
+      ⊎-elim (λ w. held-one (w .0) (w .1) ∙ sym (ap isHeld (w .1))) (λ n. none-other n ∙ sym (ap (bySegment false (λ u. true)) n)) (segment-or d)
 
-  other-key : (k : List ℕ) → (t .kind ≡ 1 → ⊥) → false ≡ keyed k d
+  other-key : (k : List ℕ) → toldHeld (t .content) ≡ false → false ≡ keyed k d
   other-key k h = sym (ap (bySegment false (λ u. alike k (u .key))) (not-one h))
 
-  other-first : (s : Settings) (Z : ℕ) (st : List ℕ) (i : ℕ) → (t .kind ≡ 1 → ⊥) → false ≡ newKeyIn s Z st i d
+  other-first : (s : Settings) (Z : ℕ) (st : List ℕ) (i : ℕ) → toldHeld (t .content) ≡ false → false ≡ newKeyIn s Z st i d
   other-first s Z st i h = sym (ap (bySegment false (λ u. newKeyTo s Z st i (u .key))) (not-one h))
 
-  is-sound : t .kind ≡ 1 → isSound d ≡ true
-  is-sound h = ⊎-elim (λ w. ap isSound (w .1)) (λ n. absurd (none-other n h)) (segment-or d)
+  is-sound : toldHeld (t .content) ≡ true → isSound d ≡ true
+  is-sound h = ⊎-elim (λ w. ap isSound (w .1)) (λ n. absurd (not-held h (none-other n))) (segment-or d)
 
-  other-told : (s : Settings) (Z : ℕ) (st : List ℕ) (i : ℕ) → (t .kind ≡ 1 → ⊥) → untold ≡ toldIn s Z st i d
+  other-told : (s : Settings) (Z : ℕ) (st : List ℕ) (i : ℕ) → toldHeld (t .content) ≡ false → untold ≡ toldIn s Z st i d
   other-told s Z st i h = sym (ap (bySegment untold (toldBy s Z st i (readPacket s (packetIn (rowAt Z st i))))) (not-one h))
 
 -- ---- a row
 
 module _ (s : Settings) (Z : ℕ) (r : List ℕ) {t : Judged} (et : t ≡ judgedOf (bodyIn s Z r) (cellOf s Z r)) where
-  pub key-none : (k : List ℕ) → (t .kind ≡ 1 → ⊥) → false ≡ keyed k (cellOf s Z r)
+  pub key-none : (k : List ℕ) → toldHeld (t .content) ≡ false → false ≡ keyed k (cellOf s Z r)
   key-none k h = other-key (bodyIn s Z r) (cellOf s Z r) et k h
 
-  module _ (one : t .kind ≡ 1) where
+  module _ (one : toldHeld (t .content) ≡ true) where
     not-free : alike r (zeroRow Z) ≡ false
     not-free =
         ⊎-elim
-        (λ e. let z : _≡_ {A = ℕ} 0 1 = ap (λ (d : Cell). judgedOf (bodyIn s Z r) d .kind) (sym (free-cell s Z r e)) ∙ sym (ap kind et) ∙ one in absurd (omega arith))
+        (λ e. absurd (not-held one (ap told et ∙ ap (λ (d : Cell). told (judgedOf (bodyIn s Z r) d)) (free-cell s Z r e))))
         (λ e. e)
         (bool (alike r (zeroRow Z)))
 
@@ -125,15 +120,15 @@ module _ (s : Settings) (st : List ℕ) (Z i : ℕ) {r : List ℕ} (er : r ≡ r
   cell-is : cellAt s Z st i ≡ cellOf s Z r
   cell-is = ap (cellOf s Z) (sym er)
 
-  pub first-none : (t .kind ≡ 1 → ⊥) → false ≡ newKeyIn s Z st i (cellAt s Z st i)
+  pub first-none : toldHeld (t .content) ≡ false → false ≡ newKeyIn s Z st i (cellAt s Z st i)
   first-none h = other-first (bodyIn s Z r) (cellOf s Z r) et s Z st i h ∙ ap (newKeyIn s Z st i) (sym cell-is)
 
-  pub told-none : (t .kind ≡ 1 → ⊥) → untold ≡ toldAt s Z st i
+  pub told-none : toldHeld (t .content) ≡ false → untold ≡ toldAt s Z st i
   told-none h = other-told (bodyIn s Z r) (cellOf s Z r) et s Z st i h ∙ ap (toldIn s Z st i) (sym cell-is)
 
-  module _ (one : t .kind ≡ 1) {q : List ℕ} (eq : q ≡ packetIn r) where
+  module _ (one : toldHeld (t .content) ≡ true) {q : List ℕ} (eq : q ≡ packetIn r) where
     pub first-asked : Octets st → Asked s q (t .at)
-    first-asked o = asked s st Z i er et o (λ h. let z : _≡_ {A = ℕ} 1 2 = sym one ∙ h in omega arith) (λ h. let z : _≡_ {A = ℕ} 1 0 = sym one ∙ h in omega arith) eq
+    first-asked o = asked s st Z i er et o one eq
 
     pub first-told : {b : Bool} → b ≡ newKeyTo s Z st i (keyOf q (readPacket s q)) → b ≡ newKeyIn s Z st i (cellAt s Z st i)
     unfolding segOf

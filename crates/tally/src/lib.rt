@@ -41,33 +41,33 @@ fn held(s: Settings, row: &[u8], zero: &[u8]) -> bool
     ensures { λ r. ⌜ r ≡ isHeld (cellOf s (length (now (zero .entry))) (now (row .entry))) ⌝ }
 {
     let t = cells::judge(s, row, zero);
-    t.kind == 1
+    cells::is_held(t)
 }
 
-// Whether a row holds a segment with the key of q, whose body begins at stop.
-fn keyed(s: Settings, row: &[u8], zero: &[u8], q: &[u8], stop: usize) -> bool
+// Whether a row holds a segment with the key of q, told where its body begins.
+fn keyed(s: Settings, row: &[u8], zero: &[u8], q: &[u8], body_at: usize) -> bool
     requires { ⌜ now zero ≡ zeroRow (length (now zero)) ⌝ }
-    requires { ⌜ Asked s (now q) stop ⌝ }
+    requires { ⌜ Asked s (now q) «body_at» ⌝ }
     ensures { λ r. ⌜ r ≡ keyedAs (keyOf (now (q .entry)) (readPacket s (now (q .entry)))) (cellOf s (length (now (zero .entry))) (now (row .entry))) ⌝ }
 {
     let t = cells::judge(s, row, zero);
-    if t.kind != 1 {
+    if !cells::is_held(t) {
         return false;
     }
-    cells::same_key(q, stop, cells::packet_in(row), t.at)
+    cells::same_key(q, body_at, cells::packet_in(row), t.at)
 }
 
 // Whether none of the first n cells holds a segment with the key of q.
-fn new_key(s: Settings, store: &[u8], n: usize, zero: &[u8], q: &[u8], stop: usize) -> bool
+fn new_key(s: Settings, store: &[u8], n: usize, zero: &[u8], q: &[u8], body_at: usize) -> bool
     requires { ⌜ now zero ≡ zeroRow (length (now zero)) ⌝ }
-    requires { ⌜ Asked s (now q) stop ⌝ }
+    requires { ⌜ Asked s (now q) «body_at» ⌝ }
     ensures { λ r. ⌜ r ≡ newKeyTo s (length (now (zero .entry))) (now (store .entry)) n (keyOf (now (q .entry)) (readPacket s (now (q .entry)))) ⌝ }
 {
     let z = zero.len();
     let mut is_new = true;
     let mut j: usize = 0;
     while j < n {
-        is_new = octets::both(is_new, !keyed(s, cells::row(store, z, j), zero, q, stop));
+        is_new = octets::both(is_new, !keyed(s, cells::row(store, z, j), zero, q, body_at));
         j += 1;
     }
     is_new
@@ -80,7 +80,7 @@ fn first(s: Settings, store: &[u8], i: usize, zero: &[u8]) -> bool
 {
     let r = cells::row(store, zero.len(), i);
     let t = cells::judge(s, r, zero);
-    if t.kind != 1 {
+    if !cells::is_held(t) {
         return false;
     }
     new_key(s, store, i, zero, cells::packet_in(r), t.at)
@@ -193,7 +193,7 @@ fn told_at(s: Settings, store: &[u8], i: usize, zero: &[u8]) -> Told
 {
     let r = cells::row(store, zero.len(), i);
     let t = cells::judge(s, r, zero);
-    if t.kind != 1 {
+    if !cells::is_held(t) {
         return Told {
             held: false,
             key: 0,

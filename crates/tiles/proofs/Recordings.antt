@@ -15,7 +15,7 @@ use Rattle.cells.specs.Segments.{segOf}
 use Rattle.cells.specs.Order.{cellAt}
 use Rattle.messages.specs.Messages.{Run, bodyOf, look}
 use Rattle.taking.specs.Taking.{message}
-use Rattle.keeping.specs.Cells.{hasFree}
+use Rattle.demand3.specs.Cells.{hasFree}
 use Rattle.steps.specs.Stepping.{longest, Came, over, refused, kept, wholly, message as messageOf, cameOf}
 use Rattle.recording.specs.Recording.{settings, cellCount, emptyStore}
 use Rattle.demand3.specs.Calls.{Call, arrival, joining, Handed, arrivedStore, tookBy, storeAfter}

@@ -12,7 +12,7 @@ use Rattle.octets.specs.Octets.{pick}
 use Rattle.packet.specs.Reading.{readPacket}
 use Rattle.cells.specs.Segments.{segOf}
 use Rattle.messages.specs.Messages.{look}
-use Rattle.keeping.specs.Cells.{hasFree}
+use Rattle.demand3.specs.Cells.{hasFree}
 use Rattle.steps.specs.Stepping.{longest}
 use Rattle.recording.specs.Recording.{settings, cellCount}
 use Rattle.demand3.specs.Calls.{joining, packetsIn}

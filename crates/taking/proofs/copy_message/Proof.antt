@@ -35,13 +35,16 @@ put-key-requires c κs =
 
 put-body-requires : tie.Need-put-body-requires
 put-body-requires c κs =
-    let g = c .before .before .before .before .before .before .before .before .before .before .before .before .before .before .before in
-    let o = c .before .before .before .before .before .before .before .before .before .before .before .before .before .before .shared-slice-known in
-    let r = c .before .before .before .before .before .before .before .before .before .before .before .row .ensures in
-    let q = c .before .before .before .before .before .before .before .before .before .before .packet-in .ensures in
-    let h = c .before .before .before .before .before .before .before .before .before .read .ensures .0 in
-    let t = c .before .before .before .before .before .piece-in .ensures in
-    head-body-room suc top _ _ _ (g .args .n) _ (λ j. o .given j .fits) (g .pre .1 .0) r q h t (g .pre .1 .1) (c .before .before .before .put-key .ensures .0) (c .before .before .before .put-key .ensures .1)
+    let u = c .before .before .before in
+    let v = u .before .before .before .before .before .before in
+    let w = v .before .before .before .before .before in
+    let g = w .before in
+    let o = w .shared-slice-known in
+    let r = v .before .before .row .ensures in
+    let q = v .before .packet-in .ensures in
+    let h = v .read .ensures .0 in
+    let t = u .before .before .piece-in .ensures in
+    head-body-room suc top _ _ _ (g .args .n) _ (λ j. o .given j .fits) (g .pre .1 .0) r q h t (g .pre .1 .1) (u .put-key .ensures .0) (u .put-key .ensures .1)
 
 copy-rest-requires : tie.Need-copy-rest-requires
 copy-rest-requires c κs =
@@ -65,14 +68,18 @@ same-length c = search needs
 
 returns : tie.Need-returns
 returns c =
-    let g = c .before .before .before .before .before .before .before .before .before .before .before .before .before .before .before .before .before .before .before .before .before .before in
-    let o = c .before .before .before .before .before .before .before .before .before .before .before .before .before .before .before .before .before .before .before .before .before .shared-slice-known in
-    let r = c .before .before .before .before .before .before .before .before .before .before .before .before .before .before .before .before .before .before .row .ensures in
-    let q = c .before .before .before .before .before .before .before .before .before .before .before .before .before .before .before .before .before .packet-in .ensures in
-    let h = c .before .before .before .before .before .before .before .before .before .before .before .before .before .before .before .before .read .ensures .0 in
-    let t = c .before .before .before .before .before .before .before .before .before .before .before .before .piece-in .ensures in
-    let k = c .before .before .before .before .before .before .before .before .before .before .put-key .ensures in
-    let b = c .before .before .before .before .before .before .put-body .ensures in
+    let u = c .before .before .before .before .before .before in
+    let v = u .before .before .before .before in
+    let w = v .before .before .before .before .before .before in
+    let x = w .before .before .before .before .before in
+    let g = x .before in
+    let o = x .shared-slice-known in
+    let r = w .before .before .row .ensures in
+    let q = w .before .packet-in .ensures in
+    let h = w .read .ensures .0 in
+    let t = v .before .before .piece-in .ensures in
+    let k = v .put-key .ensures in
+    let b = u .put-body .ensures in
     let e = c .before .before .copy-rest .ensures in (
       head-told suc top _ _ _ (g .args .n) _ (λ j. o .given j .fits) (g .pre .1 .0) r q h t (e .0),
       head-written suc top _ _ _ (g .args .n) _ (λ j. o .given j .fits) (g .pre .1 .0) r q h t (g .pre .1 .1) (k .0) (k .1) (b .0) (b .1) (e .1),

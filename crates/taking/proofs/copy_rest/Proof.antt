@@ -53,33 +53,44 @@ piece-with-requires c κs = search needs
 
 put-body-requires : tie.Need-put-body-requires Inv-loop μ-loop
 put-body-requires c κs =
-    let h = c .before .before .before .find-by .ensures in
+    let u = c .before .before .before in
+    let v = u .before .before .before in
+    let w = v .before .before .before .before .before in
+    let h = u .find-by .ensures in
     let r = c .before .before .row .ensures in
-    let d = c .before .before .before .before .next .ensures in
-    let i = c .before .before .before .before .before .before .loop .inv .0 in
-    let l = c .before .before .before .before .before .loop-test .taken in
-    let p = piece-found _ _ _ _ _ _ _ (c .before .before .before .before .before .before .before .before .before .before .before .before .pre .1 .0) (λ j. c .before .before .before .before .before .before .before .before .before .before .before .shared-slice-known .given j .fits) h (copying-inside i l d h) r (c .before .piece-with .ensures) in
+    let d = u .before .next .ensures in
+    let i = v .loop .inv .0 in
+    let l = u .before .before .loop-test .taken in
+    let p = piece-found _ _ _ _ _ _ _ (w .before .pre .1 .0) (λ j. w .shared-slice-known .given j .fits) h (copying-inside i l d h) r (c .before .piece-with .ensures) in
     copying-room i l d h r p
 
 same-length : tie.Need-same-length Inv-loop μ-loop
 same-length c =
-    let h = c .before .before .before .before .before .before .before .before .find-by .ensures in
-    let r = c .before .before .before .before .before .before .before .row .ensures in
-    let d = c .before .before .before .before .before .before .before .before .before .next .ensures in
-    let i = c .before .before .before .before .before .before .before .before .before .before .before .loop .inv .0 in
-    let l = c .before .before .before .before .before .before .before .before .before .before .loop-test .taken in
-    let p = piece-found _ _ _ _ _ _ _ (c .before .before .before .before .before .before .before .before .before .before .before .before .before .before .before .before .before .pre .1 .0) (λ j. c .before .before .before .before .before .before .before .before .before .before .before .before .before .before .before .before .shared-slice-known .given j .fits) h (copying-inside i l d h) r (c .before .before .before .before .before .before .piece-with .ensures) in
-    copying-long i l d h r p (c .before .before .before .before .put-body .ensures .0) (c .before .before .before .before .put-body .ensures .1)
+    let u = c .before .before .before .before in
+    let v = u .before .before .before in
+    let w = v .before .before .before in
+    let x = w .before .before .before .before .before .before in
+    let h = v .before .find-by .ensures in
+    let r = v .row .ensures in
+    let d = v .before .before .next .ensures in
+    let i = w .before .loop .inv .0 in
+    let l = w .loop-test .taken in
+    let p = piece-found _ _ _ _ _ _ _ (x .before .pre .1 .0) (λ j. x .shared-slice-known .given j .fits) h (copying-inside i l d h) r (u .before .before .piece-with .ensures) in
+    copying-long i l d h r p (u .put-body .ensures .0) (u .put-body .ensures .1)
 
 returns : tie.Need-returns Inv-loop μ-loop
 returns c =
-    let h = c .before .before .before .before .before .before .before .before .find-by .ensures in
-    let r = c .before .before .before .before .before .before .before .row .ensures in
-    let d = c .before .before .before .before .before .before .before .before .before .next .ensures in
-    let i = c .before .before .before .before .before .before .before .before .before .before .before .loop .inv .0 in
-    let l = c .before .before .before .before .before .before .before .before .before .before .loop-test .taken in
-    let p = piece-found _ _ _ _ _ _ _ (c .before .before .before .before .before .before .before .before .before .before .before .before .before .before .before .before .before .pre .1 .0) (λ j. c .before .before .before .before .before .before .before .before .before .before .before .before .before .before .before .before .shared-slice-known .given j .fits) h (copying-inside i l d h) r (c .before .before .before .before .before .before .piece-with .ensures) in
-    copying-last i l d h r p (c .before .before .before .before .put-body .ensures .0) (c .before .before .before .before .put-body .ensures .1) (c .if1 .taken)
+    let u = c .before .before .before .before in
+    let v = u .before .before .before in
+    let w = v .before .before .before in
+    let x = w .before .before .before .before .before .before in
+    let h = v .before .find-by .ensures in
+    let r = v .row .ensures in
+    let d = v .before .before .next .ensures in
+    let i = w .before .loop .inv .0 in
+    let l = w .loop-test .taken in
+    let p = piece-found _ _ _ _ _ _ _ (x .before .pre .1 .0) (λ j. x .shared-slice-known .given j .fits) h (copying-inside i l d h) r (u .before .before .piece-with .ensures) in
+    copying-last i l d h r p (u .put-body .ensures .0) (u .put-body .ensures .1) (c .if1 .taken)
 
 sub-left : tie.Need-sub-left Inv-loop μ-loop
 sub-left c = c .before .before .before .before .before .before .before .before .before .before .loop-test .taken
@@ -89,13 +100,17 @@ loop-less c = omega (arith, c .before .before .before .before .before .before .b
 
 loop-again : tie.Need-loop-again Inv-loop μ-loop
 loop-again c =
-    let h = c .before .before .before .before .before .before .before .before .find-by .ensures in
-    let r = c .before .before .before .before .before .before .before .row .ensures in
-    let d = c .before .before .before .before .before .before .before .before .before .next .ensures in
-    let i = c .before .before .before .before .before .before .before .before .before .before .before .loop .inv .0 in
-    let l = c .before .before .before .before .before .before .before .before .before .before .loop-test .taken in
-    let p = piece-found _ _ _ _ _ _ _ (c .before .before .before .before .before .before .before .before .before .before .before .before .before .before .before .before .before .pre .1 .0) (λ j. c .before .before .before .before .before .before .before .before .before .before .before .before .before .before .before .before .shared-slice-known .given j .fits) h (copying-inside i l d h) r (c .before .before .before .before .before .before .piece-with .ensures) in
-    (copying-turn i l d h r p (c .before .before .before .before .put-body .ensures .0) (c .before .before .before .before .put-body .ensures .1) (c .if1 .left), omega (arith, c .before .before .before .before .before .before .before .before .before .before .before .loop .inv .1, l, d))
+    let u = c .before .before .before .before in
+    let v = u .before .before .before in
+    let w = v .before .before .before in
+    let x = w .before .before .before .before .before .before in
+    let h = v .before .find-by .ensures in
+    let r = v .row .ensures in
+    let d = v .before .before .next .ensures in
+    let i = w .before .loop .inv .0 in
+    let l = w .loop-test .taken in
+    let p = piece-found _ _ _ _ _ _ _ (x .before .pre .1 .0) (λ j. x .shared-slice-known .given j .fits) h (copying-inside i l d h) r (u .before .before .piece-with .ensures) in
+    (copying-turn i l d h r p (u .put-body .ensures .0) (u .put-body .ensures .1) (c .if1 .left), omega (arith, w .before .loop .inv .1, l, d))
 
 same-length-2 : tie.Need-same-length-2 Inv-loop μ-loop
 same-length-2 c = c .before .loop .inv .0 .long

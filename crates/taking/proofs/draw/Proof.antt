@@ -43,13 +43,16 @@ same-length-2 c = search needs
 
 returns : tie.Need-returns
 returns c =
-    let g = c .before .before .before .before .before .before .before .before .before .before .before .before .before .before .before .before in
-    let h = c .before .before .before .before .before .before .before .before .before .before .copy-message .ensures in
+    let u = c .before .before .before .before in
+    let v = u .before .before .before .before .before .before in
+    let w = v .before .before .before .before .before in
+    let g = w .before in
+    let h = v .copy-message .ensures in
     let k = g .pre .1 in (
       draw-told _ _ _ (now (g .args .out)) _ _ _ (k .0) (k .1 .0 .0) (k .1 .0 .1) (k .1 .1) (h .0),
       (
         draw-out _ _ _ _ _ _ _ (k .0) (k .1 .0 .0) (k .1 .0 .1) (k .1 .1) (h .1),
-        draw-store _ _ _ _ _ _ _ (k .0) (k .1 .0 .0) (k .1 .0 .1) (k .1 .1) (λ j. c .before .before .before .before .before .before .before .before .before .before .before .before .before .before .before .slice-known .given j .fits) (h .0) (h .1) (c .before .before .before .before .span .ensures)
+        draw-store _ _ _ _ _ _ _ (k .0) (k .1 .0 .0) (k .1 .0 .1) (k .1 .1) (λ j. w .slice-known .given j .fits) (h .0) (h .1) (u .span .ensures)
             (c .before .before .clear .ensures),
       ),
     )

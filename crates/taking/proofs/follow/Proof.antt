@@ -38,7 +38,8 @@ find-by-requires c κs =
 
 returns : tie.Need-returns Inv-loop μ-loop
 returns c =
-    counted-none _ _ _ _ _ _ _ _ _ _ (c .before .before .before .before .loop .inv .0) (c .before .before .before .loop-test .taken) (c .before .before .next .ensures) (c .before .find-by .ensures) (c .if1 .taken)
+    let u = c .before .before .before in
+    counted-none _ _ _ _ _ _ _ _ _ _ (u .before .loop .inv .0) (u .loop-test .taken) (c .before .before .next .ensures) (c .before .find-by .ensures) (c .if1 .taken)
 
 row-requires : tie.Need-row-requires Inv-loop μ-loop
 row-requires c κs = search needs
@@ -48,28 +49,39 @@ piece-with-requires c κs = search needs
 
 add-sum : tie.Need-add-sum Inv-loop μ-loop
 add-sum c =
-    let g = c .before .before .before .before .before .before .before .before .before .before .before .before .pre .1 in
-    let o = c .before .before .before .before .before .before .before .before .before .before .before .shared-slice-known in
-    let h = c .before .before .before .before .find-by .ensures in
+    let u = c .before .before .before in
+    let v = u .before .before .before in
+    let w = v .before .before .before .before .before in
+    let g = w .before .pre .1 in
+    let o = w .shared-slice-known in
+    let h = u .before .find-by .ensures in
     let r = c .before .before .row .ensures in
     record {
-      fits = counted-room _ _ _ _ _ _ _ _ _ _ (c .before .before .before .before .before .before .before .loop .inv .0) (c .before .before .before .before .before .before .loop-test .taken) (c .before .before .before .before .before .next .ensures) h (c .before .before .before .if1 .left) r
-          (piece-found _ _ _ _ _ _ _ (g .0) (λ i. o .given i .fits) h (c .before .before .before .if1 .left) r (c .before .piece-with .ensures)) (λ i. o .given i .fits) (g .1);
+      fits = counted-room _ _ _ _ _ _ _ _ _ _ (v .before .loop .inv .0) (v .loop-test .taken) (u .before .before .next .ensures) h (u .if1 .left) r
+          (piece-found _ _ _ _ _ _ _ (g .0) (λ i. o .given i .fits) h (u .if1 .left) r (c .before .piece-with .ensures)) (λ i. o .given i .fits) (g .1);
     }
 
 returns-2 : tie.Need-returns-2 Inv-loop μ-loop
 returns-2 c =
-    let h = c .before .before .before .before .before .before .find-by .ensures in
-    let r = c .before .before .before .before .row .ensures in
-    let p = piece-found _ _ _ _ _ _ _ (c .before .before .before .before .before .before .before .before .before .before .before .before .before .before .pre .1 .0) (λ i. c .before .before .before .before .before .before .before .before .before .before .before .before .before .shared-slice-known .given i .fits) h (c .before .before .before .before .before .if1 .left) r (c .before .before .before .piece-with .ensures) in
-    counted-broken _ _ _ _ _ _ _ _ _ _ (c .before .before .before .before .before .before .before .before .before .loop .inv .0) (c .before .before .before .before .before .before .before .before .loop-test .taken) (c .before .before .before .before .before .before .before .next .ensures) h (c .before .before .before .before .before .if1 .left) r p (c .if2 .taken)
+    let u = c .before .before .before in
+    let v = u .before .before .before in
+    let w = v .before .before .before in
+    let x = w .before .before .before .before in
+    let h = v .find-by .ensures in
+    let r = u .before .row .ensures in
+    let p = piece-found _ _ _ _ _ _ _ (x .before .pre .1 .0) (λ i. x .shared-slice-known .given i .fits) h (u .before .before .if1 .left) r (u .piece-with .ensures) in
+    counted-broken _ _ _ _ _ _ _ _ _ _ (w .loop .inv .0) (v .before .before .loop-test .taken) (v .before .next .ensures) h (u .before .before .if1 .left) r p (c .if2 .taken)
 
 returns-3 : tie.Need-returns-3 Inv-loop μ-loop
 returns-3 c =
-    let h = c .before .before .before .before .before .before .before .before .find-by .ensures in
-    let r = c .before .before .before .before .before .before .row .ensures in
-    let p = piece-found _ _ _ _ _ _ _ (c .before .before .before .before .before .before .before .before .before .before .before .before .before .before .before .before .pre .1 .0) (λ i. c .before .before .before .before .before .before .before .before .before .before .before .before .before .before .before .shared-slice-known .given i .fits) h (c .before .before .before .before .before .before .before .if1 .left) r (c .before .before .before .before .before .piece-with .ensures) in
-    counted-last _ _ _ _ _ _ _ _ _ _ (c .before .before .before .before .before .before .before .before .before .before .before .loop .inv .0) (c .before .before .before .before .before .before .before .before .before .before .loop-test .taken) (c .before .before .before .before .before .before .before .before .before .next .ensures) h (c .before .before .before .before .before .before .before .if1 .left) r p (c .if3 .taken)
+    let u = c .before .before .before .before .before in
+    let v = u .before .before .before in
+    let w = v .before .before .before in
+    let x = w .before .before .before .before in
+    let h = v .find-by .ensures in
+    let r = u .before .row .ensures in
+    let p = piece-found _ _ _ _ _ _ _ (x .before .pre .1 .0) (λ i. x .shared-slice-known .given i .fits) h (u .before .before .if1 .left) r (u .piece-with .ensures) in
+    counted-last _ _ _ _ _ _ _ _ _ _ (w .loop .inv .0) (v .before .before .loop-test .taken) (v .before .next .ensures) h (u .before .before .if1 .left) r p (c .if3 .taken)
 
 sub-left : tie.Need-sub-left Inv-loop μ-loop
 sub-left c = search needs
@@ -79,12 +91,17 @@ loop-less c = omega (arith, c .before .before .before .before .before .before .b
 
 loop-again : tie.Need-loop-again Inv-loop μ-loop
 loop-again c =
-    let h = c .before .before .before .before .before .before .before .before .find-by .ensures in
-    let r = c .before .before .before .before .before .before .row .ensures in
-    let o = c .before .before .before .before .before .before .before .before .before .before .before .before .before .before .before .shared-slice-known in
-    let p = piece-found _ _ _ _ _ _ _ (c .before .before .before .before .before .before .before .before .before .before .before .before .before .before .before .before .pre .1 .0) (λ i. o .given i .fits) h (c .before .before .before .before .before .before .before .if1 .left) r (c .before .before .before .before .before .piece-with .ensures) in (
-      counted-on _ _ _ _ _ _ _ _ _ _ (c .before .before .before .before .before .before .before .before .before .before .before .loop .inv .0) (c .before .before .before .before .before .before .before .before .before .before .loop-test .taken) (c .before .before .before .before .before .before .before .before .before .next .ensures) h (c .before .before .before .before .before .before .before .if1 .left) r p (λ i. o .given i .fits) (c .before .before .if2 .left) (c .if3 .left),
-      omega (arith, c .before .before .before .before .before .before .before .before .before .before .before .loop .inv .1, c .before .before .before .before .before .before .before .before .before .before .loop-test .taken, c .before .before .before .before .before .before .before .before .before .next .ensures),
+    let u = c .before .before .before .before .before in
+    let v = u .before .before .before in
+    let w = v .before .before .before in
+    let x = w .before .before .before .before in
+    let h = v .find-by .ensures in
+    let r = u .before .row .ensures in
+    let o = x .shared-slice-known in
+    let p = piece-found _ _ _ _ _ _ _ (x .before .pre .1 .0) (λ i. o .given i .fits) h (u .before .before .if1 .left) r (u .piece-with .ensures) in (
+      counted-on _ _ _ _ _ _ _ _ _ _ (w .loop .inv .0) (v .before .before .loop-test .taken) (v .before .next .ensures) h (u .before .before .if1 .left) r p
+          (λ i. o .given i .fits) (c .before .before .if2 .left) (c .if3 .left),
+      omega (arith, w .loop .inv .1, v .before .before .loop-test .taken, v .before .next .ensures),
     )
 
 returns-4 : tie.Need-returns-4 Inv-loop μ-loop

@@ -25,7 +25,9 @@ enum-known-b : tie.Need-enum-known-b Inv-loop μ-loop
 enum-known-b c = search needs
 
 returns : tie.Need-returns Inv-loop μ-loop
-returns c = picking-found _ _ _ _ _ _ (c .before .before .before .before .before .loop .inv) (c .before .before .before .before .loop-test .taken) (c .before .before .before .run-at .ensures) (c .before .b .given .1)
+returns c =
+    let u = c .before .before .before in
+    picking-found _ _ _ _ _ _ (u .before .before .loop .inv) (u .before .loop-test .taken) (u .run-at .ensures) (c .before .b .given .1)
 
 enum-told : tie.Need-enum-told Inv-loop μ-loop
 enum-told c = search needs
@@ -37,7 +39,9 @@ loop-less : tie.Need-loop-less Inv-loop μ-loop
 loop-less c = search needs
 
 loop-again : tie.Need-loop-again Inv-loop μ-loop
-loop-again c = picking-turn _ _ _ _ _ _ (c .before .before .before .before .loop .inv) (c .before .before .before .loop-test .taken) (c .before .before .run-at .ensures) (c .enum-told .given .1)
+loop-again c =
+    let u = c .before .before .before in
+    picking-turn _ _ _ _ _ _ (u .before .loop .inv) (u .loop-test .taken) (c .before .before .run-at .ensures) (c .enum-told .given .1)
 
 returns-2 : tie.Need-returns-2 Inv-loop μ-loop
 returns-2 c = picking-none _ _ _ _ _ _ (c .before .loop .inv) (c .loop-test .left)

@@ -50,8 +50,11 @@ same-length-2 c = search needs
 returns-2 : tie.Need-returns-2
 unfolding outWith storeLess
 returns-2 c =
-    let k = c .before .before .before .before .before .before .before .before .before .before .before .before .before .before .args in
-    let e = taking-short _ _ _ _ (c .before .before .before .before .before .before .before .before .before .pick-message .ensures) (c .before .before .before .before .before .before .before .m .given .1) (λ i. c .before .before .before .before .before .before .before .before .before .before .before .before .before .slice-known .given i .fits) (c .before .before .before .before .row .ensures) (c .before .before .before .packet-in .ensures)
+    let u = c .before .before .before in
+    let v = u .before .before .before .before in
+    let w = v .before .before .before .before .before .before in
+    let k = w .before .args in
+    let e = taking-short _ _ _ _ (v .before .before .pick-message .ensures) (v .m .given .1) (λ i. w .slice-known .given i .fits) (u .before .row .ensures) (u .packet-in .ensures)
     (c .before .before .read .ensures .0) (length (now (k .out))) (omega (arith, c .before .if1 .taken)) in (
       c .not-taken2 .ensures ∙ ap takenOf (sym e),
       (ap (outWith (now (k .out))) (sym e), ap (storeLess (k .s) (length (now (k .zero))) (now (k .store)) (k .n)) (sym e)),
@@ -66,9 +69,14 @@ same-length-3 c = search needs
 returns-3 : tie.Need-returns-3
 unfolding outWith storeLess
 returns-3 c =
-    let k = c .before .before .before .before .before .before .before .before .before .before .before .before .before .before .before .before .args in
-    let e = taking-short _ _ _ _ (c .before .before .before .before .before .before .before .before .before .before .before .pick-message .ensures) (c .before .before .before .before .before .before .before .before .before .m .given .1) (λ i. c .before .before .before .before .before .before .before .before .before .before .before .before .before .before .before .slice-known .given i .fits) (c .before .before .before .before .before .before .row .ensures) (c .before .before .before .before .before .packet-in .ensures)
-    (c .before .before .before .before .read .ensures .0) (length (now (k .out))) (omega (arith, c .before .before .before .if1 .left, c .before .if2 .taken)) in (
+    let u = c .before .before .before in
+    let v = u .before .before .before in
+    let w = v .before .before .before in
+    let x = w .before .before .before .before .before .before in
+    let k = x .before .args in
+    let e = taking-short _ _ _ _ (w .before .before .pick-message .ensures) (w .m .given .1) (λ i. x .slice-known .given i .fits) (v .row .ensures)
+    (u .before .before .packet-in .ensures)
+    (u .before .read .ensures .0) (length (now (k .out))) (omega (arith, u .if1 .left, c .before .if2 .taken)) in (
       c .not-taken3 .ensures ∙ ap takenOf (sym e),
       (ap (outWith (now (k .out))) (sym e), ap (storeLess (k .s) (length (now (k .zero))) (now (k .store)) (k .n)) (sym e)),
     )
@@ -85,24 +93,33 @@ same-length-4 c = search needs
 returns-4 : tie.Need-returns-4
 unfolding outWith storeLess
 returns-4 c =
-    let k = c .before .before .before .before .before .before .before .before .before .before .before .before .before .before .before .before .before .before .args in
-    let e = taking-short _ _ _ _ (c .before .before .before .before .before .before .before .before .before .before .before .before .before .pick-message .ensures) (c .before .before .before .before .before .before .before .before .before .before .before .m .given .1) (λ i. c .before .before .before .before .before .before .before .before .before .before .before .before .before .before .before .before .before .slice-known .given i .fits) (c .before .before .before .before .before .before .before .before .row .ensures) (c .before .before .before .before .before .before .before .packet-in .ensures)
-    (c .before .before .before .before .before .before .read .ensures .0) (length (now (k .out))) (omega (arith, c .before .before .before .before .before .if1 .left, c .before .before .before .if2 .left, c .before .if3 .taken)) in (
+    let u = c .before .before .before in
+    let v = u .before .before .before in
+    let w = v .before .before .before .before .before in
+    let x = w .before .before .before .before .before .before in
+    let k = x .before .args in
+    let e = taking-short _ _ _ _ (w .before .before .pick-message .ensures) (w .m .given .1) (λ i. x .slice-known .given i .fits) (v .before .before .row .ensures)
+    (v .before .packet-in .ensures)
+    (v .read .ensures .0) (length (now (k .out))) (omega (arith, u .before .before .if1 .left, u .if2 .left, c .before .if3 .taken)) in (
       c .not-taken4 .ensures ∙ ap takenOf (sym e),
       (ap (outWith (now (k .out))) (sym e), ap (storeLess (k .s) (length (now (k .zero))) (now (k .store)) (k .n)) (sym e)),
     )
 
 draw-requires : tie.Need-draw-requires
 draw-requires c κs =
-    let m = c .before .before .before .before .before .before .before .before .before .before .before .before .before .before .pick-message .ensures in
-    let d = c .before .before .before .before .before .before .before .before .before .before .before .before .m .given .1 in (
-      c .before .before .before .before .before .before .before .before .before .before .before .before .before .before .before .before .before .before .before .pre,
+    let u = c .before .before .before .before in
+    let v = u .before .before .before in
+    let w = v .before .before .before .before .before in
+    let x = w .before .before .before .before .before .before in
+    let m = w .before .before .pick-message .ensures in
+    let d = w .m .given .1 in (
+      x .before .pre,
       (
         cell-is _ _ _ _ m d,
         (
           (taking-below _ _ _ _ m d, taking-body _ _ _ _ m d),
-          taking-room _ _ _ _ m d (λ i. c .before .before .before .before .before .before .before .before .before .before .before .before .before .before .before .before .before .before .slice-known .given i .fits) (c .before .before .before .before .before .before .before .before .before .row .ensures) (c .before .before .before .before .before .before .before .before .packet-in .ensures) (c .before .before .before .before .before .before .before .read .ensures .0) _
-              (omega (arith, c .before .before .before .before .before .before .if1 .left, c .before .before .before .before .if2 .left, c .before .before .if3 .left)),
+          taking-room _ _ _ _ m d (λ i. x .slice-known .given i .fits) (v .before .before .row .ensures) (v .before .packet-in .ensures) (v .read .ensures .0) _
+              (omega (arith, u .before .before .if1 .left, u .if2 .left, c .before .before .if3 .left)),
         ),
       ),
     )
