@@ -24,7 +24,7 @@ use Rattle.packet.specs.Key.{counterPlace, keyOf}
 use Rattle.sender.specs.declared.Next.the-variants.{At}
 use Rattle.write.specs.Given.{headOf, sum, nameChecks, routingChecks, idChecks, textChecks, headerChecks, unlessAll}
 use Rattle.write.specs.Writing.{settingsTest, partsTest}
-use Rattle.two_way.proofs.Figures.{header as values, texts}
+use Rattle.write.specs.Figure14.{header as values, texts}
 use Rattle.cut.specs.Cutting.{countersFit, packets, rounded, limitTest, valueTests, messageTests, countRefusal, countAnswer, bodyAt}
 use Rattle.cut.proofs.Packets.{packet-most}
 use Rattle.fewest.specs.Cutting.{Lends}

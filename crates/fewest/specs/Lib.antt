@@ -2,3 +2,4 @@ pub mod Carrying
 pub mod Cutting
 pub mod Runs
 pub mod Answers
+pub mod Figure14

@@ -16,7 +16,7 @@ use Rattle.packet.specs.Key.{counterPlace, keyOf}
 use Rattle.write.specs.Given.{headOf, sum, nameChecks, routingChecks, idChecks, textChecks, headerChecks, unlessAll}
 use Rattle.write.specs.Writing.{settingsTest, partsTest}
 use Rattle.cut.specs.Cutting.{countersFit, counterAt, countAt, packets, rounded, limitTest, valueTests, messageTests, countRefusal, flagsAt, bodyAt, packetAt, packetRefusal, packetOutput}
-use Rattle.fewest.proofs.Figures.{settings, zeros}
+use Rattle.packet.specs.Figure14.{settings, zeros}
 use Rattle.cells.specs.Segments.{Seg, segOf, carries}
 use Rattle.cells.specs.Rows.{Cell, held, mayHold}
 use Rattle.messages.specs.Messages.{cellsOf, look, roleOf, bodies, chain, runFrom, pickIn, top}

@@ -1,3 +1,4 @@
 pub mod Given
 pub mod Writing
 pub mod Inner
+pub mod Figure14
