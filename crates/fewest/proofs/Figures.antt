@@ -12,16 +12,17 @@ use Rattle.octets.proofs.Has.{octets-nil}
 use Rattle.walk.specs.Walk.{begun, check, octets, unless}
 use Rattle.fields.specs.Form.{joined, split}
 use Rattle.packet.specs.Figure14.{settings, zeros}
+use Rattle.packet.specs.Numbers.{countAt}
 use Rattle.packet.specs.Format.{presence, identification, fixedOctets, frontOctets, counterOctets, backOctets, headerOctets, secondaryOctets, dataOctets, octetsOf}
 use Rattle.packet.specs.FixedPart.{afterSdu, afterArea, afterService, afterOperation, afterVersion, afterSession, afterSecondary, afterQualifier, afterTransaction, afterPresence, fixedOf, flagsOf, presentOf, wideField}
 use Rattle.packet.specs.Reading.{primaryTests, primaryOf, idsOf, textsOf, bodyTest, acceptedHeader, readPacket}
 use Rattle.sender.specs.declared.Next.the-variants.{NoneLeft}
-use Rattle.sender.specs.Sending.{nextCounter, afterSegment}
+use Rattle.sender.specs.Sending.{nextCounter, afterSegment, afterSegments}
 use Rattle.write.specs.Given.{headOf, sum, nameChecks, routingChecks, idChecks, textChecks, headerChecks, unlessAll}
 use Rattle.write.specs.Writing.{settingsTest, partsTest}
 use Rattle.write.specs.Figure14.{header as values, texts}
 use Rattle.cut.specs.declared.Counted.{Counted}
-use Rattle.cut.specs.Cutting.{afterSegments, countersFit, counterAt, countAt, packets, rounded, limitTest, valueTests, messageTests, countRefusal, senderAfter, countAnswer, flagsAt, bodyAt, packetAt}
+use Rattle.cut.specs.Cutting.{countersFit, counterAt, packets, rounded, limitTest, valueTests, messageTests, countRefusal, senderAfter, countAnswer, flagsAt, bodyAt, packetAt}
 use Rattle.fewest.specs.Figure14.{sender}
 use Rattle.fewest.specs.Carrying.{bodyOf, firstOf, Carries}
 use Rattle.fewest.specs.Cutting.{Lends, octetsAt, allPackets, AllBack}

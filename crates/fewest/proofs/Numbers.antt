@@ -12,6 +12,7 @@ use Rattle.octets.specs.Octets.{pick, part, Octets, most32}
 use Rattle.octets.proofs.Has.{octets-part}
 use Rattle.walk.specs.declared.Settings.{Settings}
 use Rattle.walk.specs.Walk.{noRefusal, unless, timestampLeast, timestampMost}
+use Rattle.packet.proofs.Counts.{count-mod}
 use Rattle.packet.specs.declared.SegmentCounter.{SegmentCounter}
 use Rattle.packet.specs.Format.{Opt, segment, SettingsInRange, InRange}
 use Rattle.sender.specs.declared.Sender.{Sender}
@@ -23,7 +24,6 @@ use Rattle.write.specs.Writing.{settingsTest, fine}
 use Rattle.write.proofs.Tests.{unless-fine}
 use Rattle.write.proofs.Answers.{secondary-length}
 use Rattle.cut.specs.Cutting.{countersFit, counterAt, single, chunk, packets, headerLength, countRefusal, flagsAt, bodyAt, packetAt, givenAt}
-use Rattle.cut.proofs.Counting.{count-is}
 use Rattle.cut.proofs.Plans.{before, Good, good, Cuts, cuts}
 use Rattle.cut.proofs.Packets.{counter-flag, packet-most}
 use Rattle.two_way.specs.Writable.{LentOctets}
@@ -149,7 +149,7 @@ module _ (s : Settings) (P : ℕ) (v : HeaderValues) (t : Lent) (body : List ℕ
   packet-range w o i l =
       let k = good-values in
       let g = segment-is P H B i in
-      let c = count-is (d .count .0) i (k .count) in
+      let c = count-mod (d .count .0) i (k .count) in
       record {
         settings = settings-range;
         head = checks-range s v t (k .checks) (k .parts) (w .transaction) (lent-texts v t body lends);

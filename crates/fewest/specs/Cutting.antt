@@ -10,7 +10,7 @@ use Rattle.walk.specs.declared.Settings.{Settings}
 use Rattle.fields.specs.Form.{joined}
 use Rattle.packet.specs.declared.SegmentCounter.{SegmentCounter}
 use Rattle.packet.specs.Format.{Values, identification, headerOctets, octetsOf, InRange}
-use Rattle.packet.specs.Numbers.{nextCount}
+use Rattle.packet.specs.Numbers.{nextCount, countAt}
 use Rattle.packet.specs.Reading.{segmented, readPacket}
 use Rattle.packet.specs.Key.{keyOf}
 use Rattle.sender.specs.declared.Sender.{Sender}
@@ -18,7 +18,7 @@ use Rattle.sender.specs.declared.Next.the-variants.{At}
 use Rattle.write.specs.declared.HeaderValues.{HeaderValues}
 use Rattle.write.specs.Given.{Lent, headOf}
 use Rattle.format.specs.Told.{valuesOf}
-use Rattle.cut.specs.Cutting.{countAt, single, chunk, packets, headerLength, givenAt}
+use Rattle.cut.specs.Cutting.{single, chunk, packets, headerLength, givenAt}
 use Rattle.fewest.specs.Carrying.{bodyOf, firstOf}
 
 -- lent texts are octets, and a transaction id has 64 bits
