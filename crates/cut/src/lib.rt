@@ -14,6 +14,7 @@ ghost use Rattle.fields.specs.Inner.{capped};
 ghost use Rattle.octets.specs.Octets.{pick};
 ghost use Rattle.walk.specs.Walk.{unless};
 ghost use Rattle.write.specs.Given.{lent};
+ghost use Rattle.write.specs.Lending.{Lends};
 ghost use Rattle.sender.specs.declared.Sent.the-variants.{Whole, Segments};
 ghost use Rattle.cut.specs.Cutting.{countersFit, limitTest, valueTests, chunk as chunkOf, rounded, countAnswer, packetAnswer, packetOutput};
 ghost use Rattle.cut.specs.Inner.{packetsOf, planOf, counterOf, fromOf, toOf, valuesOf};
@@ -304,6 +305,9 @@ pub fn packet(
 ) -> Cut
     ensures answer { λ r. ⌜ r ≡ packetAnswer s p v (lent (now (time .entry)) (now (zone .entry)) (now (name .entry)) (now (domain .entry)) (now (lengths .entry)) (now (id .entry))) (now (body .entry)) sender i (length (now (out .entry))) ⌝ }
     ensures octets { λ r. ⌜ now (out .exit) ≡ packetOutput s p v (lent (now (time .entry)) (now (zone .entry)) (now (name .entry)) (now (domain .entry)) (now (lengths .entry)) (now (id .entry))) (now (body .entry)) sender i (now (out .entry)) ⌝ }
+    ensures lends { λ r. ⌜ Lends v
+        (lent (now (time .entry)) (now (zone .entry)) (now (name .entry)) (now (domain .entry)) (now (lengths .entry)) (now (id .entry)))
+        (now (body .entry)) ⌝ }
 {
     let values = test_message(s, p, v, time, zone, name, domain, lengths, id, sender);
     let h = write::header_size(s, v, time, zone, name, domain, lengths, id);

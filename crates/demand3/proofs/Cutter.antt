@@ -107,7 +107,7 @@ module _ (s : Settings) (Z : ℕ) (m : Cutting) (k : Succeeds s Z m) where
     given-range : InRange s (valuesAt s (sendingOf s m) i (seqOf i))
     given-range =
         subst (InRange s) values-are
-        (packet-range s P (m .values) (m .texts) (m .body) (m .sender) no-refusal (k .texts) (k .body) i
+        (packet-range s P (m .values) (m .texts) (m .body) (m .sender) no-refusal (k .lends) i
         (omega (arith, cutter-many, many-is)))
 
     -- packet i is the message's packet i, with the sender's sequence count

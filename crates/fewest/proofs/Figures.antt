@@ -20,12 +20,13 @@ use Rattle.sender.specs.declared.Next.the-variants.{NoneLeft}
 use Rattle.sender.specs.Sending.{nextCounter, afterSegment, afterSegments}
 use Rattle.write.specs.Given.{headOf, sum, nameChecks, routingChecks, idChecks, textChecks, headerChecks, unlessAll}
 use Rattle.write.specs.Writing.{settingsTest, partsTest}
+use Rattle.write.specs.Lending.{Lends}
 use Rattle.write.specs.Figure14.{header as values, texts}
 use Rattle.cut.specs.declared.Counted.{Counted}
 use Rattle.cut.specs.Cutting.{countersFit, counterAt, packets, rounded, limitTest, valueTests, messageTests, countRefusal, senderAfter, countAnswer, flagsAt, bodyAt, packetAt}
 use Rattle.fewest.specs.Figure14.{sender}
 use Rattle.fewest.specs.Carrying.{bodyOf, firstOf, Carries}
-use Rattle.fewest.specs.Cutting.{Lends, octetsAt, allPackets, AllBack}
+use Rattle.fewest.specs.Cutting.{octetsAt, allPackets, AllBack}
 use Rattle.fewest.proofs.ReadBack.{packets-read-back, carries}
 
 -- figure 12: the largest counter is used, and then none is left
@@ -40,14 +41,18 @@ zeros-octets zero i = omega arith
 zeros-octets (suc n) zero = omega arith
 zeros-octets (suc n) (suc i) = zeros-octets n i
 
-lends : Lends values texts
+lends : Lends values texts (zeros 38)
 lends =
     record {
-      timestamp = octets-nil;
-      zone = octets-nil;
-      name = octets-nil;
-      domain = octets-nil;
-      authentication = octets-nil;
+      octets =
+          record {
+            timestamp = octets-nil;
+            zone = octets-nil;
+            name = octets-nil;
+            domain = octets-nil;
+            authentication = octets-nil;
+            body = zeros-octets 38;
+          };
       transaction = omega arith;
     }
 
@@ -57,10 +62,10 @@ counts = refl
 
 -- the laws speak of it: its two packets read back, and carry it
 pub eight-back : AllBack settings 64 values texts (zeros 38) (sender 0)
-eight-back = packets-read-back settings 64 values texts (zeros 38) (sender 0) lends (zeros-octets 38) counts
+eight-back = packets-read-back settings 64 values texts (zeros 38) (sender 0) lends counts
 
 pub eight-carries : Carries settings (headOf values texts) (zeros 38) 64 (allPackets settings 64 values texts (zeros 38) (sender 0))
-eight-carries = carries settings 64 values texts (zeros 38) (sender 0) lends (zeros-octets 38) counts
+eight-carries = carries settings 64 values texts (zeros 38) (sender 0) lends counts
 
 -- a cutter that makes packet 0 and repeats it
 abbrev pub repeated : List (List ℕ)

@@ -1,4 +1,4 @@
--- What a message's packets have once they are read back (C-7), and what the types of a call's arguments say of them.
+-- What a message's packets have once they are read back (C-7).
 -- Assumes nothing: these are definitions.
 use Prim.Native.Nat.{ℕ, suc, _+_, _%_, _≤_, _<_}
 use mathlib.Core.Path.{_≡_}
@@ -20,15 +20,6 @@ use Rattle.write.specs.Given.{Lent, headOf}
 use Rattle.format.specs.Told.{valuesOf}
 use Rattle.cut.specs.Cutting.{single, chunk, packets, headerLength, givenAt}
 use Rattle.fewest.specs.Carrying.{bodyOf, firstOf}
-
--- lent texts are octets, and a transaction id has 64 bits
-pub record Lends (v : HeaderValues) (t : Lent) : Type 0 where
-  pub timestamp : Octets (t .timestamp)
-  pub zone : Octets (t .zone)
-  pub name : Octets (t .name)
-  pub domain : Octets (t .domain)
-  pub authentication : Octets (t .authentication)
-  pub transaction : v .transaction < 18446744073709551616
 
 -- the values that reading tells of a packet
 abbrev pub told : Settings → List ℕ → Values

@@ -2,3 +2,4 @@ pub mod Given
 pub mod Writing
 pub mod Inner
 pub mod Figure14
+pub mod Lending
