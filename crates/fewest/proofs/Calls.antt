@@ -35,7 +35,7 @@ use Rattle.fewest.proofs.ReadBack.{packets-read-back}
 
 -- ---- over plain values
 
-plain-counts :
+pub plain-counts :
     (s : Settings) (P : ℕ) (v : HeaderValues) (t : Lent) (B : ℕ) (d : Sender) (r : Counted) → r ≡ countAnswer s P v t B d →
     r .refusal .number ≡ 0 → Counts s P v t B d r
 unfolding countAnswer
@@ -77,7 +77,7 @@ module _ (s : Settings) (P : ℕ) (v : HeaderValues) (t : Lent) (body : List ℕ
   unfolding packetOutput
   output-is = f ∙ ap (λ (b : Bool). pick b (packet ++ drop (length packet) out) out) all-fine
 
-  plain-wrote : Wrote s P v t body d i r out after
+  pub plain-wrote : Wrote s P v t body d i r out after
   unfolding packetRefusal packetAnswer
   plain-wrote =
       let a = unless-fine (leb (length packet) (length out)) 20 _ all-fine in

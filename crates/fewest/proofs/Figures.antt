@@ -1,5 +1,5 @@
 -- What document 01's figures on cutting show beside their numbers: behind figure 12's two segments no counter is left, the laws speak of
--- figure 8's message, and two of the wrong programs are refuted on it (E-5): a cutter that repeats packet 0, and an invented count.
+-- figure 8's message, and three of the wrong programs are refuted on it (E-5): a cutter that repeats packet 0, one that refuses, and an invented count.
 -- The header is figure 14's, H 21, and a body is so many zeros.
 -- Assumes nothing.
 use Prim.Native.Nat.{ℕ, zero, suc}
@@ -23,11 +23,13 @@ use Rattle.write.specs.Writing.{settingsTest, partsTest}
 use Rattle.write.specs.Lending.{Lends}
 use Rattle.write.specs.Figure14.{header as values, texts}
 use Rattle.cut.specs.declared.Counted.{Counted}
-use Rattle.cut.specs.Cutting.{countersFit, counterAt, packets, rounded, limitTest, valueTests, messageTests, countRefusal, senderAfter, countAnswer, flagsAt, bodyAt, packetAt}
+use Rattle.cut.specs.declared.Cut.{Cut}
+use Rattle.cut.specs.Cutting.{countersFit, counterAt, packets, rounded, limitTest, valueTests, messageTests, countRefusal, senderAfter, countAnswer, flagsAt, bodyAt, packetAt, packetAnswer}
 use Rattle.fewest.specs.Figure14.{sender}
 use Rattle.fewest.specs.Carrying.{bodyOf, firstOf, Carries}
-use Rattle.fewest.specs.Cutting.{octetsAt, allPackets, AllBack}
+use Rattle.fewest.specs.Cutting.{number, octetsAt, allPackets, AllBack}
 use Rattle.fewest.proofs.ReadBack.{packets-read-back, carries}
+use Rattle.fewest.proofs.Delivering.{not-refused}
 
 -- figure 12: the largest counter is used, and then none is left
 pub twelve-none : countAnswer settings 64 values texts 38 (sender 4294967294) .sender .next ≡ NoneLeft
@@ -95,6 +97,19 @@ repeats-not-promised e = let l = ap length e in omega (arith, long-at)
 eight-count : countAnswer settings 64 values texts 38 (sender 0) .count ≡ 2
 unfolding countAnswer countRefusal messageTests limitTest valueTests settingsTest partsTest unless unlessAll headerChecks nameChecks routingChecks idChecks textChecks sum packets rounded countersFit headOf split headerOctets fixedOctets frontOctets backOctets wide
 eight-count = refl
+
+eight-number : number settings 64 values texts (zeros 38) (sender 0) ≡ 2
+unfolding packets rounded headOf split headerOctets fixedOctets frontOctets backOctets wide
+eight-number = refl
+
+-- a cutter that refuses what was counted, with room for it, is not promised
+pub refuser-refuted :
+    (r : Cut) → (r .refusal .number ≡ 0 → ⊥) → r ≡ packetAnswer settings 64 values texts (zeros 38) (sender 0) 0 64 → ⊥
+unfolding packetAnswer
+refuser-refuted r n e =
+    n
+    (ap (λ (x : Cut). x .refusal .number) e
+    ∙ not-refused settings 64 values texts (zeros 38) (sender 0) counts 0 64 (omega (arith, eight-number)) (omega arith))
 
 -- an invented count of 3 is not the answer
 pub invented-refuted : (r : Counted) → r .count ≡ 3 → r ≡ countAnswer settings 64 values texts 38 (sender 0) → ⊥

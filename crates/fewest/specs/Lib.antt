@@ -3,3 +3,4 @@ pub mod Cutting
 pub mod Runs
 pub mod Answers
 pub mod Figure14
+pub mod Delivering
