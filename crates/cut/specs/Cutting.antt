@@ -3,7 +3,7 @@
 -- unsegmented packet. Otherwise each packet carries C = P - H - 10 body octets except the last, which carries the rest (1 to C). The
 -- count is B / C rounded up. Refusal 12 is judged on H for one packet and on H + 4 where cutting is needed."
 -- Assumes nothing: these are definitions.
-use Prim.Native.Nat.{ℕ, zero, suc, _+_, _-_, _*_, _/_}
+use Prim.Native.Nat.{ℕ, suc, _+_, _-_, _*_, _/_}
 use mathlib.Core.List.{List, _++_}
 use mathlib.Core.Bool.{Bool, true, false}
 use lib.ListN.{length, drop}
@@ -13,11 +13,11 @@ use Rattle.walk.specs.declared.Settings.{Settings}
 use Rattle.walk.specs.declared.Refusal.{Refusal}
 use Rattle.walk.specs.Walk.{noRefusal, unless}
 use Rattle.packet.specs.Format.{Head, Values, headerOctets, octetsOf, packetMost, headerMost}
-use Rattle.packet.specs.Numbers.{countMost, nextCount}
+use Rattle.packet.specs.Numbers.{countMost, countAt}
 use Rattle.sender.specs.declared.Sender.{Sender}
 use Rattle.sender.specs.declared.Next.{Next}
 use Rattle.sender.specs.declared.Next.the-variants.{At, NoneLeft}
-use Rattle.sender.specs.Sending.{afterPacket, afterSegment, stepsOf}
+use Rattle.sender.specs.Sending.{afterPacket, afterSegments, stepsOf}
 use Rattle.write.specs.declared.HeaderValues.{HeaderValues}
 use Rattle.write.specs.Given.{Lent, headOf, headerChecks, unlessAll}
 use Rattle.write.specs.Writing.{settingsTest, partsTest, fine}
@@ -51,11 +51,6 @@ packets P H B = pick (single P H B) 1 (rounded B (chunk P H))
 
 -- ---- the sender's numbers along a message
 
--- the state after n segments: "by one for each packet in the sequence count, by one for each segment in the counter"
-unfoldable pub afterSegments : ℕ → Sender → Sender
-afterSegments zero d = d
-afterSegments (suc n) d = afterSegment (afterSegments n d)
-
 -- whether n segments have a counter each
 unfoldable pub countersFit : Next → ℕ → Bool
 countersFit (At c) n = leb (c .0 + n) (suc most32)
@@ -65,11 +60,6 @@ countersFit NoneLeft n = false
 unfoldable pub counterAt : Next → ℕ → ℕ
 counterAt (At c) i = stepsOf suc i (c .0)
 counterAt NoneLeft i = 0
-
--- the sequence count of packet number i
-unfoldable pub countAt : ℕ → ℕ → ℕ
-countAt c zero = c
-countAt c (suc i) = nextCount (countAt c i)
 
 -- ---- the refusals
 

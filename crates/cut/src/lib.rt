@@ -7,24 +7,23 @@
 // numbers as they stood before the message, and moves neither. A refusal leaves the sender and the output as they were. The sender is
 // that of crate `sender`; the tests on a header, its size and its octets are those of crate `write`.
 ghost use mathlib.Core.Path.{_≡_};
-ghost use Prim.Native.Nat.{suc, _+_, _≤_};
-ghost use Rattle.packet.specs.Numbers.{countMost};
+ghost use Prim.Native.Nat.{suc, _+_};
 ghost use lib.ListN.{length};
 ghost use lib.Dec.{eqb};
 ghost use Rattle.fields.specs.Inner.{capped};
 ghost use Rattle.octets.specs.Octets.{pick};
 ghost use Rattle.walk.specs.Walk.{unless};
 ghost use Rattle.write.specs.Given.{lent};
-ghost use Rattle.sender.specs.Sending.{afterPacket};
-ghost use Rattle.cut.specs.Cutting.{afterSegments, countersFit, limitTest, valueTests, chunk as chunkOf, rounded, countAnswer, packetAnswer, packetOutput};
-ghost use Rattle.cut.specs.Inner.{packetsOf, planOf, counterAfter, counterOf, fromOf, toOf, countOf, valuesOf};
+ghost use Rattle.write.specs.Lending.{Lends};
+ghost use Rattle.sender.specs.declared.Sent.the-variants.{Whole, Segments};
+ghost use Rattle.cut.specs.Cutting.{countersFit, limitTest, valueTests, chunk as chunkOf, rounded, countAnswer, packetAnswer, packetOutput};
+ghost use Rattle.cut.specs.Inner.{packetsOf, planOf, counterOf, fromOf, toOf, valuesOf};
 ghost use Rattle.write.specs.Writing.{partsTest};
 ghost use Rattle.walk.specs.Walk.{noRefusal};
 use packet::SegmentCounter;
-use packet::SequenceCount;
-use sender::COUNTER_MOST;
 use sender::Next;
 use sender::Sender;
+use sender::Sent;
 use walk::Refusal;
 use walk::Settings;
 use write::HeaderValues;
@@ -164,47 +163,15 @@ fn plan_of(p: usize, h: usize, b: usize, sender: Sender, r: Refusal) -> Plan
 
 // ---- the numbers of a sender and of a packet
 
-// The counter behind n segments.
-fn counter_after(next: Next, n: usize) -> Next
-    ensures { λ r. ⌜ r ≡ counterAfter n next ⌝ }
-{
-    match next {
-        Next::At(c) => {
-            let x = c.0;
-            let left = (COUNTER_MOST - x) as u64;
-            if n as u64 <= left {
-                return Next::At(SegmentCounter(x + n as u32));
-            }
-            Next::NoneLeft
-        }
-        Next::NoneLeft => Next::NoneLeft,
-    }
-}
-
-// The sequence count n packets on.
-fn count_after(c: SequenceCount, n: usize) -> SequenceCount
-    ensures { λ r. ⌜ r .0 ≡ countOf (c .0) n ⌝ }
-{
-    let x = c.0 as u32 + (n % 16384) as u32;
-    SequenceCount((x % 16384) as u16)
-}
-
-// The counter of segment i, 0 where there is none.
+// The counter of segment i, 0 if there is none.
 fn counter_at(single: bool, next: Next, i: usize) -> SegmentCounter
     ensures { λ r. ⌜ r .0 ≡ counterOf single next i ⌝ }
 {
-    match next {
-        Next::At(c) => {
-            let x = c.0;
-            let left = (COUNTER_MOST - x) as u64;
-            if single {
-                return SegmentCounter(0);
-            }
-            if i as u64 <= left {
-                return SegmentCounter(x + i as u32);
-            }
-            SegmentCounter(0)
-        }
+    if single {
+        return SegmentCounter(0);
+    }
+    match next.after(i) {
+        Next::At(c) => c,
         Next::NoneLeft => SegmentCounter(0),
     }
 }
@@ -254,7 +221,7 @@ fn values_at(single: bool, count: usize, sender: Sender, i: usize) -> PacketValu
     let next = sender.next;
     let first = sender.count;
     let flags = flags_at(single, count, i);
-    let number = count_after(first, i);
+    let number = packet::sequence_count_after(first, i);
     let counter = counter_at(single, next, i);
     PacketValues {
         flags: flags,
@@ -263,25 +230,17 @@ fn values_at(single: bool, count: usize, sender: Sender, i: usize) -> PacketValu
     }
 }
 
-// The sender behind a message. Its sequence count is one of 14 bits.
-fn moved_on(single: bool, n: usize, sender: Sender) -> Sender
-    requires { ⌜ sender .count .0 ≤ countMost ⌝ }
-    ensures { λ r. ⌜ r ≡ pick single (afterPacket sender) (afterSegments n sender) ⌝ }
+// How a message of n packets is sent.
+fn sent_as(single: bool, n: usize) -> Sent
+    ensures { λ r. ⌜ r ≡ pick single Whole (Segments n) ⌝ }
 {
     if single {
-        return sender.after_packet();
+        return Sent::Whole;
     }
-    let next = sender.next;
-    let moved = counter_after(next, n);
-    let first = sender.count;
-    let count = count_after(first, n);
-    Sender {
-        count: count,
-        next: moved,
-    }
+    Sent::Segments(n)
 }
 
-// The number of packets of a message with a body of so many octets, and the sender's numbers behind it.
+// The number of packets of a message with a body of so many octets, and the sender's numbers after it.
 pub fn count(
     s: Settings,
     p: usize,
@@ -308,7 +267,8 @@ pub fn count(
             sender: sender,
         };
     }
-    let moved = moved_on(plan.single, plan.count, sender);
+    let sent = sent_as(plan.single, plan.count);
+    let moved = sender.after_message(sent);
     Counted {
         refusal: refusal,
         count: plan.count,
@@ -345,6 +305,9 @@ pub fn packet(
 ) -> Cut
     ensures answer { λ r. ⌜ r ≡ packetAnswer s p v (lent (now (time .entry)) (now (zone .entry)) (now (name .entry)) (now (domain .entry)) (now (lengths .entry)) (now (id .entry))) (now (body .entry)) sender i (length (now (out .entry))) ⌝ }
     ensures octets { λ r. ⌜ now (out .exit) ≡ packetOutput s p v (lent (now (time .entry)) (now (zone .entry)) (now (name .entry)) (now (domain .entry)) (now (lengths .entry)) (now (id .entry))) (now (body .entry)) sender i (now (out .entry)) ⌝ }
+    ensures lends { λ r. ⌜ Lends v
+        (lent (now (time .entry)) (now (zone .entry)) (now (name .entry)) (now (domain .entry)) (now (lengths .entry)) (now (id .entry)))
+        (now (body .entry)) ⌝ }
 {
     let values = test_message(s, p, v, time, zone, name, domain, lengths, id, sender);
     let h = write::header_size(s, v, time, zone, name, domain, lengths, id);

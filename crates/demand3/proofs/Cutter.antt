@@ -17,8 +17,9 @@ use Rattle.octets.specs.Laying.{together}
 use Rattle.walk.specs.declared.Settings.{Settings}
 use Rattle.fields.specs.Form.{joined}
 use Rattle.packet.specs.Format.{identification, headerOctets, octetsOf, InRange}
+use Rattle.packet.specs.Numbers.{countAt}
 use Rattle.write.specs.Given.{headOf}
-use Rattle.cut.specs.Cutting.{counterAt, countAt, single, packets, headerLength, countRefusal, countAnswer, flagsAt, bodyAt, packetAt, givenAt}
+use Rattle.cut.specs.Cutting.{counterAt, single, packets, headerLength, countRefusal, countAnswer, flagsAt, bodyAt, packetAt, givenAt}
 use Rattle.fewest.specs.Carrying.{firstOf}
 use Rattle.fewest.specs.Runs.{place}
 use Rattle.fewest.proofs.Lists.{first-length, first-at}
@@ -107,7 +108,7 @@ module _ (s : Settings) (Z : ℕ) (m : Cutting) (k : Succeeds s Z m) where
     given-range : InRange s (valuesAt s (sendingOf s m) i (seqOf i))
     given-range =
         subst (InRange s) values-are
-        (packet-range s P (m .values) (m .texts) (m .body) (m .sender) no-refusal (k .texts) (k .body) i
+        (packet-range s P (m .values) (m .texts) (m .body) (m .sender) no-refusal (k .lends) i
         (omega (arith, cutter-many, many-is)))
 
     -- packet i is the message's packet i, with the sender's sequence count

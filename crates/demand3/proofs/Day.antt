@@ -25,10 +25,10 @@ use Rattle.sender.specs.declared.Next.the-variants.{At}
 use Rattle.sender.specs.Sending.{stepsOf}
 use Rattle.write.specs.Given.{headOf, sum, nameChecks, routingChecks, idChecks, textChecks, headerChecks, unlessAll}
 use Rattle.write.specs.Writing.{settingsTest, partsTest}
-use Rattle.two_way.proofs.Figures.{header as values, texts}
+use Rattle.write.specs.Lending.{Lends}
+use Rattle.write.specs.Figure14.{header as values, texts}
 use Rattle.cut.specs.Cutting.{countersFit, packets, rounded, limitTest, valueTests, messageTests, countRefusal, countAnswer, bodyAt}
 use Rattle.cut.proofs.Packets.{packet-most}
-use Rattle.fewest.specs.Cutting.{Lends}
 use Rattle.fewest.specs.Carrying.{firstOf}
 use Rattle.fewest.specs.Runs.{place}
 use Rattle.fewest.proofs.Numbers.{cuts-well}
@@ -129,14 +129,18 @@ other-octets = octets-by other refl
 
 -- ---- the messages are cut
 
-lends : Lends values texts
+lends : Lends values texts (cutting .body)
 lends =
     record {
-      timestamp = octets-nil;
-      zone = octets-nil;
-      name = octets-nil;
-      domain = octets-nil;
-      authentication = octets-nil;
+      octets =
+          record {
+            timestamp = octets-nil;
+            zone = octets-nil;
+            name = octets-nil;
+            domain = octets-nil;
+            authentication = octets-nil;
+            body = octets-by (cutting .body) refl;
+          };
       transaction = omega arith;
     }
 
@@ -158,8 +162,7 @@ most i =
 pub succeeds : Succeeds settings cellSize cutting
 succeeds =
     record {
-      texts = lends;
-      body = octets-by (cutting .body) refl;
+      lends = lends;
       counts = three-counts;
       many = omega (arith, three-count);
       fits = λ i l. omega (arith, most i);

@@ -9,26 +9,27 @@ use mathlib.Core.Bool.{Bool, true, false, not}
 use mathlib.Core.List.{List}
 use native.Mathlib.Omega.{arith}
 use lib.ListN.{length}
-use Rattle.octets.specs.Octets.{pick, part, Octets}
+use Rattle.octets.specs.Octets.{pick, part}
 use Rattle.octets.proofs.Lists.{bool}
 use Rattle.walk.specs.declared.Settings.{Settings}
 use Rattle.fields.specs.Form.{joined}
 use Rattle.packet.specs.Format.{Values, segment, octetsOf}
-use Rattle.packet.specs.Numbers.{nextCount}
+use Rattle.packet.specs.Numbers.{nextCount, countAt}
+use Rattle.packet.proofs.Counts.{count-mod}
 use Rattle.packet.specs.Reading.{segmented}
 use Rattle.sender.specs.declared.Sender.{Sender}
 use Rattle.sender.specs.Sending.{stepsOf}
 use Rattle.sender.proofs.Stepping.{steps-suc, steps-last}
 use Rattle.write.specs.declared.HeaderValues.{HeaderValues}
 use Rattle.write.specs.Given.{Lent, headOf}
+use Rattle.write.specs.Lending.{Lends}
 use Rattle.format.specs.Told.{valuesOf}
 use Rattle.format.proofs.TwoWay.{writes-octets, reads-back}
 use Rattle.format.proofs.Accepting.{written}
-use Rattle.cut.specs.Cutting.{counterAt, countAt, single, chunk, packets, headerLength, countRefusal, flagsAt, bodyAt, packetAt, givenAt}
+use Rattle.cut.specs.Cutting.{counterAt, single, chunk, packets, headerLength, countRefusal, flagsAt, bodyAt, packetAt, givenAt}
 use Rattle.cut.proofs.Packets.{packet-most}
-use Rattle.cut.proofs.Counting.{count-mod}
 use Rattle.fewest.specs.Carrying.{bodyOf, Carried, Carries}
-use Rattle.fewest.specs.Cutting.{Lends, told, number, octetsAt, allPackets, Segment, Back, AllBack}
+use Rattle.fewest.specs.Cutting.{told, number, octetsAt, allPackets, Segment, Back, AllBack}
 use Rattle.fewest.proofs.Lists.{first-length, first-each, first-same, joined-first}
 use Rattle.fewest.proofs.Parts.{packets-one, two-at-least, piece-full, piece-some, piece-most, parts-joined}
 use Rattle.fewest.proofs.Numbers.{segment-is, flags-whole, flags-first, flags-last, flags-between, counter-of, cuts-well, good-values, room, counters, packet-range}
@@ -39,7 +40,7 @@ body-told : (s : Settings) (p : List ℕ) {u : Values} → told s p ≡ u → bo
 unfolding valuesOf
 body-told s p x = ap (λ (y : Values). y .body) x
 
-module _ (s : Settings) (P : ℕ) (v : HeaderValues) (t : Lent) (body : List ℕ) (d : Sender) (w : Lends v t) (o : Octets body)
+module _ (s : Settings) (P : ℕ) (v : HeaderValues) (t : Lent) (body : List ℕ) (d : Sender) (w : Lends v t body)
     (z : countRefusal s P v t (length body) d .number ≡ 0) where
   abbrev H : ℕ
   H = headerLength s v t
@@ -79,7 +80,7 @@ module _ (s : Settings) (P : ℕ) (v : HeaderValues) (t : Lent) (body : List ℕ
   unfolding packetAt
   back i l =
       let u = givenAt s P v t body d i in
-      let r = packet-range s P v t body d z w o i l in
+      let r = packet-range s P v t body d z w i l in
       let b = reads-back s u r in
       let k = written s u r in
       let q : segmented (octetsOf s u) ≡ not (single P H B) = k .segments ∙ segment-is P H B i in

@@ -15,16 +15,15 @@ use Rattle.octets.proofs.Lists.{bool, below-or}
 use Rattle.fields.specs.Form.{joined}
 use Rattle.packet.specs.declared.SegmentCounter.{SegmentCounter}
 use Rattle.packet.specs.Format.{Values, segment, when}
-use Rattle.packet.specs.Numbers.{nextCount}
+use Rattle.packet.specs.Numbers.{nextCount, countAt}
 use Rattle.sender.specs.declared.Sender.{Sender}
 use Rattle.sender.specs.declared.Next.{Next}
 use Rattle.sender.specs.declared.Next.the-variants.{At, NoneLeft}
-use Rattle.sender.specs.Sending.{afterPacket, stepsOf}
+use Rattle.sender.specs.Sending.{counterAfter, afterPacket, afterSegments, stepsOf}
 use Rattle.sender.proofs.Stepping.{steps-suc, steps-more}
+use Rattle.sender.proofs.Moving.{after-fits, after-past, after-both}
 use Rattle.write.specs.Writing.{fine}
-use Rattle.cut.specs.Cutting.{afterSegments, counterAt, countAt, single, packets, headerLength, countRefusal, senderAfter, countAnswer, packetAt, givenAt}
-use Rattle.cut.specs.Inner.{counterAfter}
-use Rattle.cut.proofs.Counting.{after-fits, after-past, after-both}
+use Rattle.cut.specs.Cutting.{counterAt, single, packets, headerLength, countRefusal, senderAfter, countAnswer, packetAt, givenAt}
 use Rattle.fewest.specs.Carrying.{firstOf}
 use Rattle.fewest.specs.Runs.{Message, counted, packetsOf, countsOf, counterIn, countersOf, place, Bits32, Goes}
 use Rattle.fewest.proofs.Lists.{joined-append, joined-none, joined-suc, first-length, first-same, first-more}

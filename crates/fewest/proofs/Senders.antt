@@ -9,12 +9,12 @@ use mathlib.Core.List.{List, [], _∷_, _++_}
 use native.Mathlib.Omega.{arith}
 use lib.ListN.{length, getD}
 use Rattle.octets.specs.Octets.{most32}
+use Rattle.packet.specs.Numbers.{countAt}
 use Rattle.sender.specs.declared.Sender.{Sender}
 use Rattle.sender.specs.declared.Next.{Next}
 use Rattle.sender.specs.declared.Next.the-variants.{At, NoneLeft}
 use Rattle.sender.specs.Sending.{stepsOf}
 use Rattle.sender.proofs.Stepping.{steps-suc}
-use Rattle.cut.specs.Cutting.{countAt}
 use Rattle.fewest.specs.Runs.{Message, counted, packetsOf, afterRun, sent, countsOf, countersOf, place, Bits32, Goes}
 use Rattle.fewest.proofs.Lists.{first-at}
 use Rattle.fewest.proofs.Runs.{goes-none, goes-on, one-goes}

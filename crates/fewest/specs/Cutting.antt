@@ -1,4 +1,4 @@
--- What a message's packets have once they are read back (C-7), and what the types of a call's arguments say of them.
+-- What a message's packets have once they are read back (C-7).
 -- Assumes nothing: these are definitions.
 use Prim.Native.Nat.{ℕ, suc, _+_, _%_, _≤_, _<_}
 use mathlib.Core.Path.{_≡_}
@@ -10,7 +10,7 @@ use Rattle.walk.specs.declared.Settings.{Settings}
 use Rattle.fields.specs.Form.{joined}
 use Rattle.packet.specs.declared.SegmentCounter.{SegmentCounter}
 use Rattle.packet.specs.Format.{Values, identification, headerOctets, octetsOf, InRange}
-use Rattle.packet.specs.Numbers.{nextCount, countMost}
+use Rattle.packet.specs.Numbers.{nextCount, countAt, countMost}
 use Rattle.packet.specs.Reading.{segmented, readPacket}
 use Rattle.packet.specs.Key.{keyOf}
 use Rattle.sender.specs.declared.Sender.{Sender}
@@ -19,18 +19,8 @@ use Rattle.sender.specs.Sending.{stepsOf}
 use Rattle.write.specs.declared.HeaderValues.{HeaderValues}
 use Rattle.write.specs.Given.{Lent, headOf}
 use Rattle.format.specs.Told.{valuesOf}
-use Rattle.cut.specs.Cutting.{countAt, single, chunk, packets, headerLength, givenAt}
+use Rattle.cut.specs.Cutting.{single, chunk, packets, headerLength, givenAt}
 use Rattle.fewest.specs.Carrying.{bodyOf, firstOf}
-use Rattle.two_way.specs.Writable.{Bits64}
-
--- lent texts are octets, and a transaction id has 64 bits
-pub record Lends (v : HeaderValues) (t : Lent) : Type 0 where
-  pub timestamp : Octets (t .timestamp)
-  pub zone : Octets (t .zone)
-  pub name : Octets (t .name)
-  pub domain : Octets (t .domain)
-  pub authentication : Octets (t .authentication)
-  pub transaction : Bits64 (v .transaction)
 
 -- the values that reading tells of a packet
 abbrev pub told : Settings → List ℕ → Values

@@ -8,6 +8,7 @@ use Rattle.octets.specs.Octets.{most32}
 use Rattle.walk.specs.declared.Settings.{Settings}
 use Rattle.fields.specs.Form.{joined}
 use Rattle.packet.specs.Format.{Values, segment, when}
+use Rattle.packet.specs.Numbers.{countAt}
 use Rattle.sender.specs.declared.Sender.{Sender}
 use Rattle.sender.specs.declared.Next.{Next}
 use Rattle.sender.specs.declared.Next.the-variants.{At, NoneLeft}
@@ -15,7 +16,7 @@ use Rattle.sender.specs.Sending.{stepsOf}
 use Rattle.write.specs.declared.HeaderValues.{HeaderValues}
 use Rattle.write.specs.Given.{Lent}
 use Rattle.cut.specs.declared.Counted.{Counted}
-use Rattle.cut.specs.Cutting.{countAt, countAnswer, givenAt}
+use Rattle.cut.specs.Cutting.{countAnswer, givenAt}
 use Rattle.fewest.specs.Carrying.{firstOf}
 
 -- what a sender is asked to send, with its own settings and limit

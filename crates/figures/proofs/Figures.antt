@@ -8,13 +8,14 @@ use Rattle.octets.specs.Octets.{wide, number as numberAt}
 use Rattle.varint.specs.Varint.{write, octetsOf as varintOctets, final, after, read}
 use Rattle.walk.specs.Walk.{begun, check, octets, unless, number, numberStep}
 use Rattle.fields.specs.Form.{split}
-use Rattle.packet.specs.Numbers.{nextCount}
+use Rattle.packet.specs.Numbers.{nextCount, countAt}
 use Rattle.packet.specs.Format.{presence, identification, fixedOctets, frontOctets, counterOctets, backOctets, headerOctets, secondaryOctets, dataOctets, octetsOf}
 use Rattle.packet.specs.FixedPart.{octetField, wideField, sduField, afterSdu, afterArea, afterService, afterOperation, afterVersion, afterSession, afterSecondary, afterQualifier, afterTransaction, afterPresence, fixedOf, flagsOf, presentOf}
 use Rattle.packet.specs.Reading.{primaryTests, primaryOf, idsOf, textsOf, bodyTest, refusedHeader, acceptedHeader, readPacket}
 use Rattle.write.specs.Given.{headOf, packetOf, sum, nameChecks, routingChecks, idChecks, textChecks, headerChecks, packetChecks, unlessAll}
 use Rattle.write.specs.Writing.{settingsTest, partsTest, sizeTests, valueRefusal, writeRefusal, writeOutput}
-use Rattle.cut.specs.Cutting.{countersFit, counterAt, countAt, packets, rounded, limitTest, valueTests, messageTests, countRefusal, countAnswer, flagsAt, bodyAt, packetAt, packetRefusal, packetAnswer, packetOutput}
+use Rattle.cut.specs.Cutting.{countersFit, counterAt, packets, rounded, limitTest, valueTests, messageTests}
+use Rattle.cut.specs.Cutting.{countRefusal, countAnswer, flagsAt, bodyAt, packetAt, packetRefusal, packetAnswer, packetOutput}
 use Rattle.recording.proofs.Figure.{figure-14}
 use Rattle.figures.specs.Table.{Said, octets as said-octets, Row, table}
 use Rattle.figures.proofs.Thirteen.{thirteen}

@@ -8,15 +8,15 @@ use native.Mathlib.Omega.{arith}
 use Rattle.octets.specs.Octets.{wide, alike, number as numberAt}
 use Rattle.walk.specs.Walk.{begun, check, octets, unless}
 use Rattle.fields.specs.Form.{split}
-use Rattle.packet.specs.Numbers.{nextCount}
+use Rattle.packet.specs.Numbers.{nextCount, countAt}
 use Rattle.packet.specs.Format.{presence, identification, fixedOctets, frontOctets, counterOctets, backOctets, headerOctets, secondaryOctets, dataOctets, octetsOf}
 use Rattle.packet.specs.FixedPart.{octetField, wideField, sduField, afterSdu, afterArea, afterService, afterOperation, afterVersion, afterSession, afterSecondary, afterQualifier, afterTransaction, afterPresence, fixedOf, flagsOf, presentOf}
 use Rattle.packet.specs.Reading.{primaryTests, primaryOf, idsOf, textsOf, bodyTest, refusedHeader, acceptedHeader, readPacket}
 use Rattle.packet.specs.Key.{counterPlace, keyOf}
 use Rattle.write.specs.Given.{headOf, sum, nameChecks, routingChecks, idChecks, textChecks, headerChecks, unlessAll}
 use Rattle.write.specs.Writing.{settingsTest, partsTest}
-use Rattle.cut.specs.Cutting.{countersFit, counterAt, countAt, packets, rounded, limitTest, valueTests, messageTests, countRefusal, flagsAt, bodyAt, packetAt, packetRefusal, packetOutput}
-use Rattle.fewest.proofs.Figures.{settings, zeros}
+use Rattle.cut.specs.Cutting.{countersFit, counterAt, packets, rounded, limitTest, valueTests, messageTests, countRefusal, flagsAt, bodyAt, packetAt, packetRefusal, packetOutput}
+use Rattle.packet.specs.Figure14.{settings, zeros}
 use Rattle.cells.specs.Segments.{Seg, segOf, carries}
 use Rattle.cells.specs.Rows.{Cell, held, mayHold}
 use Rattle.messages.specs.Messages.{cellsOf, look, roleOf, bodies, restFrom, runFrom, pickIn, top}

@@ -14,9 +14,9 @@ use Rattle.cut.specs.declared.Counted.{Counted}
 use Rattle.cut.specs.Cutting.{headerLength, countAnswer, packetAnswer, packetOutput}
 use Rattle.arrival.specs.Arriving.{arrived, storeWith}
 use Rattle.taking.specs.Taking.{Took, message, unable, writing, took}
-use Rattle.format.proofs.Figure14.{packet as fourteen, header as told}
-use Rattle.two_way.proofs.Figures.{header as values, own, texts}
-use Rattle.fewest.proofs.Figures.{settings, sender, zeros}
+use Rattle.packet.specs.Figure14.{settings, zeros, packet as fourteen, header as told}
+use Rattle.write.specs.Figure14.{header as values, own, texts}
+use Rattle.fewest.specs.Figure14.{sender}
 use Rattle.recording.specs.Recording.{recorded}
 
 -- what is computed, and what is said: octets, a number, a refusal, or all that reading answers
@@ -119,7 +119,7 @@ table =
     ∷ row 13 (taken eight 61) (is 61)
     ∷ row 14 (header (readPacket settings fourteen)) (header told)
     ∷ row 14 (octets (writeOutput settings values own texts [] (zeros 27)))
-    (octets (0x18 ∷ 0x05 ∷ 0xC0 ∷ 0 ∷ 0 ∷ 0x14 ∷ 0 ∷ 0 ∷ 1 ∷ 0 ∷ 2 ∷ 0 ∷ 3 ∷ 1 ∷ 0x20 ∷ 6 ∷ 0 ∷ 7 ∷ 0 ∷ 0 ∷ 0 ∷ 0 ∷ 0 ∷ 0 ∷ 0 ∷ 9 ∷ 0 ∷ []))
+    (octets fourteen)
     ∷ row 14 (octets (recorded (0x4D ∷ 0x50 ∷ fourteen)))
     (octets (0x4D ∷ 0x4D ∷ 0 ∷ 0 ∷ 0 ∷ 0x17 ∷ 0x18 ∷ 0x05 ∷ 0 ∷ 0 ∷ 1 ∷ 0 ∷ 2 ∷ 0 ∷ 3 ∷ 1 ∷ 0x20 ∷ 6 ∷ 0 ∷ 7 ∷ 0 ∷ 0 ∷ 0 ∷ 0 ∷ 0 ∷ 0 ∷ 0 ∷ 9 ∷ 0 ∷ []))
     ∷ []

@@ -16,6 +16,7 @@ use Rattle.packet.specs.declared.Header.{Header}
 use Rattle.sender.specs.declared.Next.{Next}
 use Rattle.sender.specs.declared.Next.the-variants.{At, NoneLeft}
 use Rattle.sender.specs.declared.Sender.{Sender}
+use Rattle.sender.specs.Sending.{counterNumber}
 use Rattle.write.specs.declared.Written.{Written}
 use Rattle.cut.specs.declared.Counted.{Counted}
 use Rattle.cut.specs.declared.Cut.{Cut}
@@ -77,16 +78,12 @@ readNumbers h =
 abbrev pub writtenNumbers : Written → List ℕ
 writtenNumbers w = w .refusal .number ∷ w .length ∷ []
 
--- whether a counter is left, and the counter, 0 where none is
+-- whether a counter is left
 unfoldable pub leftNumber : Next → ℕ
 leftNumber (At c) = 1
 leftNumber NoneLeft = 0
 
-unfoldable pub counterNumber : Next → ℕ
-counterNumber (At c) = c .0
-counterNumber NoneLeft = 0
-
--- a sender: its sequence count, and those two
+-- a sender: its sequence count, that, and the counter, 0 if none is left
 abbrev pub senderNumbers : Sender → List ℕ
 senderNumbers d = d .count .0 ∷ leftNumber (d .next) ∷ counterNumber (d .next) ∷ []
 

@@ -18,7 +18,7 @@ use Rattle.format.specs.Told.{headOf, valuesOf}
 use Rattle.format.specs.Accepted.{Written}
 use Rattle.format.proofs.TwoWay.{reads-back}
 use Rattle.format.proofs.Accepting.{written}
-use Rattle.format.proofs.Figure14.{settings, values}
+use Rattle.packet.specs.Figure14.{settings, values}
 
 pub figure-in-range : InRange settings values
 unfolding octetsOf identification dataOctets secondaryOctets fixedOctets presence frontOctets counterOctets backOctets wide

@@ -20,10 +20,12 @@ use Rattle.store.proofs.arrive.Reads as arrives
 use Rattle.store.proofs.take.Reads as takes
 use Rattle.join.specs.declared.Joined.{Joined}
 use Rattle.join.proofs.join.Reads as joins
-use Rattle.numbers.specs.Lists.{Numbered, ofReading, ofArrival, ofTaking, ofJoining, ofWriting, ofCount, ofCutting}
+use Rattle.recording.specs.declared.Recorded.{Recorded}
+use Rattle.recording.proofs.join_all.Reads as alls
+use Rattle.numbers.specs.Lists.{Numbered, ofReading, ofArrival, ofTaking, ofJoining, ofRecording, ofWriting, ofCount, ofCutting}
 use Rattle.numbers.proofs.Reading.{reading}
 use Rattle.numbers.proofs.Sending.{writing, count, cutting}
-use Rattle.numbers.proofs.Store.{arrival, taking, join}
+use Rattle.numbers.proofs.Store.{arrival, taking, join, all}
 
 pub read-numbered : (κs : L.Lfts 1) (a : _) (r : _) (x : _) → reads.Post κs a r x → Numbered ofReading (r .refusal .number)
 read-numbered κs a r x k = subst (λ (h : Header). Numbered ofReading (h .refusal .number)) (sym (k .0)) (reading _ _)
@@ -48,3 +50,6 @@ take-numbered κs a r x k = subst (λ (h : Taken). Numbered ofTaking (h .refusal
 
 pub join-numbered : (κs : L.Lfts 3) (a : _) (r : _) (x : _) → joins.Post κs a r x → Numbered ofJoining (r .refusal .number)
 join-numbered κs a r x k = subst (λ (h : Joined). Numbered ofJoining (h .refusal .number)) (sym (k .0)) (join _ _ _ _ _)
+
+pub join-all-numbered : (κs : L.Lfts 2) (a : _) (r : _) (x : _) → alls.Post κs a r x → Numbered ofRecording (r .refusal .number)
+join-all-numbered κs a r x k = subst (λ (h : Recorded). Numbered ofRecording (h .refusal .number)) (sym (k .0)) (all _ _)

@@ -1,4 +1,4 @@
--- Arrival, taking and joining are refused by a number of their own lists.
+-- Arrival, taking, joining, the order of a store and a whole recording are refused by a number of their own lists.
 -- Assumes nothing.
 use Prim.Native.Nat.{ℕ, suc, _+_}
 use mathlib.Core.Path.{_≡_, refl}
@@ -19,7 +19,10 @@ use Rattle.arrival.specs.Told.{said, arrivalOf}
 use Rattle.taking.specs.Told.{takenOf}
 use Rattle.join.specs.Joining.{tookAs, joinedBy, joining}
 use Rattle.join.specs.Told.{joinedOf}
-use Rattle.numbers.specs.Lists.{Numbered, ofReading, ofArrival, ofTaking, ofJoining}
+use Rattle.opening.specs.Inner.{gate}
+use Rattle.recording.specs.declared.Recorded.{Recorded}
+use Rattle.recording.specs.Ending.{recordedOf}
+use Rattle.numbers.specs.Lists.{Numbered, ofReading, ofArrival, ofTaking, ofJoining, ofOrder, ofRecording}
 use Rattle.numbers.proofs.Among.{has, among, among-all, picked}
 use Rattle.numbers.proofs.Reading.{reading}
 
@@ -92,3 +95,17 @@ join s Z st p long = go (arrived s Z st p) (arrival s Z st p)
     go (stored i) h = took-as (took s Z (storeWith Z st p (stored i)) long) (taking s Z (storeWith Z st p (stored i)) long)
     go again h = took-as (took s Z (storeWith Z st p again) long) (taking s Z (storeWith Z st p again) long)
     go (refused k) h = among-all (0 ∷ ofArrival) (0 ∷ ofJoining) refl k h
+
+-- ---- the order of a store, and a whole recording
+
+pub order : (s : Settings) (Z : ℕ) (st : List ℕ) → Numbered ofOrder (gate s Z st)
+unfolding gate
+order s Z st =
+    picked (Numbered ofOrder) (eqb (begun s .refusal .number) 0) _ 15
+    (picked (Numbered ofOrder) (inOrder s Z st) 0 16 (among (0 ∷ ofOrder) 0 refl) (among (0 ∷ ofOrder) 16 refl)) (among (0 ∷ ofOrder) 15 refl)
+
+pub all : (long : ℕ) (x : List ℕ) → Numbered ofRecording (recordedOf long x .refusal .number)
+unfolding recordedOf
+all long x =
+    picked (λ (r : Recorded). Numbered ofRecording (r .refusal .number)) (leb (length x) long) _ _ (among (0 ∷ ofRecording) 0 refl)
+    (among (0 ∷ ofRecording) 21 refl)

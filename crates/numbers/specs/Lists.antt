@@ -27,6 +27,18 @@ ofJoining = ofArrival ++ (20 ∷ 21 ∷ [])
 abbrev pub ofWriting : List ℕ
 ofWriting = 15 ∷ 22 ∷ 13 ∷ 23 ∷ 12 ∷ 14 ∷ 21 ∷ []
 
+-- a whole recording joined: the output is too short
+abbrev pub ofRecording : List ℕ
+ofRecording = 21 ∷ []
+
+-- the order of a store alone
+abbrev pub ofOrder : List ℕ
+ofOrder = 15 ∷ 16 ∷ []
+
+-- a call over plain numbers that refuses nothing else: a number is too wide, or names nothing
+abbrev pub ofWidths : List ℕ
+ofWidths = 22 ∷ []
+
 -- the count leaves out the last two of cutting's
 abbrev pub ofCount : List ℕ
 ofCount = 15 ∷ 22 ∷ 13 ∷ 23 ∷ 12 ∷ 24 ∷ 25 ∷ []

@@ -1,8 +1,9 @@
--- How the code's structs stand for the definitions' records: the same fields.
+-- How the code's structs stand for the definitions' records: the same fields. And a sequence count made one of 14 bits.
 -- Assumes nothing: these are definitions.
 use Prim.Native.Nat.{ℕ, _+_, _*_, _/_, _%_}
 use mathlib.Core.List.{List}
-use Rattle.octets.specs.Octets.{octetAt, number}
+use lib.Dec.{leb}
+use Rattle.octets.specs.Octets.{pick, octetAt, number}
 use Rattle.walk.specs.Walk.{Reading, Step}
 use Rattle.walk.specs.Inner.{asWalk}
 use Rattle.packet.specs.declared.Names.{Names}
@@ -15,6 +16,7 @@ use Rattle.packet.specs.declared.Ids.{Ids}
 use Rattle.packet.specs.declared.IdsStep.{IdsStep}
 use Rattle.packet.specs.declared.Texts.{Texts}
 use Rattle.packet.specs.declared.TextsStep.{TextsStep}
+use Rattle.packet.specs.Numbers.{countMost}
 use Rattle.packet.specs.FixedPart.{afterSdu, afterArea, afterService, afterOperation, afterVersion, afterSession, afterSecondary, afterQualifier, fixedEnd, fixedOf, presentOf}
 
 -- the first half of the fixed part
@@ -58,3 +60,7 @@ asIds x = record { walk = asWalk (x .walk); ids = x .value }
 
 abbrev pub asTexts : Step Texts → TextsStep
 asTexts x = record { walk = asWalk (x .walk); texts = x .value }
+
+-- a count above the largest is followed by 0, as the largest is
+abbrev pub heldCount : ℕ → ℕ
+heldCount x = pick (leb countMost x) countMost x

@@ -1,4 +1,4 @@
-// Reading a packet: the four kinds of number, the decoded header, `read` and `next_sequence_count`.
+// Reading a packet: the four kinds of number, the decoded header, `read`, and the sequence count moved on.
 //
 //   octets  0 1   version 3 | packet type 1 | secondary header flag 1 | APID 11
 //           2 3   sequence flags 2 | sequence count 14
@@ -19,17 +19,19 @@ ghost use lib.ListN.{length};
 ghost use Rattle.octets.specs.Octets.{Octets};
 ghost use Rattle.walk.specs.Inner.{asWalk, ofWalk};
 ghost use Rattle.fields.specs.Fields.{opt};
-ghost use Rattle.packet.specs.Numbers.{nextSequenceCount};
+ghost use Rattle.packet.specs.Numbers.{nextSequenceCount, sequenceCountAt};
 ghost use Rattle.packet.specs.FixedPart.{flagsOf, octetField, wideField, sduField};
 ghost use Rattle.packet.specs.Reading.{primaryTests, primaryOf, idsOf, textsOf, bodyTest, segmented as segmentedOf, counterSize, refusedHeader, noFixed, readPacket};
-ghost use Rattle.packet.specs.Inner.{namesOf, routingOf, fixedStep, asOctet, asWord, asCounter, asIds, asTexts};
+ghost use Rattle.packet.specs.Inner.{heldCount, namesOf, routingOf, fixedStep, asOctet, asWord, asCounter, asIds, asTexts};
 use fields::Place;
 use walk::Refusal;
 use walk::Settings;
 use walk::Walk;
 
-// The largest sequence count.
+// The largest sequence count, and how many there are.
 pub const COUNT_MOST: u16 = 16383;
+
+pub const COUNTS: usize = 16384;
 
 pub struct Apid(pub u16);
 
@@ -163,15 +165,32 @@ struct TextsStep {
     texts: Texts,
 }
 
-// The next sequence count: 0 follows 16,383.
+// A count above the largest stands for the largest: 0 follows either.
+fn held_count(x: u16) -> u16
+    ensures { λ r. ⌜ r ≡ heldCount x ⌝ }
+{
+    if COUNT_MOST <= x {
+        return COUNT_MOST;
+    }
+    x
+}
+
+// The sequence count n packets on: 0 follows 16,383.
+pub fn sequence_count_after(c: SequenceCount, n: usize) -> SequenceCount
+    ensures { λ r. ⌜ r ≡ sequenceCountAt c n ⌝ }
+{
+    let x = held_count(c.0) as usize;
+    if n == 0 {
+        return c;
+    }
+    SequenceCount(((x + n % COUNTS) % COUNTS) as u16)
+}
+
+// The next sequence count.
 pub fn next_sequence_count(c: SequenceCount) -> SequenceCount
     ensures { λ r. ⌜ r ≡ nextSequenceCount c ⌝ }
 {
-    let x = c.0;
-    if COUNT_MOST <= x {
-        return SequenceCount(0);
-    }
-    SequenceCount(x + 1)
+    sequence_count_after(c, 1)
 }
 
 // 1 to 5.

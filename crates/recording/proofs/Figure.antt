@@ -6,7 +6,8 @@ use mathlib.Core.Bool.{true}
 use mathlib.Core.Logic.{inl}
 use mathlib.Core.List.{List, [], _∷_, _++_, append-nil}
 use Rattle.octets.specs.Octets.{number, alike, wide}
-use Rattle.format.proofs.Figure14.{packet, reads}
+use Rattle.packet.specs.Figure14.{packet}
+use Rattle.format.proofs.Figure14.{reads}
 use Rattle.cells.specs.Order.{countIn, cellSize, gate}
 use Rattle.arrival.specs.Arriving.{Arrived, whole, arrivedIn, arrived}
 use Rattle.arrival.proofs.Checked.{arrived-open}

@@ -22,7 +22,8 @@ use Rattle.write.specs.Given.{Lent, headOf, packetOf, headerChecks, packetCheck
 use Rattle.write.specs.Writing.{settingsTest, partsTest, bodyFits, givenPacket, sizeTests, valueRefusal, writeRefusal}
 use Rattle.write.proofs.Tests.{unless-fine, unless-true, AllHold, unlessAll-fine, unlessAll-true}
 use Rattle.write.proofs.Answers.{secondary-length}
-use Rattle.two_way.specs.Writable.{Bits64, LentOctets, Writable}
+use Rattle.write.specs.Lending.{Bits64, LentOctets}
+use Rattle.two_way.specs.Writable.{Writable}
 use Rattle.two_way.proofs.Fits.{number-opt, opt-number, opt-parts}
 use Rattle.two_way.proofs.Headers.{PlainTexts, checks-sum, checks-range, range-checks}
 use Rattle.two_way.proofs.Texts.{lent-texts}

@@ -19,7 +19,8 @@ use Rattle.format.specs.Accepted.{Accepted}
 use Rattle.format.proofs.TwoWay.{reads-back, writes-octets, one-value}
 use Rattle.format.proofs.Accepting.{accepted}
 use Rattle.two_way.specs.Again.{partPlaces, againHeader, againPacket, againDomain, againLengths, againTexts, againBody}
-use Rattle.two_way.specs.Writable.{Bits64, LentOctets, Writable}
+use Rattle.write.specs.Lending.{Bits64, LentOctets}
+use Rattle.two_way.specs.Writable.{Writable}
 use Rattle.two_way.specs.Same.{written, SameRead}
 use Rattle.two_way.proofs.Lists.{lengths-told, joined-contents, lengths-split, joined-split}
 use Rattle.two_way.proofs.Texts.{packet-texts, packet-body}

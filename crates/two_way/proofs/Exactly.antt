@@ -18,7 +18,7 @@ use Rattle.write.specs.Writing.{writeRefusal, writeAnswer}
 use Rattle.format.specs.Told.{headOf, valuesOf}
 use Rattle.format.proofs.TwoWay.{writes-octets, reads-back, only-writing}
 use Rattle.two_way.specs.Again.{partPlaces, againHeader, againPacket, againDomain, againTexts, againBody}
-use Rattle.two_way.specs.Writable.{Bits64, LentOctets}
+use Rattle.write.specs.Lending.{Bits64, LentOctets}
 use Rattle.two_way.specs.Same.{written, CouldWrite}
 use Rattle.two_way.proofs.Lists.{joined-octets}
 use Rattle.two_way.proofs.Forth.{writes-again, writes-slice}

@@ -6,20 +6,21 @@ use mathlib.Core.Path.{_≡_, refl, ap, sym, _∙_}
 use mathlib.Core.Bool.{true, false}
 use mathlib.Core.List.{List, [], _∷_, _++_, map}
 use native.Mathlib.Omega.{arith}
-use lib.ListN.{length, take, replicate}
+use lib.ListN.{length, take}
 use Rattle.octets.specs.Octets.{octetAt, wide}
 use Rattle.walk.specs.Walk.{unless, noRefusal, refusal}
 use Rattle.fields.specs.Form.{split}
 use Rattle.packet.specs.declared.Header.{Header}
+use Rattle.packet.specs.Figure14.{settings, packet, zeros}
 use Rattle.packet.specs.Format.{presence, identification, fixedOctets, frontOctets, counterOctets, backOctets, secondaryOctets, dataOctets, octetsOf}
 use Rattle.packet.specs.Reading.{primaryOf, acceptedHeader, readPacket}
 use Rattle.write.specs.declared.HeaderValues.{HeaderValues}
 use Rattle.write.specs.declared.PacketValues.{PacketValues}
 use Rattle.write.specs.declared.Written.{Written}
+use Rattle.write.specs.Figure14.{header, own, texts}
 use Rattle.write.specs.Given.{Lent, lent, headOf, packetOf, sum, nameChecks, routingChecks, idChecks, textChecks, headerChecks, packetChecks, unlessAll}
 use Rattle.write.specs.Writing.{settingsTest, partsTest, givenPacket, sizeTests, valueRefusal, writeRefusal, writeAnswer, writeOutput}
 use Rattle.format.proofs.Start.{answer}
-use Rattle.format.proofs.Figure14.{settings, packet}
 use Rattle.format.proofs.Examples.{two, full, full-in-range, full-octets}
 use Rattle.two_way.specs.Writable.{Writable}
 use Rattle.two_way.specs.Same.{written, SameRead}
@@ -27,47 +28,6 @@ use Rattle.two_way.proofs.Accepts.{accepts}
 use Rattle.two_way.proofs.Back.{writable-back}
 
 -- ---- figure 14
-
-abbrev pub header : HeaderValues
-header =
-    record {
-      kind = 1;
-      apid = record { 0 = 5 };
-      sdu = 0;
-      area = 1;
-      service = 2;
-      operation = 3;
-      version = 1;
-      error = 0;
-      qos = 1;
-      session = 0;
-      second = record { 0 = 6 };
-      qualifier = 7;
-      transaction = 9;
-      has =
-          record {
-            source = false;
-            destination = false;
-            priority = false;
-            timestamp = false;
-            zone = false;
-            session = false;
-            domain = false;
-            authentication = false;
-          };
-      source = 0;
-      destination = 0;
-      priority = 0;
-    }
-
-abbrev pub own : PacketValues
-own = record { flags = 3; count = record { 0 = 0 }; counter = record { 0 = 0 } }
-
-abbrev pub texts : Lent
-texts = lent [] [] [] [] [] []
-
-abbrev pub zeros : ℕ → List ℕ
-zeros n = replicate n 0
 
 -- what writing it into n zeros answers, and the output afterwards
 abbrev answers : ℕ → Written

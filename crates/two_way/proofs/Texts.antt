@@ -12,7 +12,7 @@ use Rattle.fields.specs.Form.{numberOctets, blobOctets, textOctets, partOctets,
 use Rattle.packet.specs.Format.{Head, Values, Each, when, identification, fixedOctets, frontOctets, counterOctets, backOctets, secondaryOctets, dataOctets, octetsOf}
 use Rattle.write.specs.declared.HeaderValues.{HeaderValues}
 use Rattle.write.specs.Given.{Lent, headOf}
-use Rattle.two_way.specs.Writable.{LentOctets}
+use Rattle.write.specs.Lending.{LentOctets}
 use Rattle.two_way.proofs.Lists.{octets-left, octets-right, split-octets, text-octets, parts-octets}
 use Rattle.two_way.proofs.Headers.{PlainTexts}
 

@@ -16,7 +16,7 @@ use Rattle.write.specs.Given.{Lent}
 use Rattle.write.specs.Writing.{writeAnswer, writeOutput}
 use Rattle.format.specs.Told.{content}
 use Rattle.two_way.specs.Again.{partPlaces}
-use Rattle.two_way.specs.Writable.{Bits64, LentOctets}
+use Rattle.write.specs.Lending.{Bits64, LentOctets}
 
 -- the octets that the writer wrote: as many as it answers, from the output's first on
 abbrev pub written : Settings → HeaderValues → PacketValues → Lent → List ℕ → List ℕ → List ℕ

@@ -1,13 +1,13 @@
--- `cut::counter_after` meets its contract, case by case.
+-- `sender::Next::after` meets its contract, case by case.
 -- Assumes nothing.
 use borrow.Author.Needs.{needs}
 use native.Mathlib.Omega.{arith}
-use Rattle.cut.proofs.Counting.{after-at, after-over, after-still}
-use Rattle.cut.proofs.counter_after.Statement.{statement}
-use Rattle.cut.proofs.counter_after.Tie as tie
+use Rattle.sender.proofs.Moving.{after-at, after-over, after-still}
+use Rattle.sender.proofs.Next.after.Statement.{statement}
+use Rattle.sender.proofs.Next.after.Tie as tie
 
-enum-known-next : tie.Need-enum-known-next
-enum-known-next c = search needs
+enum-known-self : tie.Need-enum-known-self
+enum-known-self c = search needs
 
 sub-left : tie.Need-sub-left
 sub-left c = search needs
@@ -22,22 +22,22 @@ add-t11 : tie.Need-add-t11
 add-t11 c = search needs
 
 returns : tie.Need-returns
-returns c = after-at (c .before .before .next .given .1) _ (omega arith)
+returns c = after-at (c .before .before .self .given .1) _ (omega arith)
 
 enum-told : tie.Need-enum-told
 enum-told c = search needs
 
 returns-2 : tie.Need-returns-2
-returns-2 c = after-over (c .before .before .next .given .1) _ (omega arith) (omega arith)
+returns-2 c = after-over (c .before .before .self .given .1) _ (omega arith) (omega arith)
 
 returns-3 : tie.Need-returns-3
 returns-3 c = after-still (c .enum-told .given .1) _
 
-pub counter-after-spec : {M : Type 1} → statement M
-counter-after-spec =
+pub after-spec : {M : Type 1} → statement M
+after-spec =
     tie.close
     (tie.spec
-    enum-known-next
+    enum-known-self
     sub-left
     cast-left
     cast-t10
