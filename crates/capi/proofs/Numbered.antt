@@ -17,7 +17,7 @@ use Rattle.cut.specs.Cutting.{countAnswer, packetAnswer}
 use Rattle.flat.specs.Told.{readNumbers}
 use Rattle.flat.specs.Given.{senderFits}
 use Rattle.flat.specs.Answers.{nextNumbers, writeFits, writeNumbers, afterPacketNumbers, afterSegmentNumbers, cutFits, countNumbers, packetNumbers}
-use Rattle.opening.specs.Inner.{gate}
+use Rattle.cells.specs.Order.{gate}
 use Rattle.flat_store.specs.Numbers.{orderNumbers}
 use Rattle.flat_store.specs.Views.{insideNumbers, viewNumbers}
 use Rattle.numbers.specs.Lists.{Numbered, ofReading, ofArrival, ofTaking, ofJoining, ofRecording, ofOrder, ofWidths, ofWriting, ofCount, ofCutting}

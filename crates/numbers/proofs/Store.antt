@@ -19,7 +19,6 @@ use Rattle.arrival.specs.Told.{said, arrivalOf}
 use Rattle.taking.specs.Told.{takenOf}
 use Rattle.join.specs.Joining.{tookAs, joinedBy, joining}
 use Rattle.join.specs.Told.{joinedOf}
-use Rattle.opening.specs.Inner.{gate}
 use Rattle.recording.specs.declared.Recorded.{Recorded}
 use Rattle.recording.specs.Ending.{recordedOf}
 use Rattle.numbers.specs.Lists.{Numbered, ofReading, ofArrival, ofTaking, ofJoining, ofOrder, ofRecording}
