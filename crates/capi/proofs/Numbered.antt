@@ -49,18 +49,18 @@ Refuses k l = Numbered k (refusalIn l)
 
 -- ---- over the numbers
 
-next : (seq : ℕ) → Refuses ofWidths (nextNumbers seq)
+next : (count : ℕ) → Refuses ofWidths (nextNumbers count)
 unfolding nextNumbers
-next seq = picked (Refuses ofWidths) (leb seq _) _ _ (among (0 ∷ ofWidths) 0 refl) (among (0 ∷ ofWidths) 22 refl)
+next count = picked (Refuses ofWidths) (leb count _) _ _ (among (0 ∷ ofWidths) 0 refl) (among (0 ∷ ofWidths) 22 refl)
 
 read : (t : ℕ) (p : List ℕ) → Refuses ofReading (readNumbers (readPacket (settingsOf t) p))
 unfolding readNumbers
 read t p = reading (settingsOf t) p
 
-write : (t : ℕ) (h : List ℕ) (x : Lent) (flags seq counter : ℕ) (body : List ℕ) (room : ℕ) → Refuses ofWriting (writeNumbers t h x flags seq counter body room)
+write : (t : ℕ) (h : List ℕ) (x : Lent) (flags count counter : ℕ) (body : List ℕ) (room : ℕ) → Refuses ofWriting (writeNumbers t h x flags count counter body room)
 unfolding writeNumbers writeAnswer
-write t h x flags seq counter body room =
-    picked (Refuses ofWriting) (writeFits h flags seq counter) _ _ (writing _ _ _ _ _ _) (write-wide (settingsOf t))
+write t h x flags count counter body room =
+    picked (Refuses ofWriting) (writeFits h flags count counter) _ _ (writing _ _ _ _ _ _) (write-wide (settingsOf t))
 
 after-packet : (d : List ℕ) → Refuses ofWidths (afterPacketNumbers d)
 unfolding afterPacketNumbers

@@ -123,7 +123,7 @@ module _ (s : Settings) (P : ℕ) (v : HeaderValues) (t : Lent) (body : List ℕ
       let one = k .single-is in
       let f : o .flags ≡ flagsAt P H (length body) i =
       ap (λ (x : PacketValues). x .flags) eo ∙ ap₂ (λ (b : Bool) (n : ℕ). pick b 3 (pick (eqb i 0) 1 (pick (eqb (suc i) n) 2 0))) one (k .count-is) in
-      let c : o .count .0 ≡ countAt (d .count .0) i = ap (λ (x : PacketValues). x .count .0) eo in
+      let c : o .«sequence_count» .0 ≡ countAt (d .«sequence_count» .0) i = ap (λ (x : PacketValues). x .«sequence_count» .0) eo in
       let m : i < packets P H (length body) = omega (arith, k .count-is) in
       let n : o .counter .0 ≡ pick (single P H (length body)) 0 (counterAt (d .next) i) =
       ap (λ (x : PacketValues). x .counter .0) eo
@@ -132,7 +132,7 @@ module _ (s : Settings) (P : ℕ) (v : HeaderValues) (t : Lent) (body : List ℕ
       let b : piece ≡ pick (single P H (length body)) body (part body (i * chunk P H) (chunk P H)) =
       body-part (q .single) (q .chunk) i body ef et
       ∙ ap₂ (λ (x : Bool) (y : ℕ). pick x body (part body (i * y) y)) one (k .chunk-is) in
-      λ j. record { head = headOf v t; flags = f j; count = c j; counter = n j; body = b j }
+      λ j. record { head = headOf v t; flags = f j; sequence-count = c j; counter = n j; body = b j }
 
   module _ {second size : ℕ} (es : second ≡ capped (h + pick (segment (o .flags)) 4 0)) (ez : size ≡ capped (6 + second + length piece)) where
     pub size-exact : fine (q .refusal) ≡ true → i < q .count → size ≡ length (octetsOf s (givenAt s P v t body d i))

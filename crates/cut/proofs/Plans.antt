@@ -39,7 +39,7 @@ before s P v t d = partsTest t (valueTests s v t d (limitTest s P noRefusal))
 -- what holds where none of them refused
 pub record Good (s : Settings) (P : ℕ) (v : HeaderValues) (t : Lent) (d : Sender) : Type 0 where
   pub parts : length (t .lengths) ≤ partsMost
-  pub count : d .count .0 ≤ countMost
+  pub sequence-count : d .«sequence_count» .0 ≤ countMost
   pub checks : AllHold (headerChecks s v t)
   pub low : limitLeast ≤ P
   pub top : P ≤ packetMost
@@ -49,13 +49,13 @@ pub good : (s : Settings) (P : ℕ) (v : HeaderValues) (t : Lent) (d : Sender) �
 unfolding partsTest valueTests limitTest
 good s P v t d g =
     let a = unless-fine (leb (length (t .lengths)) partsMost) 12 (valueTests s v t d (limitTest s P noRefusal)) g in
-    let b = unless-fine (leb (d .count .0) countMost) 21 (unlessAll (headerChecks s v t) 22 (limitTest s P noRefusal)) (a .before) in
+    let b = unless-fine (leb (d .«sequence_count» .0) countMost) 21 (unlessAll (headerChecks s v t) 22 (limitTest s P noRefusal)) (a .before) in
     let c = unlessAll-fine (headerChecks s v t) 21 (limitTest s P noRefusal) (b .before) in
     let e = unless-fine (leb P packetMost) 14 (unless (leb limitLeast P) 15 (settingsTest s noRefusal)) (c .0) in
     let f = unless-fine (leb limitLeast P) 14 (settingsTest s noRefusal) (e .before) in
     record {
       parts = leb-true (length (t .lengths)) partsMost (a .held);
-      count = leb-true (d .count .0) countMost (b .held);
+      sequence-count = leb-true (d .«sequence_count» .0) countMost (b .held);
       checks = c .1;
       low = leb-true limitLeast P (f .held);
       top = leb-true P packetMost (e .held);

@@ -69,7 +69,7 @@ limitTest s P r = unless (leb P packetMost) 15 (unless (leb limitLeast P) 15 (se
 
 -- 22: the header's checks, and the sender's sequence count (its counter always fits its type)
 unfoldable pub valueTests : Settings → HeaderValues → Lent → Sender → Refusal → Refusal
-valueTests s v t d r = unless (leb (d .count .0) countMost) 22 (unlessAll (headerChecks s v t) 22 r)
+valueTests s v t d r = unless (leb (d .«sequence_count» .0) countMost) 22 (unlessAll (headerChecks s v t) 22 r)
 
 -- 23: the body; 12: the header; 24: C below 1; 25: the counters
 unfoldable pub messageTests : ℕ → ℕ → ℕ → Sender → Refusal → Refusal
@@ -117,7 +117,7 @@ packetAt P H h body d i =
     record {
       head = h;
       flags = flagsAt P H (length body) i;
-      count = countAt (d .count .0) i;
+      sequence-count = countAt (d .«sequence_count» .0) i;
       counter = pick (single P H (length body)) 0 (counterAt (d .next) i);
       body = bodyAt P H body i;
     }

@@ -53,6 +53,6 @@ unfoldable pub valuesOf : Bool → ℕ → Sender → ℕ → PacketValues
 valuesOf one n d i =
     record {
       flags = pick one 3 (pick (eqb i 0) 1 (pick (eqb (suc i) n) 2 0));
-      count = sequenceCountAt (d .count) i;
+      «sequence_count» = sequenceCountAt (d .«sequence_count») i;
       counter = record { 0 = counterOf one (d .next) i };
     }

@@ -82,10 +82,10 @@ fn test_message(
     ensures { λ q. ⌜ q ≡ partsTest (lent (now (time .entry)) (now (zone .entry)) (now (name .entry)) (now (domain .entry)) (now (lengths .entry)) (now (id .entry))) (valueTests s v (lent (now (time .entry)) (now (zone .entry)) (now (name .entry)) (now (domain .entry)) (now (lengths .entry)) (now (id .entry))) sender (limitTest s p noRefusal)) ⌝ }
 {
     let none = Refusal { number: 0 };
-    let count = sender.count;
+    let sequence_count = sender.sequence_count;
     let a = test_limit(s, p, none);
     let b = write::test_header(s, v, time, zone, name, domain, lengths, id, a);
-    let c = walk::unless(b, count.0 <= packet::COUNT_MOST, 22);
+    let c = walk::unless(b, sequence_count.0 <= packet::COUNT_MOST, 22);
     write::test_parts(lengths.len(), c)
 }
 
@@ -219,13 +219,13 @@ fn values_at(single: bool, count: usize, sender: Sender, i: usize) -> PacketValu
     ensures { λ r. ⌜ r ≡ valuesOf single count sender i ⌝ }
 {
     let next = sender.next;
-    let first = sender.count;
+    let first = sender.sequence_count;
     let flags = flags_at(single, count, i);
     let number = packet::sequence_count_after(first, i);
     let counter = counter_at(single, next, i);
     PacketValues {
         flags: flags,
-        count: number,
+        sequence_count: number,
         counter: counter,
     }
 }

@@ -54,7 +54,7 @@ module _ (s : Settings) (m : Sending) where
             settings = t;
             head = h;
             flags = flags-top (manyOf s m) i;
-            count = omega arith;
+            sequence-count = omega arith;
             counter =
                 subst (λ (b : Bool). Opt b (λ x. x < 4294967296) 0 (counterIn s m i)) (sym (flags-segment (manyOf s m) i))
                 (omega (arith, steps-suc i (startOf s m)));

@@ -55,7 +55,7 @@ cutting =
       values = values;
       texts = texts;
       body = 1 ∷ 2 ∷ 3 ∷ 4 ∷ 5 ∷ 6 ∷ 7 ∷ 8 ∷ [];
-      sender = record { count = record { 0 = 0 }; next = At (record { 0 = 7 }) };
+      sender = record { «sequence_count» = record { 0 = 0 }; next = At (record { 0 = 7 }) };
     }
 
 abbrev pub three : Sending
@@ -136,7 +136,7 @@ lends =
           record {
             timestamp = octets-nil;
             zone = octets-nil;
-            name = octets-nil;
+            session-name = octets-nil;
             domain = octets-nil;
             authentication = octets-nil;
             body = octets-by (cutting .body) refl;

@@ -48,7 +48,7 @@ module _ (s : Settings) (v : Values) (r : InRange s v) where
 
 -- the values of a packet with another sequence count
 abbrev recounted : Values → ℕ → Values
-recounted v c = record { head = v .head; flags = v .flags; count = c; counter = v .counter; body = v .body }
+recounted v c = record { head = v .head; flags = v .flags; sequence-count = c; counter = v .counter; body = v .body }
 
 -- it changes neither header nor data field
 module _ (s : Settings) (v : Values) (c : ℕ) where
@@ -70,7 +70,7 @@ module _ (s : Settings) (v : Values) (c : ℕ) where
         settings = r .settings;
         head = r .head;
         flags = r .flags;
-        count = h;
+        sequence-count = h;
         counter = r .counter;
         body = r .body;
         packet = omega (arith, recounted-long, r .packet);

@@ -57,7 +57,7 @@ module _ (s : Settings) where
       record {
         head = m .head;
         flags = flagsIn (manyOf m) i;
-        count = c;
+        sequence-count = c;
         counter = counterIn m i;
         body = getD (m .bodies) i [];
       }

@@ -50,7 +50,7 @@ lends =
           record {
             timestamp = octets-nil;
             zone = octets-nil;
-            name = octets-nil;
+            session-name = octets-nil;
             domain = octets-nil;
             authentication = octets-nil;
             body = zeros-octets 38;

@@ -150,12 +150,12 @@ module _ (s : Settings) (P : ℕ) (v : HeaderValues) (t : Lent) (body : List ℕ
   packet-range w i l =
       let k = good-values in
       let g = segment-is P H B i in
-      let c = count-mod (d .count .0) i (k .count) in
+      let c = count-mod (d .«sequence_count» .0) i (k .sequence-count) in
       record {
         settings = settings-range;
         head = checks-range s v t (k .checks) (k .parts) (w .transaction) (lent-texts v t body (w .octets));
         flags = flags-top P H B i;
-        count = omega arith;
+        sequence-count = omega arith;
         counter =
             subst (λ (b : Bool). Opt b (λ x. x < 4294967296) 0 (pick (single P H B) 0 (counterAt (d .next) i))) (sym g)
             (counter-range i l (single P H B) refl);

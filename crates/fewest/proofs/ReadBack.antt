@@ -84,7 +84,7 @@ module _ (s : Settings) (P : ℕ) (v : HeaderValues) (t : Lent) (body : List ℕ
       let b = reads-back s u r in
       let k = written s u r in
       let q : segmented (octetsOf s u) ≡ not (single P H B) = k .segments ∙ segment-is P H B i in
-      let c : told s (octetsOf s u) .count ≡ countAt (d .count .0) i = ap (λ (y : Values). y .count) (b .1) in
+      let c : told s (octetsOf s u) .sequence-count ≡ countAt (d .«sequence_count» .0) i = ap (λ (y : Values). y .sequence-count) (b .1) in
       record {
         range = r;
         octets = writes-octets s u r;
@@ -93,7 +93,7 @@ module _ (s : Settings) (P : ℕ) (v : HeaderValues) (t : Lent) (body : List ℕ
         head = ap (λ (y : Values). y .head) (b .1);
         key = k .key;
         count = c;
-        count-wraps = c ∙ count-mod (d .count .0) i (good-values s P v t body d z .count);
+        count-wraps = c ∙ count-mod (d .«sequence_count» .0) i (good-values s P v t body d z .sequence-count);
         limit = packet-most s P v t body d i (cuts-well s P v t body d z .some);
         whole = λ e. (q ∙ ap not e, ap (λ (y : Values). y .flags) (b .1) ∙ flags-whole P H B i e);
         segment = λ e. segment-back i (octetsOf s u) l (b .1) (q ∙ ap not e) e;
@@ -119,7 +119,7 @@ module _ (s : Settings) (P : ℕ) (v : HeaderValues) (t : Lent) (body : List ℕ
 
   counts-on :
       (i : ℕ) → suc i < packets P H B →
-      told s (octetsAt s P v t body d (suc i)) .count ≡ nextCount (told s (octetsAt s P v t body d i) .count)
+      told s (octetsAt s P v t body d (suc i)) .sequence-count ≡ nextCount (told s (octetsAt s P v t body d i) .sequence-count)
   unfolding countAt
   counts-on i l = back (suc i) l .count ∙ ap nextCount (sym (back i (omega arith) .count))
 

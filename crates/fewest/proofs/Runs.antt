@@ -34,13 +34,13 @@ use Rattle.fewest.proofs.Numbers.{segment-is, counter-of, counters}
 
 counts-append : (l m : List Values) → countsOf (l ++ m) ≡ countsOf l ++ countsOf m
 counts-append [] m = refl
-counts-append (v ∷ l) m = ap (λ (x : List ℕ). v .count ∷ x) (counts-append l m)
+counts-append (v ∷ l) m = ap (λ (x : List ℕ). v .sequence-count ∷ x) (counts-append l m)
 
-counts-first : (f : ℕ → Values) (n : ℕ) → countsOf (firstOf f n) ≡ firstOf (λ (i : ℕ). f i .count) n
+counts-first : (f : ℕ → Values) (n : ℕ) → countsOf (firstOf f n) ≡ firstOf (λ (i : ℕ). f i .sequence-count) n
 unfolding firstOf
 counts-first f zero = refl
 counts-first f (suc n) =
-    counts-append (firstOf f n) (f n ∷ []) ∙ ap (λ (x : List ℕ). x ++ (f n .count ∷ [])) (counts-first f n)
+    counts-append (firstOf f n) (f n ∷ []) ∙ ap (λ (x : List ℕ). x ++ (f n .sequence-count ∷ [])) (counts-first f n)
 
 -- of unsegmented packets there are no counters
 counters-whole : (f : ℕ → Values) (n : ℕ) → ((i : ℕ) → segment (f i .flags) ≡ false) → countersOf (firstOf f n) ≡ []
@@ -91,14 +91,14 @@ goes-on {d} {e} {f} l m a b =
     record {
       counts =
           counts-append l m ∙ ap₂ _++_ (a .counts) (b .counts)
-          ∙ ap (λ (x : List ℕ). firstOf (countAt (d .count .0)) (length l) ++ x)
-          (first-same (countAt (e .count .0)) (λ (i : ℕ). countAt (d .count .0) (length l + i)) (length m)
-          (λ i h. ap (λ (x : ℕ). countAt x i) (a .count) ∙ count-more (d .count .0) (length l) i))
-          ∙ sym (first-more (countAt (d .count .0)) (length l) (length m))
-          ∙ ap (firstOf (countAt (d .count .0))) (sym n);
+          ∙ ap (λ (x : List ℕ). firstOf (countAt (d .«sequence_count» .0)) (length l) ++ x)
+          (first-same (countAt (e .«sequence_count» .0)) (λ (i : ℕ). countAt (d .«sequence_count» .0) (length l + i)) (length m)
+          (λ i h. ap (λ (x : ℕ). countAt x i) (a .count) ∙ count-more (d .«sequence_count» .0) (length l) i))
+          ∙ sym (first-more (countAt (d .«sequence_count» .0)) (length l) (length m))
+          ∙ ap (firstOf (countAt (d .«sequence_count» .0))) (sym n);
       count =
-          b .count ∙ ap (λ (x : ℕ). countAt x (length m)) (a .count) ∙ count-more (d .count .0) (length l) (length m)
-          ∙ ap (countAt (d .count .0)) (sym n);
+          b .count ∙ ap (λ (x : ℕ). countAt x (length m)) (a .count) ∙ count-more (d .«sequence_count» .0) (length l) (length m)
+          ∙ ap (countAt (d .«sequence_count» .0)) (sym n);
       counters =
           c ∙ ap₂ _++_ (a .counters) (b .counters)
           ∙ ap (λ (x : List ℕ). firstOf (λ (i : ℕ). stepsOf suc i (place (d .next))) (length (countersOf l)) ++ x)
@@ -146,9 +146,9 @@ module _ (d : Sender) (m : Message) (h : Bits32 (d .next)) where
   abbrev given : ℕ → Values
   given = givenAt (m .settings) (m .limit) (m .values) (m .texts) (m .body) d
 
-  counts-given : (n : ℕ) → countsOf (firstOf given n) ≡ firstOf (countAt (d .count .0)) (length (firstOf given n))
+  counts-given : (n : ℕ) → countsOf (firstOf given n) ≡ firstOf (countAt (d .«sequence_count» .0)) (length (firstOf given n))
   unfolding packetAt
-  counts-given n = counts-first given n ∙ ap (firstOf (countAt (d .count .0))) (sym (first-length given n))
+  counts-given n = counts-first given n ∙ ap (firstOf (countAt (d .«sequence_count» .0))) (sym (first-length given n))
 
   segment-given : (i : ℕ) → segment (given i .flags) ≡ not (single (m .limit) H B)
   unfolding packetAt
@@ -190,7 +190,7 @@ module _ (d : Sender) (m : Message) (h : Bits32 (d .next)) where
       subst (λ (x : Sender). Goes d (firstOf given n) x) (sym (after-both n d))
       (record {
         counts = counts-given n;
-        count = ap (countAt (d .count .0)) (sym (first-length given n));
+        count = ap (countAt (d .«sequence_count» .0)) (sym (first-length given n));
         counters = c ∙ ap (firstOf (λ (i : ℕ). stepsOf suc i (place (d .next)))) (sym y);
         next = omega (arith, steps-suc (length (countersOf (firstOf given n))) (place (d .next)));
         bits = subst (λ (x : Next). Bits32 (counterAfter n x)) (sym (k .starts)) (bits-after (k .start) n t);

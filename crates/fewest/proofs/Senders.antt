@@ -76,6 +76,6 @@ module _ (d : Sender) (ms : List Message) (h : Bits32 (d .next)) where
       (λ e. sym place-at-end ∙ none-place e, λ e. place-none (afterRun d ms .next) (k .bits) (place-at-end ∙ e))
 
   -- packet number i of a run has the sender's sequence count moved on by i
-  pub run-count : (i : ℕ) → i < length (sent d ms) → getD (countsOf (sent d ms)) i 0 ≡ countAt (d .count .0) i
+  pub run-count : (i : ℕ) → i < length (sent d ms) → getD (countsOf (sent d ms)) i 0 ≡ countAt (d .«sequence_count» .0) i
   run-count i l =
-      ap (λ (x : List ℕ). getD x i 0) (run d ms h .counts) ∙ first-at (countAt (d .count .0)) (length (sent d ms)) i 0 l
+      ap (λ (x : List ℕ). getD x i 0) (run d ms h .counts) ∙ first-at (countAt (d .«sequence_count» .0)) (length (sent d ms)) i 0 l

@@ -86,9 +86,9 @@ module _ (s : Settings) (P : ℕ) (v : HeaderValues) (t : Lent) (body : List ℕ
     -- its key is the message's
     pub key : keyOf p (readPacket s p) ≡ identification (headOf v t) ++ headerOctets s (headOf v t)
     -- the sequence count is the sender's, moved on by one for each packet before
-    pub count : told s p .count ≡ countAt (d .count .0) i
+    pub count : told s p .sequence-count ≡ countAt (d .«sequence_count» .0) i
     -- with the wrap: 0 follows 16,383
-    pub count-wraps : told s p .count ≡ (d .count .0 + i) % suc countMost
+    pub count-wraps : told s p .sequence-count ≡ (d .«sequence_count» .0 + i) % suc countMost
     -- it has at most P octets
     pub limit : length p ≤ P
     -- where one packet is enough: unsegmented, flags 11
@@ -105,7 +105,7 @@ module _ (s : Settings) (P : ℕ) (v : HeaderValues) (t : Lent) (body : List ℕ
     -- and where cutting is needed at least two, so that the first is not the last
     pub two : oneEnough ≡ false → 2 ≤ number
     -- from one to the next the sequence count goes up by one, and 0 follows 16,383
-    pub counts : (i : ℕ) → suc i < number → told s (octetsAt (suc i)) .count ≡ nextCount (told s (octetsAt i) .count)
+    pub counts : (i : ℕ) → suc i < number → told s (octetsAt (suc i)) .sequence-count ≡ nextCount (told s (octetsAt i) .sequence-count)
     -- and where cutting is needed the counter goes up by one
     pub counters : oneEnough ≡ false → (i : ℕ) → suc i < number → told s (octetsAt (suc i)) .counter ≡ suc (told s (octetsAt i) .counter)
     -- their bodies joined are the message's

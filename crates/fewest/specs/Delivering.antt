@@ -28,7 +28,7 @@ module _ (s : Settings) (P : ℕ) (v : HeaderValues) (t : Lent) (d : Sender) (n 
     -- its key is the message's
     pub key : keyOf p h ≡ identification (headOf v t) ++ headerOctets s (headOf v t)
     -- its sequence count is the sender's, moved on by one for each packet before; 0 follows 16,383
-    pub count : h .primary .count .0 ≡ (d .count .0 + i) % 16384
+    pub count : h .primary .«sequence_count» .0 ≡ (d .«sequence_count» .0 + i) % 16384
     -- if it is the only one it is unsegmented, flags 11
     pub whole : n ≡ 1 → h .primary .flags ≡ 3
     -- if there are more, the first has the flags 01

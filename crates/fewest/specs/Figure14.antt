@@ -5,4 +5,4 @@ use Rattle.sender.specs.declared.Sender.{Sender}
 use Rattle.sender.specs.declared.Next.the-variants.{At}
 
 abbrev pub sender : ℕ → Sender
-sender c = record { count = record { 0 = 0 }; next = At (record { 0 = c }) }
+sender c = record { «sequence_count» = record { 0 = 0 }; next = At (record { 0 = c }) }

@@ -48,7 +48,7 @@ sent d (m ∷ ms) = packetsOf d m ++ sent (counted d m .sender) ms
 
 -- the sequence counts of packets
 abbrev pub countsOf : List Values → List ℕ
-countsOf l = map (λ (v : Values). v .count) l
+countsOf l = map (λ (v : Values). v .sequence-count) l
 
 -- the counters of the segments among them
 abbrev pub counterIn : Values → List ℕ
@@ -70,9 +70,9 @@ Bits32 NoneLeft = Unit {0}
 -- what a list of packets, sent between a sender and the one behind them, has
 pub record Goes (d : Sender) (l : List Values) (e : Sender) : Type 0 where
   -- the sequence counts go on by one for each packet, from the sender's, with the wrap
-  pub counts : countsOf l ≡ firstOf (countAt (d .count .0)) (length l)
+  pub counts : countsOf l ≡ firstOf (countAt (d .«sequence_count» .0)) (length l)
   -- and the sender behind has the next
-  pub count : e .count .0 ≡ countAt (d .count .0) (length l)
+  pub count : e .«sequence_count» .0 ≡ countAt (d .«sequence_count» .0) (length l)
   -- the counters of the segments go on by one for each segment, from the sender's
   pub counters : countersOf l ≡ firstOf (λ (i : ℕ). stepsOf suc i (place (d .next))) (length (countersOf l))
   -- the sender behind has the next, or none is left

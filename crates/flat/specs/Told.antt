@@ -25,7 +25,7 @@ use Rattle.cut.specs.declared.Cut.{Cut}
 
 -- packet type, APID, sequence flags, sequence count
 abbrev pub primaryNumbers : Primary → List ℕ
-primaryNumbers p = p .kind ∷ p .apid .0 ∷ p .flags ∷ p .count .0 ∷ []
+primaryNumbers p = p .«packet_type» ∷ p .apid .0 ∷ p .flags ∷ p .«sequence_count» .0 ∷ []
 
 -- SDU type, area, service, operation, area version
 abbrev pub nameNumbers : Fixed → List ℕ
@@ -33,12 +33,12 @@ nameNumbers f = f .sdu ∷ f .area ∷ f .service ∷ f .operation ∷ f .versio
 
 -- error, QoS level, session, secondary APID, its qualifier, transaction id
 abbrev pub routingNumbers : Fixed → List ℕ
-routingNumbers f = f .error ∷ f .qos ∷ f .session ∷ f .apid .0 ∷ f .qualifier ∷ f .transaction ∷ []
+routingNumbers f = f .error ∷ f .qos ∷ f .session ∷ f .«secondary_apid» .0 ∷ f .qualifier ∷ f .transaction ∷ []
 
 -- the eight presence flags, in their order
 abbrev pub presentNumbers : Present → List ℕ
 presentNumbers h =
-    bit (h .source) ∷ bit (h .destination) ∷ bit (h .priority) ∷ bit (h .timestamp) ∷ bit (h .zone) ∷ bit (h .session)
+    bit (h .source) ∷ bit (h .destination) ∷ bit (h .priority) ∷ bit (h .timestamp) ∷ bit (h .zone) ∷ bit (h .«session_name»)
     ∷ bit (h .domain)
     ∷ bit (h .authentication)
     ∷ []
@@ -60,7 +60,7 @@ abbrev pub textNumbers : Texts → List ℕ
 textNumbers t =
     placeNumbers (t .timestamp)
     ++ (placeNumbers (t .zone)
-    ++ (placeNumbers (t .session) ++ ((t .count ∷ []) ++ (placesTo 16 (t .parts) ++ placeNumbers (t .authentication)))))
+    ++ (placeNumbers (t .«session_name») ++ ((t .count ∷ []) ++ (placesTo 16 (t .parts) ++ placeNumbers (t .authentication)))))
 
 -- what reading answers: 72 numbers
 unfoldable pub readNumbers : Header → List ℕ
@@ -85,7 +85,7 @@ leftNumber NoneLeft = 0
 
 -- a sender: its sequence count, that, and the counter, 0 if none is left
 abbrev pub senderNumbers : Sender → List ℕ
-senderNumbers d = d .count .0 ∷ leftNumber (d .next) ∷ counterNumber (d .next) ∷ []
+senderNumbers d = d .«sequence_count» .0 ∷ leftNumber (d .next) ∷ counterNumber (d .next) ∷ []
 
 -- the refusal, the number of packets, the sender
 abbrev pub countedNumbers : Counted → List ℕ

@@ -45,7 +45,7 @@ module _ (s : Settings) (p : List ℕ) where
 
   pub told-front : Front p told
   unfolding valuesOf headOf acceptedHeader primaryOf
-  told-front = record { kind = refl; apid = refl; flags = refl; count = refl }
+  told-front = record { packet-type = refl; apid = refl; flags = refl; sequence-count = refl }
 
   pub told-segment : segment (told .flags) ≡ segmented p
   unfolding valuesOf headOf acceptedHeader primaryOf
@@ -132,9 +132,9 @@ module _ (s : Settings) (p : List ℕ) where
       let b = told-body k in
       record {
         settings = record { t-low = d .t-low; t-top = d .t-top };
-        head = fit-head s p told (k .fit) (omega (arith, f .kind)) (omega (arith, f .apid, d .idle));
+        head = fit-head s p told (k .fit) (omega (arith, f .packet-type)) (omega (arith, f .apid, d .idle));
         flags = omega (arith, f .flags, o 2);
-        count = omega (arith, f .count);
+        sequence-count = omega (arith, f .sequence-count);
         counter = fit-counter s p told (k .fit);
         body = told-octets o;
         packet = rw (told-written o k) (omega (arith, d .long, number-top 2 p 4 o));

@@ -125,7 +125,7 @@ module _ (s : Settings) (p : List ℕ) where
       (seq p (priorityF (h .priority))
       (seq p (timestampF (h .timestamp))
       (seq p (nameF (h .zone))
-      (seq p (nameF (h .session)) (seq p (partsF (h .domain)) (authenticationF (h .authentication)))))))))
+      (seq p (nameF (h .«session_name»)) (seq p (partsF (h .domain)) (authenticationF (h .authentication)))))))))
 
   -- the flags decide the rest
   abbrev pub secondaryF : Bool → Field p (Fixed × Optional)

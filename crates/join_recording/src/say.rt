@@ -199,7 +199,7 @@ fn segment(to: i32, t: Told) {
     }
     text(to, b"segment");
     next(to, t.key as u64);
-    next(to, t.kind as u64);
+    next(to, t.packet_type as u64);
     next(to, t.apid as u64);
     next(to, t.sdu as u64);
     next(to, t.transaction);

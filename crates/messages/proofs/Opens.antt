@@ -90,7 +90,7 @@ module _ (s : Settings) (p : List ℕ) where
   stays-texts has w g =
       let e = stays-opt (has .authentication) nowhere (blob s p) stays-blob _ g in
       let d = stays-opt (has .domain) (noParts 0) (domain s p) stays-domain _ e in
-      let c = stays-opt (has .session) nowhere (text s p) stays-text _ d in
+      let c = stays-opt (has .«session_name») nowhere (text s p) stays-text _ d in
       let b = stays-opt (has .zone) nowhere (text s p) stays-text _ c in
       stays-opt (has .timestamp) nowhere (block (s .t) p) (stays-block (s .t)) w b
 

@@ -27,7 +27,7 @@ values =
     record {
       head =
           record {
-            kind = 1;
+            packet-type = 1;
             apid = 5;
             sdu = 0;
             area = 1;
@@ -37,7 +37,7 @@ values =
             error = 0;
             qos = 1;
             session = 0;
-            second = 6;
+            secondary-apid = 6;
             qualifier = 7;
             transaction = 9;
             has-source = false;
@@ -45,7 +45,7 @@ values =
             has-priority = false;
             has-timestamp = false;
             has-zone = false;
-            has-name = false;
+            has-session-name = false;
             has-domain = false;
             has-authentication = false;
             source = 0;
@@ -53,12 +53,12 @@ values =
             priority = 0;
             timestamp = [];
             zone = [];
-            name = [];
+            session-name = [];
             domain = [];
             authentication = [];
           };
       flags = 3;
-      count = 0;
+      sequence-count = 0;
       counter = 0;
       body = [];
     }
@@ -68,7 +68,7 @@ abbrev pub header : Header
 header =
     record {
       refusal = record { number = 0 };
-      primary = record { kind = 1; apid = record { 0 = 5 }; flags = 3; count = record { 0 = 0 } };
+      primary = record { «packet_type» = 1; apid = record { 0 = 5 }; flags = 3; «sequence_count» = record { 0 = 0 } };
       fixed =
           record {
             sdu = 0;
@@ -79,7 +79,7 @@ header =
             error = 0;
             qos = 1;
             session = 0;
-            apid = record { 0 = 6 };
+            «secondary_apid» = record { 0 = 6 };
             qualifier = 7;
             transaction = 9;
           };
@@ -90,7 +90,7 @@ header =
             priority = false;
             timestamp = false;
             zone = false;
-            session = false;
+            «session_name» = false;
             domain = false;
             authentication = false;
           };
@@ -99,7 +99,7 @@ header =
           record {
             timestamp = nowhere;
             zone = nowhere;
-            session = nowhere;
+            «session_name» = nowhere;
             count = 0;
             parts = replicate 16 nowhere;
             authentication = nowhere;

@@ -39,7 +39,7 @@ routingOf p w =
       error = octetAt p (w .at) / 128;
       qos = octetAt p (w .at) / 32 % 4;
       session = octetAt p (w .at) / 8 % 4;
-      apid = record { 0 = octetAt p (w .at) % 8 * 256 + octetAt p (afterSession p w .at) };
+      «secondary_apid» = record { 0 = octetAt p (w .at) % 8 * 256 + octetAt p (afterSession p w .at) };
       qualifier = number 2 p (afterSecondary p w .at);
     }
 

@@ -31,10 +31,10 @@ primaryTests p w =
 unfoldable pub primaryOf : List ℕ → Primary
 primaryOf p =
     record {
-      kind = octetAt p 0 / 16 % 2;
+      «packet_type» = octetAt p 0 / 16 % 2;
       apid = record { 0 = number 2 p 0 % 2048 };
       flags = octetAt p 2 / 64;
-      count = record { 0 = number 2 p 2 % 16384 };
+      «sequence_count» = record { 0 = number 2 p 2 % 16384 };
     }
 
 -- the sequence flags aren't 11
@@ -60,7 +60,7 @@ unfoldable pub textsOf : Settings → Present → List ℕ → Reading → Step 
 textsOf s has p w =
     let a = opt (has .timestamp) nowhere (block (s .t) p) w in
     let b = opt (has .zone) nowhere (text s p) (a .walk) in
-    let c = opt (has .session) nowhere (text s p) (b .walk) in
+    let c = opt (has .«session_name») nowhere (text s p) (b .walk) in
     let d = opt (has .domain) (noParts 0) (domain s p) (c .walk) in
     let e = opt (has .authentication) nowhere (blob s p) (d .walk) in
     record {
@@ -69,7 +69,7 @@ textsOf s has p w =
           record {
             timestamp = a .value;
             zone = b .value;
-            session = c .value;
+            «session_name» = c .value;
             count = d .value .count;
             parts = d .value .places;
             authentication = e .value;
@@ -110,7 +110,7 @@ noFixed =
       error = 0;
       qos = 0;
       session = 0;
-      apid = record { 0 = 0 };
+      «secondary_apid» = record { 0 = 0 };
       qualifier = 0;
       transaction = 0;
     }
@@ -123,7 +123,7 @@ noFlags =
       priority = false;
       timestamp = false;
       zone = false;
-      session = false;
+      «session_name» = false;
       domain = false;
       authentication = false;
     }
@@ -132,7 +132,7 @@ unfoldable pub refusedHeader : Refusal → Header
 refusedHeader r =
     record {
       refusal = r;
-      primary = record { kind = 0; apid = record { 0 = 0 }; flags = 0; count = record { 0 = 0 } };
+      primary = record { «packet_type» = 0; apid = record { 0 = 0 }; flags = 0; «sequence_count» = record { 0 = 0 } };
       fixed = noFixed;
       has = noFlags;
       ids = record { source = 0; destination = 0; counter = record { 0 = 0 }; priority = 0 };
@@ -140,7 +140,7 @@ refusedHeader r =
           record {
             timestamp = nowhere;
             zone = nowhere;
-            session = nowhere;
+            «session_name» = nowhere;
             count = 0;
             parts = replicate 16 nowhere;
             authentication = nowhere;

@@ -52,10 +52,10 @@ pub const UNSEGMENTED: u8 = 3;
 
 // The primary header: packet type, APID, sequence flags, sequence count.
 pub struct Primary {
-    pub kind: u8,
+    pub packet_type: u8,
     pub apid: Apid,
     pub flags: u8,
-    pub count: SequenceCount,
+    pub sequence_count: SequenceCount,
 }
 
 // The fixed part of the secondary header, but for its presence flags.
@@ -68,7 +68,7 @@ pub struct Fixed {
     pub error: u8,
     pub qos: u8,
     pub session: u8,
-    pub apid: SecondaryApid,
+    pub secondary_apid: SecondaryApid,
     pub qualifier: u16,
     pub transaction: u64,
 }
@@ -80,7 +80,7 @@ pub struct Present {
     pub priority: bool,
     pub timestamp: bool,
     pub zone: bool,
-    pub session: bool,
+    pub session_name: bool,
     pub domain: bool,
     pub authentication: bool,
 }
@@ -97,7 +97,7 @@ pub struct Ids {
 pub struct Texts {
     pub timestamp: Place,
     pub zone: Place,
-    pub session: Place,
+    pub session_name: Place,
     pub count: usize,
     pub parts: [Place; 16],
     pub authentication: Place,
@@ -130,7 +130,7 @@ struct Routing {
     error: u8,
     qos: u8,
     session: u8,
-    apid: SecondaryApid,
+    secondary_apid: SecondaryApid,
     qualifier: u16,
 }
 
@@ -211,12 +211,12 @@ fn read_primary(p: &[u8]) -> Primary
     let first = octets::octet(p, 0);
     let third = octets::octet(p, 2);
     let apid = Apid(octets::be16(p, 0) % 2048);
-    let count = SequenceCount(octets::be16(p, 2) % 16384);
+    let sequence_count = SequenceCount(octets::be16(p, 2) % 16384);
     Primary {
-        kind: first / 16 % 2,
+        packet_type: first / 16 % 2,
         apid: apid,
         flags: third / 64,
-        count: count,
+        sequence_count: sequence_count,
     }
 }
 
@@ -293,13 +293,13 @@ fn read_routing(p: &[u8], w: Walk) -> Routing
     let bw = b.walk;
     let c = read_word(p, bw);
     let cw = c.walk;
-    let apid = SecondaryApid((high % 8) as u16 * 256 + b.value as u16);
+    let secondary_apid = SecondaryApid((high % 8) as u16 * 256 + b.value as u16);
     Routing {
         walk: cw,
         error: high / 128,
         qos: high / 32 % 4,
         session: high / 8 % 4,
-        apid: apid,
+        secondary_apid: secondary_apid,
         qualifier: c.value,
     }
 }
@@ -313,7 +313,7 @@ fn flags_of(f: u8) -> Present
         priority: f / 32 % 2 == 1,
         timestamp: f / 16 % 2 == 1,
         zone: f / 8 % 2 == 1,
-        session: f / 4 % 2 == 1,
+        session_name: f / 4 % 2 == 1,
         domain: f / 2 % 2 == 1,
         authentication: f % 2 == 1,
     }
@@ -331,7 +331,7 @@ fn read_fixed(p: &[u8], w: Walk) -> FixedStep
     let t = rw.octets(p, 8);
     let has = flags_of(octets::octet(p, t.at as usize));
     let end = t.octets(p, 1);
-    let apid = r.apid;
+    let secondary_apid = r.secondary_apid;
     let fixed = Fixed {
         sdu: n.sdu,
         area: n.area,
@@ -341,7 +341,7 @@ fn read_fixed(p: &[u8], w: Walk) -> FixedStep
         error: r.error,
         qos: r.qos,
         session: r.session,
-        apid: apid,
+        secondary_apid: secondary_apid,
         qualifier: r.qualifier,
         transaction: transaction,
     };
@@ -412,7 +412,7 @@ fn read_texts(s: Settings, has: Present, p: &[u8], w: Walk) -> TextsStep
     let aw = a.walk;
     let b = fields::text_if(has.zone, s, p, aw);
     let bw = b.walk;
-    let c = fields::text_if(has.session, s, p, bw);
+    let c = fields::text_if(has.session_name, s, p, bw);
     let cw = c.walk;
     let d = fields::domain_if(has.domain, s, p, cw);
     let dw = d.walk;
@@ -420,13 +420,13 @@ fn read_texts(s: Settings, has: Present, p: &[u8], w: Walk) -> TextsStep
     let ew = e.walk;
     let timestamp = a.place;
     let zone = b.place;
-    let session = c.place;
+    let session_name = c.place;
     let parts = d.parts;
     let authentication = e.place;
     let texts = Texts {
         timestamp: timestamp,
         zone: zone,
-        session: session,
+        session_name: session_name,
         count: d.count,
         parts: parts,
         authentication: authentication,
@@ -451,7 +451,7 @@ fn body_walk(p: &[u8], w: Walk) -> Walk
 fn no_fixed() -> Fixed
     ensures { λ r. ⌜ r ≡ noFixed ⌝ }
 {
-    let apid = SecondaryApid(0);
+    let secondary_apid = SecondaryApid(0);
     Fixed {
         sdu: 0,
         area: 0,
@@ -461,7 +461,7 @@ fn no_fixed() -> Fixed
         error: 0,
         qos: 0,
         session: 0,
-        apid: apid,
+        secondary_apid: secondary_apid,
         qualifier: 0,
         transaction: 0,
     }
@@ -473,13 +473,13 @@ fn refused_header(refusal: Refusal) -> Header
 {
     let none = Place { at: 0, length: 0 };
     let apid = Apid(0);
-    let count = SequenceCount(0);
+    let sequence_count = SequenceCount(0);
     let counter = SegmentCounter(0);
     let primary = Primary {
-        kind: 0,
+        packet_type: 0,
         apid: apid,
         flags: 0,
-        count: count,
+        sequence_count: sequence_count,
     };
     let ids = Ids {
         source: 0,
@@ -490,7 +490,7 @@ fn refused_header(refusal: Refusal) -> Header
     let texts = Texts {
         timestamp: none,
         zone: none,
-        session: none,
+        session_name: none,
         count: 0,
         parts: [none; 16],
         authentication: none,

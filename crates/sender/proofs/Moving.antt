@@ -62,17 +62,17 @@ after-still e k = rw e (sym (after-none k))
 
 -- ---- both numbers
 
-pub after-both : (n : ℕ) (d : Sender) → afterSegments n d ≡ record { count = sequenceCountAt (d .count) n; next = counterAfter n (d .next) }
+pub after-both : (n : ℕ) (d : Sender) → afterSegments n d ≡ record { «sequence_count» = sequenceCountAt (d .«sequence_count») n; next = counterAfter n (d .next) }
 unfolding afterSegments afterSegment countAt counterAfter
 after-both zero d = refl
 after-both (suc n) d = ap afterSegment (after-both n d)
 
 abbrev sending : SequenceCount → Next → Sender
-sending c m = record { count = c; next = m }
+sending c m = record { «sequence_count» = c; next = m }
 
 -- as the code makes it
 pub moved-both :
-    (n : ℕ) (d : Sender) {c : SequenceCount} {m : Next} → c ≡ sequenceCountAt (d .count) n → m ≡ counterAfter n (d .next) →
+    (n : ℕ) (d : Sender) {c : SequenceCount} {m : Next} → c ≡ sequenceCountAt (d .«sequence_count») n → m ≡ counterAfter n (d .next) →
     sending c m ≡ afterSegments n d
 moved-both n d e f = ap₂ sending e f ∙ sym (after-both n d)
 

@@ -34,10 +34,10 @@ counterNumber NoneLeft = 0
 
 -- the state after an unsegmented packet, and after a segment
 unfoldable pub afterPacket : Sender → Sender
-afterPacket d = record { count = nextSequenceCount (d .count); next = d .next }
+afterPacket d = record { «sequence_count» = nextSequenceCount (d .«sequence_count»); next = d .next }
 
 unfoldable pub afterSegment : Sender → Sender
-afterSegment d = record { count = nextSequenceCount (d .count); next = nextCounter (d .next) }
+afterSegment d = record { «sequence_count» = nextSequenceCount (d .«sequence_count»); next = nextCounter (d .next) }
 
 -- after n segments
 unfoldable pub afterSegments : ℕ → Sender → Sender

@@ -19,7 +19,7 @@ pub enum Next {
 
 // The sender's two running numbers.
 pub struct Sender {
-    pub count: SequenceCount,
+    pub sequence_count: SequenceCount,
     pub next: Next,
 }
 
@@ -53,10 +53,10 @@ impl Sender {
     pub fn after_packet(self) -> Sender
         ensures { λ r. ⌜ r ≡ afterPacket self ⌝ }
     {
-        let later = packet::next_sequence_count(self.count);
+        let later = packet::next_sequence_count(self.sequence_count);
         let next = self.next;
         Sender {
-            count: later,
+            sequence_count: later,
             next: next,
         }
     }
@@ -67,9 +67,9 @@ impl Sender {
     {
         let next = self.next;
         let moved = next.after(n);
-        let count = packet::sequence_count_after(self.count, n);
+        let sequence_count = packet::sequence_count_after(self.sequence_count, n);
         Sender {
-            count: count,
+            sequence_count: sequence_count,
             next: moved,
         }
     }

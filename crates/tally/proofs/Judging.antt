@@ -100,7 +100,7 @@ tellings h k =
     record {
       held = true;
       key = k;
-      kind = h .primary .kind;
+      «packet_type» = h .primary .«packet_type»;
       apid = h .primary .apid .0;
       sdu = h .fixed .sdu;
       transaction = h .fixed .transaction;

@@ -20,7 +20,7 @@ keyAt s Z st n k = lowest (λ j. keyed k (cellAt s Z st j)) n 0
 
 -- a cell that holds nothing tells nothing
 abbrev pub untold : Told
-untold = record { held = false; key = 0; kind = 0; apid = 0; sdu = 0; transaction = 0; flags = 0; counter = 0 }
+untold = record { held = false; key = 0; «packet_type» = 0; apid = 0; sdu = 0; transaction = 0; flags = 0; counter = 0 }
 
 -- a segment in cell i, with what reading answers of its packet: the lowest cell of its key, which may be its own; packet type, APID, SDU
 -- type and transaction id; sequence flags and counter
@@ -29,7 +29,7 @@ toldBy s Z st i h t =
     record {
       held = true;
       key = keyAt s Z st i (t .key);
-      kind = h .primary .kind;
+      «packet_type» = h .primary .«packet_type»;
       apid = h .primary .apid .0;
       sdu = h .fixed .sdu;
       transaction = h .fixed .transaction;

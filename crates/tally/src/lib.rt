@@ -136,7 +136,7 @@ pub fn left(s: Settings, store: &[u8]) -> Tallied
 pub struct Told {
     pub held: bool,
     pub key: usize,
-    pub kind: u8,
+    pub packet_type: u8,
     pub apid: u16,
     pub sdu: u8,
     pub transaction: u64,
@@ -177,7 +177,7 @@ fn told_of(s: Settings, store: &[u8], i: usize, zero: &[u8], q: &[u8], stop: usi
     Told {
         held: true,
         key: key,
-        kind: primary.kind,
+        packet_type: primary.packet_type,
         apid: apid.0,
         sdu: fixed.sdu,
         transaction: fixed.transaction,
@@ -197,7 +197,7 @@ fn told_at(s: Settings, store: &[u8], i: usize, zero: &[u8]) -> Told
         return Told {
             held: false,
             key: 0,
-            kind: 0,
+            packet_type: 0,
             apid: 0,
             sdu: 0,
             transaction: 0,

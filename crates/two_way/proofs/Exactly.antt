@@ -31,7 +31,7 @@ again-octets p h o =
     record {
       timestamp = octets-part p (h .texts .timestamp .at) (h .texts .timestamp .length) o;
       zone = octets-part p (h .texts .zone .at) (h .texts .zone .length) o;
-      name = octets-part p (h .texts .session .at) (h .texts .session .length) o;
+      session-name = octets-part p (h .texts .«session_name» .at) (h .texts .«session_name» .length) o;
       domain = joined-octets p (partPlaces h) o;
       authentication = octets-part p (h .texts .authentication .at) (h .texts .authentication .length) o;
       body = octets-part p (h .body .at) (h .body .length) o;

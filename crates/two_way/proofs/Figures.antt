@@ -62,16 +62,16 @@ first-zero (suc n) = refl
 pub no-silent-writer : (n : ℕ) → SameRead (take n (zeros 27)) (readPacket settings (take n (zeros 27))) header own texts [] → ⊥
 unfolding acceptedHeader primaryOf
 no-silent-writer n k =
-    let a : readPacket settings (take n (zeros 27)) .primary .kind ≡ octetAt (take n (zeros 27)) 0 / 16 % 2 =
-    ap (λ (h : Header). h .primary .kind) (answer settings (take n (zeros 27)) (k .no-refusal)) in
-    omega (arith, k .kind, first-zero n)
+    let a : readPacket settings (take n (zeros 27)) .primary .«packet_type» ≡ octetAt (take n (zeros 27)) 0 / 16 % 2 =
+    ap (λ (h : Header). h .primary .«packet_type») (answer settings (take n (zeros 27)) (k .no-refusal)) in
+    omega (arith, k .packet-type, first-zero n)
 
 -- ---- a first segment with every optional field
 
 abbrev pub full-header : HeaderValues
 full-header =
     record {
-      kind = 0;
+      «packet_type» = 0;
       apid = record { 0 = 2046 };
       sdu = 21;
       area = 65535;
@@ -81,7 +81,7 @@ full-header =
       error = 1;
       qos = 3;
       session = 2;
-      second = record { 0 = 2047 };
+      «secondary_apid» = record { 0 = 2047 };
       qualifier = 1;
       transaction = 18446744073709551615;
       has =
@@ -91,7 +91,7 @@ full-header =
             priority = true;
             timestamp = true;
             zone = true;
-            session = true;
+            «session_name» = true;
             domain = true;
             authentication = true;
           };
@@ -101,7 +101,7 @@ full-header =
     }
 
 abbrev pub full-own : PacketValues
-full-own = record { flags = 1; count = record { 0 = 16383 }; counter = record { 0 = 4294967295 } }
+full-own = record { flags = 1; «sequence_count» = record { 0 = 16383 }; counter = record { 0 = 4294967295 } }
 
 abbrev pub full-texts : Lent
 full-texts = lent (1 ∷ 2 ∷ []) (65 ∷ []) [] (66 ∷ []) (1 ∷ 0 ∷ []) (255 ∷ 0 ∷ [])

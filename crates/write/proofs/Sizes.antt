@@ -42,7 +42,7 @@ middleLength s h =
 
 abbrev endLength : Settings → Head → ℕ
 endLength s h =
-    pick (h .has-name) (length (numberOctets s (length (h .name))) + length (h .name)) 0
+    pick (h .has-session-name) (length (numberOctets s (length (h .session-name))) + length (h .session-name)) 0
     + (pick (h .has-domain) (length (domainOctets s (h .domain))) 0
     + pick (h .has-authentication) (length (numberOctets s (length (h .authentication))) + length (h .authentication)) 0)
 
@@ -79,10 +79,10 @@ middle-size s v t =
 
 end-size :
     (s : Settings) (v : HeaderValues) (t : Lent) →
-    endSize s (v .has) (length (t .name)) (t .domain) (t .lengths) (length (t .authentication)) ≡ capped (endLength s (headOf v t))
+    endSize s (v .has) (length (t .session-name)) (t .domain) (t .lengths) (length (t .authentication)) ≡ capped (endLength s (headOf v t))
 unfolding endSize headOf
 end-size s v t =
-    let a = cap-pick (v .has .session) (length (numberOctets s (length (t .name))) + length (t .name)) in
+    let a = cap-pick (v .has .«session_name») (length (numberOctets s (length (t .session-name))) + length (t .session-name)) in
     let b = cap-pick (v .has .domain) (length (domainOctets s (split (t .lengths) (t .domain)))) in
     let c = cap-pick (v .has .authentication) (length (numberOctets s (length (t .authentication))) + length (t .authentication)) in
     rw (a, b, c) (cap-three _ _ _)
@@ -91,7 +91,7 @@ end-size s v t =
 pub header-size :
     (s : Settings) (v : HeaderValues) (t : Lent) {f m e x r : ℕ} → f ≡ pick (v .has .source) 1 0 + pick (v .has .destination) 1 0 →
     m ≡ middleSize s v (length (t .timestamp)) (length (t .zone)) →
-    e ≡ endSize s (v .has) (length (t .name)) (t .domain) (t .lengths) (length (t .authentication)) → x ≡ capped (m + e) →
+    e ≡ endSize s (v .has) (length (t .session-name)) (t .domain) (t .lengths) (length (t .authentication)) → x ≡ capped (m + e) →
     r ≡ capped (21 + f + x) → r ≡ capped (length (headerOctets s (headOf v t)))
 unfolding headOf
 header-size s v t {f} {m} {e} {x} {r} ef em ee ex er =

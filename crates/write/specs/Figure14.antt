@@ -9,7 +9,7 @@ use Rattle.write.specs.Given.{Lent, lent}
 abbrev pub header : HeaderValues
 header =
     record {
-      kind = 1;
+      «packet_type» = 1;
       apid = record { 0 = 5 };
       sdu = 0;
       area = 1;
@@ -19,7 +19,7 @@ header =
       error = 0;
       qos = 1;
       session = 0;
-      second = record { 0 = 6 };
+      «secondary_apid» = record { 0 = 6 };
       qualifier = 7;
       transaction = 9;
       has =
@@ -29,7 +29,7 @@ header =
             priority = false;
             timestamp = false;
             zone = false;
-            session = false;
+            «session_name» = false;
             domain = false;
             authentication = false;
           };
@@ -39,7 +39,7 @@ header =
     }
 
 abbrev pub own : PacketValues
-own = record { flags = 3; count = record { 0 = 0 }; counter = record { 0 = 0 } }
+own = record { flags = 3; «sequence_count» = record { 0 = 0 }; counter = record { 0 = 0 } }
 
 abbrev pub texts : Lent
 texts = lent [] [] [] [] [] []

@@ -16,7 +16,7 @@ use Rattle.write.specs.Given.{Lent}
 -- identification; sequence flags and count; length field
 unfoldable pub primaryPieces : HeaderValues → PacketValues → ℕ → List (List ℕ)
 primaryPieces v o n =
-    wide 2 (v .kind * 4096 + 2048 + v .apid .0) ∷ wide 2 (o .flags * 16384 + o .count .0) ∷ wide 2 n ∷ []
+    wide 2 (v .«packet_type» * 4096 + 2048 + v .apid .0) ∷ wide 2 (o .flags * 16384 + o .«sequence_count» .0) ∷ wide 2 n ∷ []
 
 unfoldable pub namePieces : HeaderValues → List (List ℕ)
 namePieces v = wide 1 (v .sdu) ∷ wide 2 (v .area) ∷ wide 2 (v .service) ∷ wide 2 (v .operation) ∷ wide 1 (v .version) ∷ []
@@ -25,13 +25,13 @@ namePieces v = wide 1 (v .sdu) ∷ wide 2 (v .area) ∷ wide 2 (v .service) ∷ 
 unfoldable pub presentOctet : Present → ℕ
 presentOctet has =
     128 * bit (has .source) + 64 * bit (has .destination) + 32 * bit (has .priority) + 16 * bit (has .timestamp) + 8 * bit (has .zone)
-    + 4 * bit (has .session)
+    + 4 * bit (has .«session_name»)
     + 2 * bit (has .domain)
     + bit (has .authentication)
 
 unfoldable pub routingPieces : HeaderValues → List (List ℕ)
 routingPieces v =
-    wide 2 (v .error * 32768 + v .qos * 8192 + v .session * 2048 + v .second .0) ∷ wide 2 (v .qualifier) ∷ wide 8 (v .transaction)
+    wide 2 (v .error * 32768 + v .qos * 8192 + v .session * 2048 + v .«secondary_apid» .0) ∷ wide 2 (v .qualifier) ∷ wide 8 (v .transaction)
     ∷ wide 1 (presentOctet (v .has))
     ∷ []
 
@@ -47,7 +47,7 @@ middlePieces s v timestamp zone =
 
 unfoldable pub endPieces : Settings → Present → List ℕ → List ℕ → List ℕ → List ℕ → List (List ℕ)
 endPieces s has name domain lengths authentication =
-    when (has .session) (textPieces s name)
+    when (has .«session_name») (textPieces s name)
     ++ (when (has .domain) (domainPieces s (split lengths domain)) ++ when (has .authentication) (blobPieces s authentication))
 
 -- the packet; n is its length field
@@ -58,7 +58,7 @@ packetPieces s v o t n body =
     ++ (routingPieces v
     ++ (frontPieces v o
     ++ (middlePieces s v (t .timestamp) (t .zone)
-    ++ (endPieces s (v .has) (t .name) (t .domain) (t .lengths) (t .authentication) ++ (body ∷ []))))))
+    ++ (endPieces s (v .has) (t .session-name) (t .domain) (t .lengths) (t .authentication) ++ (body ∷ []))))))
 
 -- ---- sizes, told up to the limit
 
@@ -72,7 +72,7 @@ middleSize s v timestamp zone =
 unfoldable pub endSize : Settings → Present → ℕ → List ℕ → List ℕ → ℕ → ℕ
 endSize s has name domain lengths authentication =
     capped
-    (pick (has .session) (capped (length (numberOctets s name) + name)) 0
+    (pick (has .«session_name») (capped (length (numberOctets s name) + name)) 0
     + capped
     (pick (has .domain) (capped (length (domainOctets s (split lengths domain)))) 0
     + pick (has .authentication) (capped (length (numberOctets s authentication) + authentication)) 0))

@@ -14,7 +14,7 @@ Bits64 x = x < 18446744073709551616
 pub record LentOctets (t : Lent) (b : List ℕ) : Type 0 where
   pub timestamp : Octets (t .timestamp)
   pub zone : Octets (t .zone)
-  pub name : Octets (t .name)
+  pub session-name : Octets (t .session-name)
   pub domain : Octets (t .domain)
   pub authentication : Octets (t .authentication)
   pub body : Octets b

@@ -44,7 +44,7 @@ const MOST_16: u32 = 65535;
 
 // The values that all packets of a message share, but for its texts.
 pub struct HeaderValues {
-    pub kind: u8,
+    pub packet_type: u8,
     pub apid: Apid,
     pub sdu: u8,
     pub area: u32,
@@ -54,7 +54,7 @@ pub struct HeaderValues {
     pub error: u8,
     pub qos: u8,
     pub session: u8,
-    pub second: SecondaryApid,
+    pub secondary_apid: SecondaryApid,
     pub qualifier: u32,
     pub transaction: u64,
     pub has: Present,
@@ -66,7 +66,7 @@ pub struct HeaderValues {
 // The values of one packet: sequence flags, sequence count, segment counter.
 pub struct PacketValues {
     pub flags: u8,
-    pub count: SequenceCount,
+    pub sequence_count: SequenceCount,
     pub counter: SegmentCounter,
 }
 
@@ -142,7 +142,7 @@ fn test_names(v: HeaderValues, r: Refusal) -> Refusal
     ensures { λ q. ⌜ q ≡ unlessAll (nameChecks v) 22 r ⌝ }
 {
     let apid = v.apid;
-    let a = walk::unless(r, v.kind <= 1, 22);
+    let a = walk::unless(r, v.packet_type <= 1, 22);
     let b = walk::unless(a, apid.0 < 2047, 22);
     let c = walk::unless(b, v.sdu <= 21, 22);
     let d = walk::unless(c, v.area <= MOST_16, 22);
@@ -154,11 +154,11 @@ fn test_names(v: HeaderValues, r: Refusal) -> Refusal
 fn test_routing(v: HeaderValues, r: Refusal) -> Refusal
     ensures { λ q. ⌜ q ≡ unlessAll (routingChecks v) 22 r ⌝ }
 {
-    let second = v.second;
+    let secondary_apid = v.secondary_apid;
     let a = walk::unless(r, v.error <= 1, 22);
     let b = walk::unless(a, v.qos <= 3, 22);
     let c = walk::unless(b, v.session <= 2, 22);
-    let d = walk::unless(c, second.0 <= 2047, 22);
+    let d = walk::unless(c, secondary_apid.0 <= 2047, 22);
     walk::unless(d, v.qualifier <= MOST_16, 22)
 }
 
@@ -189,7 +189,7 @@ fn test_texts(
     let has = v.has;
     let a = walk::unless(r, exact_fits(has.timestamp, time.len(), s.t), 22);
     let b = walk::unless(a, text_fits(has.zone, zone.len()), 22);
-    let c = walk::unless(b, text_fits(has.session, name.len()), 22);
+    let c = walk::unless(b, text_fits(has.session_name, name.len()), 22);
     let d = walk::unless(c, text_fits(has.domain, domain.len()), 22);
     let e = walk::unless(d, lengths_fit(has.domain, lengths, domain.len()), 22);
     walk::unless(e, text_fits(has.authentication, id.len()), 22)
@@ -226,10 +226,10 @@ fn segmented(flags: u8) -> bool
 fn test_packet(o: PacketValues, r: Refusal) -> Refusal
     ensures { λ q. ⌜ q ≡ unlessAll (packetChecks o) 22 r ⌝ }
 {
-    let count = o.count;
+    let sequence_count = o.sequence_count;
     let counter = o.counter;
     let a = walk::unless(r, o.flags <= 3, 22);
-    let b = walk::unless(a, count.0 <= packet::COUNT_MOST, 22);
+    let b = walk::unless(a, sequence_count.0 <= packet::COUNT_MOST, 22);
     walk::unless(
         b,
         number_fits(segmented(o.flags), counter.0 as u64, MOST_32),
@@ -285,7 +285,7 @@ fn end_size(
 ) -> usize
     ensures { λ r. ⌜ r ≡ endSize s has name (now (domain .entry)) (now (lengths .entry)) id ⌝ }
 {
-    let a = size_if(has.session, fields::text_size(s, name));
+    let a = size_if(has.session_name, fields::text_size(s, name));
     let b = size_if(has.domain, fields::domain_size(s, domain, lengths));
     let c = size_if(has.authentication, fields::text_size(s, id));
     fields::plus(a, fields::plus(b, c))
@@ -317,9 +317,9 @@ fn put_primary(out: &mut [u8], v: HeaderValues, o: PacketValues, n: usize) -> us
     ensures { λ r. ⌜ Lays (laid (now (out .entry)) 0) (primaryPieces v o n) (now (out .exit)) r ⌝ }
 {
     let apid = v.apid;
-    let count = o.count;
-    let id = v.kind as u64 * 4096 + 2048 + apid.0 as u64;
-    let sequence = o.flags as u64 * 16384 + count.0 as u64;
+    let sequence_count = o.sequence_count;
+    let id = v.packet_type as u64 * 4096 + 2048 + apid.0 as u64;
+    let sequence = o.flags as u64 * 16384 + sequence_count.0 as u64;
     let a = octets::lay_number(out, 0, 2, id);
     let b = octets::lay_number(out, a, 2, sequence);
     octets::lay_number(out, b, 2, n as u64)
@@ -343,7 +343,7 @@ fn present_octet(has: Present) -> u64
         + 32 * octets::bit_of(has.priority)
         + 16 * octets::bit_of(has.timestamp)
         + 8 * octets::bit_of(has.zone)
-        + 4 * octets::bit_of(has.session)
+        + 4 * octets::bit_of(has.session_name)
         + 2 * octets::bit_of(has.domain)
         + octets::bit_of(has.authentication)
 }
@@ -351,10 +351,10 @@ fn present_octet(has: Present) -> u64
 fn put_routing(out: &mut [u8], at: usize, v: HeaderValues) -> usize
     ensures { λ r. ⌜ Lays (laid (now (out .entry)) at) (routingPieces v) (now (out .exit)) r ⌝ }
 {
-    let second = v.second;
+    let secondary_apid = v.secondary_apid;
     let has = v.has;
     let high = v.error as u64 * 32768 + v.qos as u64 * 8192;
-    let low = v.session as u64 * 2048 + second.0 as u64;
+    let low = v.session as u64 * 2048 + secondary_apid.0 as u64;
     let a = octets::lay_number(out, at, 2, high + low);
     let b = octets::lay_number(out, a, 2, v.qualifier as u64);
     let c = octets::lay_number(out, b, 8, v.transaction);
@@ -464,7 +464,7 @@ fn put_end(
 ) -> usize
     ensures { λ r. ⌜ Lays (laid (now (out .entry)) at) (endPieces s has (now (name .entry)) (now (domain .entry)) (now (lengths .entry)) (now (id .entry))) (now (out .exit)) r ⌝ }
 {
-    let a = text_if(has.session, s, out, at, name);
+    let a = text_if(has.session_name, s, out, at, name);
     let b = domain_if(has.domain, s, out, a, domain, lengths);
     blob_if(has.authentication, s, out, b, id)
 }
@@ -504,10 +504,10 @@ pub fn secondary_size(h: usize, flags: u8) -> usize
 }
 
 // A packet with this secondary header and body, told up to the limit.
-pub fn packet_size(second: usize, body: usize) -> usize
-    ensures { λ r. ⌜ r ≡ capped (6 + second + body) ⌝ }
+pub fn packet_size(secondary: usize, body: usize) -> usize
+    ensures { λ r. ⌜ r ≡ capped (6 + secondary + body) ⌝ }
 {
-    fields::plus(fields::plus(6, second), body)
+    fields::plus(fields::plus(6, secondary), body)
 }
 
 fn body_fits(flags: u8, n: usize) -> bool
@@ -521,17 +521,17 @@ fn body_fits(flags: u8, n: usize) -> bool
 
 // 23, 12, 14, 21, by the sizes of the secondary header, the packet, the body and the output.
 fn test_sizes(
-    second: usize,
+    secondary: usize,
     size: usize,
     flags: u8,
     body: usize,
     room: usize,
     r: Refusal,
 ) -> Refusal
-    ensures { λ q. ⌜ q ≡ unless (leb size room) 21 (unless (bodyFits flags body) 14 (unless (leb second headerMost) 12 (unless (leb size packetMost) 23 r))) ⌝ }
+    ensures { λ q. ⌜ q ≡ unless (leb size room) 21 (unless (bodyFits flags body) 14 (unless (leb secondary headerMost) 12 (unless (leb size packetMost) 23 r))) ⌝ }
 {
     let a = walk::unless(r, size <= PACKET_MOST, 23);
-    let b = walk::unless(a, second <= HEADER_MOST, 12);
+    let b = walk::unless(a, secondary <= HEADER_MOST, 12);
     let c = walk::unless(b, body_fits(flags, body), 14);
     walk::unless(c, size <= room, 21)
 }
@@ -579,9 +579,9 @@ pub fn write(
 {
     let values = test_values(s, v, o, time, zone, name, domain, lengths, id);
     let h = header_size(s, v, time, zone, name, domain, lengths, id);
-    let second = secondary_size(h, o.flags);
-    let size = packet_size(second, body.len());
-    let r = test_sizes(second, size, o.flags, body.len(), out.len(), values);
+    let secondary = secondary_size(h, o.flags);
+    let size = packet_size(secondary, body.len());
+    let r = test_sizes(secondary, size, o.flags, body.len(), out.len(), values);
     if r.number != 0 {
         return Written {
             refusal: r,

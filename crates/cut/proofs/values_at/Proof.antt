@@ -19,7 +19,7 @@ unfolding valuesOf
 returns c =
     λ j. record {
       flags = c .before .before .flags-at .ensures j;
-      count = c .before .sequence-count-after .ensures j;
+      «sequence_count» = c .before .sequence-count-after .ensures j;
       counter = record { 0 = c .counter-at .ensures j };
     }
 
