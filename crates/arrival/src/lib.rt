@@ -16,6 +16,9 @@ ghost use Rattle.arrival.specs.Told.{arrivalOf};
 ghost use Rattle.arrival.specs.Inner.{segWith};
 use packet::SegmentCounter;
 use packet::UNSEGMENTED;
+use walk::REFUSED_CELL;
+use walk::REFUSED_CONTRADICTS;
+use walk::REFUSED_FULL;
 use walk::Refusal;
 use walk::Settings;
 
@@ -56,7 +59,7 @@ fn store_new(store: &mut [u8], n: usize, zero: &[u8], p: &[u8]) -> Arrival
 {
     let i = cells::lowest_free(store, n, zero);
     if n <= i {
-        return refused(19);
+        return refused(REFUSED_FULL);
     }
     cells::put_cell(store, zero.len(), i, p);
     Arrival::Answer(Kind::Stored)
@@ -87,7 +90,7 @@ fn store_segment(
     if is_same(s, cells::row(store, zero.len(), j), p, flags, at, long) {
         return Arrival::Answer(Kind::Held);
     }
-    refused(18)
+    refused(REFUSED_CONTRADICTS)
 }
 
 // A packet at the first n cells of any octets, beside a zero cell.
@@ -109,7 +112,7 @@ pub fn arrive_in(s: Settings, store: &mut [u8], n: usize, zero: &[u8], p: &[u8])
         return Arrival::Answer(Kind::Whole);
     }
     if zero.len() < 2 + p.len() {
-        return refused(17);
+        return refused(REFUSED_CELL);
     }
     store_segment(
         s,

@@ -24,6 +24,14 @@ use packet::SegmentCounter;
 use sender::Next;
 use sender::Sender;
 use sender::Sent;
+use walk::REFUSED_COUNTER;
+use walk::REFUSED_HEADER_LONG;
+use walk::REFUSED_LARGE;
+use walk::REFUSED_NO_ROOM;
+use walk::REFUSED_NUMBER;
+use walk::REFUSED_OUTPUT;
+use walk::REFUSED_SETTINGS;
+use walk::REFUSED_VALUE;
 use walk::Refusal;
 use walk::Settings;
 use write::HeaderValues;
@@ -62,8 +70,8 @@ pub fn test_limit(s: Settings, p: usize, r: Refusal) -> Refusal
     ensures { λ q. ⌜ q ≡ limitTest s p r ⌝ }
 {
     let a = write::test_settings(s, r);
-    let b = walk::unless(a, LIMIT_LEAST <= p, 15);
-    walk::unless(b, p <= write::PACKET_MOST, 15)
+    let b = walk::unless(a, LIMIT_LEAST <= p, REFUSED_SETTINGS);
+    walk::unless(b, p <= write::PACKET_MOST, REFUSED_SETTINGS)
 }
 
 // 15, 22, 13.
@@ -85,7 +93,7 @@ fn test_message(
     let sequence_count = sender.sequence_count;
     let a = test_limit(s, p, none);
     let b = write::test_header(s, v, time, zone, name, domain, lengths, id, a);
-    let c = walk::unless(b, sequence_count.0 <= packet::COUNT_MOST, 22);
+    let c = walk::unless(b, sequence_count.0 <= packet::COUNT_MOST, REFUSED_VALUE);
     write::test_parts(lengths.len(), c)
 }
 
@@ -149,10 +157,18 @@ fn plan_of(p: usize, h: usize, b: usize, sender: Sender, r: Refusal) -> Plan
     let chunk = chunk_of(p, h);
     let count = count_of(single, b, chunk);
     let next = sender.next;
-    let a = walk::unless(r, b <= BODY_MOST, 23);
-    let c = walk::unless(a, header_of(single, h) <= write::HEADER_MOST, 12);
-    let d = walk::unless(c, octets::either(single, 1 <= chunk), 24);
-    let e = walk::unless(d, octets::either(single, counters_fit(next, count)), 25);
+    let a = walk::unless(r, b <= BODY_MOST, REFUSED_LARGE);
+    let c = walk::unless(
+        a,
+        header_of(single, h) <= write::HEADER_MOST,
+        REFUSED_HEADER_LONG,
+    );
+    let d = walk::unless(c, octets::either(single, 1 <= chunk), REFUSED_NO_ROOM);
+    let e = walk::unless(
+        d,
+        octets::either(single, counters_fit(next, count)),
+        REFUSED_COUNTER,
+    );
     Plan {
         refusal: e,
         single: single,
@@ -317,8 +333,8 @@ pub fn packet(
     let to = to_of(plan.single, from, plan.chunk, body.len());
     let part = &body[from..to];
     let size = write::packet_size(write::secondary_size(h, o.flags), part.len());
-    let a = walk::unless(plan.refusal, i < plan.count, 26);
-    let r = walk::unless(a, size <= out.len(), 21);
+    let a = walk::unless(plan.refusal, i < plan.count, REFUSED_NUMBER);
+    let r = walk::unless(a, size <= out.len(), REFUSED_OUTPUT);
     if r.number != 0 {
         return refused(r, sender);
     }

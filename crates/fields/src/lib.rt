@@ -18,6 +18,8 @@ ghost use Rattle.fields.specs.Form.{numberOctets, domainOctets, split};
 ghost use Rattle.fields.specs.Inner.{asText, asDomain, ofDomain, blobPieces, textPieces, partPieces, partsPieces, domainPieces, capped};
 use varint::Wrote;
 use walk::Number;
+use walk::REFUSED_DOMAIN_PART;
+use walk::REFUSED_MANY_PARTS;
 use walk::Settings;
 use walk::Walk;
 
@@ -132,7 +134,7 @@ fn read_part(s: Settings, p: &[u8], w: Walk) -> Text
     ensures { λ r. ⌜ r ≡ asText (part s (now (p .entry)) (ofWalk w)) ⌝ }
 {
     let b = octets::octet(p, w.at as usize);
-    read_text(s, p, w.octets(p, 1).check(b == 1, 11))
+    read_text(s, p, w.octets(p, 1).check(b == 1, REFUSED_DOMAIN_PART))
 }
 
 // One part more, as part number k: there are sixteen places.
@@ -187,7 +189,7 @@ pub fn read_domain(s: Settings, p: &[u8], w: Walk) -> Domain
     if count <= PARTS {
         return parts_to(s, p, count, no_parts(v, count));
     }
-    no_parts(v.check(false, 13), 0)
+    no_parts(v.check(false, REFUSED_MANY_PARTS), 0)
 }
 
 // A domain if it is there.

@@ -31,6 +31,7 @@ use sender::Next;
 use sender::Sender;
 use varint::MOST_16;
 use varint::MOST_32;
+use walk::REFUSED_VALUE;
 use walk::Refusal;
 use walk::Settings;
 use write::HeaderValues;
@@ -375,7 +376,7 @@ pub fn next_sequence_count(sequence_count: u64) -> [u64; 2]
 fn too_wide(r: Refusal) -> u64
     ensures { λ q. ⌜ q ≡ tooWide r ⌝ }
 {
-    let q = walk::unless(r, false, 22);
+    let q = walk::unless(r, false, REFUSED_VALUE);
     q.number as u64
 }
 

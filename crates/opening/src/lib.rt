@@ -5,6 +5,7 @@ ghost use mathlib.Core.Path.{_≡_};
 ghost use lib.ListN.{length};
 ghost use Rattle.cells.specs.Rows.{zeroRow};
 ghost use Rattle.opening.specs.Inner.{openedOf};
+use walk::REFUSED_ORDER;
 use walk::Refusal;
 use walk::Settings;
 
@@ -30,7 +31,9 @@ pub fn check(s: Settings, store: &[u8], zero: &[u8]) -> Opened
     let n = cells::in_order(s, store, zero);
     if n == 0 {
         return Opened {
-            refusal: Refusal { number: 16 },
+            refusal: Refusal {
+                number: REFUSED_ORDER,
+            },
             cells: 0,
         };
     }

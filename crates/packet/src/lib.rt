@@ -24,6 +24,15 @@ ghost use Rattle.packet.specs.FixedPart.{flagsOf, octetField, wideField,
 ghost use Rattle.packet.specs.Reading.{primaryTests, primaryOf, idsOf, textsOf, bodyTest, segmented as segmentedOf, counterSize, refusedHeader, noFixed, readPacket};
 ghost use Rattle.packet.specs.Inner.{heldCount, namesOf, routingOf, fixedStep, asOctet, asWord, asCounter, asIds, asTexts};
 use fields::Place;
+use walk::REFUSED_BINDING;
+use walk::REFUSED_EMPTY_SEGMENT;
+use walk::REFUSED_FEW_OCTETS;
+use walk::REFUSED_IDLE;
+use walk::REFUSED_LENGTH;
+use walk::REFUSED_NO_SECONDARY;
+use walk::REFUSED_SDU_TYPE;
+use walk::REFUSED_SESSION;
+use walk::REFUSED_VERSION;
 use walk::Refusal;
 use walk::Settings;
 use walk::Walk;
@@ -200,9 +209,11 @@ fn primary_walk(p: &[u8], w: Walk) -> Walk
     let first = octets::octet(p, 0);
     let id = octets::be16(p, 0);
     let want = octets::be16(p, 4) as usize + 7;
-    let a = w.check(6 <= p.len(), 1).check(first < 32, 2);
-    let b = a.check(first / 8 % 2 == 1, 3).check(id % 2048 != 2047, 4);
-    b.check(p.len() == want, 5)
+    let a = w.check(6 <= p.len(), REFUSED_FEW_OCTETS)
+        .check(first < 32, REFUSED_VERSION);
+    let b = a.check(first / 8 % 2 == 1, REFUSED_NO_SECONDARY)
+        .check(id % 2048 != 2047, REFUSED_IDLE);
+    b.check(p.len() == want, REFUSED_LENGTH)
 }
 
 fn read_primary(p: &[u8]) -> Primary
@@ -251,7 +262,8 @@ fn read_sdu(p: &[u8], w: Walk) -> Octet
     let a = read_octet(p, w);
     let aw = a.walk;
     let first = a.value;
-    let end = aw.check(first < 32, 7).check(first % 32 < 22, 8);
+    let end = aw.check(first < 32, REFUSED_BINDING)
+        .check(first % 32 < 22, REFUSED_SDU_TYPE);
     Octet {
         walk: end,
         value: first % 32,
@@ -289,7 +301,7 @@ fn read_routing(p: &[u8], w: Walk) -> Routing
     let a = read_octet(p, w);
     let aw = a.walk;
     let high = a.value;
-    let b = read_octet(p, aw.check(high / 8 % 4 < 3, 9));
+    let b = read_octet(p, aw.check(high / 8 % 4 < 3, REFUSED_SESSION));
     let bw = b.walk;
     let c = read_word(p, bw);
     let cw = c.walk;
@@ -442,7 +454,7 @@ fn body_walk(p: &[u8], w: Walk) -> Walk
     ensures { λ r. ⌜ r ≡ asWalk (bodyTest (now (p .entry)) (ofWalk w)) ⌝ }
 {
     if segmented(p) {
-        return w.check((w.at as usize) < p.len(), 14);
+        return w.check((w.at as usize) < p.len(), REFUSED_EMPTY_SEGMENT);
     }
     w
 }

@@ -21,6 +21,7 @@ ghost use Rattle.steps.specs.Inner.{takenIn, leftAs, framedAs, stopAs};
 ghost use Rattle.packet.specs.Format.{packetMost};
 use join::Joined;
 use join::Which;
+use walk::REFUSED_INCOMPLETE;
 use walk::Refusal;
 use walk::Settings;
 
@@ -117,7 +118,7 @@ fn stop(ends: bool, what: What) -> Done
 fn left(refusal: Refusal, used: usize) -> Done
     ensures { λ r. ⌜ r ≡ leftAs (refusal .number) used ⌝ }
 {
-    if refusal.number == 20 {
+    if refusal.number == REFUSED_INCOMPLETE {
         return Done {
             what: What::Kept,
             refusal: Refusal { number: 0 },

@@ -23,6 +23,8 @@ use messages::Piece;
 use packet::FIRST;
 use packet::LAST;
 use packet::SegmentCounter;
+use walk::REFUSED_INCOMPLETE;
+use walk::REFUSED_OUTPUT;
 use walk::Refusal;
 use walk::Settings;
 
@@ -372,18 +374,18 @@ fn take_by(
 {
     let m = pick_message(s, store, n, zero, chained, heads, links);
     let Picked::Message { cell, body } = m else {
-        return not_taken(20);
+        return not_taken(REFUSED_INCOMPLETE);
     };
     let h = packet::read(s, cells::packet_in(cells::row(store, zero.len(), cell)));
     let long = out.len();
     if long < 2 {
-        return not_taken(21);
+        return not_taken(REFUSED_OUTPUT);
     }
     if long - 2 < h.h {
-        return not_taken(21);
+        return not_taken(REFUSED_OUTPUT);
     }
     if long - 2 - h.h < body {
-        return not_taken(21);
+        return not_taken(REFUSED_OUTPUT);
     }
     draw(s, store, n, zero, cell, body, out, chained, heads, links)
 }
@@ -422,7 +424,7 @@ pub fn take_in(s: Settings, store: &mut [u8], n: usize, zero: &[u8], out: &mut [
     ensures { λ r. ⌜ now (store .exit) ≡ storeLess s (length (now (zero .entry))) (now (store .entry)) n (tookIn s (length (now (zero .entry))) (now (store .entry)) n (length (now (out .entry)))) ⌝ }
 {
     if n <= lowest_last(store, n, zero.len()) {
-        return not_taken(20);
+        return not_taken(REFUSED_INCOMPLETE);
     }
     if n <= SEARCH_MOST {
         return take_plain(s, store, n, zero, out);

@@ -19,6 +19,85 @@ pub const TIMESTAMP_LEAST: usize = 1;
 
 pub const TIMESTAMP_MOST: usize = 16;
 
+// The refusals by name; docs/SPEC.md has the rule of each.
+// Fewer than six octets.
+pub const REFUSED_FEW_OCTETS: u8 = 1;
+
+// Packet version not 000.
+pub const REFUSED_VERSION: u8 = 2;
+
+// Secondary header flag 0.
+pub const REFUSED_NO_SECONDARY: u8 = 3;
+
+// APID 2047.
+pub const REFUSED_IDLE: u8 = 4;
+
+// The slice is not as long as the length field says.
+pub const REFUSED_LENGTH: u8 = 5;
+
+// The data field ends inside the secondary header.
+pub const REFUSED_HEADER_ENDS: u8 = 6;
+
+// Binding version not 000.
+pub const REFUSED_BINDING: u8 = 7;
+
+// SDU type 22 to 31.
+pub const REFUSED_SDU_TYPE: u8 = 8;
+
+// Session 3.
+pub const REFUSED_SESSION: u8 = 9;
+
+// A Varint not shortest, or above 32 bits.
+pub const REFUSED_VARINT: u8 = 10;
+
+// A domain part that is not there.
+pub const REFUSED_DOMAIN_PART: u8 = 11;
+
+// Secondary header above 256 octets.
+pub const REFUSED_HEADER_LONG: u8 = 12;
+
+// More than sixteen domain parts.
+pub const REFUSED_MANY_PARTS: u8 = 13;
+
+// A segment without a body.
+pub const REFUSED_EMPTY_SEGMENT: u8 = 14;
+
+// T or P out of range.
+pub const REFUSED_SETTINGS: u8 = 15;
+
+// Store not in order.
+pub const REFUSED_ORDER: u8 = 16;
+
+// A segment that fits no cell.
+pub const REFUSED_CELL: u8 = 17;
+
+// Contradicts a held segment.
+pub const REFUSED_CONTRADICTS: u8 = 18;
+
+// No free cell.
+pub const REFUSED_FULL: u8 = 19;
+
+// Nothing complete.
+pub const REFUSED_INCOMPLETE: u8 = 20;
+
+// Output too short.
+pub const REFUSED_OUTPUT: u8 = 21;
+
+// A value to write that its field can not have.
+pub const REFUSED_VALUE: u8 = 22;
+
+// Packet or message too large.
+pub const REFUSED_LARGE: u8 = 23;
+
+// No room for body octets in a packet.
+pub const REFUSED_NO_ROOM: u8 = 24;
+
+// No counter left.
+pub const REFUSED_COUNTER: u8 = 25;
+
+// No packet of that number.
+pub const REFUSED_NUMBER: u8 = 26;
+
 // What both sides agreed on: T, the octets of a timestamp.
 pub struct Settings {
     pub t: usize,
@@ -85,13 +164,13 @@ impl Walk {
             return self;
         }
         if HEADER_END < at {
-            return refused(12);
+            return refused(REFUSED_HEADER_LONG);
         }
         if HEADER_END - at < n {
-            return refused(12);
+            return refused(REFUSED_HEADER_LONG);
         }
         if p.len() < at + n {
-            return refused(6);
+            return refused(REFUSED_HEADER_ENDS);
         }
         goes((at + n) as u16)
     }
@@ -157,7 +236,7 @@ pub fn read_number(s: Settings, p: &[u8], w: Walk) -> Number
             }
         }
         Found::Bad => {
-            let walk = refused(10);
+            let walk = refused(REFUSED_VARINT);
             Number {
                 walk: walk,
                 value: 0,
@@ -171,6 +250,6 @@ pub fn begin(s: Settings) -> Walk
     ensures { λ r. ⌜ r ≡ asWalk (begun s) ⌝ }
 {
     let w = goes(6);
-    w.check(TIMESTAMP_LEAST <= s.t, 15)
-        .check(s.t <= TIMESTAMP_MOST, 15)
+    w.check(TIMESTAMP_LEAST <= s.t, REFUSED_SETTINGS)
+        .check(s.t <= TIMESTAMP_MOST, REFUSED_SETTINGS)
 }

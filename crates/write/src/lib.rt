@@ -29,6 +29,13 @@ use packet::SecondaryApid;
 use packet::SegmentCounter;
 use packet::SequenceCount;
 use varint::MOST_32;
+use walk::REFUSED_EMPTY_SEGMENT;
+use walk::REFUSED_HEADER_LONG;
+use walk::REFUSED_LARGE;
+use walk::REFUSED_MANY_PARTS;
+use walk::REFUSED_OUTPUT;
+use walk::REFUSED_SETTINGS;
+use walk::REFUSED_VALUE;
 use walk::Refusal;
 use walk::Settings;
 
@@ -82,8 +89,8 @@ pub struct Written {
 pub fn test_settings(s: Settings, r: Refusal) -> Refusal
     ensures { λ q. ⌜ q ≡ settingsTest s r ⌝ }
 {
-    let a = walk::unless(r, walk::TIMESTAMP_LEAST <= s.t, 15);
-    walk::unless(a, s.t <= walk::TIMESTAMP_MOST, 15)
+    let a = walk::unless(r, walk::TIMESTAMP_LEAST <= s.t, REFUSED_SETTINGS);
+    walk::unless(a, s.t <= walk::TIMESTAMP_MOST, REFUSED_SETTINGS)
 }
 
 fn number_fits(there: bool, x: u64, most: u64) -> bool
@@ -142,24 +149,24 @@ fn test_names(v: HeaderValues, r: Refusal) -> Refusal
     ensures { λ q. ⌜ q ≡ unlessAll (nameChecks v) 22 r ⌝ }
 {
     let apid = v.apid;
-    let a = walk::unless(r, v.packet_type <= 1, 22);
-    let b = walk::unless(a, apid.0 < 2047, 22);
-    let c = walk::unless(b, v.sdu <= 21, 22);
-    let d = walk::unless(c, v.area <= MOST_16, 22);
-    let e = walk::unless(d, v.service <= MOST_16, 22);
-    let f = walk::unless(e, v.operation <= MOST_16, 22);
-    walk::unless(f, v.version <= 255, 22)
+    let a = walk::unless(r, v.packet_type <= 1, REFUSED_VALUE);
+    let b = walk::unless(a, apid.0 < 2047, REFUSED_VALUE);
+    let c = walk::unless(b, v.sdu <= 21, REFUSED_VALUE);
+    let d = walk::unless(c, v.area <= MOST_16, REFUSED_VALUE);
+    let e = walk::unless(d, v.service <= MOST_16, REFUSED_VALUE);
+    let f = walk::unless(e, v.operation <= MOST_16, REFUSED_VALUE);
+    walk::unless(f, v.version <= 255, REFUSED_VALUE)
 }
 
 fn test_routing(v: HeaderValues, r: Refusal) -> Refusal
     ensures { λ q. ⌜ q ≡ unlessAll (routingChecks v) 22 r ⌝ }
 {
     let secondary_apid = v.secondary_apid;
-    let a = walk::unless(r, v.error <= 1, 22);
-    let b = walk::unless(a, v.qos <= 3, 22);
-    let c = walk::unless(b, v.session <= 2, 22);
-    let d = walk::unless(c, secondary_apid.0 <= 2047, 22);
-    walk::unless(d, v.qualifier <= MOST_16, 22)
+    let a = walk::unless(r, v.error <= 1, REFUSED_VALUE);
+    let b = walk::unless(a, v.qos <= 3, REFUSED_VALUE);
+    let c = walk::unless(b, v.session <= 2, REFUSED_VALUE);
+    let d = walk::unless(c, secondary_apid.0 <= 2047, REFUSED_VALUE);
+    walk::unless(d, v.qualifier <= MOST_16, REFUSED_VALUE)
 }
 
 fn test_ids(v: HeaderValues, r: Refusal) -> Refusal
@@ -168,9 +175,17 @@ fn test_ids(v: HeaderValues, r: Refusal) -> Refusal
     let has = v.has;
     let source = v.source as u64;
     let destination = v.destination as u64;
-    let a = walk::unless(r, number_fits(has.source, source, MOST_8), 22);
-    let b = walk::unless(a, number_fits(has.destination, destination, MOST_8), 22);
-    walk::unless(b, number_fits(has.priority, v.priority, MOST_32), 22)
+    let a = walk::unless(r, number_fits(has.source, source, MOST_8), REFUSED_VALUE);
+    let b = walk::unless(
+        a,
+        number_fits(has.destination, destination, MOST_8),
+        REFUSED_VALUE,
+    );
+    walk::unless(
+        b,
+        number_fits(has.priority, v.priority, MOST_32),
+        REFUSED_VALUE,
+    )
 }
 
 fn test_texts(
@@ -187,12 +202,16 @@ fn test_texts(
     ensures { λ q. ⌜ q ≡ unlessAll (textChecks s v (lent (now (time .entry)) (now (zone .entry)) (now (name .entry)) (now (domain .entry)) (now (lengths .entry)) (now (id .entry)))) 22 r ⌝ }
 {
     let has = v.has;
-    let a = walk::unless(r, exact_fits(has.timestamp, time.len(), s.t), 22);
-    let b = walk::unless(a, text_fits(has.zone, zone.len()), 22);
-    let c = walk::unless(b, text_fits(has.session_name, name.len()), 22);
-    let d = walk::unless(c, text_fits(has.domain, domain.len()), 22);
-    let e = walk::unless(d, lengths_fit(has.domain, lengths, domain.len()), 22);
-    walk::unless(e, text_fits(has.authentication, id.len()), 22)
+    let a = walk::unless(r, exact_fits(has.timestamp, time.len(), s.t), REFUSED_VALUE);
+    let b = walk::unless(a, text_fits(has.zone, zone.len()), REFUSED_VALUE);
+    let c = walk::unless(b, text_fits(has.session_name, name.len()), REFUSED_VALUE);
+    let d = walk::unless(c, text_fits(has.domain, domain.len()), REFUSED_VALUE);
+    let e = walk::unless(
+        d,
+        lengths_fit(has.domain, lengths, domain.len()),
+        REFUSED_VALUE,
+    );
+    walk::unless(e, text_fits(has.authentication, id.len()), REFUSED_VALUE)
 }
 
 // 22, as far as a header's values go: the one list of its checks.
@@ -228,8 +247,8 @@ fn test_packet(o: PacketValues, r: Refusal) -> Refusal
 {
     let sequence_count = o.sequence_count;
     let counter = o.counter;
-    let a = walk::unless(r, o.flags <= 3, 22);
-    let b = walk::unless(a, sequence_count.0 <= packet::COUNT_MOST, 22);
+    let a = walk::unless(r, o.flags <= 3, REFUSED_VALUE);
+    let b = walk::unless(a, sequence_count.0 <= packet::COUNT_MOST, REFUSED_VALUE);
     walk::unless(
         b,
         number_fits(segmented(o.flags), counter.0 as u64, MOST_32),
@@ -241,7 +260,7 @@ fn test_packet(o: PacketValues, r: Refusal) -> Refusal
 pub fn test_parts(count: usize, r: Refusal) -> Refusal
     ensures { λ q. ⌜ q ≡ unless (leb count partsMost) 13 r ⌝ }
 {
-    walk::unless(r, count <= fields::PARTS, 13)
+    walk::unless(r, count <= fields::PARTS, REFUSED_MANY_PARTS)
 }
 
 // ---- sizes
@@ -530,10 +549,10 @@ fn test_sizes(
 ) -> Refusal
     ensures { λ q. ⌜ q ≡ unless (leb size room) 21 (unless (bodyFits flags body) 14 (unless (leb secondary headerMost) 12 (unless (leb size packetMost) 23 r))) ⌝ }
 {
-    let a = walk::unless(r, size <= PACKET_MOST, 23);
-    let b = walk::unless(a, secondary <= HEADER_MOST, 12);
-    let c = walk::unless(b, body_fits(flags, body), 14);
-    walk::unless(c, size <= room, 21)
+    let a = walk::unless(r, size <= PACKET_MOST, REFUSED_LARGE);
+    let b = walk::unless(a, secondary <= HEADER_MOST, REFUSED_HEADER_LONG);
+    let c = walk::unless(b, body_fits(flags, body), REFUSED_EMPTY_SEGMENT);
+    walk::unless(c, size <= room, REFUSED_OUTPUT)
 }
 
 // 15, 22 and 13: the tests on the values alone.
