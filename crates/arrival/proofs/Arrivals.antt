@@ -24,11 +24,11 @@ use Rattle.cells.proofs.Scans.{free-is}
 use Rattle.cells.proofs.Held.{flags-same}
 use Rattle.cells.proofs.Laid.{held-laid}
 use Rattle.arrival.specs.Arriving.{whole, stored, again, refused, placed, beside, lowestFree, segmentArrived, arrivedIn}
-use Rattle.messages.specs.declared.Piece.{Piece}
-use Rattle.messages.specs.Inner.{segIn, pieceOf}
+use Rattle.cells.specs.declared.messages.Piece.{Piece}
+use Rattle.cells.specs.Pieces.{segIn, pieceOf}
 use Rattle.arrival.specs.Inner.{segWith}
-use Rattle.messages.proofs.Looks.{lowest-holds, lowest-same, look-found, look-none}
-use Rattle.messages.proofs.Found.{found-held}
+use Rattle.cells.proofs.Looks.{lowest-holds, lowest-same, look-found, look-none}
+use Rattle.cells.proofs.Found.{found-held}
 
 -- ---- a new segment
 

@@ -14,12 +14,12 @@ use Rattle.walk.specs.Walk.{begun}
 use Rattle.cells.specs.Segments.{Seg, carries}
 use Rattle.cells.specs.Rows.{held, heldRow}
 use Rattle.cells.specs.Order.{isSound, carriesIn, cellAt, countIn, inOrder, gate}
-use Rattle.opening.proofs.Gate.{through-tells, open-true}
+use Rattle.cells.proofs.Gate.{through-tells, open-true}
 use Rattle.cells.proofs.Lowest.{same-or}
-use Rattle.messages.proofs.Listed.{among-below}
-use Rattle.messages.proofs.Looking.{look-none}
-use Rattle.messages.proofs.Distinct.{Apart, carries-yes}
-use Rattle.messages.proofs.Order.{cells-inside, Ordered, order-tells, order-same}
+use Rattle.cells.proofs.Listed.{among-below}
+use Rattle.cells.proofs.Looking.{look-none}
+use Rattle.cells.proofs.Distinct.{Apart, carries-yes}
+use Rattle.cells.proofs.StoreOrder.{cells-inside, Ordered, order-tells, order-same}
 use Rattle.arrival.specs.Arriving.{Arrived, whole, stored, again, refused, arrivedIn, arrived, storeWith}
 use Rattle.arrival.proofs.After.{segment, Stored, not-refused, stored-tells, cell-kept, cell-stored}
 

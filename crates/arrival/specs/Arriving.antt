@@ -15,7 +15,7 @@ use Rattle.packet.specs.Reading.{readPacket, segmented}
 use Rattle.cells.specs.Segments.{Seg, segOf, sameRest}
 use Rattle.cells.specs.Rows.{heldRow}
 use Rattle.cells.specs.Order.{isFree, lowest, cellAt, countIn, gate, through}
-use Rattle.messages.specs.Messages.{cellsOf, look}
+use Rattle.cells.specs.Messages.{cellsOf, look}
 
 -- what an arrival comes to: a new segment with the cell it goes to
 pub data Arrived : Type 0 where

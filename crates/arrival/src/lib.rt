@@ -10,7 +10,7 @@ ghost use Rattle.cells.specs.Segments.{sameRest};
 ghost use Rattle.cells.specs.Rows.{rowAt, zeroRow};
 ghost use Rattle.cells.specs.Order.{lowest};
 ghost use Rattle.cells.specs.Inner.{Asked};
-ghost use Rattle.messages.specs.Inner.{segIn};
+ghost use Rattle.cells.specs.Pieces.{segIn};
 ghost use Rattle.arrival.specs.Arriving.{refused as refusedBy, placed, segmentArrived, arrivedIn, storeWith};
 ghost use Rattle.arrival.specs.Told.{arrivalOf};
 ghost use Rattle.arrival.specs.Inner.{segWith};
@@ -46,7 +46,7 @@ fn is_same(s: Settings, row: &[u8], p: &[u8], flags: u8, at: usize, long: usize)
     ensures { λ r. ⌜ r ≡ sameRest (segIn s 0 (now (row .entry))) (segWith s (now (p .entry)) flags at long 0) ⌝ }
 {
     let q = cells::packet_in(row);
-    let t = messages::piece_in(s, row);
+    let t = cells::messages::piece_in(s, row);
     cells::same_rest(q, t.flags, t.at, t.length, p, flags, at, long)
 }
 

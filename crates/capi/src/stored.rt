@@ -9,7 +9,7 @@ ghost use Rattle.recording.specs.Ending.{recordedOf, outRecorded};
 ghost use Rattle.walk.specs.Walk.{settingsOf};
 ghost use Rattle.flat_store.specs.Numbers.{arriveNumbers, takeNumbers, joinNumbers, orderNumbers};
 ghost use Rattle.flat_store.specs.Views.{viewNumbers};
-ghost use Rattle.flat_recording.specs.Numbers.{recordedNumbers};
+ghost use Rattle.flat_store.specs.Recordings.{recordedNumbers};
 
 // A packet arrives.
 #[no_mangle]
@@ -75,5 +75,5 @@ pub extern "C" fn orl_join_recording(recording: &[u8], out: &mut [u8], answer: &
     ensures { λ r. ⌜ now (answer .exit) ≡ recordedNumbers (recordedOf (length (now (out .entry))) (now (recording .entry))) ⌝ }
     ensures { λ r. ⌜ now (out .exit) ≡ outRecorded (now (out .entry)) (now (recording .entry)) ⌝ }
 {
-    *answer = flat_recording::join_recording(recording, out);
+    *answer = flat_store::recordings::join_recording(recording, out);
 }

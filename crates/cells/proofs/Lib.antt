@@ -21,3 +21,15 @@ pub mod Laid
 pub mod Reaches
 pub mod Within
 pub mod CellSegments
+pub mod Distinct
+pub mod Empty
+pub mod Found
+pub mod HeldRow
+pub mod Listed
+pub mod Looking
+pub mod Looks
+pub mod Members
+pub mod Opens
+pub mod StoreOrder
+pub mod Picking
+pub mod Gate

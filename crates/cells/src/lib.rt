@@ -7,6 +7,9 @@
 //
 // Chains lead through the held cells, so that a key and a counter are found without a look at every cell: a number mixed from both
 // chooses the chain, `heads` has the highest cell of each chain and `links` the next lower one of each cell; 0 is none, and cell i is i + 1.
+pub mod messages;
+pub mod opening;
+
 ghost use mathlib.Core.Path.{_≡_};
 ghost use Prim.Native.Nat.{suc, _+_, _*_, _/_, _≤_, _<_};
 ghost use lib.ListN.{length, getD, drop, set};

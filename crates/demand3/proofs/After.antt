@@ -9,8 +9,8 @@ use lib.ListN.{length}
 use lib.Dec.{ltb}
 use Rattle.walk.specs.declared.Settings.{Settings}
 use Rattle.cells.specs.Order.{cellAt}
-use Rattle.messages.specs.Messages.{cellsOf, Run, segments}
-use Rattle.messages.proofs.Listed.{listed-same, listed-map}
+use Rattle.cells.specs.Messages.{cellsOf, Run, segments}
+use Rattle.cells.proofs.Listed.{listed-same, listed-map}
 use Rattle.arrival.specs.Arriving.{stored, lowestFree, arrivedIn, storeWith}
 use Rattle.arrival.proofs.After.{segment, stored-tells, cell-kept, cell-stored}
 use Rattle.taking.specs.Taking.{message, storeLess}

@@ -11,7 +11,7 @@ use native.Mathlib.Omega.{arith}
 use lib.ListN.{length}
 use Rattle.cells.specs.Segments.{Seg}
 use Rattle.cells.specs.Rows.{Cell}
-use Rattle.messages.specs.Messages.{Run, middle, last, top, picked}
+use Rattle.cells.specs.Messages.{Run, middle, last, top, picked}
 use Rattle.demand3.specs.Complete.{Held, Single, Complete}
 use Rattle.demand3.specs.Traffic.{Sent, stepsIn, runOf, segmentsOf, Event, arrives, empty, after, OneOf, Stray, Traffic}
 use Rattle.demand3.specs.Promise.{Original, Done, AllCame, fresh, Given, Delivery, Promise}

@@ -10,8 +10,8 @@ use mathlib.Core.List.{List, [], _∷_, List·Memᴰ·head, List·Memᴰ·tail, 
 use Rattle.octets.proofs.Lists.{bool}
 use Rattle.cells.specs.Segments.{Seg, carries}
 use Rattle.cells.specs.Rows.{Cell}
-use Rattle.messages.specs.Messages.{first, Run, segments, look, restFrom, among, or}
-use Rattle.messages.proofs.Distinct.{carries-yes, carries-true}
+use Rattle.cells.specs.Messages.{first, Run, segments, look, restFrom, among, or}
+use Rattle.cells.proofs.Distinct.{carries-yes, carries-true}
 use Rattle.demand3.specs.Cells.{put, hasFree, clear}
 use Rattle.demand3.specs.Complete.{Held, Single}
 use Rattle.demand3.proofs.Looks.{carries-no, look-held, look-at, look-same, put-same, put-other, put-full, put-held, clear-kept, clear-held}

@@ -25,7 +25,7 @@ use Rattle.cut.proofs.count.Reads as counts
 use Rattle.cut.proofs.packet.Reads as cuts
 use Rattle.fewest.proofs.Calls.{packet-wrote}
 use Rattle.cells.specs.Order.{countIn, cellSize, gate}
-use Rattle.messages.specs.Messages.{Run, cellsOf, picked, top}
+use Rattle.cells.specs.Messages.{Run, cellsOf, picked, top}
 use Rattle.arrival.specs.Arriving.{Arrived, whole, stored, again, refused, arrived, storeWith}
 use Rattle.taking.specs.Taking.{Took, message, unable, writing, drawn, tookIn, took}
 use Rattle.taking.specs.declared.Taken.{Taken}

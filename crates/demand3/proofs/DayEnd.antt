@@ -17,7 +17,7 @@ use Rattle.fewest.specs.Runs.{place}
 use Rattle.cells.specs.Segments.{carries, sameRest}
 use Rattle.cells.specs.Rows.{Cell, free, held}
 use Rattle.cells.specs.Order.{cellSize}
-use Rattle.messages.specs.Messages.{Run, look, roleOf, bodies, restFrom, runFrom, pickIn, among, top}
+use Rattle.cells.specs.Messages.{Run, look, roleOf, bodies, restFrom, runFrom, pickIn, among, top}
 use Rattle.taking.specs.Taking.{message, unable}
 use Rattle.demand3.specs.Cells.{put, hasFree}
 use Rattle.demand3.specs.Traffic.{Event, empty, takenFrom, stepped, after}

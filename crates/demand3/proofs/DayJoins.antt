@@ -14,7 +14,7 @@ use Rattle.packet.specs.Format.{fixedOctets, frontOctets, backOctets, headerOct
 use Rattle.write.specs.Given.{headOf}
 use Rattle.cells.specs.Segments.{carries, sameRest}
 use Rattle.cells.specs.Order.{cellSize}
-use Rattle.messages.specs.Messages.{look, roleOf, bodies, restFrom, runFrom, pickIn}
+use Rattle.cells.specs.Messages.{look, roleOf, bodies, restFrom, runFrom, pickIn}
 use Rattle.taking.specs.Taking.{message, unable}
 use Rattle.demand3.specs.Cells.{put, hasFree}
 use Rattle.demand3.specs.Traffic.{empty, takenFrom, stepped, after}

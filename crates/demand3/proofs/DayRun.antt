@@ -14,9 +14,9 @@ use Rattle.octets.specs.Octets.{alike}
 use Rattle.cells.specs.Segments.{carries, sameRest}
 use Rattle.cells.specs.Rows.{Cell}
 use Rattle.cells.specs.Order.{cellSize}
-use Rattle.messages.specs.Messages.{look, roleOf, bodies, restFrom, runFrom, pickIn, among, top}
+use Rattle.cells.specs.Messages.{look, roleOf, bodies, restFrom, runFrom, pickIn, among, top}
 use Rattle.demand3.specs.Cells.{put, hasFree}
-use Rattle.messages.proofs.Empty.{empty-cells}
+use Rattle.cells.proofs.Empty.{empty-cells}
 use Rattle.demand3.specs.Traffic.{Event, arrives, passes, empty, takenFrom, stepped, after, Room as CellRoom}
 use Rattle.demand3.specs.Calls.{Call, arrival, taking, joining, draws, tookBy}
 use Rattle.demand3.specs.Sendings.{Sending, manyOf, segmentAt, keyIn, IsCut}

@@ -14,11 +14,11 @@ use Rattle.walk.specs.declared.Settings.{Settings}
 use Rattle.cells.specs.Rows.{Cell, held, rowAt, zeroRow}
 use Rattle.cells.specs.Order.{countIn, cellAt}
 use Rattle.taking.specs.declared.Taken.{Taken}
-use Rattle.messages.specs.Messages.{Run, bodyOf, segments, picked, top}
+use Rattle.cells.specs.Messages.{Run, bodyOf, segments, picked, top}
 use Rattle.taking.specs.Taking.{Took, message, unable, writing, took, outWith, storeLess}
 use Rattle.walk.specs.Walk.{refusal}
 use Rattle.taking.specs.Told.{takenOf}
-use Rattle.messages.proofs.Picking.{pick-yes}
+use Rattle.cells.proofs.Picking.{pick-yes}
 use Rattle.taking.proofs.Tells.{taken-tells, segment-held}
 use Rattle.demand3.proofs.Zeroed.{zeroed-row, other-row}
 use Rattle.demand3.proofs.Untouched.{unable-same, unable-output}

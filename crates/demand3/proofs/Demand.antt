@@ -9,7 +9,7 @@ use native.Mathlib.Omega.{arith}
 use lib.ListN.{length, length-append}
 use Rattle.cells.specs.Segments.{Seg}
 use Rattle.cells.specs.Rows.{Cell}
-use Rattle.messages.specs.Messages.{Run, bodyOf, segments, look, picked}
+use Rattle.cells.specs.Messages.{Run, bodyOf, segments, look, picked}
 use Rattle.taking.specs.Taking.{message, unable, writing}
 use Rattle.demand3.specs.Cells.{clear}
 use Rattle.demand3.specs.Complete.{Held}

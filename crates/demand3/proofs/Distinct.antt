@@ -14,9 +14,9 @@ use Rattle.cells.specs.Rows.{Cell, held}
 use Rattle.cells.specs.Order.{carriesIn, cellAt, allTo, newTo, newAt, distinct}
 use Rattle.cells.proofs.Apart.{all-at}
 use Rattle.cells.proofs.Lowest.{not-is}
-use Rattle.messages.specs.Messages.{listed, cellsOf, look, orElse, heldAs}
-use Rattle.messages.proofs.Distinct.{carries-yes, carries-held}
-use Rattle.messages.proofs.Looking.{held-yes, held-none}
+use Rattle.cells.specs.Messages.{listed, cellsOf, look, orElse, heldAs}
+use Rattle.cells.proofs.Distinct.{carries-yes, carries-held}
+use Rattle.cells.proofs.Looking.{held-yes, held-none}
 use Rattle.demand3.specs.Complete.{Held, Distinct, Single}
 
 -- ---- lists of cells

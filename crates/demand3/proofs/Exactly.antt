@@ -10,7 +10,7 @@ use native.Mathlib.Omega.{arith}
 use lib.ListN.{length}
 use Rattle.cells.specs.Segments.{Seg}
 use Rattle.cells.specs.Rows.{Cell, held}
-use Rattle.messages.specs.Messages.{Role, first, middle, last, Run, segments, look, restFrom, runFrom, picked}
+use Rattle.cells.specs.Messages.{Role, first, middle, last, Run, segments, look, restFrom, runFrom, picked}
 use Rattle.demand3.specs.Complete.{Held, Single, Has, Complete}
 use Rattle.demand3.proofs.Looks.{look-held, look-at}
 use Rattle.demand3.proofs.Links.{Mem, roleIn, Linked, Opened, opened-key, linked-at, linked-last, linked-middle}

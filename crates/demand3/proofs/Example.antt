@@ -10,7 +10,7 @@ use native.Mathlib.Omega.{arith}
 use Rattle.octets.specs.Octets.{alike}
 use Rattle.cells.specs.Segments.{Seg, carries}
 use Rattle.cells.specs.Rows.{free, held}
-use Rattle.messages.specs.Messages.{Run, bodies, look, roleOf, restFrom, runFrom, pickIn, among, top}
+use Rattle.cells.specs.Messages.{Run, bodies, look, roleOf, restFrom, runFrom, pickIn, among, top}
 use Rattle.taking.specs.Taking.{message, unable}
 use Rattle.demand3.specs.Cells.{put, hasFree}
 use Rattle.demand3.specs.Traffic.{Sent, later, runOf, segmentsOf, arrives, takes, empty, takenFrom, stepped, after, OneOf, stepsIn}

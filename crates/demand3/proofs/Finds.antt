@@ -10,8 +10,8 @@ use lib.ListN.{length}
 use Rattle.cells.specs.Segments.{Seg}
 use Rattle.cells.specs.Rows.{Cell, held, segmentIn, bySegment}
 use Rattle.cells.proofs.CellSegments.{segment-or}
-use Rattle.messages.specs.Messages.{Role, first, middle, last, Run, segments, orElse, look, linkBy, link, opensBy, restFrom, runFrom, runIn, pickIn, picked}
-use Rattle.messages.proofs.Distinct.{carries-true}
+use Rattle.cells.specs.Messages.{Role, first, middle, last, Run, segments, orElse, look, linkBy, link, opensBy, restFrom, runFrom, runIn, pickIn, picked}
+use Rattle.cells.proofs.Distinct.{carries-true}
 use Rattle.demand3.specs.Complete.{Held, Single}
 use Rattle.demand3.proofs.Looks.{look-held, look-at}
 use Rattle.demand3.proofs.Links.{Mem, roleIn, middle-last, Linked, Opened}

@@ -12,8 +12,8 @@ use Rattle.walk.specs.declared.Settings.{Settings}
 use Rattle.cells.specs.Segments.{Seg, carries}
 use Rattle.cells.specs.Rows.{Cell, held}
 use Rattle.cells.specs.Order.{cellAt}
-use Rattle.messages.specs.Messages.{Run, top}
-use Rattle.messages.proofs.Distinct.{carries-true, carries-yes}
+use Rattle.cells.specs.Messages.{Run, top}
+use Rattle.cells.proofs.Distinct.{carries-true, carries-yes}
 use Rattle.taking.specs.Taking.{Took, message, unable}
 use Rattle.demand3.specs.Complete.{Held}
 use Rattle.demand3.specs.Traffic.{arrives, empty, after}

@@ -10,8 +10,8 @@ use native.Mathlib.Omega.{arith}
 use Rattle.octets.specs.Octets.{Octets}
 use Rattle.walk.specs.declared.Settings.{Settings}
 use Rattle.cells.specs.Order.{cellSize}
-use Rattle.messages.specs.Messages.{Run, picked, top}
-use Rattle.messages.proofs.Empty.{empty-cells}
+use Rattle.cells.specs.Messages.{Run, picked, top}
+use Rattle.cells.proofs.Empty.{empty-cells}
 use Rattle.taking.specs.Taking.{unable}
 use Rattle.demand3.specs.Cells.{hasFree}
 use Rattle.demand3.specs.Traffic.{takes, empty}

@@ -13,7 +13,7 @@ use lib.ListN.{length}
 use Rattle.octets.proofs.Lists.{bool}
 use Rattle.walk.specs.declared.Settings.{Settings}
 use Rattle.cells.specs.Rows.{Cell}
-use Rattle.messages.specs.Messages.{Run, picked, top}
+use Rattle.cells.specs.Messages.{Run, picked, top}
 use Rattle.arrival.specs.Arriving.{Arrived, whole, stored, again, refused, arrived, storeWith}
 use Rattle.taking.specs.Taking.{unable}
 use Rattle.join.specs.Joining.{lessTaken}

@@ -9,7 +9,7 @@ use mathlib.Core.List.{List, [], _∷_, _++_}
 use lib.ListN.{length}
 use Rattle.cells.specs.Segments.{Seg}
 use Rattle.cells.specs.Rows.{Cell}
-use Rattle.messages.specs.Messages.{Run, segments, look}
+use Rattle.cells.specs.Messages.{Run, segments, look}
 use Rattle.taking.specs.Taking.{message}
 use Rattle.demand3.specs.Cells.{put, clear}
 use Rattle.demand3.specs.Complete.{Held, Single, Complete}

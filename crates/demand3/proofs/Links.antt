@@ -9,7 +9,7 @@ use native.Mathlib.Omega.{arith}
 use lib.ListN.{length}
 use Rattle.octets.specs.Laying.{together}
 use Rattle.cells.specs.Segments.{Seg}
-use Rattle.messages.specs.Messages.{Role, first, middle, last, roleOf, Run, bodies, bodyOf, segments}
+use Rattle.cells.specs.Messages.{Role, first, middle, last, roleOf, Run, bodies, bodyOf, segments}
 use Rattle.demand3.specs.Traffic.{Sent, bodyIn, stepsIn, later, runOf}
 use Rattle.demand3.specs.Promise.{Original}
 use Rattle.sender.specs.Sending.{stepsOf}

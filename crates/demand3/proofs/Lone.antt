@@ -11,8 +11,8 @@ use lib.ListN.{length}
 use Rattle.octets.proofs.Lists.{bool, below-or}
 use Rattle.cells.specs.Segments.{Seg, carries}
 use Rattle.cells.specs.Rows.{Cell}
-use Rattle.messages.specs.Messages.{Run, segments, look, picked, among, or}
-use Rattle.messages.proofs.Distinct.{carries-true}
+use Rattle.cells.specs.Messages.{Run, segments, look, picked, among, or}
+use Rattle.cells.proofs.Distinct.{carries-true}
 use Rattle.taking.specs.Taking.{unable, writing}
 use Rattle.demand3.specs.Cells.{put, clear}
 use Rattle.demand3.specs.Complete.{Held, Single}

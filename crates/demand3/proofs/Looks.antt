@@ -14,9 +14,9 @@ use Rattle.cells.specs.Segments.{Seg, carries}
 use Rattle.cells.specs.Rows.{Cell, free, held, segmentIn, bySegment}
 use Rattle.cells.specs.Order.{isFree}
 use Rattle.cells.proofs.CellSegments.{free-none, segment-freed}
-use Rattle.messages.specs.Messages.{orElse, heldAs, look, among, amongIn}
-use Rattle.messages.proofs.Distinct.{carries-true}
-use Rattle.messages.proofs.Looking.{held-some, or-some, or-none}
+use Rattle.cells.specs.Messages.{orElse, heldAs, look, among, amongIn}
+use Rattle.cells.proofs.Distinct.{carries-true}
+use Rattle.cells.proofs.Looking.{held-some, or-some, or-none}
 use Rattle.demand3.specs.Cells.{put, hasFree, freed, clear}
 use Rattle.demand3.proofs.Putting.{put-free, put-on}
 use Rattle.demand3.specs.Complete.{Held}

@@ -10,10 +10,10 @@ use Rattle.walk.specs.declared.Settings.{Settings}
 use Rattle.cells.specs.Segments.{Seg, carries}
 use Rattle.cells.specs.Rows.{held}
 use Rattle.cells.specs.Order.{carriesIn, cellAt}
-use Rattle.messages.specs.Messages.{cellsOf, look}
-use Rattle.messages.proofs.Listed.{among-below}
-use Rattle.messages.proofs.Looking.{look-none, look-some}
-use Rattle.messages.proofs.Distinct.{Apart, carries-true, carries-yes}
+use Rattle.cells.specs.Messages.{cellsOf, look}
+use Rattle.cells.proofs.Listed.{among-below}
+use Rattle.cells.proofs.Looking.{look-none, look-some}
+use Rattle.cells.proofs.Distinct.{Apart, carries-true, carries-yes}
 
 module _ (s : Settings) (Z : ℕ) (st : List ℕ) where
   -- what is held is found

@@ -9,7 +9,7 @@ use native.Mathlib.Omega.{arith}
 use Rattle.octets.specs.Octets.{Octets}
 use Rattle.walk.specs.declared.Settings.{Settings}
 use Rattle.cells.specs.Rows.{Cell}
-use Rattle.messages.specs.Messages.{top}
+use Rattle.cells.specs.Messages.{top}
 use Rattle.taking.specs.Taking.{message}
 use Rattle.demand3.specs.Traffic.{Event, arrives, empty, after, Room as CellRoom}
 use Rattle.demand3.specs.Promise.{Gives, Output, Handed as CellHanded, AllCame as CellAllCame, Untaken as CellUntaken, Delivery as CellDelivery, Promise as CellPromise}

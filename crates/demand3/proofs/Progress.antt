@@ -13,7 +13,7 @@ use Rattle.octets.specs.Octets.{pick}
 use Rattle.cells.specs.Segments.{Seg}
 use Rattle.cells.specs.Rows.{Cell, free, held}
 use Rattle.cells.specs.Order.{isFree}
-use Rattle.messages.specs.Messages.{Run, segments, picked, among, amongIn}
+use Rattle.cells.specs.Messages.{Run, segments, picked, among, amongIn}
 use Rattle.taking.specs.Taking.{message, writing}
 use Rattle.demand3.specs.Cells.{clear, freed}
 use Rattle.demand3.specs.Complete.{Held, Single, Complete}

@@ -13,8 +13,8 @@ use Rattle.octets.proofs.Lists.{bool}
 use Rattle.cells.specs.Segments.{Seg}
 use Rattle.cells.specs.Rows.{Cell, held}
 use Rattle.cells.specs.Order.{isFree, lowest}
-use Rattle.messages.specs.Messages.{listed, or}
-use Rattle.messages.proofs.Listed.{listed-same, lowest-end, lowest-hit, lowest-miss, lowest-is}
+use Rattle.cells.specs.Messages.{listed, or}
+use Rattle.cells.proofs.Listed.{listed-same, lowest-end, lowest-hit, lowest-miss, lowest-is}
 use Rattle.demand3.specs.Cells.{put, hasFree}
 
 pub put-free : (c : Cell) (xs : List Cell) (t : Seg) → isFree c ≡ true → put (c ∷ xs) t ≡ held t ∷ xs

@@ -19,12 +19,12 @@ use Rattle.fewest.specs.Runs.{place}
 use Rattle.cells.specs.Segments.{carries, sameRest}
 use Rattle.cells.specs.Order.{cellSize}
 use Rattle.taking.specs.declared.Taken.{Taken}
-use Rattle.messages.specs.Messages.{Run, look, roleOf, bodies, bodyOf, restFrom, runFrom, pickIn, picked, among, top}
+use Rattle.cells.specs.Messages.{Run, look, roleOf, bodies, bodyOf, restFrom, runFrom, pickIn, picked, among, top}
 use Rattle.taking.specs.Taking.{Took, message, unable}
 use Rattle.walk.specs.Walk.{refusal}
 use Rattle.taking.specs.Told.{takenOf}
 use Rattle.demand3.specs.Cells.{put, hasFree}
-use Rattle.messages.proofs.Empty.{empty-cells}
+use Rattle.cells.proofs.Empty.{empty-cells}
 use Rattle.demand3.specs.Complete.{Held}
 use Rattle.demand3.specs.Traffic.{Event, passes, empty}
 use Rattle.demand3.specs.Calls.{Call, arrival, taking, joining, Brings, Handed, tookBy, storeAfter}

@@ -16,21 +16,21 @@ use Rattle.packet.specs.Reading.{readPacket, segmented}
 use Rattle.cells.specs.Segments.{Seg}
 use Rattle.cells.specs.Rows.{Cell, free}
 use Rattle.cells.specs.Order.{isFree, carriesIn, cellAt, countIn}
-use Rattle.messages.specs.Messages.{cellsOf, look, Run, segments, amongIn}
+use Rattle.cells.specs.Messages.{cellsOf, look, Run, segments, amongIn}
 use Rattle.arrival.specs.Arriving.{stored, lowestFree, arrivedIn, arrived}
 use Rattle.taking.specs.Taking.{message, took}
 use Rattle.demand3.specs.Cells.{freed}
-use Rattle.messages.proofs.Listed.{among-below, Lowest, lowest-is, lowest-some}
-use Rattle.messages.proofs.Looking.{look-empty}
-use Rattle.messages.proofs.Order.{cells-inside}
-use Rattle.messages.proofs.Members.{In, among-yes}
-use Rattle.opening.proofs.Gate.{gate-by}
+use Rattle.cells.proofs.Listed.{among-below, Lowest, lowest-is, lowest-some}
+use Rattle.cells.proofs.Looking.{look-empty}
+use Rattle.cells.proofs.StoreOrder.{cells-inside}
+use Rattle.cells.proofs.Members.{In, among-yes}
+use Rattle.cells.proofs.Gate.{gate-by}
 use Rattle.arrival.proofs.Checked.{arrived-open}
 use Rattle.arrival.proofs.After.{segment, Stored, stored-told}
 use Rattle.taking.proofs.Keeps.{cell-taken, take-long, taken-keeps}
 use Rattle.taking.proofs.Tells.{taken-tells, segment-held}
 use Rattle.demand3.proofs.Zeroed.{after, zeroed-free}
-use Rattle.messages.proofs.Distinct.{carries-held}
+use Rattle.cells.proofs.Distinct.{carries-held}
 
 -- a cell freed of some segments holds none of them
 freed-gone : (us : List Seg) (t : Seg) → In t us → (x : Cell) → carriesIn (t .key) (t .counter) (freed us x) ≡ false

@@ -13,7 +13,7 @@ use Rattle.octets.specs.Octets.{pick}
 use Rattle.cells.specs.Segments.{Seg}
 use Rattle.cells.specs.Rows.{Cell, free, held}
 use Rattle.cells.specs.Order.{isFree}
-use Rattle.messages.specs.Messages.{segments, look, or}
+use Rattle.cells.specs.Messages.{segments, look, or}
 use Rattle.demand3.specs.Cells.{put, hasFree, freed}
 use Rattle.demand3.specs.Traffic.{Event, arrives, passes, takes, empty, stepped, after, Room}
 use Rattle.demand3.proofs.Takings.{step-keeps}

@@ -12,7 +12,7 @@ use Rattle.octets.specs.Laying.{together}
 use Rattle.walk.specs.declared.Settings.{Settings}
 use Rattle.format.proofs.Frame.{identification-long}
 use Rattle.cells.specs.Segments.{Seg}
-use Rattle.messages.specs.Messages.{listed, top}
+use Rattle.cells.specs.Messages.{listed, top}
 use Rattle.demand3.specs.Traffic.{Sent, bodyIn, flagsBefore, later, runOf, segmentsOf, stepsIn}
 use Rattle.demand3.specs.Base.{final}
 use Rattle.demand3.specs.Sendings.{Sending, wholeBody, flagsIn, manyOf, segmentAt, identificationOf, headerOf, keyIn, headerSize, startOf, endOf, IsCut}

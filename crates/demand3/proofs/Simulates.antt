@@ -13,7 +13,7 @@ use Rattle.octets.specs.Octets.{pick}
 use Rattle.walk.specs.declared.Settings.{Settings}
 use Rattle.cells.specs.Segments.{Seg}
 use Rattle.cells.specs.Rows.{Cell}
-use Rattle.messages.specs.Messages.{cellsOf, Run, top}
+use Rattle.cells.specs.Messages.{cellsOf, Run, top}
 use Rattle.taking.specs.Taking.{message, took}
 use Rattle.join.specs.Joining.{lessTaken}
 use Rattle.demand3.specs.Traffic.{Event, arrives, takes, takenFrom, stepped, after}

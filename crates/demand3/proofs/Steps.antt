@@ -21,13 +21,13 @@ use Rattle.cells.specs.Segments.{Seg, both, sameRest}
 use Rattle.cells.specs.Rows.{Cell, mayHold}
 use Rattle.cells.specs.Order.{inOrder, countIn}
 use Rattle.cells.proofs.Held.{both-true}
-use Rattle.messages.specs.Messages.{cellsOf, look, top}
+use Rattle.cells.specs.Messages.{cellsOf, look, top}
 use Rattle.arrival.specs.Arriving.{Arrived, whole, stored, again, refused, placed, beside, lowestFree, segmentArrived, arrivedIn, arrived, storeWith}
 use Rattle.taking.specs.Taking.{Took, message, unable, tookIn, took, storeLess}
 use Rattle.demand3.specs.Cells.{put}
-use Rattle.messages.proofs.Picking.{pick-yes}
-use Rattle.messages.proofs.Order.{cells-inside}
-use Rattle.opening.proofs.Gate.{gate-by}
+use Rattle.cells.proofs.Picking.{pick-yes}
+use Rattle.cells.proofs.StoreOrder.{cells-inside}
+use Rattle.cells.proofs.Gate.{gate-by}
 use Rattle.arrival.proofs.Checked.{arrived-open}
 use Rattle.arrival.proofs.After.{segment}
 use Rattle.arrival.proofs.Keeps.{arrive-long, arrive-keeps}

@@ -15,10 +15,10 @@ use Rattle.octets.proofs.Lists.{bool}
 use Rattle.walk.specs.declared.Settings.{Settings}
 use Rattle.cells.specs.Segments.{Seg, both}
 use Rattle.cells.specs.Rows.{Cell, segmentIn, bySegment}
-use Rattle.messages.specs.Messages.{Run, Role, first, middle, last, roleOf, cellsOf, orElse, look, link, opensBy, restFrom, runFrom, pickIn, picked, top}
+use Rattle.cells.specs.Messages.{Run, Role, first, middle, last, roleOf, cellsOf, orElse, look, link, opensBy, restFrom, runFrom, pickIn, picked, top}
 use Rattle.taking.specs.Taking.{Took, drawn, took}
-use Rattle.messages.proofs.Picking.{pick-yes}
-use Rattle.messages.proofs.Empty.{empty-cells}
+use Rattle.cells.proofs.Picking.{pick-yes}
+use Rattle.cells.proofs.Empty.{empty-cells}
 use Rattle.demand3.specs.Traffic.{Event, arrives, passes, takes, stowed, lessened, empty, takenFrom, stepped, after}
 use Rattle.demand3.specs.Calls.{Call, arrival, taking, joining, draws, storeAt, tookBy, storeBy, storeAfter}
 use Rattle.demand3.specs.Presupposed.{InUse, emptyStore, storeBehind}

@@ -14,10 +14,10 @@ use Rattle.cells.specs.Segments.{Seg}
 use Rattle.cells.specs.Rows.{Cell, free, held, rowAt, zeroRow, cellOf, segmentIn, bySegment}
 use Rattle.cells.specs.Order.{cellAt, countIn}
 use Rattle.cells.proofs.CellSegments.{segment-or}
-use Rattle.messages.specs.Messages.{Run, segments, among, amongIn}
+use Rattle.cells.specs.Messages.{Run, segments, among, amongIn}
 use Rattle.taking.specs.Taking.{message, took, storeLess}
-use Rattle.messages.proofs.Order.{cells-inside, order-tells}
-use Rattle.messages.proofs.Members.{In, among-yes, among-some}
+use Rattle.cells.proofs.StoreOrder.{cells-inside, order-tells}
+use Rattle.cells.proofs.Members.{In, among-yes, among-some}
 use Rattle.taking.proofs.Keeps.{row-taken, cell-taken}
 use Rattle.taking.proofs.Tells.{taken-tells, segment-held}
 

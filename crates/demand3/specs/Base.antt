@@ -6,7 +6,7 @@ use mathlib.Core.Logic.{_≢_, _⊎_}
 use mathlib.Core.List.{List, _++_, List·Memᴰ}
 use Rattle.cells.specs.Segments.{Seg}
 use Rattle.cells.specs.Rows.{Cell}
-use Rattle.messages.specs.Messages.{Run, first, middle, last, top}
+use Rattle.cells.specs.Messages.{Run, first, middle, last, top}
 use Rattle.taking.specs.Taking.{message}
 use Rattle.demand3.specs.Complete.{Has}
 use Rattle.demand3.specs.Traffic.{Sent, stepsIn, segmentsOf, Event, arrives, empty, takenFrom, after, OneOf, Room}

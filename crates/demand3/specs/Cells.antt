@@ -5,7 +5,7 @@ use mathlib.Core.List.{List, [], _∷_, map}
 use Rattle.octets.specs.Octets.{pick}
 use Rattle.cells.specs.Segments.{Seg}
 use Rattle.cells.specs.Rows.{Cell, free, held}
-use Rattle.messages.specs.Messages.{amongIn, or}
+use Rattle.cells.specs.Messages.{amongIn, or}
 use Rattle.cells.specs.Order.{isFree}
 
 -- the lowest free cell takes the segment; a full store stays

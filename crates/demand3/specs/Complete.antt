@@ -9,7 +9,7 @@ use mathlib.Core.Option.{some}
 use mathlib.Core.List.{List, _∷_, _++_, List·Memᴰ}
 use Rattle.cells.specs.Segments.{Seg}
 use Rattle.cells.specs.Rows.{Cell, held}
-use Rattle.messages.specs.Messages.{Role, first, middle, last, roleOf, look}
+use Rattle.cells.specs.Messages.{Role, first, middle, last, roleOf, look}
 use Rattle.sender.specs.Sending.{stepsOf}
 
 -- a cell holds the segment

@@ -8,7 +8,7 @@ use mathlib.Core.Option.{some, none}
 use mathlib.Core.List.{List, [], _∷_, _++_, List·Memᴰ}
 use lib.ListN.{length}
 use Rattle.walk.specs.declared.Settings.{Settings}
-use Rattle.messages.specs.Messages.{picked, top}
+use Rattle.cells.specs.Messages.{picked, top}
 use Rattle.taking.specs.Taking.{unable}
 use Rattle.demand3.specs.Calls.{Call, joining, tookBy}
 use Rattle.demand3.specs.Sendings.{Sending, headerSize, bodySize}

@@ -21,7 +21,7 @@ use Rattle.packet.specs.Key.{keyOf}
 use Rattle.cells.specs.Segments.{Seg, segOf}
 use Rattle.cells.specs.Rows.{Cell}
 use Rattle.cells.specs.Order.{cellsMost}
-use Rattle.messages.specs.Messages.{Run, cellsOf, look}
+use Rattle.cells.specs.Messages.{Run, cellsOf, look}
 use Rattle.taking.specs.Taking.{message}
 use Rattle.demand3.specs.Cells.{hasFree}
 use Rattle.demand3.specs.Calls.{Call, Brings, Handed, tookBy, storeAfter}

@@ -8,7 +8,7 @@ use mathlib.Core.List.{List, [], _∷_, _++_, map, List·Memᴰ}
 use lib.ListN.{length}
 use Rattle.cells.specs.Segments.{Seg}
 use Rattle.cells.specs.Rows.{Cell}
-use Rattle.messages.specs.Messages.{Run, bodyOf, segments, picked}
+use Rattle.cells.specs.Messages.{Run, bodyOf, segments, picked}
 use Rattle.taking.specs.Taking.{message, unable, writing}
 use Rattle.demand3.specs.Cells.{clear}
 use Rattle.demand3.specs.Complete.{Complete}

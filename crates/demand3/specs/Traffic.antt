@@ -11,7 +11,7 @@ use lib.ListN.{length, replicate}
 use Rattle.octets.specs.Laying.{together}
 use Rattle.cells.specs.Segments.{Seg}
 use Rattle.cells.specs.Rows.{Cell, free}
-use Rattle.messages.specs.Messages.{Run, segments, look, picked}
+use Rattle.cells.specs.Messages.{Run, segments, look, picked}
 use Rattle.taking.specs.Taking.{Took, message, unable, drawn}
 use Rattle.demand3.specs.Cells.{put, hasFree, clear}
 

@@ -14,7 +14,7 @@ use Rattle.octets.specs.Octets.{Octets}
 use Rattle.walk.specs.declared.Settings.{Settings}
 use Rattle.cells.specs.Rows.{held, rowAt, zeroRow}
 use Rattle.cells.specs.Order.{cellAt}
-use Rattle.messages.specs.Messages.{Run, picked, top}
+use Rattle.cells.specs.Messages.{Run, picked, top}
 use Rattle.taking.specs.Taking.{message, unable, writing}
 use Rattle.walk.specs.Walk.{refusal}
 use Rattle.taking.specs.Told.{takenOf}

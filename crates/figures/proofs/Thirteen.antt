@@ -19,7 +19,7 @@ use Rattle.cut.specs.Cutting.{countersFit, counterAt, packets, rounded, limitTe
 use Rattle.packet.specs.Figure14.{settings, zeros}
 use Rattle.cells.specs.Segments.{Seg, segOf, carries}
 use Rattle.cells.specs.Rows.{Cell, held, mayHold}
-use Rattle.messages.specs.Messages.{cellsOf, look, roleOf, bodies, restFrom, runFrom, pickIn, top}
+use Rattle.cells.specs.Messages.{cellsOf, look, roleOf, bodies, restFrom, runFrom, pickIn, top}
 use Rattle.demand3.specs.Cells.{put}
 use Rattle.demand3.specs.Traffic.{Event, arrives, empty, takenFrom, stepped, after}
 use Rattle.demand3.specs.Calls.{Call, arrival, storeBy, storeAfter}

@@ -14,7 +14,7 @@ use Rattle.octets.proofs.Lists.{bool}
 use Rattle.walk.specs.declared.Settings.{Settings}
 use Rattle.walk.specs.Walk.{begun}
 use Rattle.cells.specs.Order.{inOrder, countIn, gate, through}
-use Rattle.opening.proofs.Gate.{order-has, gate-by, gate-15}
+use Rattle.cells.proofs.Gate.{order-has, gate-by, gate-15}
 use Rattle.flat_store.specs.Numbers.{orderNumbers}
 use Rattle.flat_store.specs.Views.{insideNumbers, unnamed, viewNumbers}
 

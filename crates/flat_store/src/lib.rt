@@ -2,6 +2,8 @@
 //
 // Every number is one of 64 bits, and none is made narrower before it is tested. An answer is an array of numbers, the refusal first;
 // where the call is refused the others are 0.
+pub mod recordings;
+
 ghost use mathlib.Core.Path.{_≡_};
 ghost use lib.ListN.{length};
 ghost use Rattle.cells.specs.Order.{countIn, cellSize};

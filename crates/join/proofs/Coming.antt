@@ -19,8 +19,8 @@ use Rattle.packet.specs.Reading.{readPacket, segmented, counterSize}
 use Rattle.format.proofs.Accepting.{accepted}
 use Rattle.cells.specs.Segments.{Seg, segOf, sameRest}
 use Rattle.cells.specs.Order.{countIn, gate}
-use Rattle.opening.proofs.Gate.{through-tells}
-use Rattle.messages.specs.Messages.{Run, bodyOf, cellsOf, look, picked, top}
+use Rattle.cells.proofs.Gate.{through-tells}
+use Rattle.cells.specs.Messages.{Run, bodyOf, cellsOf, look, picked, top}
 use Rattle.arrival.specs.Arriving.{whole, stored, again, refused, placed, beside, lowestFree, segmentArrived, arrivedIn, arrived}
 use Rattle.taking.specs.Taking.{message, unable, writing, drawn, tookIn}
 use Rattle.taking.specs.declared.Taken.{Taken}

@@ -9,7 +9,7 @@ use Rattle.walk.specs.declared.Settings.{Settings}
 use Rattle.cells.specs.Order.{countIn, gate}
 use Rattle.arrival.specs.Arriving.{Arrived, whole, stored, again, refused, arrivedIn, arrived, storeWith}
 use Rattle.taking.specs.Taking.{Took, tookIn, took, outWith, storeLess}
-use Rattle.opening.proofs.Gate.{opened-order, gate-again}
+use Rattle.cells.proofs.Gate.{opened-order, gate-again}
 use Rattle.arrival.proofs.Checked.{arrived-open}
 use Rattle.taking.proofs.Checked.{took-open}
 use Rattle.arrival.proofs.Keeps.{arrive-long, arrive-keeps}

@@ -20,10 +20,10 @@ use Rattle.cells.specs.Segments.{Seg, segOf}
 use Rattle.cells.specs.Rows.{free, held, rowAt, zeroRow, packetIn, cellOf}
 use Rattle.cells.specs.Order.{isSound}
 use Rattle.cells.proofs.Carries.{free-cell, holding}
-use Rattle.messages.specs.Messages.{bodyOf}
+use Rattle.cells.specs.Messages.{bodyOf}
 use Rattle.arrival.specs.Arriving.{Arrived, whole, stored, again, refused, arrived, storeWith}
 use Rattle.taking.specs.Taking.{Took, message, unable, took, outWith}
-use Rattle.messages.proofs.Opens.{opens}
+use Rattle.cells.proofs.Opens.{opens}
 use Rattle.taking.proofs.Tells.{taken-tells, segment-held}
 use Rattle.join.specs.declared.Which.the-variants.{Packet}
 use Rattle.join.specs.Viewing.{inside, viewed}

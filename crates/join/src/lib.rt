@@ -165,7 +165,7 @@ pub fn join(s: Settings, store: &mut [u8], p: &[u8], out: &mut [u8]) -> Joined
     ensures { λ r. ⌜ now (out .exit) ≡ outJoined s cellSize (now (store .entry)) (now (p .entry)) (now (out .entry)) ⌝ }
 {
     let zero = [0u8; CELL];
-    let o = opening::check(s, store, &zero);
+    let o = cells::opening::check(s, store, &zero);
     let shut = o.refusal;
     if shut.number != 0 {
         return refused(shut);

@@ -12,7 +12,7 @@ use Rattle.walk.specs.Walk.{begun}
 use Rattle.packet.specs.Reading.{readPacket, segmented}
 use Rattle.cells.specs.Segments.{Seg, segOf, sameRest}
 use Rattle.cells.specs.Order.{inOrder, countIn, gate}
-use Rattle.messages.specs.Messages.{Run, cellsOf, look, picked as pickedFrom, top}
+use Rattle.cells.specs.Messages.{Run, cellsOf, look, picked as pickedFrom, top}
 use Rattle.arrival.specs.Arriving.{Arrived, whole, stored, again, refused, placed, beside, lowestFree, segmentArrived, arrivedIn, arrived, storeWith}
 use Rattle.taking.specs.Taking.{Took, message, unable, writing, drawn, tookIn, took}
 use Rattle.arrival.specs.Told.{said, arrivalOf}

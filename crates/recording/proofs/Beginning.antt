@@ -7,7 +7,7 @@ use native.Mathlib.Omega.{arith}
 use lib.ListN.{length, replicate, length-replicate}
 use Rattle.walk.specs.Walk.{begun, check}
 use Rattle.cells.specs.Order.{countIn, cellSize, gate}
-use Rattle.messages.proofs.Empty.{empty-order, empty-count}
+use Rattle.cells.proofs.Empty.{empty-order, empty-count}
 use Rattle.steps.specs.Stepping.{room}
 use Rattle.recording.specs.Recording.{settings, cellCount, emptyStore}
 

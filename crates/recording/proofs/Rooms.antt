@@ -22,13 +22,13 @@ use Rattle.cells.specs.Segments.{Seg, segOf}
 use Rattle.cells.specs.Rows.{Cell, held, rowAt, packetIn, cellOf, segmentIn, bySegment}
 use Rattle.cells.proofs.Carries.{held-is}
 use Rattle.cells.specs.Order.{cellAt, countIn}
-use Rattle.messages.specs.Messages.{listed, cellsOf, look, Role, first, middle, last, roleOf, Run, bodies, bodyOf, segments, linkBy, link, restFrom, picked, top}
+use Rattle.cells.specs.Messages.{listed, cellsOf, look, Role, first, middle, last, roleOf, Run, bodies, bodyOf, segments, linkBy, link, restFrom, picked, top}
 use Rattle.arrival.specs.Arriving.{Arrived, whole, stored, again, refused, arrived, storeWith}
 use Rattle.taking.specs.Taking.{writing, drawn, tookIn, took, storeLess}
-use Rattle.messages.proofs.Distinct.{carries-true}
-use Rattle.messages.proofs.Listed.{Among, among-cases}
-use Rattle.messages.proofs.Looking.{look-some}
-use Rattle.messages.proofs.Members.{In, opening, picked-held}
+use Rattle.cells.proofs.Distinct.{carries-true}
+use Rattle.cells.proofs.Listed.{Among, among-cases}
+use Rattle.cells.proofs.Looking.{look-some}
+use Rattle.cells.proofs.Members.{In, opening, picked-held}
 use Rattle.arrival.proofs.Keeps.{arrive-long}
 use Rattle.join.specs.Joining.{tookAs, joinedBy, storeBy, joining, storeJoined}
 use Rattle.steps.specs.Stepping.{room}

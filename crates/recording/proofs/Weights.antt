@@ -22,19 +22,19 @@ use Rattle.cells.specs.Segments.{Seg, segOf, carries}
 use Rattle.cells.specs.Rows.{Cell, free, held, segmentIn, bySegment}
 use Rattle.cells.specs.Order.{cellAt, countIn}
 use Rattle.cells.proofs.CellSegments.{segment-or, segment-freed}
-use Rattle.messages.specs.Messages.{listed, look, Role, first, middle, last, roleOf, Run, bodies, segments, linkBy, link, restFrom, or, among, amongIn, top}
+use Rattle.cells.specs.Messages.{listed, look, Role, first, middle, last, roleOf, Run, bodies, segments, linkBy, link, restFrom, or, among, amongIn, top}
 use Rattle.arrival.specs.Arriving.{stored, arrived, storeWith}
 use Rattle.taking.specs.Taking.{message, writing, took, storeLess}
-use Rattle.messages.proofs.Distinct.{carries-true, carries-yes}
-use Rattle.messages.proofs.Listed.{Among, among-cases, among-first, among-more}
-use Rattle.messages.proofs.Looking.{look-some}
-use Rattle.messages.proofs.Order.{cells-inside}
-use Rattle.messages.proofs.Members.{opening}
+use Rattle.cells.proofs.Distinct.{carries-true, carries-yes}
+use Rattle.cells.proofs.Listed.{Among, among-cases, among-first, among-more}
+use Rattle.cells.proofs.Looking.{look-some}
+use Rattle.cells.proofs.StoreOrder.{cells-inside}
+use Rattle.cells.proofs.Members.{opening}
 use Rattle.arrival.proofs.After.{segment, stored-tells, cell-kept, cell-stored}
 use Rattle.arrival.proofs.Keeps.{arrive-long, arrived-tells}
 use Rattle.taking.proofs.Keeps.{cell-taken, take-long}
 use Rattle.taking.proofs.Tells.{taken-tells}
-use Rattle.messages.proofs.Empty.{zeros, empty-cell, empty-count}
+use Rattle.cells.proofs.Empty.{zeros, empty-cell, empty-count}
 
 -- ---- sums
 

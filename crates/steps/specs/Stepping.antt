@@ -11,7 +11,7 @@ use lib.Dec.{leb, eqb}
 use Rattle.octets.specs.Octets.{pick, alike, wide}
 use Rattle.walk.specs.declared.Settings.{Settings}
 use Rattle.cells.specs.Rows.{sizeIn, packetIn}
-use Rattle.messages.specs.Messages.{Run}
+use Rattle.cells.specs.Messages.{Run}
 use Rattle.taking.specs.Taking.{writing}
 use Rattle.join.specs.Joining.{Joining, inPacket, inOutput, unjoined, joining, storeJoined}
 

@@ -21,7 +21,7 @@ pub fn arrive(s: Settings, store: &mut [u8], p: &[u8]) -> Arrival
     ensures { λ r. ⌜ now (store .exit) ≡ storeWith cellSize (now (store .entry)) (now (p .entry)) (arrived s cellSize (now (store .entry)) (now (p .entry))) ⌝ }
 {
     let zero = [0u8; CELL];
-    let o = opening::check(s, store, &zero);
+    let o = cells::opening::check(s, store, &zero);
     let refusal = o.refusal;
     if refusal.number != 0 {
         return Arrival::Refused(refusal);
@@ -36,7 +36,7 @@ pub fn take(s: Settings, store: &mut [u8], out: &mut [u8]) -> Taken
     ensures { λ r. ⌜ now (store .exit) ≡ storeLess s cellSize (now (store .entry)) (countIn cellSize (now (store .entry))) (took s cellSize (now (store .entry)) (length (now (out .entry)))) ⌝ }
 {
     let zero = [0u8; CELL];
-    let o = opening::check(s, store, &zero);
+    let o = cells::opening::check(s, store, &zero);
     let refusal = o.refusal;
     if refusal.number != 0 {
         return taking::not_taken(refusal.number);

@@ -16,11 +16,11 @@ use Rattle.cells.specs.Segments.{Seg, carries, both}
 use Rattle.cells.specs.Rows.{Cell, segmentIn, bySegment}
 use Rattle.cells.specs.Order.{carriesIn, foundIn}
 use Rattle.cells.specs.Inner.{reaches, withinIn, within}
-use Rattle.messages.specs.Messages.{Role, first, middle, last, roleOf, linkBy, or, among, amongIn}
+use Rattle.cells.specs.Messages.{Role, first, middle, last, roleOf, linkBy, or, among, amongIn}
 use Rattle.taking.specs.Follow.{segAt, follow}
-use Rattle.messages.proofs.Found.{found-carries, found-held}
+use Rattle.cells.proofs.Found.{found-carries, found-held}
 use Rattle.taking.proofs.Following.{follow-none, follow-by}
-use Rattle.messages.proofs.Distinct.{carries-true}
+use Rattle.cells.proofs.Distinct.{carries-true}
 
 or-false : (b : Bool) → or b false ≡ b
 or-false true = refl

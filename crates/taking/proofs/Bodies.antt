@@ -18,9 +18,9 @@ use Rattle.packet.specs.Reading.{readPacket}
 use Rattle.cells.specs.Segments.{segOf}
 use Rattle.cells.specs.Rows.{rowAt, packetIn}
 use Rattle.cells.specs.Order.{foundIn}
-use Rattle.messages.specs.declared.Piece.{Piece}
-use Rattle.messages.specs.Messages.{first, middle, last, roleOf, linkBy}
-use Rattle.messages.specs.Inner.{segIn, pieceOf}
+use Rattle.cells.specs.declared.messages.Piece.{Piece}
+use Rattle.cells.specs.Messages.{first, middle, last, roleOf, linkBy}
+use Rattle.cells.specs.Pieces.{segIn, pieceOf}
 use Rattle.taking.specs.Follow.{segAt, onAt, follow, placesFrom, bodiesAt, Ready}
 
 -- ---- the next cell of a run

@@ -5,7 +5,7 @@ use mathlib.Core.Path.{_≡_, sym}
 use mathlib.Core.List.{List}
 use Rattle.walk.specs.declared.Settings.{Settings}
 use Rattle.cells.specs.Order.{countIn, gate}
-use Rattle.opening.proofs.Gate.{through-open, through-shut}
+use Rattle.cells.proofs.Gate.{through-open, through-shut}
 use Rattle.taking.specs.Taking.{unable, tookIn, took}
 
 module _ (s : Settings) (Z : ℕ) (st : List ℕ) (long : ℕ) where

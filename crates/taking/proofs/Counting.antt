@@ -13,13 +13,13 @@ use Rattle.packet.specs.Reading.{readPacket}
 use Rattle.cells.specs.Segments.{segOf}
 use Rattle.cells.specs.Rows.{rowAt, packetIn}
 use Rattle.cells.specs.Order.{foundIn}
-use Rattle.messages.specs.declared.Piece.{Piece}
-use Rattle.messages.specs.Messages.{Role, roleOf, linkBy}
-use Rattle.messages.specs.Inner.{pieceOf}
+use Rattle.cells.specs.declared.messages.Piece.{Piece}
+use Rattle.cells.specs.Messages.{Role, roleOf, linkBy}
+use Rattle.cells.specs.Pieces.{pieceOf}
 use Rattle.taking.specs.declared.Measured.{Measured}
 use Rattle.taking.specs.declared.Measured.the-variants.{Long, Incomplete}
 use Rattle.taking.specs.Follow.{segAt, follow, total}
-use Rattle.messages.proofs.Found.{found-held, body-long, part-most}
+use Rattle.cells.proofs.Found.{found-held, body-long, part-most}
 use Rattle.taking.proofs.Following.{role-first, role-last, role-middle, follow-none, follow-by, total-on, total-last}
 
 -- ---- the segment in a cell that was found, as the code reads it

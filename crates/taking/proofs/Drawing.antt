@@ -18,13 +18,13 @@ use Rattle.cells.specs.Rows.{Cell, held, rowAt, bySegment}
 use Rattle.cells.specs.Order.{cellAt, lowest}
 use Rattle.cells.proofs.Carries.{Holding, held-is}
 use Rattle.cells.proofs.CellSegments.{segment-or}
-use Rattle.messages.specs.Messages.{Role, first, middle, last, roleOf, Run, bodyOf, listed, orElse, cellsOf, restFrom, opensBy, runFrom, runIn, pickIn, picked}
+use Rattle.cells.specs.Messages.{Role, first, middle, last, roleOf, Run, bodyOf, listed, orElse, cellsOf, restFrom, opensBy, runFrom, runIn, pickIn, picked}
 use Rattle.taking.specs.Taking.{message, unable, writing, drawn}
 use Rattle.taking.specs.declared.Copied.{Copied}
 use Rattle.taking.specs.declared.Measured.the-variants.{Long}
 use Rattle.taking.specs.Told.{takenOf}
 use Rattle.taking.specs.Follow.{segAt, follow, placesFrom, placesOf, bodiesAt, answer, isSome, opensAt, copiedOf, Opens}
-use Rattle.messages.proofs.Looks.{lowest-holds}
+use Rattle.cells.proofs.Looks.{lowest-holds}
 use Rattle.taking.proofs.Following.{rest-places, bodies-places}
 
 -- ---- what a run that was found has

@@ -16,13 +16,13 @@ use Rattle.cells.specs.Order.{cellAt, lowest}
 use Rattle.cells.specs.Inner.{withinIn}
 use Rattle.taking.specs.declared.Copied.{Copied}
 use Rattle.taking.specs.declared.Measured.the-variants.{Long}
-use Rattle.messages.specs.Messages.{cellsOf, picked, amongIn, top}
+use Rattle.cells.specs.Messages.{cellsOf, picked, amongIn, top}
 use Rattle.taking.specs.Taking.{message, tookIn, outWith, storeLess}
-use Rattle.clearing.specs.Cleared.{clearedTo, zeroIf}
+use Rattle.taking.specs.Cleared.{clearedTo, zeroIf}
 use Rattle.taking.specs.Told.{takenOf}
 use Rattle.taking.specs.Follow.{segAt, placesFrom, bodiesAt, answer, opensAt, copiedOf, Opens}
 use Rattle.taking.proofs.Heads.{key-two}
-use Rattle.clearing.proofs.Clearing.{cleared-same}
+use Rattle.taking.proofs.Clears.{cleared-same}
 use Rattle.taking.proofs.Among.{message-among}
 use Rattle.taking.proofs.Drawing.{Message, the-message, message-held, runOf, writing-is, places-are, body-long, told-is, message-opens, took-message}
 

@@ -19,9 +19,9 @@ use Rattle.cells.proofs.Held.{flags-same}
 use Rattle.cells.proofs.Transactions.{part-octet}
 use Rattle.cells.proofs.Carries.{Holding, held-is}
 use Rattle.cells.proofs.Lowest.{same-or}
-use Rattle.messages.specs.Messages.{Role, first, middle, last, roleOf, Run, orElse, listed, look, cellsOf, linkBy, link, opensBy, restFrom, runFrom, runIn, pickIn, picked}
-use Rattle.messages.proofs.Listed.{lowest-hit, lowest-miss}
-use Rattle.messages.proofs.Looking.{look-some}
+use Rattle.cells.specs.Messages.{Role, first, middle, last, roleOf, Run, orElse, listed, look, cellsOf, linkBy, link, opensBy, restFrom, runFrom, runIn, pickIn, picked}
+use Rattle.cells.proofs.Listed.{lowest-hit, lowest-miss}
+use Rattle.cells.proofs.Looking.{look-some}
 use Rattle.taking.specs.Follow.{segAt, endsAt}
 
 -- ---- the flags in a row

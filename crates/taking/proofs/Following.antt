@@ -15,11 +15,11 @@ use Rattle.walk.specs.declared.Settings.{Settings}
 use Rattle.cells.specs.Segments.{Seg}
 use Rattle.cells.specs.Rows.{held}
 use Rattle.cells.specs.Order.{cellAt, foundIn}
-use Rattle.messages.specs.Messages.{Role, first, middle, last, roleOf, bodies, cellsOf, look, link, linkBy, restFrom}
+use Rattle.cells.specs.Messages.{Role, first, middle, last, roleOf, bodies, cellsOf, look, link, linkBy, restFrom}
 use Rattle.taking.specs.declared.Measured.the-variants.{Long}
 use Rattle.taking.specs.Follow.{segAt, onAt, follow, bodiesAt, total}
-use Rattle.messages.proofs.Looks.{look-found, look-none}
-use Rattle.messages.proofs.Found.{found-held}
+use Rattle.cells.proofs.Looks.{look-found, look-none}
+use Rattle.cells.proofs.Found.{found-held}
 
 -- ---- roles
 

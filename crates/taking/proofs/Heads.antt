@@ -23,8 +23,8 @@ use Rattle.cells.specs.Rows.{held, rowAt, packetIn}
 use Rattle.cells.specs.Order.{cellAt}
 use Rattle.cells.specs.Inner.{Asked}
 use Rattle.cells.proofs.Carries.{Holding, held-is}
-use Rattle.messages.specs.declared.Piece.{Piece}
-use Rattle.messages.specs.Inner.{pieceOf}
+use Rattle.cells.specs.declared.messages.Piece.{Piece}
+use Rattle.cells.specs.Pieces.{pieceOf}
 use Rattle.taking.specs.Follow.{segAt, follow, placesOf, placesFrom, bodiesAt, copiedOf, Ready, Opens}
 use Rattle.taking.proofs.Bodies.{body-there}
 

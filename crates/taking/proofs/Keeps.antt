@@ -12,12 +12,12 @@ use Rattle.walk.specs.declared.Settings.{Settings}
 use Rattle.cells.specs.Segments.{Seg}
 use Rattle.cells.specs.Rows.{Cell, free, held, rowAt, zeroRow, cellOf}
 use Rattle.cells.specs.Order.{isSound, cellAt, countIn, inOrder}
-use Rattle.messages.specs.Messages.{Run, segments, amongIn}
-use Rattle.messages.proofs.HeldRow.{zero-free}
-use Rattle.messages.proofs.Order.{cells-inside, order-tells, order-same}
+use Rattle.cells.specs.Messages.{Run, segments, amongIn}
+use Rattle.cells.proofs.HeldRow.{zero-free}
+use Rattle.cells.proofs.StoreOrder.{cells-inside, order-tells, order-same}
 use Rattle.taking.specs.Taking.{Took, message, unable, took, storeLess}
-use Rattle.clearing.specs.Cleared.{zeroIf}
-use Rattle.clearing.proofs.Clearing.{cleared-long, zeroed-row}
+use Rattle.taking.specs.Cleared.{zeroIf}
+use Rattle.taking.proofs.Clears.{cleared-long, zeroed-row}
 
 pub take-long : (Z : ℕ) (st : List ℕ) (s : Settings) (n : ℕ) (t : Took) → length (storeLess s Z st n t) ≡ length st
 unfolding storeLess

@@ -15,3 +15,4 @@ pub mod Takings
 pub mod Checked
 pub mod Keeps
 pub mod Tells
+pub mod Clears

@@ -17,9 +17,9 @@ use Rattle.cells.specs.Rows.{rowAt, packetIn}
 use Rattle.cells.specs.Order.{carriesIn, foundIn}
 use Rattle.cells.proofs.Counters.{counter-told}
 use Rattle.cells.proofs.Carries.{Holding}
-use Rattle.messages.specs.Messages.{top}
-use Rattle.messages.proofs.Found.{found-carries, found-held}
-use Rattle.messages.proofs.Distinct.{carries-true}
+use Rattle.cells.specs.Messages.{top}
+use Rattle.cells.proofs.Found.{found-carries, found-held}
+use Rattle.cells.proofs.Distinct.{carries-true}
 use Rattle.taking.specs.Follow.{segAt, follow}
 use Rattle.taking.proofs.Following.{follow-none}
 

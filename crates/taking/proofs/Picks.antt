@@ -12,7 +12,7 @@ use Rattle.walk.specs.declared.Settings.{Settings}
 use Rattle.cells.specs.Rows.{Cell}
 use Rattle.cells.specs.Order.{cellAt}
 use Rattle.cells.proofs.Scans.{Seeking, seeking-first, seeking-turn, seeking-found, seeking-none}
-use Rattle.messages.specs.Messages.{Run, bodyOf, listed, orElse, cellsOf, runIn, pickIn, picked}
+use Rattle.cells.specs.Messages.{Run, bodyOf, listed, orElse, cellsOf, runIn, pickIn, picked}
 use Rattle.taking.specs.declared.Measured.{Measured}
 use Rattle.taking.specs.declared.Measured.the-variants.{Long, Incomplete}
 use Rattle.taking.specs.declared.Picked.the-variants.{Message, Nothing}

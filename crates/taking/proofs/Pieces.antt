@@ -22,13 +22,13 @@ use Rattle.cells.specs.Inner.{placeIn, spansAlike, Asked}
 use Rattle.cells.proofs.Held.{both-true}
 use Rattle.cells.proofs.Carries.{Holding}
 use Rattle.cells.proofs.SameKeys.{keys-same}
-use Rattle.messages.specs.declared.Piece.{Piece}
-use Rattle.messages.specs.Inner.{pieceOf}
+use Rattle.cells.specs.declared.messages.Piece.{Piece}
+use Rattle.cells.specs.Pieces.{pieceOf}
 use Rattle.taking.specs.Inner.{pieceIn}
 use Rattle.taking.specs.Follow.{segAt}
-use Rattle.messages.proofs.Found.{found-carries, found-held}
+use Rattle.cells.proofs.Found.{found-carries, found-held}
 use Rattle.taking.proofs.Ends.{flags-told}
-use Rattle.messages.proofs.Distinct.{carries-true}
+use Rattle.cells.proofs.Distinct.{carries-true}
 
 -- as the code reads it
 pub piece-read :

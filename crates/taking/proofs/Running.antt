@@ -22,11 +22,11 @@ use Rattle.cells.specs.Order.{cellAt}
 use Rattle.cells.specs.declared.Judged.{Judged}
 use Rattle.cells.specs.Inner.{bodyIn, judgedOf, toldHeld, Asked}
 use Rattle.cells.proofs.Carries.{Holding, not-held, kinds, judged-one, judged-at}
-use Rattle.messages.specs.Messages.{Role, first, middle, last, roleOf, bodies, cellsOf, restFrom, opensBy, runFrom, runIn}
+use Rattle.cells.specs.Messages.{Role, first, middle, last, roleOf, bodies, cellsOf, restFrom, opensBy, runFrom, runIn}
 use Rattle.taking.specs.declared.Measured.{Measured}
 use Rattle.taking.specs.declared.Measured.the-variants.{Long, Incomplete}
 use Rattle.taking.specs.Follow.{segAt, follow, bodiesAt, total, answer}
-use Rattle.messages.proofs.Found.{body-long, part-most}
+use Rattle.cells.proofs.Found.{body-long, part-most}
 use Rattle.taking.proofs.Ends.{flags-told}
 use Rattle.taking.proofs.Following.{role-first, rest-places, bodies-places}
 

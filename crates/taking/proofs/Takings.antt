@@ -21,7 +21,7 @@ use Rattle.cells.specs.Order.{lowest}
 use Rattle.taking.specs.declared.Picked.{Picked}
 use Rattle.taking.specs.declared.Picked.the-variants.{Message, Nothing}
 use Rattle.taking.specs.declared.Measured.the-variants.{Long}
-use Rattle.messages.specs.Messages.{Run, bodyOf, cellsOf, picked, top}
+use Rattle.cells.specs.Messages.{Run, bodyOf, cellsOf, picked, top}
 use Rattle.taking.specs.Taking.{unable, drawn, tookIn}
 use Rattle.taking.specs.Follow.{segAt, answer, chosen, opensAt, endsAt, pickedOf}
 use Rattle.taking.proofs.Ends.{nothing-complete}

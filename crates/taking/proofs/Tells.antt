@@ -15,10 +15,10 @@ use Rattle.walk.specs.Walk.{begun}
 use Rattle.cells.specs.Segments.{Seg}
 use Rattle.cells.specs.Rows.{held}
 use Rattle.cells.specs.Order.{cellAt, countIn, inOrder, gate}
-use Rattle.opening.proofs.Gate.{through-tells, open-true}
-use Rattle.messages.specs.Messages.{cellsOf, Run, segments, picked, top}
-use Rattle.messages.proofs.Picking.{pick-tells}
-use Rattle.messages.proofs.Members.{In, picked-held}
+use Rattle.cells.proofs.Gate.{through-tells, open-true}
+use Rattle.cells.specs.Messages.{cellsOf, Run, segments, picked, top}
+use Rattle.cells.proofs.Picking.{pick-tells}
+use Rattle.cells.proofs.Members.{In, picked-held}
 use Rattle.taking.specs.Taking.{message, unable, writing, drawn, tookIn, took}
 
 not-unable : (k : ℕ) (r : Run) → unable k ≡ message r → ⊥

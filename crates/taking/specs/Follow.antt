@@ -18,8 +18,8 @@ use Rattle.taking.specs.declared.Measured.the-variants.{Long, Incomplete
 use Rattle.taking.specs.declared.Picked.{Picked}
 use Rattle.taking.specs.declared.Picked.the-variants.{Message, Nothing}
 use Rattle.taking.specs.declared.Copied.{Copied}
-use Rattle.messages.specs.Messages.{roleOf, linkBy, Run, bodyOf, cellsOf, runIn, picked}
-use Rattle.messages.specs.Inner.{segIn}
+use Rattle.cells.specs.Messages.{roleOf, linkBy, Run, bodyOf, cellsOf, runIn, picked}
+use Rattle.cells.specs.Pieces.{segIn}
 
 -- the segment in cell j, where it holds one
 abbrev pub segAt : Settings → ℕ → List ℕ → ℕ → Seg

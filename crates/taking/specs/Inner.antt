@@ -5,7 +5,7 @@ use mathlib.Core.List.{List}
 use lib.ListN.{length}
 use Rattle.octets.specs.Octets.{octetAt, part}
 use Rattle.cells.specs.Rows.{packetIn}
-use Rattle.messages.specs.declared.Piece.{Piece}
+use Rattle.cells.specs.declared.messages.Piece.{Piece}
 
 -- what is kept of a segment, by the octets of its row, told where its packet's body begins
 unfoldable pub pieceIn : List ℕ → ℕ → Piece

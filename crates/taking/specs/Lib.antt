@@ -2,3 +2,4 @@ pub mod Taking
 pub mod Told
 pub mod Inner
 pub mod Follow
+pub mod Cleared

@@ -11,8 +11,8 @@ use lib.Dec.{leb}
 use Rattle.octets.specs.Octets.{pick}
 use Rattle.walk.specs.declared.Settings.{Settings}
 use Rattle.cells.specs.Order.{cellAt, countIn, gate, through}
-use Rattle.clearing.specs.Cleared.{clearedTo, zeroIf}
-use Rattle.messages.specs.Messages.{cellsOf, Run, bodyOf, segments, picked, amongIn, top}
+use Rattle.taking.specs.Cleared.{clearedTo, zeroIf}
+use Rattle.cells.specs.Messages.{cellsOf, Run, bodyOf, segments, picked, amongIn, top}
 
 -- what a taking comes to
 pub data Took : Type 0 where

@@ -3,7 +3,7 @@
 -- Assumes nothing: these are definitions.
 use Prim.Native.Nat.{_-_}
 use lib.ListN.{length}
-use Rattle.messages.specs.Messages.{bodyOf}
+use Rattle.cells.specs.Messages.{bodyOf}
 use Rattle.walk.specs.Walk.{refusal}
 use Rattle.taking.specs.declared.Taken.{Taken}
 use Rattle.taking.specs.Taking.{Took, message, unable}

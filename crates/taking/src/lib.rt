@@ -2,6 +2,8 @@
 //
 // The store is any octets here, and the size of a cell is that of the zero cell lent: T and the store's order are tested by
 // `store::take`, or by whoever keeps a store in order.
+pub mod clearing;
+
 ghost use mathlib.Core.Path.{_≡_};
 ghost use mathlib.Core.List.{_∷_, _++_};
 ghost use Prim.Native.Nat.{suc, _+_, _/_, _≤_, _<_};
@@ -14,12 +16,12 @@ ghost use Rattle.packet.specs.Format.{packetMost};
 ghost use Rattle.cells.specs.Rows.{zeroRow, packetIn, held};
 ghost use Rattle.cells.specs.Order.{cellsMost, lowest, cellAt};
 ghost use Rattle.cells.specs.Inner.{Asked};
-ghost use Rattle.messages.specs.Messages.{cellsOf, runIn, picked, top};
+ghost use Rattle.cells.specs.Messages.{cellsOf, runIn, picked, top};
 ghost use Rattle.taking.specs.Taking.{unable, tookIn, outWith, storeLess};
 ghost use Rattle.taking.specs.Told.{takenOf};
 ghost use Rattle.taking.specs.Inner.{pieceIn};
 ghost use Rattle.taking.specs.Follow.{segAt, follow as followed, placesFrom, bodiesAt, total, answer, opensAt, endsAt, pickedOf, copiedOf, Lent, Ready, Opens};
-use messages::Piece;
+use cells::messages::Piece;
 use packet::FIRST;
 use packet::LAST;
 use packet::SegmentCounter;
@@ -104,10 +106,10 @@ fn follow(
 {
     let z = zero.len();
     let mut c = first;
-    let mut left = messages::further(first);
+    let mut left = cells::messages::further(first);
     let mut sum = b;
     while 0 < left {
-        c = messages::next(c);
+        c = cells::messages::next(c);
         let j = cells::find_by(s, store, n, zero, q, body_at, c, chained, heads, links);
         if n <= j {
             return Measured::Incomplete;
@@ -257,11 +259,11 @@ fn copy_rest(
 {
     let z = zero.len();
     let mut c = first;
-    let mut left = messages::further(first);
+    let mut left = cells::messages::further(first);
     let mut steps: u32 = 0;
     let mut at = place;
     while 0 < left {
-        c = messages::next(c);
+        c = cells::messages::next(c);
         steps += 1;
         let j = cells::find_by(s, store, n, zero, q, body_at, c, chained, heads, links);
         let r = cells::row(store, z, j);
@@ -299,7 +301,7 @@ fn copy_message(
     let ids = h.ids;
     let counter = ids.counter;
     let body = h.body;
-    let t = messages::piece_in(s, r);
+    let t = cells::messages::piece_in(s, r);
     let key = put_key(s, out, q, body.at);
     let at = put_body(out, key, r, t);
     let steps = copy_rest(
@@ -347,7 +349,7 @@ fn draw(
     let t = copy_message(s, store, n, zero, i, out, chained, heads, links);
     let counter = t.counter;
     let key = cells::span(out, 0, 2 + t.header);
-    clearing::clear(s, store, n, zero, key, counter, t.steps);
+    crate::clearing::clear(s, store, n, zero, key, counter, t.steps);
     Taken {
         refusal: Refusal { number: 0 },
         header: t.header,

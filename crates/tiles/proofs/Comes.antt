@@ -11,7 +11,7 @@ use native.Mathlib.Omega.{arith}
 use lib.ListN.{length}
 use lib.Dec.{eqb}
 use Rattle.octets.specs.Octets.{pick}
-use Rattle.messages.specs.Messages.{Run, picked, top}
+use Rattle.cells.specs.Messages.{Run, picked, top}
 use Rattle.arrival.specs.Arriving.{Arrived, whole, stored, again, refused, arrived, storeWith}
 use Rattle.taking.specs.Taking.{Took, message, unable, writing, took}
 use Rattle.join.specs.Joining.{tookAs, joinedBy, joining as joiningOf}

@@ -17,7 +17,7 @@ use Rattle.packet.specs.declared.Header.{Header}
 use Rattle.packet.specs.Reading.{readPacket}
 use Rattle.format.proofs.Figure14.{reads}
 use Rattle.write.specs.Given.{headOf}
-use Rattle.messages.proofs.Opens.{opens}
+use Rattle.cells.proofs.Opens.{opens}
 use Rattle.steps.specs.Stepping.{packetMark, foundIn, framed}
 use Rattle.recording.specs.Recording.{settings}
 use Rattle.demand3.specs.Sendings.{ReadsAs, segmentAt}

@@ -8,8 +8,8 @@ use native.Mathlib.Omega.{arith}
 use lib.ListN.{length, take, drop, length-append}
 use lib.Seq.{sets-eq, take-append-seam}
 use Rattle.taking.specs.declared.Taken.{Taken}
-use Rattle.messages.specs.Messages.{Run, bodyOf}
-use Rattle.messages.proofs.Picking.{pick-yes}
+use Rattle.cells.specs.Messages.{Run, bodyOf}
+use Rattle.cells.proofs.Picking.{pick-yes}
 use Rattle.taking.specs.Taking.{message, writing, took, outWith}
 use Rattle.taking.specs.Told.{takenOf}
 use Rattle.taking.proofs.Tells.{taken-tells}

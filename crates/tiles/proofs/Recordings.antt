@@ -13,7 +13,7 @@ use borrow.Author.Tests.{le-leb}
 use Rattle.packet.specs.Reading.{readPacket}
 use Rattle.cells.specs.Segments.{segOf}
 use Rattle.cells.specs.Order.{cellAt}
-use Rattle.messages.specs.Messages.{Run, bodyOf, look}
+use Rattle.cells.specs.Messages.{Run, bodyOf, look}
 use Rattle.taking.specs.Taking.{message}
 use Rattle.demand3.specs.Cells.{hasFree}
 use Rattle.steps.specs.Stepping.{longest, Came, over, refused, kept, wholly, message as messageOf, cameOf}

@@ -11,7 +11,7 @@ use borrow.Author.Tests.{le-leb}
 use Rattle.octets.specs.Octets.{pick}
 use Rattle.packet.specs.Reading.{readPacket}
 use Rattle.cells.specs.Segments.{segOf}
-use Rattle.messages.specs.Messages.{look}
+use Rattle.cells.specs.Messages.{look}
 use Rattle.demand3.specs.Cells.{hasFree}
 use Rattle.steps.specs.Stepping.{longest}
 use Rattle.recording.specs.Recording.{settings, cellCount}

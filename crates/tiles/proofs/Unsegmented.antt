@@ -13,7 +13,7 @@ use borrow.Author.Tests.{eqb-true, eq-eqb, leb-true, le-leb}
 use Rattle.octets.specs.Octets.{pick}
 use Rattle.packet.specs.Reading.{readPacket, segmented}
 use Rattle.cells.specs.Segments.{Seg, segOf, sameRest}
-use Rattle.messages.specs.Messages.{cellsOf, look, bodyOf}
+use Rattle.cells.specs.Messages.{cellsOf, look, bodyOf}
 use Rattle.arrival.specs.Arriving.{Arrived, whole, stored, again, refused, placed, beside, lowestFree, segmentArrived, arrivedIn, arrived, storeWith}
 use Rattle.taking.specs.Taking.{Took, message, unable, took}
 use Rattle.join.specs.Joining.{tookAs, joinedBy, joining as joiningOf}

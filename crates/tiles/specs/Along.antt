@@ -6,7 +6,7 @@ use mathlib.Core.List.{List, [], _∷_, _++_}
 use lib.ListN.{length, drop}
 use Rattle.octets.specs.Octets.{number}
 use Rattle.cells.specs.Order.{cellSize}
-use Rattle.messages.specs.Messages.{bodyOf}
+use Rattle.cells.specs.Messages.{bodyOf}
 use Rattle.steps.specs.Stepping.{packetMark, Found, nothing, other, cut, whole, foundIn, storeAfter, framed, without}
 use Rattle.steps.specs.Stepping.{Came, over, refused, kept, wholly, message, cameOf}
 use Rattle.recording.specs.Recording.{settings, emptyStore}

@@ -13,7 +13,7 @@ use Rattle.packet.specs.Reading.{readPacket, segmented}
 use Rattle.cells.specs.Segments.{segOf}
 use Rattle.cells.specs.Rows.{Cell}
 use Rattle.cells.specs.Order.{cellSize}
-use Rattle.messages.specs.Messages.{look}
+use Rattle.cells.specs.Messages.{look}
 use Rattle.demand3.specs.Cells.{hasFree}
 use Rattle.demand3.specs.Sendings.{Sending, ReadsAs, wholeBody, manyOf, segmentAt, identificationOf, headerOf, keyIn, startOf, IsCut}
 use Rattle.demand3.specs.Presupposed.{MayCome, cellsIn}

@@ -2,7 +2,7 @@
 -- Assumes nothing.
 use mathlib.Core.Path.{_∙_, refl}
 use denote.Ref.{now}
-use Rattle.opening.proofs.Gate.{opened-number, opened-gate, opened-cells}
+use Rattle.cells.proofs.Gate.{opened-number, opened-gate, opened-cells}
 use Rattle.join.proofs.Joins.{join-shut}
 use Rattle.join.proofs.Inner.{joins-open}
 use borrow.Author.Needs.{needs}

@@ -5,7 +5,7 @@ use denote.Ref.{now}
 use Rattle.arrival.specs.Told.{arrivalOf}
 use Rattle.arrival.specs.Arriving.{refused, storeWith, arrivedIn}
 use Rattle.arrival.proofs.Checked.{arrived-open, arrived-shut}
-use Rattle.opening.proofs.Gate.{opened-number, opened-gate, opened-cells}
+use Rattle.cells.proofs.Gate.{opened-number, opened-gate, opened-cells}
 use borrow.Author.Needs.{needs}
 use Rattle.store.proofs.arrive.Statement.{statement}
 use Rattle.store.proofs.arrive.Tie as tie

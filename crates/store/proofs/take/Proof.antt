@@ -7,7 +7,7 @@ use Rattle.cells.specs.Order.{countIn}
 use Rattle.taking.specs.Told.{takenOf}
 use Rattle.taking.specs.Taking.{unable, outWith, storeLess, tookIn}
 use Rattle.taking.proofs.Checked.{took-open, took-shut}
-use Rattle.opening.proofs.Gate.{opened-number, opened-gate, opened-cells}
+use Rattle.cells.proofs.Gate.{opened-number, opened-gate, opened-cells}
 use borrow.Author.Needs.{needs}
 use Rattle.store.proofs.take.Statement.{statement}
 use Rattle.store.proofs.take.Tie as tie

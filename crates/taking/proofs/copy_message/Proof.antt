@@ -3,7 +3,7 @@
 use Prim.Native.Nat.{suc}
 use denote.Ref.{now}
 use lib.ListN.{length}
-use Rattle.messages.specs.Messages.{top}
+use Rattle.cells.specs.Messages.{top}
 use Rattle.taking.proofs.Heads.{head-asked, head-told, head-key-room, head-body-room, head-ready, head-written}
 use borrow.Author.Needs.{needs}
 use Rattle.taking.proofs.copy_message.Statement.{statement}

@@ -7,7 +7,7 @@ use lib.ListN.{length}
 use native.Mathlib.Omega.{arith}
 use Rattle.packet.specs.Key.{keyOf}
 use Rattle.packet.specs.Reading.{readPacket}
-use Rattle.messages.specs.Messages.{top}
+use Rattle.cells.specs.Messages.{top}
 use Rattle.taking.specs.Follow.{placesFrom}
 use Rattle.taking.proofs.Pieces.{piece-found}
 use Rattle.taking.proofs.Past.{past-none}

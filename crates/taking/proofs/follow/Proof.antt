@@ -7,7 +7,7 @@ use denote.Ref.{now}
 use lib.ListN.{length}
 use Rattle.packet.specs.Key.{keyOf}
 use Rattle.packet.specs.Reading.{readPacket}
-use Rattle.messages.specs.Messages.{top}
+use Rattle.cells.specs.Messages.{top}
 use Rattle.taking.proofs.Pieces.{piece-found}
 use Rattle.taking.proofs.Past.{past-none}
 use Rattle.taking.proofs.Counting.{Counted, counted-first, counted-none, counted-room, counted-broken, counted-last, counted-on, counted-out}

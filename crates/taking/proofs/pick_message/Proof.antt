@@ -3,7 +3,7 @@
 use Prim.Native.Nat.{suc, _-_}
 use denote.Ref.{now}
 use lib.ListN.{length}
-use Rattle.messages.specs.Messages.{top}
+use Rattle.cells.specs.Messages.{top}
 use Rattle.taking.proofs.Picks.{Picking, picking-first, picking-turn, picking-found, picking-none}
 use borrow.Author.Needs.{needs}
 use Rattle.taking.proofs.pick_message.Statement.{statement}

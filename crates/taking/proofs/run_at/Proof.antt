@@ -5,7 +5,7 @@ use mathlib.Core.Path.{sym, _∙_}
 use denote.Ref.{now}
 use lib.ListN.{length}
 use borrow.Author.Tests.{not-true, not-false}
-use Rattle.messages.specs.Messages.{top}
+use Rattle.cells.specs.Messages.{top}
 use Rattle.taking.proofs.Running.{run-none, run-other, run-inside, run-asked, run-most, run-first}
 use borrow.Author.Needs.{needs}
 use Rattle.taking.proofs.run_at.Statement.{statement}
