@@ -55,7 +55,8 @@ fn store_new(store: &mut [u8], n: usize, zero: &[u8], p: &[u8]) -> Arrival
     requires { ⌜ now zero ≡ zeroRow (length (now zero)) ⌝ }
     requires { ⌜ 2 + length (now p) ≤ length (now zero) ⌝ }
     ensures { λ r. ⌜ r ≡ arrivalOf (placed n (lowest (λ j. alike (rowAt (length (now (zero .entry))) (now (store .entry)) j) (now (zero .entry))) n 0)) ⌝ }
-    ensures { λ r. ⌜ now (store .exit) ≡ storeWith (length (now (zero .entry))) (now (store .entry)) (now (p .entry)) (placed n (lowest (λ j. alike (rowAt (length (now (zero .entry))) (now (store .entry)) j) (now (zero .entry))) n 0)) ⌝ }
+    ensures { λ r. ⌜ now (store .exit) ≡ storeWith (length (now (zero .entry))) (now (store .entry)) (now (p .entry))
+        (placed n (lowest (λ j. alike (rowAt (length (now (zero .entry))) (now (store .entry)) j) (now (zero .entry))) n 0)) ⌝ }
 {
     let i = cells::lowest_free(store, n, zero);
     if n <= i {
@@ -80,8 +81,10 @@ fn store_segment(
     requires { ⌜ now zero ≡ zeroRow (length (now zero)) ⌝ }
     requires { ⌜ Asked s (now p) at ⌝ }
     requires { ⌜ 2 + length (now p) ≤ length (now zero) ⌝ }
-    ensures { λ r. ⌜ r ≡ arrivalOf (segmentArrived s (length (now (zero .entry))) (now (store .entry)) n (segWith s (now (p .entry)) flags at long (counter .0))) ⌝ }
-    ensures { λ r. ⌜ now (store .exit) ≡ storeWith (length (now (zero .entry))) (now (store .entry)) (now (p .entry)) (segmentArrived s (length (now (zero .entry))) (now (store .entry)) n (segWith s (now (p .entry)) flags at long (counter .0))) ⌝ }
+    ensures { λ r. ⌜ r ≡ arrivalOf (segmentArrived s (length (now (zero .entry))) (now (store .entry)) n
+        (segWith s (now (p .entry)) flags at long (counter .0))) ⌝ }
+    ensures { λ r. ⌜ now (store .exit) ≡ storeWith (length (now (zero .entry))) (now (store .entry)) (now (p .entry))
+        (segmentArrived s (length (now (zero .entry))) (now (store .entry)) n (segWith s (now (p .entry)) flags at long (counter .0))) ⌝ }
 {
     let j = cells::find(s, store, n, zero, p, at, counter);
     if n <= j {
@@ -97,7 +100,8 @@ fn store_segment(
 pub fn arrive_in(s: Settings, store: &mut [u8], n: usize, zero: &[u8], p: &[u8]) -> Arrival
     requires { ⌜ now zero ≡ zeroRow (length (now zero)) ⌝ }
     ensures { λ r. ⌜ r ≡ arrivalOf (arrivedIn s (length (now (zero .entry))) (now (store .entry)) n (now (p .entry))) ⌝ }
-    ensures { λ r. ⌜ now (store .exit) ≡ storeWith (length (now (zero .entry))) (now (store .entry)) (now (p .entry)) (arrivedIn s (length (now (zero .entry))) (now (store .entry)) n (now (p .entry))) ⌝ }
+    ensures { λ r. ⌜ now (store .exit) ≡ storeWith (length (now (zero .entry))) (now (store .entry)) (now (p .entry))
+        (arrivedIn s (length (now (zero .entry))) (now (store .entry)) n (now (p .entry))) ⌝ }
 {
     let h = packet::read(s, p);
     let refusal = h.refusal;

@@ -47,8 +47,12 @@ pub extern "C" fn orl_write(
     out: &mut [u8],
     answer: &mut [u64; 2],
 )
-    ensures { λ r. ⌜ now (answer .exit) ≡ writeNumbers t (now (header .entry)) (lent (now (timestamp .entry)) (now (zone .entry)) (now (name .entry)) (now (domain .entry)) (now (lengths .entry)) (now (authentication .entry))) flags «sequence_count» counter (now (body .entry)) (length (now (out .entry))) ⌝ }
-    ensures { λ r. ⌜ now (out .exit) ≡ writeOut t (now (header .entry)) (lent (now (timestamp .entry)) (now (zone .entry)) (now (name .entry)) (now (domain .entry)) (now (lengths .entry)) (now (authentication .entry))) flags «sequence_count» counter (now (body .entry)) (now (out .entry)) ⌝ }
+    ensures { λ r. ⌜ now (answer .exit) ≡ writeNumbers t (now (header .entry))
+        (lent (now (timestamp .entry)) (now (zone .entry)) (now (name .entry)) (now (domain .entry)) (now (lengths .entry))
+        (now (authentication .entry))) flags «sequence_count» counter (now (body .entry)) (length (now (out .entry))) ⌝ }
+    ensures { λ r. ⌜ now (out .exit) ≡ writeOut t (now (header .entry))
+        (lent (now (timestamp .entry)) (now (zone .entry)) (now (name .entry)) (now (domain .entry)) (now (lengths .entry))
+        (now (authentication .entry))) flags «sequence_count» counter (now (body .entry)) (now (out .entry)) ⌝ }
 {
     *answer = flat::write(
         t,
@@ -99,7 +103,9 @@ pub extern "C" fn orl_cut_count(
     sender: &[u64; 3],
     answer: &mut [u64; 5],
 )
-    ensures { λ r. ⌜ now (answer .exit) ≡ countNumbers t p (now (header .entry)) (lent (now (timestamp .entry)) (now (zone .entry)) (now (name .entry)) (now (domain .entry)) (now (lengths .entry)) (now (authentication .entry))) body (now (sender .entry)) ⌝ }
+    ensures { λ r. ⌜ now (answer .exit) ≡ countNumbers t p (now (header .entry))
+        (lent (now (timestamp .entry)) (now (zone .entry)) (now (name .entry)) (now (domain .entry)) (now (lengths .entry))
+        (now (authentication .entry))) body (now (sender .entry)) ⌝ }
 {
     *answer = flat::cut_count(
         t,
@@ -134,8 +140,12 @@ pub extern "C" fn orl_cut_packet(
     out: &mut [u8],
     answer: &mut [u64; 5],
 )
-    ensures { λ r. ⌜ now (answer .exit) ≡ packetNumbers t p (now (header .entry)) (lent (now (timestamp .entry)) (now (zone .entry)) (now (name .entry)) (now (domain .entry)) (now (lengths .entry)) (now (authentication .entry))) (now (body .entry)) (now (sender .entry)) i (length (now (out .entry))) ⌝ }
-    ensures { λ r. ⌜ now (out .exit) ≡ packetOut t p (now (header .entry)) (lent (now (timestamp .entry)) (now (zone .entry)) (now (name .entry)) (now (domain .entry)) (now (lengths .entry)) (now (authentication .entry))) (now (body .entry)) (now (sender .entry)) i (now (out .entry)) ⌝ }
+    ensures { λ r. ⌜ now (answer .exit) ≡ packetNumbers t p (now (header .entry))
+        (lent (now (timestamp .entry)) (now (zone .entry)) (now (name .entry)) (now (domain .entry)) (now (lengths .entry))
+        (now (authentication .entry))) (now (body .entry)) (now (sender .entry)) i (length (now (out .entry))) ⌝ }
+    ensures { λ r. ⌜ now (out .exit) ≡ packetOut t p (now (header .entry))
+        (lent (now (timestamp .entry)) (now (zone .entry)) (now (name .entry)) (now (domain .entry)) (now (lengths .entry))
+        (now (authentication .entry))) (now (body .entry)) (now (sender .entry)) i (now (out .entry)) ⌝ }
 {
     *answer = flat::cut_packet(
         t,

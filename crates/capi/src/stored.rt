@@ -15,7 +15,8 @@ ghost use Rattle.flat_store.specs.Recordings.{recordedNumbers};
 #[no_mangle]
 pub extern "C" fn orl_arrive(t: u64, store: &mut [u8], packet: &[u8], answer: &mut [u64; 2])
     ensures { λ r. ⌜ now (answer .exit) ≡ arriveNumbers (arrived (settingsOf t) cellSize (now (store .entry)) (now (packet .entry))) ⌝ }
-    ensures { λ r. ⌜ now (store .exit) ≡ storeWith cellSize (now (store .entry)) (now (packet .entry)) (arrived (settingsOf t) cellSize (now (store .entry)) (now (packet .entry))) ⌝ }
+    ensures { λ r. ⌜ now (store .exit) ≡ storeWith cellSize (now (store .entry)) (now (packet .entry))
+        (arrived (settingsOf t) cellSize (now (store .entry)) (now (packet .entry))) ⌝ }
 {
     *answer = flat_store::arrive(t, store, packet);
 }
@@ -25,7 +26,8 @@ pub extern "C" fn orl_arrive(t: u64, store: &mut [u8], packet: &[u8], answer: &m
 pub extern "C" fn orl_take(t: u64, store: &mut [u8], out: &mut [u8], answer: &mut [u64; 4])
     ensures { λ r. ⌜ now (answer .exit) ≡ takeNumbers (took (settingsOf t) cellSize (now (store .entry)) (length (now (out .entry)))) ⌝ }
     ensures { λ r. ⌜ now (out .exit) ≡ outWith (now (out .entry)) (took (settingsOf t) cellSize (now (store .entry)) (length (now (out .entry)))) ⌝ }
-    ensures { λ r. ⌜ now (store .exit) ≡ storeLess (settingsOf t) cellSize (now (store .entry)) (countIn cellSize (now (store .entry))) (took (settingsOf t) cellSize (now (store .entry)) (length (now (out .entry)))) ⌝ }
+    ensures { λ r. ⌜ now (store .exit) ≡ storeLess (settingsOf t) cellSize (now (store .entry)) (countIn cellSize (now (store .entry)))
+        (took (settingsOf t) cellSize (now (store .entry)) (length (now (out .entry)))) ⌝ }
 {
     *answer = flat_store::take(t, store, out);
 }
@@ -39,7 +41,8 @@ pub extern "C" fn orl_join(
     out: &mut [u8],
     answer: &mut [u64; 7],
 )
-    ensures { λ r. ⌜ now (answer .exit) ≡ joinNumbers (joining (settingsOf t) cellSize (now (store .entry)) (now (packet .entry)) (length (now (out .entry)))) ⌝ }
+    ensures { λ r. ⌜ now (answer .exit) ≡ joinNumbers (joining (settingsOf t) cellSize (now (store .entry)) (now (packet .entry))
+        (length (now (out .entry)))) ⌝ }
     ensures { λ r. ⌜ now (store .exit) ≡ storeJoined (settingsOf t) cellSize (now (store .entry)) (now (packet .entry)) (length (now (out .entry))) ⌝ }
     ensures { λ r. ⌜ now (out .exit) ≡ outJoined (settingsOf t) cellSize (now (store .entry)) (now (packet .entry)) (now (out .entry)) ⌝ }
 {

@@ -14,7 +14,8 @@ use Rattle.walk.specs.Walk.{Reading, Step, going, octets, check, number}
 use Rattle.walk.proofs.Steps.{octets-there, check-held, number-refused}
 use Rattle.fields.specs.Fields.{opt, nowhere, block, blob, text, part, domain, partAt, partsTo, Parts, noParts, partsMost}
 use Rattle.packet.specs.declared.Present.{Present}
-use Rattle.packet.specs.FixedPart.{octetField, wideField, afterSdu, afterArea, afterService, afterOperation, afterVersion, afterSession, afterSecondary, afterQualifier, afterTransaction, afterPresence, fixedEnd}
+use Rattle.packet.specs.FixedPart.{octetField, wideField, afterSdu, afterArea, afterService, afterOperation, afterVersion, afterSession}
+use Rattle.packet.specs.FixedPart.{afterSecondary, afterQualifier, afterTransaction, afterPresence, fixedEnd}
 use Rattle.packet.specs.Reading.{segmented, idsOf, textsOf, startAt, hasAt, idsAt, textsAt, readPacket}
 use Rattle.format.proofs.Start.{Opens, start-only, body-only, answered}
 

@@ -19,7 +19,8 @@ ghost use Rattle.octets.specs.Octets.{pick, part, number, alike};
 ghost use lib.Dec.{eqb};
 ghost use Rattle.cells.specs.Segments.{both};
 ghost use Rattle.cells.specs.Rows.{rowAt, zeroRow, cellOf};
-ghost use Rattle.cells.specs.Inner.{heldRowTest, judgedOf, toldHeld, toldSound, bodyIn, placeIn, counterIn, spansAlike, reaches, withinIn, Asked, bodyAt, bodiesTo, Bodies};
+ghost use Rattle.cells.specs.Inner.{heldRowTest, judgedOf, toldHeld, toldSound, bodyIn, placeIn, counterIn, spansAlike, reaches};
+ghost use Rattle.cells.specs.Inner.{withinIn, Asked, bodyAt, bodiesTo, Bodies};
 ghost use mathlib.Core.Bool.{true};
 ghost use Rattle.packet.specs.Reading.{readPacket};
 ghost use Rattle.packet.specs.Key.{keyOf};
@@ -252,7 +253,8 @@ pub fn carries_at(
 ) -> bool
     requires { ⌜ now zero ≡ zeroRow (length (now zero)) ⌝ }
     requires { ⌜ Asked s (now q) «body_at» ⌝ }
-    ensures { λ r. ⌜ r ≡ carriesIn (keyOf (now (q .entry)) (readPacket s (now (q .entry)))) (c .0) (cellOf s (length (now (zero .entry))) (now (row .entry))) ⌝ }
+    ensures { λ r. ⌜ r ≡ carriesIn (keyOf (now (q .entry)) (readPacket s (now (q .entry)))) (c .0)
+        (cellOf s (length (now (zero .entry))) (now (row .entry))) ⌝ }
 {
     if octets::octet(row, 0) == 0 {
         return false;
@@ -501,7 +503,8 @@ fn is_new(
     requires { ⌜ Asked s (now q) «body_at» ⌝ }
     requires { ⌜ Chained (bucketAt s (length (now zero)) (now store)) (now heads) (now links) i ⌝ }
     requires { ⌜ b ≡ bucketOf (keyIn (now q) «body_at») (c .0) ⌝ }
-    ensures { λ r. ⌜ r ≡ both apart (newTo s (length (now (zero .entry))) (now (store .entry)) i (keyOf (now (q .entry)) (readPacket s (now (q .entry)))) (c .0)) ⌝ }
+    ensures { λ r. ⌜ r ≡ both apart (newTo s (length (now (zero .entry))) (now (store .entry)) i
+        (keyOf (now (q .entry)) (readPacket s (now (q .entry)))) (c .0)) ⌝ }
 {
     if apart {
         return find_on(s, store, i, zero, q, body_at, c, b, heads, links) == i;
@@ -550,7 +553,8 @@ fn enter(
     requires { ⌜ i < cellsMost ⌝ }
     requires { ⌜ «body_at» ≡ bodyAt s (length (now zero)) (now store) i ⌝ }
     requires { ⌜ Chained (bucketAt s (length (now zero)) (now store)) (now heads) (now links) i ⌝ }
-    ensures { λ r. ⌜ r ≡ both apart (newAt s (length (now (zero .entry))) (now (store .entry)) i (cellAt s (length (now (zero .entry))) (now (store .entry)) i)) ⌝ }
+    ensures { λ r. ⌜ r ≡ both apart (newAt s (length (now (zero .entry))) (now (store .entry)) i
+        (cellAt s (length (now (zero .entry))) (now (store .entry)) i)) ⌝ }
     ensures { λ r. ⌜ Chained (bucketAt s (length (now (zero .entry))) (now (store .entry))) (now (heads .exit)) (now (links .exit)) (i + 1) ⌝ }
 {
     if body_at == 0 {

@@ -87,7 +87,10 @@ fn test_message(
     id: &[u8],
     sender: Sender,
 ) -> Refusal
-    ensures { λ q. ⌜ q ≡ partsTest (lent (now (time .entry)) (now (zone .entry)) (now (name .entry)) (now (domain .entry)) (now (lengths .entry)) (now (id .entry))) (valueTests s v (lent (now (time .entry)) (now (zone .entry)) (now (name .entry)) (now (domain .entry)) (now (lengths .entry)) (now (id .entry))) sender (limitTest s p noRefusal)) ⌝ }
+    ensures { λ q. ⌜ q ≡ partsTest (lent (now (time .entry)) (now (zone .entry)) (now (name .entry)) (now (domain .entry))
+        (now (lengths .entry)) (now (id .entry))) (valueTests s v
+        (lent (now (time .entry)) (now (zone .entry)) (now (name .entry)) (now (domain .entry)) (now (lengths .entry)) (now (id .entry)))
+        sender (limitTest s p noRefusal)) ⌝ }
 {
     let none = Refusal { number: 0 };
     let sequence_count = sender.sequence_count;
@@ -270,7 +273,8 @@ pub fn count(
     body: usize,
     sender: Sender,
 ) -> Counted
-    ensures { λ r. ⌜ r ≡ countAnswer s p v (lent (now (time .entry)) (now (zone .entry)) (now (name .entry)) (now (domain .entry)) (now (lengths .entry)) (now (id .entry))) body sender ⌝ }
+    ensures { λ r. ⌜ r ≡ countAnswer s p v (lent (now (time .entry)) (now (zone .entry)) (now (name .entry)) (now (domain .entry))
+        (now (lengths .entry)) (now (id .entry))) body sender ⌝ }
 {
     let values = test_message(s, p, v, time, zone, name, domain, lengths, id, sender);
     let h = write::header_size(s, v, time, zone, name, domain, lengths, id);
@@ -319,8 +323,11 @@ pub fn packet(
     i: usize,
     out: &mut [u8],
 ) -> Cut
-    ensures answer { λ r. ⌜ r ≡ packetAnswer s p v (lent (now (time .entry)) (now (zone .entry)) (now (name .entry)) (now (domain .entry)) (now (lengths .entry)) (now (id .entry))) (now (body .entry)) sender i (length (now (out .entry))) ⌝ }
-    ensures octets { λ r. ⌜ now (out .exit) ≡ packetOutput s p v (lent (now (time .entry)) (now (zone .entry)) (now (name .entry)) (now (domain .entry)) (now (lengths .entry)) (now (id .entry))) (now (body .entry)) sender i (now (out .entry)) ⌝ }
+    ensures answer { λ r. ⌜ r ≡ packetAnswer s p v (lent (now (time .entry)) (now (zone .entry)) (now (name .entry)) (now (domain .entry))
+        (now (lengths .entry)) (now (id .entry))) (now (body .entry)) sender i (length (now (out .entry))) ⌝ }
+    ensures octets { λ r. ⌜ now (out .exit) ≡ packetOutput s p v
+        (lent (now (time .entry)) (now (zone .entry)) (now (name .entry)) (now (domain .entry)) (now (lengths .entry)) (now (id .entry)))
+        (now (body .entry)) sender i (now (out .entry)) ⌝ }
     ensures lends { λ r. ⌜ Lends v
         (lent (now (time .entry)) (now (zone .entry)) (now (name .entry)) (now (domain .entry)) (now (lengths .entry)) (now (id .entry)))
         (now (body .entry)) ⌝ }

@@ -36,7 +36,9 @@ use Rattle.demand3.proofs.Cutter.{cutter-hands-out}
 use Rattle.demand3.proofs.Acts.{comes, lands, actEvents, acts-are, untaken-told}
 use Rattle.demand3.proofs.Day.{settings, cutting, three, succeeds, messages, of-three, header, three-many, three-cut, seg, stray, is-eight, is-nine}
 use Rattle.demand3.proofs.DayComes.{Fine, three-fine}
-use Rattle.demand3.proofs.DayRun.{lentOut, dawn, early, morning, atNoon, noon, evening, eight, nine, dawnActs, morningActs, noonActs, eveningActs, dawn-acts, morning-acts, noon-acts, evening-acts, day-acts, in-use, one, cells-are, joined-takes, taking-takes, traffic, given}
+use Rattle.demand3.proofs.DayRun.{lentOut, dawn, early, morning, atNoon, noon, evening, eight, nine, dawnActs, morningActs, noonActs}
+use Rattle.demand3.proofs.DayRun.{eveningActs, dawn-acts, morning-acts, noon-acts, evening-acts, day-acts, in-use, one, cells-are}
+use Rattle.demand3.proofs.DayRun.{joined-takes, taking-takes, traffic, given}
 use Rattle.sender.proofs.Stepping.{steps-suc}
 
 abbrev Z : ℕ
@@ -183,7 +185,8 @@ written = cutter-hands-out settings Z cutting succeeds 4 (storeBehind settings Z
 -- ---- and anew
 
 left : leftIn suc top (sentOf settings three) (free ∷ cellTen ∷ free ∷ free ∷ []) (actEvents (free ∷ cellTen ∷ free ∷ free ∷ []) eveningActs) ≡ true
-unfolding leftIn actEvents after stepped takenFrom look carries sameRest alike put hasFree pickIn runFrom restFrom roleOf bodies among place headOf split identification headerOctets fixedOctets presence frontOctets backOctets wide
+unfolding leftIn actEvents after stepped takenFrom look carries sameRest alike put hasFree pickIn runFrom restFrom roleOf bodies among place headOf
+    split identification headerOctets fixedOctets presence frontOctets backOctets wide
 left = refl
 
 pub untaken : Untaken settings Z three (storeBehind settings Z 4 noon) evening

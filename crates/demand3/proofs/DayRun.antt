@@ -27,7 +27,8 @@ use Rattle.demand3.proofs.Events.{eventsIn}
 use Rattle.demand3.proofs.Simulates.{took-by}
 use Rattle.demand3.proofs.Carried.{begins, behind-cells, behind-keeps}
 use Rattle.demand3.proofs.Acts.{EachPacket, each-packet, Act, comes, draw, meets, actOf, lands, actEvents, draws-by, acts-are, room-told}
-use Rattle.demand3.proofs.Day.{settings, three, two, messages, of-three, of-two, single, stub, huge, other, three-cut, two-cut, seg, stray, is-seven, is-eight, is-nine, is-ten, is-eleven, is-single, is-stub, is-huge, is-other}
+use Rattle.demand3.proofs.Day.{settings, three, two, messages, of-three, of-two, single, stub, huge, other, three-cut, two-cut, seg, stray}
+use Rattle.demand3.proofs.Day.{is-seven, is-eight, is-nine, is-ten, is-eleven, is-single, is-stub, is-huge, is-other}
 use Rattle.demand3.proofs.DayComes.{one-of, Fine, three-fine, two-fine, single-fine, stub-fine, huge-fine, other-fine, no-counter}
 
 -- ---- the calls

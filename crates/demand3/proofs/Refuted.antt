@@ -36,7 +36,8 @@ use Rattle.demand3.proofs.Whole.{demand3·whole, soundness·whole}
 use Rattle.demand3.proofs.Acts.{EachPacket, each-packet, Act, comes, draw, meets, actOf}
 use Rattle.demand3.proofs.ReadAs.{repeat-reads}
 use Rattle.demand3.proofs.Cutter.{cutter-hands-out}
-use Rattle.demand3.proofs.Day.{settings, cutting, three, succeeds, messages, of-three, of-two, single, stub, huge, three-many, three-long, three-cut, seg, stray, is-seven, is-nine, is-ten, is-single, is-stub}
+use Rattle.demand3.proofs.Day.{settings, cutting, three, succeeds, messages, of-three, of-two, single, stub, huge, three-many, three-long}
+use Rattle.demand3.proofs.Day.{three-cut, seg, stray, is-seven, is-nine, is-ten, is-single, is-stub}
 use Rattle.demand3.proofs.DayComes.{Fine, three-fine}
 use Rattle.demand3.proofs.DayRun.{lentOut, early, morning, atNoon, noon, evening, seven, nine, ten, noonActs, eveningActs, consed, day-acts, in-use, traffic}
 use Rattle.demand3.proofs.DayEnd.{cellsAtEnd, end-cells, theRun, the-key, the-start, promised}

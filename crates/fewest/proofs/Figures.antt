@@ -14,7 +14,8 @@ use Rattle.fields.specs.Form.{joined, split}
 use Rattle.packet.specs.Figure14.{settings, zeros}
 use Rattle.packet.specs.Numbers.{countAt}
 use Rattle.packet.specs.Format.{presence, identification, fixedOctets, frontOctets, counterOctets, backOctets, headerOctets, secondaryOctets, dataOctets, octetsOf}
-use Rattle.packet.specs.FixedPart.{afterSdu, afterArea, afterService, afterOperation, afterVersion, afterSession, afterSecondary, afterQualifier, afterTransaction, afterPresence, fixedOf, flagsOf, presentOf, wideField}
+use Rattle.packet.specs.FixedPart.{afterSdu, afterArea, afterService, afterOperation, afterVersion, afterSession, afterSecondary, afterQualifier}
+use Rattle.packet.specs.FixedPart.{afterTransaction, afterPresence, fixedOf, flagsOf, presentOf, wideField}
 use Rattle.packet.specs.Reading.{primaryTests, primaryOf, idsOf, textsOf, bodyTest, acceptedHeader, readPacket}
 use Rattle.sender.specs.declared.Next.the-variants.{NoneLeft}
 use Rattle.sender.specs.Sending.{nextCounter, afterSegment, afterSegments, stepsOf}
@@ -33,7 +34,8 @@ use Rattle.fewest.proofs.Delivering.{not-refused}
 
 -- figure 12: the largest counter is used, and then none is left
 pub twelve-none : countAnswer settings 64 values texts 38 (sender 4294967294) .sender .next ≡ NoneLeft
-unfolding countAnswer countRefusal messageTests limitTest valueTests settingsTest partsTest unless unlessAll headerChecks nameChecks routingChecks idChecks textChecks sum packets rounded countersFit headOf split headerOctets fixedOctets frontOctets backOctets wide senderAfter afterSegments afterSegment nextCounter
+unfolding countAnswer countRefusal messageTests limitTest valueTests settingsTest partsTest unless unlessAll headerChecks nameChecks routingChecks
+    idChecks textChecks sum packets rounded countersFit headOf split headerOctets fixedOctets frontOctets backOctets wide senderAfter afterSegments afterSegment nextCounter
 twelve-none = refl
 
 -- ---- figure 8's message, and the wrong programs
@@ -59,7 +61,8 @@ lends =
     }
 
 counts : countRefusal settings 64 values texts 38 (sender 0) .number ≡ 0
-unfolding countRefusal messageTests limitTest valueTests settingsTest partsTest unless unlessAll headerChecks nameChecks routingChecks idChecks textChecks sum packets rounded countersFit headOf split headerOctets fixedOctets frontOctets backOctets wide
+unfolding countRefusal messageTests limitTest valueTests settingsTest partsTest unless unlessAll headerChecks nameChecks routingChecks idChecks
+    textChecks sum packets rounded countersFit headOf split headerOctets fixedOctets frontOctets backOctets wide
 counts = refl
 
 -- the laws speak of it: its two packets read back, and carry it
@@ -74,7 +77,10 @@ abbrev pub repeated : List (List ℕ)
 repeated = firstOf (λ (i : ℕ). octetsAt settings 64 values texts (zeros 38) (sender 0) 0) 2
 
 repeated-long : length (joined (bodyOf settings) repeated) ≡ 66
-unfolding firstOf joined packetAt flagsAt bodyAt packets rounded countAt counterAt stepsOf headOf split octetsOf identification dataOctets secondaryOctets fixedOctets presence frontOctets counterOctets backOctets headerOctets wide readPacket acceptedHeader primaryTests begun check octets numberAt primaryOf afterSdu afterArea afterService afterOperation afterVersion afterSession afterSecondary afterQualifier afterTransaction afterPresence fixedOf flagsOf presentOf idsOf textsOf bodyTest wideField
+unfolding firstOf joined packetAt flagsAt bodyAt packets rounded countAt counterAt stepsOf headOf split octetsOf identification dataOctets
+    secondaryOctets fixedOctets presence frontOctets counterOctets backOctets headerOctets wide readPacket acceptedHeader primaryTests begun check
+    octets numberAt primaryOf afterSdu afterArea afterService afterOperation afterVersion afterSession afterSecondary afterQualifier afterTransaction
+    afterPresence fixedOf flagsOf presentOf idsOf textsOf bodyTest wideField
 repeated-long = refl
 
 -- does not carry the message: its bodies joined are 66 octets, not 38
@@ -86,7 +92,8 @@ repeats-refuted c =
 long-at :
     (length (octetsAt settings 64 values texts (zeros 38) (sender 0) 0) ≡ 64)
     × (length (octetsAt settings 64 values texts (zeros 38) (sender 0) 1) ≡ 36)
-unfolding packetAt flagsAt bodyAt packets rounded countAt counterAt stepsOf headOf split octetsOf identification dataOctets secondaryOctets fixedOctets presence frontOctets counterOctets backOctets headerOctets wide
+unfolding packetAt flagsAt bodyAt packets rounded countAt counterAt stepsOf headOf split octetsOf identification dataOctets secondaryOctets
+    fixedOctets presence frontOctets counterOctets backOctets headerOctets wide
 long-at = (refl, refl)
 
 -- nor does the call's promise allow it: packet 1 has 36 octets, and packet 0 has 64
@@ -95,7 +102,8 @@ pub repeats-not-promised :
 repeats-not-promised e = let l = ap length e in omega (arith, long-at)
 
 eight-count : countAnswer settings 64 values texts 38 (sender 0) .count ≡ 2
-unfolding countAnswer countRefusal messageTests limitTest valueTests settingsTest partsTest unless unlessAll headerChecks nameChecks routingChecks idChecks textChecks sum packets rounded countersFit headOf split headerOctets fixedOctets frontOctets backOctets wide
+unfolding countAnswer countRefusal messageTests limitTest valueTests settingsTest partsTest unless unlessAll headerChecks nameChecks routingChecks
+    idChecks textChecks sum packets rounded countersFit headOf split headerOctets fixedOctets frontOctets backOctets wide
 eight-count = refl
 
 eight-number : number settings 64 values texts (zeros 38) (sender 0) ≡ 2

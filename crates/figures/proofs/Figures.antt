@@ -10,7 +10,8 @@ use Rattle.walk.specs.Walk.{begun, check, octets, unless, number, numberStep}
 use Rattle.fields.specs.Form.{split}
 use Rattle.packet.specs.Numbers.{nextCount, countAt}
 use Rattle.packet.specs.Format.{presence, identification, fixedOctets, frontOctets, counterOctets, backOctets, headerOctets, secondaryOctets, dataOctets, octetsOf}
-use Rattle.packet.specs.FixedPart.{octetField, wideField, sduField, afterSdu, afterArea, afterService, afterOperation, afterVersion, afterSession, afterSecondary, afterQualifier, afterTransaction, afterPresence, fixedOf, flagsOf, presentOf}
+use Rattle.packet.specs.FixedPart.{octetField, wideField, sduField, afterSdu, afterArea, afterService, afterOperation, afterVersion, afterSession}
+use Rattle.packet.specs.FixedPart.{afterSecondary, afterQualifier, afterTransaction, afterPresence, fixedOf, flagsOf, presentOf}
 use Rattle.packet.specs.Reading.{primaryTests, primaryOf, idsOf, textsOf, bodyTest, refusedHeader, acceptedHeader, readPacket}
 use Rattle.write.specs.Given.{headOf, packetOf, sum, nameChecks, routingChecks, idChecks, textChecks, headerChecks, packetChecks, unlessAll}
 use Rattle.write.specs.Writing.{settingsTest, partsTest, sizeTests, valueRefusal, writeRefusal, writeOutput}
@@ -22,7 +23,12 @@ use Rattle.figures.proofs.Thirteen.{thirteen}
 use Rattle.sender.specs.Sending.{stepsOf}
 
 pub figures : map (λ (r : Row). r .computed) table ≡ map (λ (r : Row). r .said) table
-unfolding nextCount wide numberAt write varintOctets final after read begun check octets unless number numberStep split presence identification fixedOctets frontOctets counterOctets backOctets headerOctets secondaryOctets dataOctets octetsOf primaryTests primaryOf octetField wideField sduField afterSdu afterArea afterService afterOperation afterVersion afterSession afterSecondary afterQualifier afterTransaction afterPresence fixedOf flagsOf presentOf idsOf textsOf bodyTest refusedHeader acceptedHeader readPacket headOf packetOf sum nameChecks routingChecks idChecks textChecks headerChecks packetChecks unlessAll settingsTest partsTest sizeTests valueRefusal writeRefusal writeOutput countersFit counterAt stepsOf countAt packets rounded limitTest valueTests messageTests countRefusal countAnswer flagsAt bodyAt packetAt packetRefusal packetAnswer packetOutput
+unfolding nextCount wide numberAt write varintOctets final after read begun check octets unless number numberStep split presence identification
+    fixedOctets frontOctets counterOctets backOctets headerOctets secondaryOctets dataOctets octetsOf primaryTests primaryOf octetField wideField
+    sduField afterSdu afterArea afterService afterOperation afterVersion afterSession afterSecondary afterQualifier afterTransaction afterPresence
+    fixedOf flagsOf presentOf idsOf textsOf bodyTest refusedHeader acceptedHeader readPacket headOf packetOf sum nameChecks routingChecks idChecks
+    textChecks headerChecks packetChecks unlessAll settingsTest partsTest sizeTests valueRefusal writeRefusal writeOutput countersFit counterAt
+    stepsOf countAt packets rounded limitTest valueTests messageTests countRefusal countAnswer flagsAt bodyAt packetAt packetRefusal packetAnswer packetOutput
 figures =
     ap₂ (λ (x y : Said). map (λ (r : Row). r .said) (take 26 table) ++ (x ∷ map (λ (r : Row). r .said) (take 2 (drop 27 table)) ++ (y ∷ [])))
     thirteen (ap said-octets figure-14)

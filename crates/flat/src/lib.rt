@@ -12,8 +12,10 @@ ghost use Rattle.packet.specs.Reading.{readPacket};
 ghost use Rattle.sender.specs.Sending.{counterNumber};
 ghost use Rattle.write.specs.Given.{lent};
 ghost use Rattle.flat.specs.Given.{fitsTo, headerFits, presentOf, headerOf, packetFits, packetOf, senderFits, senderOf};
-ghost use Rattle.flat.specs.Answers.{tooWide, nextNumbers, writeRefused, writeNumbers, writeOut, afterPacketNumbers, afterSegmentNumbers, cutRefused, countNumbers, packetNumbers, packetOut};
-ghost use Rattle.flat.specs.Told.{primaryNumbers, nameNumbers, routingNumbers, presentNumbers, idsNumbers, placeNumbers, placesTo, textNumbers, readNumbers, writtenNumbers, leftNumber, senderNumbers, countedNumbers, cutNumbers};
+ghost use Rattle.flat.specs.Answers.{tooWide, nextNumbers, writeRefused, writeNumbers, writeOut, afterPacketNumbers};
+ghost use Rattle.flat.specs.Answers.{afterSegmentNumbers, cutRefused, countNumbers, packetNumbers, packetOut};
+ghost use Rattle.flat.specs.Told.{primaryNumbers, nameNumbers, routingNumbers, presentNumbers, idsNumbers, placeNumbers, placesTo};
+ghost use Rattle.flat.specs.Told.{textNumbers, readNumbers, writtenNumbers, leftNumber, senderNumbers, countedNumbers, cutNumbers};
 use cut::Counted;
 use cut::Cut;
 use fields::Place;
@@ -411,8 +413,12 @@ pub fn write(
     body: &[u8],
     out: &mut [u8],
 ) -> [u64; 2]
-    ensures answer { λ r. ⌜ r ≡ writeNumbers t (now (header .entry)) (lent (now (timestamp .entry)) (now (zone .entry)) (now (name .entry)) (now (domain .entry)) (now (lengths .entry)) (now (authentication .entry))) flags «sequence_count» counter (now (body .entry)) (length (now (out .entry))) ⌝ }
-    ensures octets { λ r. ⌜ now (out .exit) ≡ writeOut t (now (header .entry)) (lent (now (timestamp .entry)) (now (zone .entry)) (now (name .entry)) (now (domain .entry)) (now (lengths .entry)) (now (authentication .entry))) flags «sequence_count» counter (now (body .entry)) (now (out .entry)) ⌝ }
+    ensures answer { λ r. ⌜ r ≡ writeNumbers t (now (header .entry))
+        (lent (now (timestamp .entry)) (now (zone .entry)) (now (name .entry)) (now (domain .entry)) (now (lengths .entry))
+        (now (authentication .entry))) flags «sequence_count» counter (now (body .entry)) (length (now (out .entry))) ⌝ }
+    ensures octets { λ r. ⌜ now (out .exit) ≡ writeOut t (now (header .entry))
+        (lent (now (timestamp .entry)) (now (zone .entry)) (now (name .entry)) (now (domain .entry)) (now (lengths .entry))
+        (now (authentication .entry))) flags «sequence_count» counter (now (body .entry)) (now (out .entry)) ⌝ }
 {
     let s = Settings { t: t as usize };
     let ok = octets::both(
@@ -482,7 +488,9 @@ pub fn cut_count(
     body: u64,
     sender: &[u64; SENDER],
 ) -> [u64; CUT]
-    ensures { λ r. ⌜ r ≡ countNumbers t p (now (header .entry)) (lent (now (timestamp .entry)) (now (zone .entry)) (now (name .entry)) (now (domain .entry)) (now (lengths .entry)) (now (authentication .entry))) body (now (sender .entry)) ⌝ }
+    ensures { λ r. ⌜ r ≡ countNumbers t p (now (header .entry))
+        (lent (now (timestamp .entry)) (now (zone .entry)) (now (name .entry)) (now (domain .entry)) (now (lengths .entry))
+        (now (authentication .entry))) body (now (sender .entry)) ⌝ }
 {
     let s = Settings { t: t as usize };
     let ok = octets::both(header_fits(header), sender_fits(sender));
@@ -520,8 +528,12 @@ pub fn cut_packet(
     i: u64,
     out: &mut [u8],
 ) -> [u64; CUT]
-    ensures answer { λ r. ⌜ r ≡ packetNumbers t p (now (header .entry)) (lent (now (timestamp .entry)) (now (zone .entry)) (now (name .entry)) (now (domain .entry)) (now (lengths .entry)) (now (authentication .entry))) (now (body .entry)) (now (sender .entry)) i (length (now (out .entry))) ⌝ }
-    ensures octets { λ r. ⌜ now (out .exit) ≡ packetOut t p (now (header .entry)) (lent (now (timestamp .entry)) (now (zone .entry)) (now (name .entry)) (now (domain .entry)) (now (lengths .entry)) (now (authentication .entry))) (now (body .entry)) (now (sender .entry)) i (now (out .entry)) ⌝ }
+    ensures answer { λ r. ⌜ r ≡ packetNumbers t p (now (header .entry))
+        (lent (now (timestamp .entry)) (now (zone .entry)) (now (name .entry)) (now (domain .entry)) (now (lengths .entry))
+        (now (authentication .entry))) (now (body .entry)) (now (sender .entry)) i (length (now (out .entry))) ⌝ }
+    ensures octets { λ r. ⌜ now (out .exit) ≡ packetOut t p (now (header .entry))
+        (lent (now (timestamp .entry)) (now (zone .entry)) (now (name .entry)) (now (domain .entry)) (now (lengths .entry))
+        (now (authentication .entry))) (now (body .entry)) (now (sender .entry)) i (now (out .entry)) ⌝ }
 {
     let s = Settings { t: t as usize };
     let ok = octets::both(header_fits(header), sender_fits(sender));

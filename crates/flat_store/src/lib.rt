@@ -44,7 +44,8 @@ fn arrival_numbers(a: Arrival) -> [u64; 2]
 // A packet arrives: the refusal, and 1 whole, 2 stored or 3 held.
 pub fn arrive(t: u64, store: &mut [u8], packet: &[u8]) -> [u64; 2]
     ensures { λ r. ⌜ r ≡ arriveNumbers (arrived (settingsOf t) cellSize (now (store .entry)) (now (packet .entry))) ⌝ }
-    ensures { λ r. ⌜ now (store .exit) ≡ storeWith cellSize (now (store .entry)) (now (packet .entry)) (arrived (settingsOf t) cellSize (now (store .entry)) (now (packet .entry))) ⌝ }
+    ensures { λ r. ⌜ now (store .exit) ≡ storeWith cellSize (now (store .entry)) (now (packet .entry))
+        (arrived (settingsOf t) cellSize (now (store .entry)) (now (packet .entry))) ⌝ }
 {
     let s = Settings { t: t as usize };
     arrival_numbers(store::arrive(s, store, packet))
@@ -67,7 +68,8 @@ fn taken_numbers(t: Taken) -> [u64; 4]
 pub fn take(t: u64, store: &mut [u8], out: &mut [u8]) -> [u64; 4]
     ensures { λ r. ⌜ r ≡ takeNumbers (took (settingsOf t) cellSize (now (store .entry)) (length (now (out .entry)))) ⌝ }
     ensures { λ r. ⌜ now (out .exit) ≡ outWith (now (out .entry)) (took (settingsOf t) cellSize (now (store .entry)) (length (now (out .entry)))) ⌝ }
-    ensures { λ r. ⌜ now (store .exit) ≡ storeLess (settingsOf t) cellSize (now (store .entry)) (countIn cellSize (now (store .entry))) (took (settingsOf t) cellSize (now (store .entry)) (length (now (out .entry)))) ⌝ }
+    ensures { λ r. ⌜ now (store .exit) ≡ storeLess (settingsOf t) cellSize (now (store .entry)) (countIn cellSize (now (store .entry)))
+        (took (settingsOf t) cellSize (now (store .entry)) (length (now (out .entry)))) ⌝ }
 {
     let s = Settings { t: t as usize };
     taken_numbers(store::take(s, store, out))

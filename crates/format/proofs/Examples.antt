@@ -107,11 +107,13 @@ pub full-octets :
     octetsOf two full
     ≡ 0x0F ∷ 0xFE ∷ 0x7F ∷ 0xFF ∷ 0 ∷ 43 ∷ 21 ∷ 255 ∷ 255 ∷ 0 ∷ 0 ∷ 1 ∷ 2 ∷ 255 ∷ 0xF7 ∷ 0xFF ∷ 0 ∷ 1 ∷ 255 ∷ 255 ∷ 255 ∷ 255 ∷ 255 ∷ 255 ∷ 255 ∷ 255 ∷ 255
     ∷ 255 ∷ 1 ∷ 255 ∷ 255 ∷ 255 ∷ 255 ∷ 0xAC ∷ 2 ∷ 1 ∷ 2 ∷ 1 ∷ 65 ∷ 0 ∷ 2 ∷ 1 ∷ 1 ∷ 66 ∷ 1 ∷ 0 ∷ 2 ∷ 255 ∷ 0 ∷ 7 ∷ []
-unfolding octetsOf identification dataOctets secondaryOctets fixedOctets presence frontOctets counterOctets backOctets wide numberOctets blobOctets textOctets partOctets joined domainOctets write varintOctets
+unfolding octetsOf identification dataOctets secondaryOctets fixedOctets presence frontOctets counterOctets backOctets wide numberOctets blobOctets
+    textOctets partOctets joined domainOctets write varintOctets
 full-octets = refl
 
 pub full-in-range : InRange two full
-unfolding octetsOf identification dataOctets secondaryOctets fixedOctets presence frontOctets counterOctets backOctets wide numberOctets blobOctets textOctets partOctets joined domainOctets write varintOctets Each
+unfolding octetsOf identification dataOctets secondaryOctets fixedOctets presence frontOctets counterOctets backOctets wide numberOctets blobOctets
+    textOctets partOctets joined domainOctets write varintOctets Each
 full-in-range =
     record {
       settings = record { t-low = omega arith; t-top = omega arith };

@@ -6,12 +6,14 @@ use Rattle.octets.specs.Octets.{number, wide}
 use Rattle.walk.specs.Walk.{begun, check, octets}
 use Rattle.packet.specs.Figure14.{settings, packet, values, header}
 use Rattle.packet.specs.Format.{presence, identification, fixedOctets, frontOctets, counterOctets, backOctets, secondaryOctets, dataOctets, octetsOf}
-use Rattle.packet.specs.FixedPart.{afterSdu, afterArea, afterService, afterOperation, afterVersion, afterSession, afterSecondary, afterQualifier, afterTransaction, afterPresence, fixedOf, flagsOf, presentOf}
+use Rattle.packet.specs.FixedPart.{afterSdu, afterArea, afterService, afterOperation, afterVersion, afterSession, afterSecondary, afterQualifier}
+use Rattle.packet.specs.FixedPart.{afterTransaction, afterPresence, fixedOf, flagsOf, presentOf}
 use Rattle.packet.specs.Reading.{primaryTests, primaryOf, idsOf, textsOf, bodyTest, acceptedHeader, readPacket}
 use Rattle.format.specs.Told.{headOf, valuesOf}
 
 pub reads : readPacket settings packet ≡ header
-unfolding readPacket acceptedHeader primaryTests begun check octets number primaryOf afterSdu afterArea afterService afterOperation afterVersion afterSession afterSecondary afterQualifier afterTransaction afterPresence fixedOf flagsOf presentOf idsOf textsOf bodyTest
+unfolding readPacket acceptedHeader primaryTests begun check octets number primaryOf afterSdu afterArea afterService afterOperation afterVersion
+    afterSession afterSecondary afterQualifier afterTransaction afterPresence fixedOf flagsOf presentOf idsOf textsOf bodyTest
 reads = refl
 
 pub tells : valuesOf packet header ≡ values

@@ -36,7 +36,8 @@ module _ (s : Settings) (p : List ℕ) where
   told = valuesOf p (acceptedHeader s p)
 
   pub told-pair : secondaryF s p (segmented p) .value (startAt s p) ≡ pairOf told
-  unfolding valuesOf headOf acceptedHeader primaryOf fixedOf presentOf idsOf textsOf afterSdu afterArea afterService afterOperation afterVersion afterSession afterSecondary afterQualifier afterTransaction afterPresence
+  unfolding valuesOf headOf acceptedHeader primaryOf fixedOf presentOf idsOf textsOf afterSdu afterArea afterService afterOperation afterVersion
+      afterSession afterSecondary afterQualifier afterTransaction afterPresence
   told-pair = refl
 
   pub told-step : secondaryF s p (segmented p) .step (startAt s p) ≡ textsAt s p .walk
@@ -52,13 +53,15 @@ module _ (s : Settings) (p : List ℕ) where
   told-segment = refl
 
   told-form : secondaryOctets s told ≡ secondaryF s p (segmented p) .form (secondaryF s p (segmented p) .value (startAt s p))
-  unfolding valuesOf headOf acceptedHeader primaryOf fixedOf presentOf idsOf textsOf afterSdu afterArea afterService afterOperation afterVersion afterSession afterSecondary afterQualifier afterTransaction afterPresence
+  unfolding valuesOf headOf acceptedHeader primaryOf fixedOf presentOf idsOf textsOf afterSdu afterArea afterService afterOperation afterVersion
+      afterSession afterSecondary afterQualifier afterTransaction afterPresence
   told-form = pair-form s p told
 
   told-fit :
       secondaryF s p (segmented p) .Fit (secondaryF s p (segmented p) .value (startAt s p)) →
       secondaryF s p (segment (told .flags)) .Fit (pairOf told)
-  unfolding valuesOf headOf acceptedHeader primaryOf fixedOf presentOf idsOf textsOf afterSdu afterArea afterService afterOperation afterVersion afterSession afterSecondary afterQualifier afterTransaction afterPresence
+  unfolding valuesOf headOf acceptedHeader primaryOf fixedOf presentOf idsOf textsOf afterSdu afterArea afterService afterOperation afterVersion
+      afterSession afterSecondary afterQualifier afterTransaction afterPresence
   told-fit f = f
 
   pub start-sound : Sound p (startAt s p)
@@ -76,7 +79,8 @@ module _ (s : Settings) (p : List ℕ) where
   told-took :
       Octets p → going (textsAt s p .walk) ≡ true →
       Took p (startAt s p) (textsAt s p .walk) (secondaryOctets s told) × secondaryF s p (segment (told .flags)) .Fit (pairOf told)
-  unfolding valuesOf headOf acceptedHeader primaryOf fixedOf presentOf idsOf textsOf afterSdu afterArea afterService afterOperation afterVersion afterSession afterSecondary afterQualifier afterTransaction afterPresence
+  unfolding valuesOf headOf acceptedHeader primaryOf fixedOf presentOf idsOf textsOf afterSdu afterArea afterService afterOperation afterVersion
+      afterSession afterSecondary afterQualifier afterTransaction afterPresence
   told-took o g =
       let c = secondaryF s p (segmented p) .only o (startAt s p) start-sound g in
       (subst (λ (l : List ℕ). Took p (startAt s p) (textsAt s p .walk) l) (sym told-form) (c .0), told-fit (c .1))

@@ -13,7 +13,8 @@ use Rattle.walk.specs.Walk.{Reading, Step, goes, refused, going, headerEnd, oct
 use Rattle.fields.specs.Fields.{opt, block, blob, text, part, Parts, partsMost, noParts, partAt, partsTo, domain}
 use Rattle.packet.specs.declared.Header.{Header}
 use Rattle.packet.specs.declared.Present.{Present}
-use Rattle.packet.specs.FixedPart.{octetField, wideField, afterSdu, afterArea, afterService, afterOperation, afterVersion, afterSession, afterSecondary, afterQualifier, afterTransaction, afterPresence, fixedEnd}
+use Rattle.packet.specs.FixedPart.{octetField, wideField, afterSdu, afterArea, afterService, afterOperation, afterVersion, afterSession}
+use Rattle.packet.specs.FixedPart.{afterSecondary, afterQualifier, afterTransaction, afterPresence, fixedEnd}
 use Rattle.packet.specs.Reading.{primaryTests, segmented, idsOf, textsOf, bodyTest, startAt, hasAt, textsAt, ended, refusedHeader, acceptedHeader, readPacket}
 use Rattle.numbers.specs.Lists.{Numbered, ofReading}
 use Rattle.numbers.proofs.Among.{has, among, picked}

@@ -19,7 +19,8 @@ use Rattle.walk.specs.declared.Settings.{Settings}
 use Rattle.cells.specs.Rows.{sizeIn}
 use Rattle.cells.specs.Order.{cellSize}
 use Rattle.cells.proofs.Held.{both-true}
-use Rattle.steps.specs.Stepping.{Found, nothing, other, cut, whole, begins, foundIn, Came, cameOf, wrote, Stepped, wanting, ended, unmarked, torn, came, stepBy, stepped, storeBehind, usedBy, writtenBy}
+use Rattle.steps.specs.Stepping.{Found, nothing, other, cut, whole, begins, foundIn, Came, cameOf, wrote, Stepped, wanting, ended, unmarked, torn}
+use Rattle.steps.specs.Stepping.{came, stepBy, stepped, storeBehind, usedBy, writtenBy}
 use Rattle.recording.specs.Recording.{recordedFrom, recorded, settings, emptyStore}
 use Rattle.recording.specs.Handing.{Hand, inHand, endsWith, Outcome, onward, handed}
 use Rattle.steps.proofs.Places.{found-nothing, found-cut}

@@ -16,7 +16,8 @@ use Rattle.cells.specs.Order.{countIn, cellSize}
 use Rattle.arrival.specs.Arriving.{Arrived, whole as wholly', stored, again, refused as refused', arrived, storeWith}
 use Rattle.taking.specs.Taking.{Took, message as message', unable, writing, took, storeLess}
 use Rattle.join.specs.Joining.{tookAs, joinedBy, storeBy, joining, storeJoined}
-use Rattle.steps.specs.Stepping.{Found, nothing, other, cut, whole, foundIn, longest, room, over, refused, kept, cameBy, cameOf, storeAfter, without, wrote, stepBy, stepped, storeBehind, usedBy, writtenBy}
+use Rattle.steps.specs.Stepping.{Found, nothing, other, cut, whole, foundIn, longest, room, over, refused, kept, cameBy, cameOf, storeAfter, without}
+use Rattle.steps.specs.Stepping.{wrote, stepBy, stepped, storeBehind, usedBy, writtenBy}
 use Rattle.recording.specs.Recording.{recordedFrom, recorded, settings, cellCount, emptyStore}
 use Rattle.steps.proofs.Frames.{framed-long}
 use Rattle.steps.proofs.Showing.{whole-tells}

@@ -20,7 +20,8 @@ use Rattle.steps.specs.declared.What.the-variants.{More, Ended, Unmarked
 use Rattle.steps.specs.declared.Stands.{Stands}
 use Rattle.steps.specs.declared.Stands.the-variants.{Nothing, Other, Cut, Whole}
 use Rattle.steps.specs.declared.Done.{Done}
-use Rattle.steps.specs.Stepping.{Found, nothing, other, cut, whole, foundIn, longest, room, over, refused, kept, cameBy, cameOf, storeAfter, without, wrote, Stepped, wanting, ended, unmarked, torn, came, stepBy, stepped, storeBehind, usedBy, writtenBy}
+use Rattle.steps.specs.Stepping.{Found, nothing, other, cut, whole, foundIn, longest, room, over, refused, kept, cameBy, cameOf, storeAfter}
+use Rattle.steps.specs.Stepping.{without, wrote, Stepped, wanting, ended, unmarked, torn, came, stepBy, stepped, storeBehind, usedBy, writtenBy}
 use Rattle.steps.specs.Told.{standsOf, still, doneCame, doneOf}
 use Rattle.steps.specs.Inner.{stopAs}
 use Rattle.steps.proofs.Frames.{framed-long, without-long}

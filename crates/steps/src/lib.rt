@@ -183,7 +183,8 @@ fn join_behind(
     requires { ⌜ 6 + room ≤ length (now out) ⌝ }
     ensures { λ r. ⌜ r ≡ joinedOf (joining s (length (now (zero .entry))) (now (store .entry)) (now (p .entry)) room) ⌝ }
     ensures { λ r. ⌜ now (store .exit) ≡ storeJoined s (length (now (zero .entry))) (now (store .entry)) (now (p .entry)) room ⌝ }
-    ensures { λ r. ⌜ now (out .exit) ≡ sets (now (out .entry)) 6 (takenIn (joining s (length (now (zero .entry))) (now (store .entry)) (now (p .entry)) room)) ⌝ }
+    ensures { λ r. ⌜ now (out .exit) ≡ sets (now (out .entry)) 6
+        (takenIn (joining s (length (now (zero .entry))) (now (store .entry)) (now (p .entry)) room)) ⌝ }
 {
     let from: usize = FRAME;
     let to: usize = FRAME + ROOM;
@@ -206,7 +207,8 @@ fn join_packet(
     requires { ⌜ length (now p) ≤ longest ⌝ }
     ensures { λ r. ⌜ r ≡ doneCame (now (p .entry)) (cameBy (joining s (length (now (zero .entry))) (now (store .entry)) (now (p .entry)) room)) ⌝ }
     ensures { λ r. ⌜ now (store .exit) ≡ storeJoined s (length (now (zero .entry))) (now (store .entry)) (now (p .entry)) room ⌝ }
-    ensures { λ r. ⌜ now (out .exit) ≡ sets (now (out .entry)) 0 (wrote (now (p .entry)) (cameBy (joining s (length (now (zero .entry))) (now (store .entry)) (now (p .entry)) room))) ⌝ }
+    ensures { λ r. ⌜ now (out .exit) ≡ sets (now (out .entry)) 0
+        (wrote (now (p .entry)) (cameBy (joining s (length (now (zero .entry))) (now (store .entry)) (now (p .entry)) room))) ⌝ }
 {
     let used = 2 + p.len();
     let j = join_behind(s, store, n, zero, p, out);
@@ -240,7 +242,8 @@ fn step_packet(
     requires { ⌜ length (now p) ≤ packetMost ⌝ }
     ensures { λ r. ⌜ r ≡ doneCame (now (p .entry)) (cameOf s (length (now (zero .entry))) (now (store .entry)) (now (p .entry))) ⌝ }
     ensures { λ r. ⌜ now (store .exit) ≡ storeAfter s (length (now (zero .entry))) (now (store .entry)) (now (p .entry)) ⌝ }
-    ensures { λ r. ⌜ now (out .exit) ≡ sets (now (out .entry)) 0 (wrote (now (p .entry)) (cameOf s (length (now (zero .entry))) (now (store .entry)) (now (p .entry)))) ⌝ }
+    ensures { λ r. ⌜ now (out .exit) ≡ sets (now (out .entry)) 0
+        (wrote (now (p .entry)) (cameOf s (length (now (zero .entry))) (now (store .entry)) (now (p .entry)))) ⌝ }
 {
     if LONGEST < p.len() {
         return Done {
@@ -268,8 +271,10 @@ pub fn step(
     requires { ⌜ n ≡ countIn (length (now zero)) (now store) ⌝ }
     requires { ⌜ 6 + room ≤ length (now out) ⌝ }
     ensures { λ r. ⌜ r ≡ doneOf (stepped s (length (now (zero .entry))) (now (store .entry)) (now (window .entry)) ends) ⌝ }
-    ensures { λ r. ⌜ now (store .exit) ≡ storeBehind s (length (now (zero .entry))) (now (store .entry)) (stepped s (length (now (zero .entry))) (now (store .entry)) (now (window .entry)) ends) ⌝ }
-    ensures { λ r. ⌜ now (out .exit) ≡ sets (now (out .entry)) 0 (writtenBy (stepped s (length (now (zero .entry))) (now (store .entry)) (now (window .entry)) ends)) ⌝ }
+    ensures { λ r. ⌜ now (store .exit) ≡ storeBehind s (length (now (zero .entry))) (now (store .entry))
+        (stepped s (length (now (zero .entry))) (now (store .entry)) (now (window .entry)) ends) ⌝ }
+    ensures { λ r. ⌜ now (out .exit) ≡ sets (now (out .entry)) 0
+        (writtenBy (stepped s (length (now (zero .entry))) (now (store .entry)) (now (window .entry)) ends)) ⌝ }
 {
     match look(window) {
         Stands::Nothing => stop(ends, What::Ended),
@@ -309,8 +314,10 @@ fn step_spare(
     requires { ⌜ n ≡ countIn (length (now zero)) (now store) ⌝ }
     requires { ⌜ 6 + room ≤ length (now spare) ⌝ }
     ensures { λ r. ⌜ r ≡ doneOf (stepped s (length (now (zero .entry))) (now (store .entry)) (now (rest .entry)) true) ⌝ }
-    ensures { λ r. ⌜ now (store .exit) ≡ storeBehind s (length (now (zero .entry))) (now (store .entry)) (stepped s (length (now (zero .entry))) (now (store .entry)) (now (rest .entry)) true) ⌝ }
-    ensures { λ r. ⌜ now (out .exit) ≡ sets (now (out .entry)) at (writtenBy (stepped s (length (now (zero .entry))) (now (store .entry)) (now (rest .entry)) true)) ⌝ }
+    ensures { λ r. ⌜ now (store .exit) ≡ storeBehind s (length (now (zero .entry))) (now (store .entry))
+        (stepped s (length (now (zero .entry))) (now (store .entry)) (now (rest .entry)) true) ⌝ }
+    ensures { λ r. ⌜ now (out .exit) ≡ sets (now (out .entry)) at
+        (writtenBy (stepped s (length (now (zero .entry))) (now (store .entry)) (now (rest .entry)) true)) ⌝ }
 {
     let d = step(s, store, n, zero, rest, true, spare);
     let written = d.written;
@@ -333,8 +340,10 @@ fn step_there(
     requires { ⌜ n ≡ countIn (length (now zero)) (now store) ⌝ }
     requires { ⌜ at + (6 + room) ≤ length (now out) ⌝ }
     ensures { λ r. ⌜ r ≡ doneOf (stepped s (length (now (zero .entry))) (now (store .entry)) (now (rest .entry)) true) ⌝ }
-    ensures { λ r. ⌜ now (store .exit) ≡ storeBehind s (length (now (zero .entry))) (now (store .entry)) (stepped s (length (now (zero .entry))) (now (store .entry)) (now (rest .entry)) true) ⌝ }
-    ensures { λ r. ⌜ now (out .exit) ≡ sets (now (out .entry)) at (writtenBy (stepped s (length (now (zero .entry))) (now (store .entry)) (now (rest .entry)) true)) ⌝ }
+    ensures { λ r. ⌜ now (store .exit) ≡ storeBehind s (length (now (zero .entry))) (now (store .entry))
+        (stepped s (length (now (zero .entry))) (now (store .entry)) (now (rest .entry)) true) ⌝ }
+    ensures { λ r. ⌜ now (out .exit) ≡ sets (now (out .entry)) at
+        (writtenBy (stepped s (length (now (zero .entry))) (now (store .entry)) (now (rest .entry)) true)) ⌝ }
 {
     let to = at + SPACE;
     step(s, store, n, zero, rest, true, &mut out[at..to])
@@ -357,8 +366,10 @@ pub fn step_at(
     requires { ⌜ 6 + room ≤ length (now spare) ⌝ }
     requires { ⌜ at ≤ length (now out) ⌝ }
     ensures { λ r. ⌜ r ≡ doneOf (stepped s (length (now (zero .entry))) (now (store .entry)) (now (rest .entry)) true) ⌝ }
-    ensures { λ r. ⌜ now (store .exit) ≡ storeBehind s (length (now (zero .entry))) (now (store .entry)) (stepped s (length (now (zero .entry))) (now (store .entry)) (now (rest .entry)) true) ⌝ }
-    ensures { λ r. ⌜ now (out .exit) ≡ sets (now (out .entry)) at (writtenBy (stepped s (length (now (zero .entry))) (now (store .entry)) (now (rest .entry)) true)) ⌝ }
+    ensures { λ r. ⌜ now (store .exit) ≡ storeBehind s (length (now (zero .entry))) (now (store .entry))
+        (stepped s (length (now (zero .entry))) (now (store .entry)) (now (rest .entry)) true) ⌝ }
+    ensures { λ r. ⌜ now (out .exit) ≡ sets (now (out .entry)) at
+        (writtenBy (stepped s (length (now (zero .entry))) (now (store .entry)) (now (rest .entry)) true)) ⌝ }
 {
     if out.len() - at < SPACE {
         return step_spare(s, store, n, zero, rest, spare, out, at);

@@ -33,7 +33,8 @@ pub fn arrive(s: Settings, store: &mut [u8], p: &[u8]) -> Arrival
 pub fn take(s: Settings, store: &mut [u8], out: &mut [u8]) -> Taken
     ensures { λ r. ⌜ r ≡ takenOf (took s cellSize (now (store .entry)) (length (now (out .entry)))) ⌝ }
     ensures { λ r. ⌜ now (out .exit) ≡ outWith (now (out .entry)) (took s cellSize (now (store .entry)) (length (now (out .entry)))) ⌝ }
-    ensures { λ r. ⌜ now (store .exit) ≡ storeLess s cellSize (now (store .entry)) (countIn cellSize (now (store .entry))) (took s cellSize (now (store .entry)) (length (now (out .entry)))) ⌝ }
+    ensures { λ r. ⌜ now (store .exit) ≡ storeLess s cellSize (now (store .entry)) (countIn cellSize (now (store .entry)))
+        (took s cellSize (now (store .entry)) (length (now (out .entry)))) ⌝ }
 {
     let zero = [0u8; CELL];
     let o = cells::opening::check(s, store, &zero);

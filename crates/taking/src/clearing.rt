@@ -31,7 +31,9 @@ pub fn clear(
     steps: u32,
 )
     requires { ⌜ now zero ≡ zeroRow (length (now zero)) ⌝ }
-    ensures { λ r. ⌜ now (store .exit) ≡ clearedTo (λ i. zeroIf (length (now (zero .entry))) (withinIn suc (now (key .entry)) (first .0) steps (cellAt s (length (now (zero .entry))) (now (store .entry)) i))) (length (now (zero .entry))) n (now (store .entry)) ⌝ }
+    ensures { λ r. ⌜ now (store .exit) ≡ clearedTo (λ i. zeroIf (length (now (zero .entry)))
+        (withinIn suc (now (key .entry)) (first .0) steps (cellAt s (length (now (zero .entry))) (now (store .entry)) i)))
+        (length (now (zero .entry))) n (now (store .entry)) ⌝ }
 {
     let z = zero.len();
     let mut i: usize = 0;

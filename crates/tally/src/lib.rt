@@ -165,7 +165,8 @@ fn key_at(s: Settings, store: &[u8], n: usize, zero: &[u8], q: &[u8], stop: usiz
 fn told_of(s: Settings, store: &[u8], i: usize, zero: &[u8], q: &[u8], stop: usize) -> Told
     requires { ⌜ now zero ≡ zeroRow (length (now zero)) ⌝ }
     requires { ⌜ Asked s (now q) stop ⌝ }
-    ensures { λ r. ⌜ r ≡ toldBy s (length (now (zero .entry))) (now (store .entry)) i (readPacket s (now (q .entry))) (segOf (now (q .entry)) (readPacket s (now (q .entry)))) ⌝ }
+    ensures { λ r. ⌜ r ≡ toldBy s (length (now (zero .entry))) (now (store .entry)) i (readPacket s (now (q .entry)))
+        (segOf (now (q .entry)) (readPacket s (now (q .entry)))) ⌝ }
 {
     let h = packet::read(s, q);
     let primary = h.primary;

@@ -43,7 +43,8 @@ pub figure-written :
     ∷ record { refusal = refusal 21; length = 0 }
     ∷ [])
     × ((outputs 27 ≡ packet) × ((outputs 30 ≡ packet ++ (0 ∷ 0 ∷ 0 ∷ [])) × (outputs 26 ≡ zeros 26)))
-unfolding writeAnswer writeOutput writeRefusal sizeTests valueRefusal partsTest settingsTest unlessAll unless headerChecks nameChecks routingChecks idChecks textChecks packetChecks headOf packetOf split sum octetsOf identification dataOctets secondaryOctets fixedOctets presence frontOctets counterOctets backOctets wide
+unfolding writeAnswer writeOutput writeRefusal sizeTests valueRefusal partsTest settingsTest unlessAll unless headerChecks nameChecks routingChecks
+    idChecks textChecks packetChecks headOf packetOf split sum octetsOf identification dataOctets secondaryOctets fixedOctets presence frontOctets counterOctets backOctets wide
 figure-written = (refl, (refl, (refl, refl)))
 
 -- ---- a writer that writes nothing

@@ -8,7 +8,8 @@ ghost use Prim.Native.Nat.{min};
 ghost use lib.Dec.{leb};
 ghost use Rattle.octets.specs.Octets.{pick};
 ghost use lib.ListN.{length};
-ghost use Rattle.walk.specs.Walk.{goes as goesAt, refused as refusedBy, octets as octetsOf, check as checkOf, number, begun, unless as unlessOf, headerEnd};
+ghost use Rattle.walk.specs.Walk.{goes as goesAt, refused as refusedBy, octets as octetsOf, check as checkOf, number, begun};
+ghost use Rattle.walk.specs.Walk.{unless as unlessOf, headerEnd};
 ghost use Rattle.walk.specs.Inner.{asWalk, ofWalk, asNumber};
 use varint::Found;
 

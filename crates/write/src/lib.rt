@@ -19,10 +19,12 @@ ghost use Rattle.fields.specs.Fields.{partsMost};
 ghost use Rattle.fields.specs.Form.{numberOctets, split};
 ghost use Rattle.fields.specs.Inner.{blobPieces, textPieces, domainPieces, capped};
 ghost use Rattle.packet.specs.Format.{segment, headerOctets, headerMost, packetMost, when};
-ghost use Rattle.write.specs.Given.{lent, headOf, numberFits, textFits, exactFits, lengthsFit, sum, nameChecks, routingChecks, idChecks, textChecks, headerChecks, packetChecks, unlessAll};
+ghost use Rattle.write.specs.Given.{lent, headOf, numberFits, textFits, exactFits, lengthsFit, sum, nameChecks, routingChecks};
+ghost use Rattle.write.specs.Given.{idChecks, textChecks, headerChecks, packetChecks, unlessAll};
 ghost use Rattle.write.specs.Lending.{Lends};
 ghost use Rattle.write.specs.Writing.{settingsTest, bodyFits, valueRefusal, writeAnswer, writeOutput};
-ghost use Rattle.write.specs.Inner.{primaryPieces, namePieces, routingPieces, presentOctet, frontPieces, middlePieces, endPieces, packetPieces, middleSize, endSize};
+ghost use Rattle.write.specs.Inner.{primaryPieces, namePieces, routingPieces, presentOctet, frontPieces, middlePieces, endPieces};
+ghost use Rattle.write.specs.Inner.{packetPieces, middleSize, endSize};
 use packet::Apid;
 use packet::Present;
 use packet::SecondaryApid;
@@ -199,7 +201,8 @@ fn test_texts(
     id: &[u8],
     r: Refusal,
 ) -> Refusal
-    ensures { λ q. ⌜ q ≡ unlessAll (textChecks s v (lent (now (time .entry)) (now (zone .entry)) (now (name .entry)) (now (domain .entry)) (now (lengths .entry)) (now (id .entry)))) 22 r ⌝ }
+    ensures { λ q. ⌜ q ≡ unlessAll (textChecks s v (lent (now (time .entry)) (now (zone .entry)) (now (name .entry)) (now (domain .entry))
+        (now (lengths .entry)) (now (id .entry)))) 22 r ⌝ }
 {
     let has = v.has;
     let a = walk::unless(r, exact_fits(has.timestamp, time.len(), s.t), REFUSED_VALUE);
@@ -226,7 +229,8 @@ pub fn test_header(
     id: &[u8],
     r: Refusal,
 ) -> Refusal
-    ensures { λ q. ⌜ q ≡ unlessAll (headerChecks s v (lent (now (time .entry)) (now (zone .entry)) (now (name .entry)) (now (domain .entry)) (now (lengths .entry)) (now (id .entry)))) 22 r ⌝ }
+    ensures { λ q. ⌜ q ≡ unlessAll (headerChecks s v (lent (now (time .entry)) (now (zone .entry)) (now (name .entry)) (now (domain .entry))
+        (now (lengths .entry)) (now (id .entry)))) 22 r ⌝ }
 {
     let a = test_names(v, r);
     let b = test_routing(v, a);
@@ -321,7 +325,8 @@ pub fn header_size(
     lengths: &[u64],
     id: &[u8],
 ) -> usize
-    ensures { λ r. ⌜ r ≡ capped (length (headerOctets s (headOf v (lent (now (time .entry)) (now (zone .entry)) (now (name .entry)) (now (domain .entry)) (now (lengths .entry)) (now (id .entry)))))) ⌝ }
+    ensures { λ r. ⌜ r ≡ capped (length (headerOctets s (headOf v
+        (lent (now (time .entry)) (now (zone .entry)) (now (name .entry)) (now (domain .entry)) (now (lengths .entry)) (now (id .entry)))))) ⌝ }
 {
     let has = v.has;
     let a = 21 + front_size(has);
@@ -481,7 +486,8 @@ fn put_end(
     lengths: &[u64],
     id: &[u8],
 ) -> usize
-    ensures { λ r. ⌜ Lays (laid (now (out .entry)) at) (endPieces s has (now (name .entry)) (now (domain .entry)) (now (lengths .entry)) (now (id .entry))) (now (out .exit)) r ⌝ }
+    ensures { λ r. ⌜ Lays (laid (now (out .entry)) at) (endPieces s has (now (name .entry)) (now (domain .entry)) (now (lengths .entry))
+        (now (id .entry))) (now (out .exit)) r ⌝ }
 {
     let a = text_if(has.session_name, s, out, at, name);
     let b = domain_if(has.domain, s, out, a, domain, lengths);
@@ -503,7 +509,9 @@ pub fn put_packet(
     id: &[u8],
     body: &[u8],
 ) -> usize
-    ensures { λ r. ⌜ Lays (laid (now (out .entry)) 0) (packetPieces s v o (lent (now (time .entry)) (now (zone .entry)) (now (name .entry)) (now (domain .entry)) (now (lengths .entry)) (now (id .entry))) n (now (body .entry))) (now (out .exit)) r ⌝ }
+    ensures { λ r. ⌜ Lays (laid (now (out .entry)) 0) (packetPieces s v o
+        (lent (now (time .entry)) (now (zone .entry)) (now (name .entry)) (now (domain .entry)) (now (lengths .entry)) (now (id .entry))) n
+        (now (body .entry))) (now (out .exit)) r ⌝ }
 {
     let has = v.has;
     let a = put_primary(out, v, o, n);
@@ -547,7 +555,8 @@ fn test_sizes(
     room: usize,
     r: Refusal,
 ) -> Refusal
-    ensures { λ q. ⌜ q ≡ unless (leb size room) 21 (unless (bodyFits flags body) 14 (unless (leb secondary headerMost) 12 (unless (leb size packetMost) 23 r))) ⌝ }
+    ensures { λ q. ⌜ q ≡ unless (leb size room) 21 (unless (bodyFits flags body) 14
+        (unless (leb secondary headerMost) 12 (unless (leb size packetMost) 23 r))) ⌝ }
 {
     let a = walk::unless(r, size <= PACKET_MOST, REFUSED_LARGE);
     let b = walk::unless(a, secondary <= HEADER_MOST, REFUSED_HEADER_LONG);
@@ -567,7 +576,8 @@ fn test_values(
     lengths: &[u64],
     id: &[u8],
 ) -> Refusal
-    ensures { λ q. ⌜ q ≡ valueRefusal s v o (lent (now (time .entry)) (now (zone .entry)) (now (name .entry)) (now (domain .entry)) (now (lengths .entry)) (now (id .entry))) ⌝ }
+    ensures { λ q. ⌜ q ≡ valueRefusal s v o (lent (now (time .entry)) (now (zone .entry)) (now (name .entry)) (now (domain .entry))
+        (now (lengths .entry)) (now (id .entry))) ⌝ }
 {
     let none = Refusal { number: 0 };
     let a = test_settings(s, none);
@@ -590,8 +600,11 @@ pub fn write(
     body: &[u8],
     out: &mut [u8],
 ) -> Written
-    ensures answer { λ r. ⌜ r ≡ writeAnswer s v o (lent (now (time .entry)) (now (zone .entry)) (now (name .entry)) (now (domain .entry)) (now (lengths .entry)) (now (id .entry))) (now (body .entry)) (length (now (out .entry))) ⌝ }
-    ensures octets { λ r. ⌜ now (out .exit) ≡ writeOutput s v o (lent (now (time .entry)) (now (zone .entry)) (now (name .entry)) (now (domain .entry)) (now (lengths .entry)) (now (id .entry))) (now (body .entry)) (now (out .entry)) ⌝ }
+    ensures answer { λ r. ⌜ r ≡ writeAnswer s v o (lent (now (time .entry)) (now (zone .entry)) (now (name .entry)) (now (domain .entry))
+        (now (lengths .entry)) (now (id .entry))) (now (body .entry)) (length (now (out .entry))) ⌝ }
+    ensures octets { λ r. ⌜ now (out .exit) ≡ writeOutput s v o
+        (lent (now (time .entry)) (now (zone .entry)) (now (name .entry)) (now (domain .entry)) (now (lengths .entry)) (now (id .entry)))
+        (now (body .entry)) (now (out .entry)) ⌝ }
     ensures lends { λ r. ⌜ Lends v
         (lent (now (time .entry)) (now (zone .entry)) (now (name .entry)) (now (domain .entry)) (now (lengths .entry)) (now (id .entry)))
         (now (body .entry)) ⌝ }

@@ -53,7 +53,8 @@ cast-t20 : tie.Need-cast-t20
 cast-t20 c =
     let call = c .before .before .before .before in
     let entry = call .before .before .before .before .before .before .before .before in
-    let g = number-got (entry .args .s) (now (entry .args .p)) (ofWalk (entry .args .w)) (call .before .before .before .before-limit .ensures) (call .read32 .ensures) (c .before .before .v .given .1) in
+    let g = number-got (entry .args .s) (now (entry .args .p)) (ofWalk (entry .args .w)) (call .before .before .before .before-limit .ensures)
+    (call .read32 .ensures) (c .before .before .v .given .1) in
     omega (arith, number-small (now (entry .args .p)) (entry .args .w .at) _ _ (λ i. call .before .before .before .before .before .before .before .shared-slice-known .given i .fits) g .value-top)
 
 enum-told : tie.Need-enum-told
@@ -73,7 +74,8 @@ unfolding numberStep
 returns-2 c =
     let call = c .before .before .before .before in
     let entry = call .before .before .before .before .before .before .before .before in
-    let t = number-told (entry .args .s) (now (entry .args .p)) (ofWalk (entry .args .w)) (call .before .before .before .before-limit .ensures) (call .read32 .ensures) (c .before .before .v .given .1) (call .before .before .before .before .before .if1 .left) in
+    let t = number-told (entry .args .s) (now (entry .args .p)) (ofWalk (entry .args .w)) (call .before .before .before .before-limit .ensures)
+    (call .read32 .ensures) (c .before .before .v .given .1) (call .before .before .before .before .before .if1 .left) in
     simp (c .goes .ensures, t)
 
 returns-3 : tie.Need-returns-3
@@ -81,7 +83,8 @@ unfolding numberStep
 returns-3 c =
     let call = c .before .before .before in
     let entry = call .before .before .before .before .before .before .before .before in
-    let t = number-told (entry .args .s) (now (entry .args .p)) (ofWalk (entry .args .w)) (call .before .before .before .before-limit .ensures) (call .read32 .ensures) (c .before .enum-told .given .1) (call .before .before .before .before .before .if1 .left) in
+    let t = number-told (entry .args .s) (now (entry .args .p)) (ofWalk (entry .args .w)) (call .before .before .before .before-limit .ensures)
+    (call .read32 .ensures) (c .before .enum-told .given .1) (call .before .before .before .before .before .if1 .left) in
     simp (c .refused .ensures, call .before .before .end-refusal .ensures, t)
 
 returns-4 : tie.Need-returns-4
@@ -89,7 +92,8 @@ unfolding numberStep
 returns-4 c =
     let call = c .before .before .before in
     let entry = call .before .before .before .before .before .before .before .before in
-    let t = number-told (entry .args .s) (now (entry .args .p)) (ofWalk (entry .args .w)) (call .before .before .before .before-limit .ensures) (call .read32 .ensures) (c .before .enum-told2 .given .1) (call .before .before .before .before .before .if1 .left) in
+    let t = number-told (entry .args .s) (now (entry .args .p)) (ofWalk (entry .args .w)) (call .before .before .before .before-limit .ensures)
+    (call .read32 .ensures) (c .before .enum-told2 .given .1) (call .before .before .before .before .before .if1 .left) in
     simp (c .refused2 .ensures, t)
 
 pub read-number-spec : {M : Type 1} → statement M

@@ -11,16 +11,24 @@ begin-requires : tie.Need-begin-requires
 begin-requires c κs = search needs
 
 returns : tie.Need-returns
-returns c = open-t (c .before .before .before .before .before .before .args .s) (length (now (c .before .before .before .before .before .before .args .zero))) (now (c .before .before .before .before .before .before .args .store)) (c .before .before .before .begin .ensures) (c .if1 .taken)
+returns c = open-t (c .before .before .before .before .before .before .args .s)
+    (length (now (c .before .before .before .before .before .before .args .zero)))
+    (now (c .before .before .before .before .before .before .args .store)) (c .before .before .before .begin .ensures) (c .if1 .taken)
 
 in-order-requires : tie.Need-in-order-requires
 in-order-requires c κs = search needs
 
 returns-2 : tie.Need-returns-2
-returns-2 c = open-order (c .before .before .before .before .before .before .before .before .args .s) (length (now (c .before .before .before .before .before .before .before .before .args .zero))) (now (c .before .before .before .before .before .before .before .before .args .store)) (c .before .before .before .before .before .begin .ensures) (c .before .before .if1 .left) (c .before .in-order .ensures) (c .if2 .taken)
+returns-2 c = open-order (c .before .before .before .before .before .before .before .before .args .s)
+    (length (now (c .before .before .before .before .before .before .before .before .args .zero)))
+    (now (c .before .before .before .before .before .before .before .before .args .store)) (c .before .before .before .before .before .begin .ensures)
+    (c .before .before .if1 .left) (c .before .in-order .ensures) (c .if2 .taken)
 
 returns-3 : tie.Need-returns-3
-returns-3 c = open-held (c .before .before .before .before .before .before .before .before .args .s) (length (now (c .before .before .before .before .before .before .before .before .args .zero))) (now (c .before .before .before .before .before .before .before .before .args .store)) (c .before .before .before .before .before .begin .ensures) (c .before .before .if1 .left) (c .before .in-order .ensures) (c .if2 .left)
+returns-3 c = open-held (c .before .before .before .before .before .before .before .before .args .s)
+    (length (now (c .before .before .before .before .before .before .before .before .args .zero)))
+    (now (c .before .before .before .before .before .before .before .before .args .store)) (c .before .before .before .before .before .begin .ensures)
+    (c .before .before .if1 .left) (c .before .in-order .ensures) (c .if2 .left)
 
 pub check-spec : {M : Type 1} → statement M
 check-spec = tie.close (tie.spec begin-requires returns in-order-requires returns-2 returns-3)
