@@ -1,7 +1,7 @@
 /*
  * A target for a coverage-guided fuzzer over the calls for C. The first octet of an input chooses what is done with the rest. Every
  * buffer is just as long as it is said to be, so that the address sanitizer sees any octet outside. Beside that the answers are held
- * to what document 01 ties together: a packet that reads writes back to the octet, a message that is cut comes out of the store as it
+ * to what SPEC ties together: a packet that reads writes back to the octet, a message that is cut comes out of the store as it
  * went in, a refusal changes nothing, and a recording gives the messages that joining gives one packet at a time.
  */
 #include <stdio.h>

@@ -3,7 +3,7 @@
 The work is done by the proved library, a shared object: the one that the environment variable ORLYUKAN_LIB names, else the one in
 target/native of the repository in which this file stands.
 
-Each call answers an object whose `refusal` is 0, or the number of document 01's table; then every other number is zero, but a
+Each call answers an object whose `refusal` is 0, or a number of SPEC's table; then every other number is zero, but a
 sender's two, which stay. `store` and `out` are bytearrays, changed in place and by success alone (but see `join`). A header is an
 object or a dict; a sender is one of `sequence_count` and `counter`, and a counter of None says that none is left. Octets are bytes or
 a bytearray. Numbers may be of any size: one that is negative or too wide is refused and never cut off. A call that lends a bytearray
@@ -268,7 +268,7 @@ def arrive(t, store, packet):
 
 
 def take(t, store, out):
-    """Takes the complete message whose first lies in the lowest cell out of the store, into the front of out: the octets of its
+    """Takes the complete message with its first in the lowest cell out of the store, into the front of out: the octets of its
     header and its body, and its first segment's counter."""
     _apart(store, out)
     n = _run("take", 4, _setting(t), *_changed(store), *_changed(out))

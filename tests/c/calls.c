@@ -1,5 +1,5 @@
 /*
- * The calls as C and C++ see them, compared with document 01's figures: each call, each field of its answer, and each number that
+ * The calls as C and C++ see them, compared with SPEC's figures: each call, each field of its answer, and each number that
  * the header names. Compiled twice, as C11 and as C++17; `run` beside it does so.
  */
 #include "expect.h"

@@ -2,7 +2,7 @@
 
 use crate::header::{Apid, SecondaryApid, SegmentCounter, Sender, SequenceCount};
 
-/// The number of a refusal, from document 01's table.
+/// The number of a refusal, from SPEC's table.
 #[derive(Clone, Copy, Debug, PartialEq, Eq)]
 pub struct Refusal(pub u64);
 

@@ -2,7 +2,7 @@
 //!
 //! The work is done by the proved library, whose promises stand beside its source. These wrappers see to what a caller of C must
 //! see to alone: pointers that are valid, lengths that are true, buffers that do not overlap. Each call answers a plain struct whose
-//! `refusal` is 0, or the number of document 01's table with every other field zero; [`Answer::accepted`] makes a `Result` of it. The
+//! `refusal` is 0, or a number of SPEC's table with every other field zero; [`Answer::accepted`] makes a `Result` of it. The
 //! three calls that only move a number on answer such a `Result` at once.
 //!
 //! APID, secondary APID, sequence count and segment counter are kinds of their own, and none can stand in for another. They and all

@@ -18,7 +18,7 @@ pub fn arrive(t: u64, store: &mut [u8], packet: &[u8]) -> Arrived {
     Arrived { refusal: answer.refusal, kind }
 }
 
-/// Takes the complete message whose first lies in the lowest cell out of the store, into the front of `out`.
+/// Takes the complete message with its first in the lowest cell out of the store, into the front of `out`.
 pub fn take(t: u64, store: &mut [u8], out: &mut [u8]) -> Taken {
     let mut answer = RawTaken::default();
     // SAFETY: each slice's pointer is valid for its length; store and output are each lent to us alone.

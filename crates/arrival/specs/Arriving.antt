@@ -1,7 +1,6 @@
 -- A packet arrives at a store.
--- Document 01, "The store": "an unsegmented packet is answered "whole" and the store isn't touched. A new segment goes to the lowest
--- free cell and is answered "stored". A segment held already is answered "held", even in a full store." The order of the refusals:
--- "Arrival: 15, 16, reading, whole, 17, held, 18, 19."
+-- SPEC S-7: an unsegmented packet is told as whole; a new segment takes the lowest free cell; one that is there already is held, room
+-- or not. The tests in their order: 15, 16, reading's, whole, 17, held, 18, 19.
 -- Assumes nothing: these are definitions.
 use Prim.Native.Nat.{ℕ, _+_, _*_}
 use mathlib.Core.List.{List}

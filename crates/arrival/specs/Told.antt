@@ -1,5 +1,5 @@
--- What an arrival answers: document 01's number and word for each case of an answer, and the answer for what an arrival comes to.
--- Document 01, "Refusal numbers": "A refusal answers its number, every other answer zero".
+-- What an arrival answers: SPEC's number and word (S-7) for each case of an answer, and the answer for what an arrival comes to.
+-- SPEC A-2: beside a refusal's number all else is 0.
 -- Assumes nothing: these are definitions.
 use Prim.Native.Nat.{ℕ}
 use Rattle.walk.specs.Walk.{refusal}
@@ -14,7 +14,7 @@ pub record Said : Type 0 where
   pub number : ℕ
   pub word : ℕ
 
--- document 01's words for an arrival; 0 is none
+-- SPEC's words for an arrival; 0 is none
 abbrev pub wordOf : Kind → ℕ
 wordOf Whole = 1
 wordOf Stored = 2

@@ -1,6 +1,6 @@
--- Messages in the store: what it holds under a key and a counter, and the complete message whose first lies in the lowest cell.
--- Document 01, "The store": "A message is complete when, for one key, there is a first at counter c, a last at d, c < d, and
--- continuations at each number between. Taking picks the complete message whose first lies in the lowest cell".
+-- Messages in the store: what it holds under a key and a counter, and which complete message is picked.
+-- SPEC S-8 to S-10: under one key a first, a last with a higher counter, and a continuation at every counter in between; of several
+-- such messages the one whose first has the lowest cell.
 -- `next` is the counter that follows one, and `span` the most steps from a first to its last: one more, and 4,294,967,295.
 -- Assumes nothing: these are definitions.
 use Prim.Native.Nat.{ℕ, zero, suc, _+_}
@@ -103,7 +103,7 @@ module _ (next : ℕ → ℕ) (span : ℕ) where
   pickIn cs [] = none
   pickIn cs (x ∷ xs) = let r = pickIn cs xs in orElse (runIn cs x) r
 
-  -- the complete message whose first lies in the lowest cell
+  -- the complete message with its first in the lowest cell
   abbrev pub picked : List Cell → Option Run
   picked cs = pickIn cs cs
 

@@ -1,6 +1,5 @@
 -- A store in order, and searches in it.
--- Document 01, "The store": "A store is in order if its length fits, each cell is as above and readable under T, and no two cells have
--- equal key and counter."
+-- SPEC S-6: a whole number of cells, each free or held, and no key and counter twice.
 -- Assumes nothing: these are definitions.
 use Prim.Native.Nat.{ℕ, zero, suc, _/_, _%_}
 use mathlib.Core.List.{List}
@@ -13,7 +12,7 @@ use Rattle.walk.specs.Walk.{begun}
 use Rattle.cells.specs.Segments.{carries, both}
 use Rattle.cells.specs.Rows.{Cell, free, held, broken, segmentIn, bySegment, rowAt, cellOf}
 
--- "Cells of 1,024 octets"
+-- SPEC N-10: 1,024 octets a cell
 abbrev pub cellSize : ℕ
 cellSize = 1024
 

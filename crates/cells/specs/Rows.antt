@@ -1,6 +1,5 @@
 -- The store's cells, over the cell size Z: rows of Z octets.
--- Document 01, "The store": "Each record has a two-byte mark before it: 4D 53 held, 00 00 free. A held cell is the mark, one segmented
--- packet of at most 1,022 octets as it arrived, and zeros. A free cell is all zeros."
+-- SPEC S-2, S-3: a free cell is zeros; a held one is the mark 4D 53, a segment's packet that fits, just as it came, and zeros.
 -- Assumes nothing: these are definitions.
 use Prim.Native.Nat.{ℕ, _+_, _-_, _*_}
 use mathlib.Core.List.{List, _∷_, _++_}

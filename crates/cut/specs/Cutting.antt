@@ -1,7 +1,6 @@
 -- Cutting a message into packets of at most P octets.
--- Document 01, "Cutting": "H is the secondary header's length without a counter, B the body's. If 6 + H + B is at most P, one
--- unsegmented packet. Otherwise each packet carries C = P - H - 10 body octets except the last, which carries the rest (1 to C). The
--- count is B / C rounded up. Refusal 12 is judged on H for one packet and on H + 4 where cutting is needed."
+-- SPEC C-2 to C-4: one unsegmented packet if 6 + H + B is not above P; else segments of C = P - H - 10 body octets, the last one with
+-- what remains, as many as B / C, rounded up. 12 is judged on H alone, or with the counter's 4 octets if there is a cut.
 -- Assumes nothing: these are definitions.
 use Prim.Native.Nat.{ℕ, suc, _+_, _-_, _*_, _/_}
 use mathlib.Core.List.{List, _++_}

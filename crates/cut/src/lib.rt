@@ -3,9 +3,9 @@
 //   H octets of header, B of body:   6 + H + B <= P   one unsegmented packet
 //                                    else             C = P - H - 10 body octets a packet, the last one the rest
 //
-// `count` answers how many packets a message takes and the sender's two numbers moved on; `packet` writes packet number i, by the
-// numbers as they stood before the message, and moves neither. A refusal leaves the sender and the output as they were. The sender is
-// that of crate `sender`; the tests on a header, its size and its octets are those of crate `write`.
+// `count` answers how many packets a message takes and the sender's two numbers moved on; `packet` writes packet number i, from the
+// sender before the message, which it leaves as it is. A refusal leaves the sender and the output as they were. The sender is that of
+// crate `sender`; the tests on a header, its size and its octets are those of crate `write`.
 ghost use mathlib.Core.Path.{_≡_};
 ghost use Prim.Native.Nat.{suc, _+_};
 ghost use lib.ListN.{length};

@@ -1,4 +1,4 @@
--- Demand 3 in document 01's words, from the law for any counter; and without the room, that whatever is taken under a message's key
+-- Demand 3 in SPEC's words, from the law for any counter; and without the room, that whatever is taken under a message's key
 -- is one of the messages of that key.
 -- Assumes nothing.
 use Prim.Native.Nat.{ℕ, suc, _+_, _-_, _≤_}

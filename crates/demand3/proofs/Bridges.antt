@@ -166,7 +166,7 @@ module _ (s : Settings) (m : Sending) where
   abbrev pub itsAnswer : Taken
   itsAnswer = record { refusal = refusal 0; header = headerSize s m; body = bodySize s m; counter = record { 0 = startOf s m } }
 
-  -- "the original identification, header and body", and behind them the output as it was
+  -- the identification, header and body that were sent, and after them the output as it was
   abbrev pub itsOutput : List ℕ → List ℕ
   itsOutput out = identificationOf s m ++ headerOf s m ++ wholeBody m ++ drop (2 + headerSize s m + bodySize s m) out
 

@@ -255,7 +255,7 @@ has-room : roomIn suc top (empty 4) (actEvents (empty 4) (noonActs ++ eveningAct
 unfolding actEvents roomIn after stepped takenFrom look carries sameRest alike put hasFree pickIn runFrom restFrom roleOf bodies among
 has-room = refl
 
--- J-8: "whenever a new segment of any key arrives, a cell is free", with fewer cells than segments
+-- J-8: a free cell before each new segment (DEMANDS 3.5), with fewer cells than segments
 pub given : Given settings Z 4 messages (noon ++ evening)
 given =
     record {

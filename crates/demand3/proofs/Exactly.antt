@@ -1,4 +1,4 @@
--- What taking picks is a complete message, in document 01's words, and the one whose first lies in the lowest cell; and where one is
+-- What taking picks is a complete message, in SPEC's words, and the one whose first lies in the lowest cell; and where one is
 -- complete, taking picks one.
 -- Assumes nothing.
 use Prim.Native.Nat.{ℕ, zero, suc, _+_, _≤_, _<_, suc-le-suc, zero-le}

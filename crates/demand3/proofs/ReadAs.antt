@@ -107,7 +107,7 @@ module _ (s : Settings) (Z : ℕ) (m : Sending) (k : IsCut s Z m) (i : ℕ) (l :
     pub repeat-octets : Octets (packetWith s m i c)
     repeat-octets = writes-octets s (valuesAt s m i c) with-range
 
--- "none wrapping"
+-- no counter past the last (DEMANDS 3.2)
 pub counters-fit : (s : Settings) (Z : ℕ) (m : Sending) → IsCut s Z m → startOf s m + manyOf s m ≤ 4294967296
 counters-fit s Z m k =
     let l : manyOf s m - 1 < manyOf s m = omega (arith, k .many) in

@@ -1,4 +1,4 @@
--- The wrong programs of document 01 that demand 3 shuts out (E-5): a store that refuses all or keeps nothing, so that its octets stay
+-- Wrong programs that demand 3 shuts out (E-5): a store that refuses all or keeps nothing, so that its octets stay
 -- zero whatever arrives; a joining that works once and then pretends; one that calls a message complete by number alone; one that
 -- matches by transaction id alone. The first three are any program at all of which this is said: what it leaves behind a list of calls,
 -- or what a call then takes. The last two are programs of `Ways`. Each fails a part of demand 3 on the run of `Day`; the store meets it.

@@ -129,7 +129,7 @@ module _ (s : Settings) (Z : ℕ) (m : Sending) (k : IsCut s Z m) where
       let e : stepsIn (sentOf s m) ≡ manyOf s m - 1 = omega (arith, twice, listed-long (partOf s m) q 2) in
       ap (λ (n : ℕ). stepsOf suc n (startOf s m)) e
 
-  -- "none wrapping"
+  -- no counter past the last (DEMANDS 3.2)
   pub no-wrap : final (sentOf s m) ≤ top
   no-wrap = omega (arith, end-is, steps-suc (manyOf s m - 1) (startOf s m), counters-fit s Z m k, k .many)
 

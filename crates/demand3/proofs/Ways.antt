@@ -1,6 +1,6 @@
 -- Programs that store and take like the store but for two things that they are given: how they find a segment under a key and a
--- counter, and which message they pick. Of document 01's faults there are two: one that calls a message complete by the number of its
--- segments, and one that matches by transaction id alone. The store's own way comes to what its calls promise.
+-- counter, and which message they pick. Of the faults that were met there are two: one that calls a message complete by the number of
+-- its segments, and one that matches by transaction id alone. The store's own way comes to what its calls promise.
 -- Assumes nothing.
 use Prim.Native.Nat.{ℕ, zero, suc, _-_, _≤_}
 use mathlib.Core.Path.{_≡_, refl, ap, ap₂, sym, _∙_}

@@ -1,6 +1,5 @@
 -- When a message is complete in a store's cells.
--- Document 01, "The store": "A message is complete when, for one key, there is a first at counter c, a last at d, c < d, and
--- continuations at each number between."
+-- SPEC S-8: under one key a first at some counter, a last at a higher one, a continuation at every counter in between.
 -- Assumes nothing: these are definitions.
 use Prim.Native.Nat.{ℕ, _≤_, _<_}
 use mathlib.Core.Path.{_≡_}

@@ -48,9 +48,9 @@ module _ (s : Settings) where
   pub record Succeeds (Z : ℕ) (m : Cutting) : Type 0 where
     -- texts and body are octets, and a transaction id has 64 bits: what their types say
     pub lends : Lends (m .values) (m .texts) (m .body)
-    -- the count succeeds, so that no counter passes 4,294,967,295: "none wrapping"
+    -- the count succeeds, so that no counter passes 4,294,967,295 (DEMANDS 3.2)
     pub counts : countOf m .refusal .number ≡ 0
-    -- "messages cut into two or more segments"
+    -- two segments or more (DEMANDS 3.2)
     pub many : 2 ≤ countOf m .count
-    -- "each fitting a cell", behind its mark
+    -- each has room in a cell, after its mark
     pub fits : (i : ℕ) → i < countOf m .count → 2 + length (packetOf m i) ≤ Z

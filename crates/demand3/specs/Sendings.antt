@@ -1,4 +1,4 @@
--- The messages of demand 3, "messages cut into two or more segments, each fitting a cell", cut in any way: header values, a first
+-- The messages of demand 3 (DEMANDS 3.2), cut in any way: header values, a first
 -- counter, and the bodies of the segments, of any lengths. Segment i is the format's octets of these values with the counter i steps
 -- from the first, flags 01, 00 .., 10, body i, and any sequence count.
 -- Assumes nothing: these are definitions.
@@ -73,7 +73,7 @@ module _ (s : Settings) where
   abbrev pub headerOf : Sending → List ℕ
   headerOf m = headerOctets s (m .head)
 
-  -- the "header key"
+  -- the key
   abbrev pub keyIn : Sending → List ℕ
   keyIn m = identificationOf m ++ headerOf m
 
@@ -91,10 +91,10 @@ module _ (s : Settings) where
 
   -- a message that demand 3 speaks of, for cells of Z octets
   pub record IsCut (Z : ℕ) (m : Sending) : Type 0 where
-    -- "messages cut into two or more segments"
+    -- two segments or more (DEMANDS 3.2)
     pub many : 2 ≤ manyOf m
-    -- each a packet of the format: header values in range, a body of one octet or more, and no counter above 4,294,967,295, so "none
-    -- wrapping". The sequence count 0 stands for any
+    -- each a packet of the format: header values in range, a body of one octet or more, and no counter above 4,294,967,295, so none
+    -- is past the last. The sequence count 0 stands for any
     pub range : (i : ℕ) → i < manyOf m → InRange s (valuesAt m i 0)
-    -- "each fitting a cell", behind its mark; the length is the same with every sequence count
+    -- each has room in a cell, after its mark; the length is the same with every sequence count
     pub fits : (i : ℕ) → i < manyOf m → 2 + length (packetWith m i 0) ≤ Z

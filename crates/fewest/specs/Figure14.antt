@@ -1,4 +1,4 @@
--- The sender of document 01's figures on cutting: the sequence count 0, and a counter to start from.
+-- The sender of SPEC's figures on cutting: the sequence count 0, and a counter to start from.
 -- Assumes nothing: these are definitions.
 use Prim.Native.Nat.{ℕ}
 use Rattle.sender.specs.declared.Sender.{Sender}

@@ -1,6 +1,6 @@
 -- The optional fields that have a length: texts, the authentication id, the domain; and fields that may be absent.
--- Document 01: "Zone, session name and authentication id are a Varint length and that many octets. The domain is a Varint count of
--- parts, each a presence octet of 1 and a length with octets. Text is taken as octets of any value."
+-- SPEC P-8 to P-10: a zone, a session name and an authentication id are a length, a Varint, and so many octets; a domain is the
+-- number of its parts, and of each part an octet of 1, a length and so many octets. What the octets say is not looked at.
 -- Assumes nothing: these are definitions.
 use Prim.Native.Nat.{ℕ, zero, suc}
 use mathlib.Core.List.{List}
@@ -43,7 +43,7 @@ text s p w = blob s p w
 unfoldable pub part : Settings → List ℕ → Reading → Step Place
 part s p w = text s p (check (eqb (octetAt p (w .at)) 1) 11 (octets p 1 w))
 
--- a domain holds at most sixteen parts, each with its own place
+-- SPEC N-5: at most sixteen parts; each has a place of its own
 abbrev pub partsMost : ℕ
 partsMost = 16
 

@@ -1,5 +1,5 @@
--- Document 01's figures hold: what the definitions come to is what it says, in every row of the table, by computation. Two rows, that
--- would compute over a whole store's octets, are laws: figure 13, and what the recording program writes for figure 14.
+-- SPEC's figures hold: what the definitions come to is what it says, in every row of the table, by computation. Two rows, that would
+-- compute over a whole store's octets, are laws: figure 13, and what the recording program writes for figure 14.
 -- Assumes nothing.
 use mathlib.Core.Path.{_≡_, ap, ap₂}
 use mathlib.Core.List.{[], _∷_, _++_, map}

@@ -1,5 +1,5 @@
--- Document 01's "Figures to check by", 1 to 14, as one table: what the calls' definitions come to, and what document 01 says; last, what
--- it says of a recording of figure 14 alone. T is 8. Figures 7 to 13 are asked of figure 14's header and of a body of so many zeros.
+-- SPEC's figures, F-1 to F-14, as one table: what the calls' definitions come to, and what SPEC says; last, what it says of a
+-- recording of figure 14 alone. T is 8. Figures 7 to 13 are asked of figure 14's header and of a body of so many zeros.
 -- Assumes nothing: these are definitions.
 use Prim.Native.Nat.{ℕ, _*_}
 use mathlib.Core.List.{List, [], _∷_}
@@ -26,7 +26,7 @@ pub data Said : Type 0 where
   gives : ℕ → Said
   header : Header → Said
 
--- a row: the figure's number, what the definitions come to, what document 01 says
+-- a row: the figure's number, what the definitions come to, what SPEC says
 pub record Row : Type 0 where
   pub figure : ℕ
   pub computed : Said

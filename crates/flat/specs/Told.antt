@@ -1,5 +1,5 @@
 -- The answers of the calls as lists of numbers, for callers in other languages: the refusal first, then every other answer in the
--- order of document 01's fields. A truth value is 1 or 0, a place is two numbers.
+-- order of SPEC's fields. A truth value is 1 or 0, a place is two numbers.
 -- Assumes nothing: these are definitions.
 use Prim.Native.Nat.{ℕ, zero, suc}
 use mathlib.Core.List.{List, [], _∷_, _++_}

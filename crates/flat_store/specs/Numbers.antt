@@ -1,6 +1,6 @@
 -- The answers of the store's calls as plain numbers, the refusal first. Each is made from what the call answers in Rattle, and from
 -- nothing else.
--- Document 01, "Refusal numbers": "A refusal answers its number, every other answer zero".
+-- SPEC A-2: beside a refusal's number all else is 0.
 -- Assumes nothing: these are definitions.
 use Prim.Native.Nat.{ℕ}
 use mathlib.Core.List.{List, [], _∷_}

@@ -1,4 +1,4 @@
--- Document 01's figure 14, by computation: with T 8 reading answers its values, and the octets of its values are the packet.
+-- SPEC F-14, by computation: with T 8 reading answers its values, and the octets of its values are the packet.
 -- So the hypotheses of the laws can be met.
 -- Assumes nothing.
 use mathlib.Core.Path.{_≡_, refl}

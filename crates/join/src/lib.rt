@@ -1,8 +1,9 @@
 // Joining: a packet arrives, and where it came whole its body is told, else what is complete is taken out; and the view of a body.
 //
-// Joining tells which buffer holds the body, its place and its length; the view hands that part out, read only. For a packet that
-// came whole neither the store nor the output is touched. If taking refuses, the arrived segment stays in the store. T and the store's
-// order are checked once; what follows is an inner function that takes any octets, for whoever keeps a store in order.
+// Joining tells where the body is: in which buffer, from which place on, how long; the view hands that part out, read only. For a
+// packet that came whole neither the store nor the output is touched. If taking refuses, the arrived segment stays in the store. T
+// and the store's order are checked once; what follows is an inner function that takes any octets, for whoever keeps a store in
+// order.
 ghost use mathlib.Core.Path.{_≡_};
 ghost use Prim.Native.Nat.{_<_};
 ghost use lib.ListN.{length};
@@ -158,7 +159,7 @@ pub fn join_in(
     in_output(taking::take_in(s, store, n, zero, out))
 }
 
-// A packet arrives; its body is told where it came whole, else the complete message whose first lies in the lowest cell is taken out.
+// A packet arrives; its body is told where it came whole, else the complete message with its first in the lowest cell is taken out.
 pub fn join(s: Settings, store: &mut [u8], p: &[u8], out: &mut [u8]) -> Joined
     ensures { λ r. ⌜ r ≡ joinedOf (joining s cellSize (now (store .entry)) (now (p .entry)) (length (now (out .entry)))) ⌝ }
     ensures { λ r. ⌜ now (store .exit) ≡ storeJoined s cellSize (now (store .entry)) (now (p .entry)) (length (now (out .entry))) ⌝ }

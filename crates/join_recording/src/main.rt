@@ -1,4 +1,4 @@
-// The small program of document 01: joins a recording and writes its messages to standard output.
+// The recording program, SPEC G-1 to G-7: joins a recording and writes its messages to standard output.
 //
 //   join_recording [RECORDING [REPORT]]
 //

@@ -1,4 +1,4 @@
--- Demand 1: "each public call ends with its answer or one numbered refusal from document 01". Over the generated contract of each public
+-- Demand 1: a refusal's number is one of SPEC's list for its call. Over the generated contract of each public
 -- call that can refuse: the number in its answer is 0 or one of the call's own list.
 -- Assumes nothing.
 use mathlib.Core.Path.{sym, subst}

@@ -1,4 +1,4 @@
--- The refusals that a call may give, in the order in which document 01 has them tested.
+-- The refusals that a call may give, in the order in which SPEC has them tested.
 -- Assumes nothing: these are definitions.
 use Prim.Native.Nat.{ℕ}
 use mathlib.Core.List.{List, [], _∷_, _++_, List·Memᴰ}

@@ -1,4 +1,4 @@
--- Document 01's figure 14: a packet of 27 octets with neither optional fields nor a body, its values, and all that reading answers of
+-- SPEC's figure 14: a packet of 27 octets with neither optional fields nor a body, its values, and all that reading answers of
 -- it with T 8. The tables and examples of the other crates cite it.
 -- Assumes nothing: these are definitions.
 use Prim.Native.Nat.{ℕ}

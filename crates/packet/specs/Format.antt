@@ -1,4 +1,4 @@
--- The format of document 01, "The packet": the octets of values, field by field. No reader and no walk in it.
+-- The format (SPEC P-1 to P-13): the octets of values, field by field. No reader and no walk in it.
 -- Assumes nothing: these are definitions.
 use Prim.Native.Nat.{ℕ, _+_, _-_, _*_, _≤_, _<_}
 use mathlib.Core.Path.{_≡_}
@@ -63,7 +63,7 @@ when b l = pick b l []
 abbrev pub bit : Bool → ℕ
 bit b = pick b 1 0
 
--- version 3 bits (000), packet type 1, secondary header flag 1 (always 1), APID 11
+-- SPEC P-3, the first two octets: bits 000, the packet type, a 1 for the secondary header, eleven bits of APID
 unfoldable pub identification : Head → List ℕ
 identification h = wide 2 (h .packet-type * 4096 + 2048 + h .apid)
 
@@ -119,7 +119,8 @@ secondaryOctets s v = fixedOctets (v .head) ++ (frontOctets (v .head) ++ (counte
 unfoldable pub dataOctets : Settings → Values → List ℕ
 dataOctets s v = secondaryOctets s v ++ v .body
 
--- identification; sequence flags 2 bits, sequence count 14; length field 16, the octets of the data field less one; data field
+-- SPEC P-3: identification; sequence flags and sequence count, 2 and 14 bits; length field, one less than the data field has octets;
+-- data field
 unfoldable pub octetsOf : Settings → Values → List ℕ
 octetsOf s v =
     identification (v .head)

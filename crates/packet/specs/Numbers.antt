@@ -1,4 +1,4 @@
--- The sequence count's next value, and its value some packets on. Document 01: "and 0 follows 16,383".
+-- The sequence count's next value, and its value some packets on. SPEC P-5.
 -- Assumes nothing: these are definitions.
 use Prim.Native.Nat.{ℕ, zero, suc}
 use lib.Dec.{leb}

@@ -1,5 +1,5 @@
 -- What reading a packet answers, with its order of refusals.
--- Document 01: "Reading: 15, then 1 to 5, then fields left to right, then 14."
+-- SPEC R-1 to R-7: T, the primary header, the secondary header field by field, the empty body.
 -- Assumes nothing: these are definitions.
 use Prim.Native.Nat.{ℕ, _+_, _-_, _/_, _%_}
 use mathlib.Core.List.{List}
@@ -21,7 +21,7 @@ use Rattle.packet.specs.FixedPart.{octetField, wideField, fixedEnd, fixe
 
 -- ---- the primary header, at its own places
 
--- 1 fewer than six octets; 2 version not 000; 3 secondary header flag 0; 4 APID 2047; 5 the slice's length is not length field + 7
+-- SPEC R-1: 1 too short; 2 the version; 3 the secondary header flag; 4 the idle APID; 5 another length than the length field says
 unfoldable pub primaryTests : List ℕ → Reading → Reading
 primaryTests p w =
     check (eqb (length p) (number 2 p 4 + 7)) 5

@@ -1,4 +1,4 @@
--- Document 01: "Figure 14 alone gives 4D 4D 00 00 00 17, then 18 05 and its 21 header octets."
+-- SPEC F-14: what a recording of that packet alone comes to.
 -- Assumes nothing.
 use Prim.Native.Nat.{ℕ, suc}
 use mathlib.Core.Path.{_≡_, refl, ap, sym, _∙_}

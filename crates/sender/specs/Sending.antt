@@ -1,6 +1,5 @@
 -- The sender's two running numbers.
--- Document 01, "Cutting": "After a message the sender's two running numbers move on together: by one for each packet in the sequence
--- count, by one for each segment in the counter. A counter of 4,294,967,295 may be used; the state then says that none is left."
+-- SPEC C-7: one step of the sequence count for each packet, one of the counter for each segment; after the last counter none is left.
 -- Assumes nothing: these are definitions.
 use Prim.Native.Nat.{ℕ, zero, suc}
 use lib.Dec.{leb}

@@ -1,4 +1,4 @@
--- The answer of an arrival says document 01's number and word for what the arrival comes to (S-12), also over its contract.
+-- The answer of an arrival says SPEC's number and word for what the arrival comes to (S-12), also over its contract.
 -- Assumes nothing.
 use mathlib.Core.Path.{_≡_, ap}
 use contract.Lifetimes as L

@@ -29,7 +29,7 @@ pub fn arrive(s: Settings, store: &mut [u8], p: &[u8]) -> Arrival
     arrival::arrive_in(s, store, o.cells, &zero, p)
 }
 
-// The complete message whose first lies in the lowest cell is taken out.
+// The complete message with its first in the lowest cell is taken out.
 pub fn take(s: Settings, store: &mut [u8], out: &mut [u8]) -> Taken
     ensures { λ r. ⌜ r ≡ takenOf (took s cellSize (now (store .entry)) (length (now (out .entry)))) ⌝ }
     ensures { λ r. ⌜ now (out .exit) ≡ outWith (now (out .entry)) (took s cellSize (now (store .entry)) (length (now (out .entry)))) ⌝ }

@@ -1,4 +1,4 @@
--- The complete message whose first lies in the lowest cell, sought cell by cell.
+-- The complete message with its first in the lowest cell, sought cell by cell.
 -- Assumes nothing.
 use Prim.Native.Nat.{ℕ, suc, _+_, _-_, _≤_, _<_}
 use mathlib.Core.Path.{_≡_, refl, ap, ap₂, sym, _∙_}

@@ -1,4 +1,4 @@
--- Cells that a row is laid over. Document 01, "The store": an empty cell is all zeros, and taking zeroes just its message's cells.
+-- Cells that a row is laid over. SPEC S-12: a taking makes zero the cells of its message, and no others.
 -- Assumes nothing: these are definitions.
 use Prim.Native.Nat.{ℕ, zero, suc, _*_}
 use mathlib.Core.Bool.{Bool}

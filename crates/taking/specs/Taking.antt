@@ -1,6 +1,6 @@
 -- Taking a message out of a store.
--- Document 01, "The store": taking "writes the two octets of packet identification, the H header octets without counter, and the body,
--- tells H, B and c, and zeroes just its cells." The order of the refusals: "Taking: 15, 16, 20, 21."
+-- SPEC S-10 to S-12: identification, the header without its counter and the body go out, H, B and c are told, and the message's cells
+-- become zero. The tests in their order: 15, 16, 20, 21.
 -- Assumes nothing: these are definitions.
 use Prim.Native.Nat.{ℕ, suc}
 use mathlib.Core.List.{List, _++_}

@@ -1,4 +1,4 @@
-// Taking from the store: the complete message whose first lies in the lowest cell is found, written out, and its cells are freed.
+// Taking from the store: the complete message with its first in the lowest cell is found, written out, and its cells are freed.
 //
 // The store is any octets here, and the size of a cell is that of the zero cell lent: T and the store's order are tested by
 // `store::take`, or by whoever keeps a store in order.
@@ -48,7 +48,7 @@ enum Measured {
     Incomplete,
 }
 
-// The complete message whose first lies in the lowest cell: that cell, and the octets of its body.
+// The complete message with its first in the lowest cell: that cell, and the octets of its body.
 enum Picked {
     Message { cell: usize, body: usize },
     Nothing,
@@ -190,7 +190,7 @@ fn run_at(
     )
 }
 
-// The complete message whose first lies in the lowest cell.
+// The complete message with its first in the lowest cell.
 fn pick_message(
     s: Settings,
     store: &[u8],

@@ -1,6 +1,5 @@
 -- What is left in a store: its held cells, and the keys among them.
--- Document 01, "The store": "A held cell is the mark, one segmented packet of at most 1,022 octets as it arrived, and zeros." and
--- "A key is the packet type, the APID and all octets of the secondary header except the counter."
+-- SPEC S-3 says which cells are held, S-4 what a key is.
 -- Assumes nothing: these are definitions.
 use Prim.Native.Nat.{ℕ, zero, suc, _+_}
 use mathlib.Core.List.{List}

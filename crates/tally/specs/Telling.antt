@@ -1,6 +1,5 @@
 -- What a held cell tells: whose message its segment is of, and which of its segments.
--- Document 01, "The packet": "sequence flags 2 (01 first, 00 continuation, 10 last, 11 unsegmented)"; "The store": "A key is the packet
--- type, the APID and all octets of the secondary header except the counter."
+-- SPEC P-3 has the sequence flags, S-4 what a key is.
 -- Assumes nothing: these are definitions.
 use Prim.Native.Nat.{ℕ}
 use mathlib.Core.List.{List}

@@ -1,4 +1,4 @@
--- By computation: document 01's figure 14, written into 27 and into 30 octets, is its packet and the rest as it was. So a writer that
+-- By computation: the packet of SPEC F-14, written into 27 and into 30 octets, is its packet and the rest as it was. So a writer that
 -- writes nothing is refuted. And a segment with every optional field can be written: the laws are not empty.
 -- Assumes nothing.
 use Prim.Native.Nat.{ℕ, zero, suc, _/_, _%_}

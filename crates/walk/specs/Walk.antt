@@ -1,6 +1,5 @@
 -- A reading: where it stands, or by which number it was refused. All refusals of reading are made by `octets`, `number` and `check`.
--- Document 01: "Each octet, or the whole content of a known length, is tested for 12, then 6, then its value; Varint octets come
--- singly, and a fifth above 15 gives 10."
+-- SPEC R-2 to R-5, V-4: first 12, then 6, then the value, octet by octet; a content whose length is known is tested as a whole.
 -- Assumes nothing: these are definitions.
 use Prim.Native.Nat.{ℕ, _+_}
 use mathlib.Core.List.{List}

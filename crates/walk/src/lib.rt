@@ -104,7 +104,7 @@ pub struct Settings {
     pub t: usize,
 }
 
-// The number of a refusal of document 01; 0 where there is none.
+// The number of a refusal of SPEC's list; 0 if there is none.
 pub struct Refusal {
     pub number: u8,
 }

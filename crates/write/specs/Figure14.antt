@@ -1,4 +1,4 @@
--- What document 01's figure 14 is written from: the header's values, the packet's own, and no texts.
+-- What SPEC's figure 14 is written from: the header's values, the packet's own, and no texts.
 -- Assumes nothing: these are definitions.
 use mathlib.Core.List.{[]}
 use mathlib.Core.Bool.{false}

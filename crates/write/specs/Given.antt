@@ -1,6 +1,6 @@
 -- The values to write as they are given, and which of them are refused by 22.
--- Document 01, refusal 22: "a field to write above its width or range, APID 2047, a non-zero or non-empty value for an absent field
--- (a cutting start isn't one), a present timestamp not of T octets, text too long, domain lengths that don't add up".
+-- SPEC W-2: too wide or out of range, a value for a field that is absent, a timestamp of another length than T, a text that is too
+-- long, lengths that do not make up the domain.
 -- Assumes nothing: these are definitions.
 use Prim.Native.Nat.{ℕ, _+_}
 use mathlib.Core.List.{List, [], _∷_, _++_}

@@ -1,7 +1,7 @@
 // Writing one packet: the values to write, the tests behind each refusal, and the octets.
 //
 // `write` takes any settings, values, texts, body and output. It answers the octets written, from the output's first octet on, or
-// one refusal, and then the output is as it was. A number that document 01 limits is held in a type wide enough for a bad value,
+// one refusal, and then the output is as it was. A number that SPEC limits is held in a type wide enough for a bad value,
 // which is 22 and never cut off. The domain is one lent text and the lengths of its parts.
 // As parameters, `time` is the timestamp, `zone` the network zone, `name` the session name and `id` the authentication id.
 //

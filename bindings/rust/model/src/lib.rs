@@ -1,7 +1,7 @@
-//! A second program for document 01, written from its sentences alone, to compare the proved one with.
+//! A second program for docs/SPEC.md, written from the rules alone, to compare the proved one with.
 //!
-//! Each call answers `Ok` with its whole answer, or `Err` with the one refusal that comes first. Lent octets change only as document
-//! 01 says. Nothing here is proved; that two programs of different making agree on many inputs is what the comparison is worth.
+//! Each call answers `Ok` with its whole answer, or `Err` with the one refusal that comes first. Lent octets change only as SPEC
+//! says. Nothing here is proved; that two programs of different making agree on many inputs is what the comparison is worth.
 
 mod cut;
 mod hash;

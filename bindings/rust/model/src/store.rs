@@ -105,7 +105,7 @@ impl<'a> Index<'a> {
         false
     }
 
-    /// The cells of the complete message whose first lies in the lowest cell.
+    /// The cells of the complete message with its first in the lowest cell.
     fn complete(&self) -> Option<Vec<usize>> {
         let mut run = Vec::new();
         let firsts = self.cells.iter().enumerate().filter(|(_, held)| held.is_some_and(|s| s.flags == FIRST));
@@ -146,7 +146,7 @@ pub fn arrive(t: u64, store: &mut [u8], packet: &[u8]) -> Result<Kind, Refusal> 
     Ok(Kind::Stored)
 }
 
-/// Takes the complete message whose first lies in the lowest cell out of the store.
+/// Takes the complete message with its first in the lowest cell out of the store.
 pub fn take(t: u64, store: &mut [u8], out: &mut [u8]) -> Result<Taken, Refusal> {
     test_timestamp(t)?;
     let index = Index::new(t, store)?;

@@ -1,6 +1,6 @@
 //! What is lent to the writing calls, and what all calls answer on a refusal.
 
-/// The number of a refusal, from document 01's table.
+/// The number of a refusal, from SPEC's table.
 #[derive(Clone, Copy, Debug, PartialEq, Eq)]
 pub struct Refusal(pub u8);
 
