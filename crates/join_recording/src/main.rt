@@ -176,7 +176,8 @@ fn step_into(
     requires { ⌜ cellCount ≡ countIn (length (now zero)) (now store) ⌝ }
     requires { ⌜ at + (6 + room) ≤ length (now out) ⌝ }
     ensures { λ r. ⌜ r ≡ doneOf (stepped settings (length (now (zero .entry))) (now (store .entry)) (now (window .entry)) ends) ⌝ }
-    ensures { λ r. ⌜ now (store .exit) ≡ storeBehind settings (length (now (zero .entry))) (now (store .entry)) (stepped settings (length (now (zero .entry))) (now (store .entry)) (now (window .entry)) ends) ⌝ }
+    ensures { λ r. ⌜ now (store .exit) ≡ storeBehind settings (length (now (zero .entry))) (now (store .entry))
+        (stepped settings (length (now (zero .entry))) (now (store .entry)) (now (window .entry)) ends) ⌝ }
 {
     let s = Settings { t: 8 };
     let to = at + SPACE;

@@ -24,7 +24,7 @@ use Rattle.cells.proofs.SameKeys.{keys-same}
 use Rattle.cells.proofs.Entering.{asked}
 use Rattle.tally.specs.Counting.{isHeld, keyed, newKeyTo, newKeyIn}
 use Rattle.tally.specs.declared.Told.{Told}
-use Rattle.tally.specs.Telling.{keyAt, untold, toldBy, toldIn, toldAt}
+use Rattle.tally.specs.Telling.{keyAt, untold, toldBy, toldOf, toldIn, toldAt}
 
 abbrev kind : Judged → ℕ
 kind t = t .kind
@@ -107,7 +107,7 @@ tellings h k =
 
 pub told-fields :
     (s : Settings) (Z : ℕ) (st : List ℕ) (i : ℕ) (q : List ℕ) {h : Header} {k : ℕ} → h ≡ readPacket s q → k ≡ keyAt s Z st i (keyOf q (readPacket s q)) →
-    tellings h k ≡ toldBy s Z st i (readPacket s q) (segOf q (readPacket s q))
+    tellings h k ≡ toldOf s Z st i q
 unfolding segOf
 told-fields s Z st i q eh ek = ap₂ tellings eh ek
 
@@ -134,9 +134,9 @@ module _ (s : Settings) (st : List ℕ) (Z i : ℕ) {r : List ℕ} (er : r ≡ r
         ∙ ap (λ (x : List ℕ). newKeyTo s Z st i (keyOf x (readPacket s x))) eq
         ∙ sym (ap (newKeyIn s Z st i) (cell-is ∙ there s Z r et one .cell))
 
-    pub told-told : {a : Told} → a ≡ toldBy s Z st i (readPacket s q) (segOf q (readPacket s q)) → a ≡ toldAt s Z st i
+    pub told-told : {a : Told} → a ≡ toldOf s Z st i q → a ≡ toldAt s Z st i
     told-told e =
         e
-        ∙ ap (λ (x : List ℕ). toldBy s Z st i (readPacket s x) (segOf x (readPacket s x))) eq
+        ∙ ap (toldOf s Z st i) eq
         ∙ ap (λ (x : List ℕ). toldBy s Z st i (readPacket s (packetIn Z x)) (segOf (packetIn Z r) (readPacket s (packetIn Z r)))) er
         ∙ sym (ap (toldIn s Z st i) (cell-is ∙ there s Z r et one .cell))

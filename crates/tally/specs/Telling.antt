@@ -8,7 +8,7 @@ use mathlib.Core.Bool.{true, false}
 use Rattle.walk.specs.declared.Settings.{Settings}
 use Rattle.packet.specs.declared.Header.{Header}
 use Rattle.packet.specs.Reading.{readPacket}
-use Rattle.cells.specs.Segments.{Seg}
+use Rattle.cells.specs.Segments.{Seg, segOf}
 use Rattle.cells.specs.Rows.{Cell, free, held, broken, rowAt, packetIn}
 use Rattle.cells.specs.Order.{lowest, cellAt}
 use Rattle.tally.specs.Counting.{keyed}
@@ -36,6 +36,10 @@ toldBy s Z st i h t =
       flags = t .flags;
       counter = t .counter;
     }
+
+-- the segment of a packet
+abbrev pub toldOf : Settings → ℕ → List ℕ → ℕ → List ℕ → Told
+toldOf s Z st i p = toldBy s Z st i (readPacket s p) (segOf p (readPacket s p))
 
 abbrev pub toldIn : Settings → ℕ → List ℕ → ℕ → Cell → Told
 toldIn s Z st i free = untold

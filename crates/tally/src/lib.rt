@@ -14,8 +14,7 @@ ghost use Rattle.cells.specs.Rows.{zeroRow, cellOf};
 ghost use Rattle.cells.specs.Order.{cellAt, cellsMost};
 ghost use Rattle.cells.specs.Inner.{Asked};
 ghost use Rattle.tally.specs.Counting.{isHeld, keyed as keyedAs, newKeyTo, newKeyIn, segmentsIn, keysIn, leftIn};
-ghost use Rattle.cells.specs.Segments.{segOf};
-ghost use Rattle.tally.specs.Telling.{keyAt, toldBy, toldAt};
+ghost use Rattle.tally.specs.Telling.{keyAt, toldOf, toldAt};
 use walk::Settings;
 
 // The segments held, and the different keys among them.
@@ -165,7 +164,7 @@ fn key_at(s: Settings, store: &[u8], n: usize, zero: &[u8], q: &[u8], stop: usiz
 fn told_of(s: Settings, store: &[u8], i: usize, zero: &[u8], q: &[u8], stop: usize) -> Told
     requires { ⌜ now zero ≡ zeroRow (length (now zero)) ⌝ }
     requires { ⌜ Asked s (now q) stop ⌝ }
-    ensures { λ r. ⌜ r ≡ toldBy s (length (now (zero .entry))) (now (store .entry)) i (readPacket s (now (q .entry))) (segOf (now (q .entry)) (readPacket s (now (q .entry)))) ⌝ }
+    ensures { λ r. ⌜ r ≡ toldOf s (length (now (zero .entry))) (now (store .entry)) i (now (q .entry)) ⌝ }
 {
     let h = packet::read(s, q);
     let primary = h.primary;
