@@ -107,7 +107,7 @@ fn line_end(table: &[u8], from: usize) -> usize
 }
 
 // Where the next line begins, or the end.
-fn behind(table: &[u8], at: usize) -> usize
+fn after(table: &[u8], at: usize) -> usize
     ensures { λ r. ⌜ r ≤ length (now (table .entry)) ⌝ }
 {
     let whole = table.len();
@@ -124,7 +124,7 @@ fn begins(table: &[u8], k: usize) -> usize
     let mut from: usize = 0;
     let mut left = k;
     while 0 < left {
-        from = behind(table, line_end(table, from));
+        from = after(table, line_end(table, from));
         left -= 1;
     }
     from
