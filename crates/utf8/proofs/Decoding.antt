@@ -36,6 +36,9 @@ next (d ∷ o) h p =
     let q = next-pass h p in
     record { octet = d; rest = o; whole = refl; goes = q .0; passes = q .1 }
 
+longer : {o r s : List ℕ} {d : ℕ} → o ≡ d ∷ r → r ≡ s → o ≡ d ∷ s
+longer {d} p q = p ∙ ap (λ (l : List ℕ). d ∷ l) q
+
 shorter : {o r : List ℕ} {d n : ℕ} → o ≡ d ∷ r → length o ≤ n → length r ≤ n
 shorter e h = omega (arith, ap length e)
 
@@ -85,7 +88,7 @@ module _ (n : ℕ) (done : (o : List ℕ) (a b c : ℕ) → length o ≤ n → E
         let s = (d - 0xC0) * 64 + (e - 0x80) in
         text-more s (d ∷ e ∷ []) (x .rest) (inl (omega (arith, t .most)))
         (from-two s d e refl l h (t .least, t .most))
-        (ap (λ (r : List ℕ). d ∷ r) (x .whole))
+        (longer refl (x .whole))
         (done (x .rest) c d e (shorter (x .whole) short) (now-ended (omega arith) (omega arith) (omega (arith, t .most))) (x .passes))
 
     of-three : 0xE0 ≤ d → d < 0xF0 → Text (d ∷ o)
@@ -99,7 +102,7 @@ module _ (n : ℕ) (done : (o : List ℕ) (a b c : ℕ) → length o ≤ n → E
         let s = (d - 0xE0) * 4096 + (e - 0x80) * 64 + (f - 0x80) in
         text-more s (d ∷ e ∷ f ∷ []) (y .rest) (three-scalar d e f h t u)
         (from-three s d e f refl l h (t .least, t .most) (u .least, u .most) (three-least d e f l t))
-        (ap (λ (r : List ℕ). d ∷ r) (x .whole ∙ ap (λ (r : List ℕ). e ∷ r) (y .whole)))
+        (longer refl (longer (x .whole) (y .whole)))
         (done (y .rest) d e f (shorter (y .whole) (shorter (x .whole) short))
         (now-ended (omega arith) (omega (arith, t .most)) (omega (arith, u .most))) (y .passes))
 
@@ -118,7 +121,7 @@ module _ (n : ℕ) (done : (o : List ℕ) (a b c : ℕ) → length o ≤ n → E
         let m = four-least d e f g l t in
         text-more s (d ∷ e ∷ f ∷ g ∷ []) (z .rest) (inr (omega arith, four-most d e f g h t u v))
         (from-four s d e f g refl l (t .least, t .most) (u .least, u .most) (v .least, v .most) m)
-        (ap (λ (r : List ℕ). d ∷ r) (x .whole ∙ ap (λ (r : List ℕ). e ∷ r) (y .whole ∙ ap (λ (r : List ℕ). f ∷ r) (z .whole))))
+        (longer refl (longer (x .whole) (longer (y .whole) (z .whole))))
         (done (z .rest) e f g (shorter (z .whole) (shorter (y .whole) (shorter (x .whole) short)))
         (now-ended (omega (arith, t .most)) (omega (arith, u .most)) (omega (arith, v .most))) (z .passes))
 

@@ -16,7 +16,8 @@ none o = record { octets = o; said = false }
 
 abbrev pub samples : List Sample
 samples =
-    -- nothing; U+0000; U+007F, U+0080; a byte order mark; U+FFFE, U+FFFF; the last before the surrogates and the first after; the last of all
+    -- nothing; U+0000; U+007F, U+0080; a byte order mark; U+FFFE, U+FFFF; the last before the surrogates and the first after;
+    -- the first of four octets and the last
     text []
     ∷ text (0x00 ∷ [])
     ∷ text (0x7F ∷ 0xC2 ∷ 0x80 ∷ [])

@@ -1,6 +1,6 @@
 -- The test for text, octet by octet. Its state is the three octets before, which is all that the next one depends on:
 --
---   E2 82 AC   E2 begins a character of three octets, so an octet from 80 to BF follows it, and one more at two places after it
+--   E2 82 AC   E2 begins a character of three octets: one of 80 to BF stands next to it, and one at the second place after it
 --
 -- Assumes nothing: these are definitions.
 use Prim.Native.Nat.{ℕ}

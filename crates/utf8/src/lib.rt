@@ -1,7 +1,7 @@
 // Whether octets are well-formed text, as RFC 3629 writes it.
 //
 //   first octet   00..7F   C2..DF   E0..EF   F0..F4
-//   octets           1        2        3        4       each after the first is 80..BF; less room after E0, ED, F0 and F4
+//   octets           1        2        3        4       each after the first is 80..BF; right after E0, ED, F0 and F4 fewer are
 //
 // The call takes any slice and answers for the whole of it. Whether an octet may stand at a place depends on the three before it and on
 // nothing else, so that places are tested many at a time: the loops carry a flag and do not leave early. Blocks of single octets,
