@@ -7,3 +7,4 @@ pub mod Inner
 mod Calls
 pub mod Views
 pub mod Untouched
+pub mod Arguments

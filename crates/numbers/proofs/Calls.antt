@@ -3,7 +3,6 @@
 -- Assumes nothing.
 use mathlib.Core.Path.{ap, sym, _∙_, subst}
 use contract.Lifetimes as L
-use denote.Ref.{now}
 use Rattle.packet.specs.declared.Header.{Header}
 use Rattle.packet.proofs.read.Reads as reads
 use Rattle.write.specs.declared.Written.{Written}
@@ -20,6 +19,7 @@ use Rattle.arrival.specs.Told.{Said, said}
 use Rattle.store.proofs.arrive.Reads as arrives
 use Rattle.store.proofs.take.Reads as takes
 use Rattle.store.proofs.Saying.{said-is}
+use Rattle.store.proofs.Arguments.{arrive-call}
 use Rattle.join.specs.declared.Joined.{Joined}
 use Rattle.join.proofs.join.Reads as joins
 use Rattle.recording.specs.declared.Recorded.{Recorded}
@@ -46,8 +46,9 @@ packet-numbered κs a r x k = subst (λ (h : Cut). Numbered ofCutting (h .refusa
 
 pub arrive-numbered : (κs : L.Lfts 2) (a : _) (r : _) (x : _) → arrives.Post κs a r x → Numbered ofArrival (said r .number)
 arrive-numbered κs a r x k =
-    subst (λ (h : Said). Numbered ofArrival (h .number)) (sym (ap said (k .0) ∙ said-is (arrived (a .0) 1024 (now (a .1 .0)) (now (a .1 .1 .0)))))
-    (arrival (a .0) 1024 (now (a .1 .0)) (now (a .1 .1 .0)))
+    let c = arrive-call κs a in
+    subst (λ (h : Said). Numbered ofArrival (h .number)) (sym (ap said (k .0) ∙ said-is (arrived (c .settings) 1024 (c .store) (c .packet))))
+    (arrival (c .settings) 1024 (c .store) (c .packet))
 
 pub take-numbered : (κs : L.Lfts 2) (a : _) (r : _) (x : _) → takes.Post κs a r x → Numbered ofTaking (r .refusal .number)
 take-numbered κs a r x k = subst (λ (h : Taken). Numbered ofTaking (h .refusal .number)) (sym (k .0)) (taking _ _ _ _)
