@@ -6,3 +6,4 @@ pub mod Inner
 mod Calls
 pub mod Views
 pub mod Untouched
+pub mod Arguments
