@@ -121,5 +121,6 @@ table =
     ∷ row 14 (octets (writeOutput settings values own texts [] (zeros 27)))
     (octets fourteen)
     ∷ row 14 (octets (recorded (0x4D ∷ 0x50 ∷ fourteen)))
-    (octets (0x4D ∷ 0x4D ∷ 0 ∷ 0 ∷ 0 ∷ 0x17 ∷ 0x18 ∷ 0x05 ∷ 0 ∷ 0 ∷ 1 ∷ 0 ∷ 2 ∷ 0 ∷ 3 ∷ 1 ∷ 0x20 ∷ 6 ∷ 0 ∷ 7 ∷ 0 ∷ 0 ∷ 0 ∷ 0 ∷ 0 ∷ 0 ∷ 0 ∷ 9 ∷ 0 ∷ []))
+    (octets (0x4D ∷ 0x4D ∷ 0 ∷ 0 ∷ 0 ∷ 0x17 ∷ 0x18 ∷ 0x05 ∷ 0 ∷ 0 ∷ 1 ∷ 0 ∷ 2 ∷ 0 ∷ 3 ∷ 1 ∷ 0x20 ∷ 6 ∷ 0 ∷ 7 ∷ 0 ∷ 0 ∷ 0 ∷ 0 ∷ 0 ∷ 0 ∷ 0 ∷ 9
+    ∷ 0 ∷ []))
     ∷ []

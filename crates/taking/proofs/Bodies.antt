@@ -93,7 +93,8 @@ module _ (s : Settings) (Z : ℕ) (st : List ℕ) (j : ℕ) {r : List ℕ} {t : 
   unfolding segOf pieceOf
   flags-there = ap (λ (u : Piece). u .flags) et ∙ ap (λ (x : List ℕ). segIn s Z x .flags) er
 
-bodies-first : (s : Settings) (Z : ℕ) (st : List ℕ) (j : ℕ) (js ks : List ℕ) {x : List ℕ} → ks ≡ j ∷ js → x ≡ segAt s Z st j .body → bodiesAt s Z st ks ≡ x ++ bodiesAt s Z st js
+bodies-first : (s : Settings) (Z : ℕ) (st : List ℕ) (j : ℕ) (js ks : List ℕ) {x : List ℕ} → ks ≡ j ∷ js → x ≡ segAt s Z st j .body → bodiesAt s Z st
+    ks ≡ x ++ bodiesAt s Z st js
 unfolding bodiesAt
 bodies-first s Z st j js ks e ex = ap (bodiesAt s Z st) e ∙ ap (λ (y : List ℕ). y ++ bodiesAt s Z st js) (sym ex)
 

@@ -52,7 +52,8 @@ module _ (s : Settings) (Z : ℕ) (st out : List ℕ) (n i b : ℕ) (ei : i ≡ 
   abbrev more : ℕ
   more = length (placesFrom suc top s Z st n (segAt s Z st i .key) (suc (segAt s Z st i .counter)))
 
-  pub draw-told : {u : Copied} → u ≡ copiedOf (segAt s Z st i) more → record { refusal = refusal 0; header = u .header; body = b; counter = u .counter } ≡ takenOf (tookIn s Z st n (length out))
+  pub draw-told : {u : Copied} → u ≡ copiedOf (segAt s Z st i) more → record
+      { refusal = refusal 0; header = u .header; body = b; counter = u .counter } ≡ takenOf (tookIn s Z st n (length out))
   draw-told eu = told-is suc top s Z st n m eb more eu ∙ ap takenOf (sym took-is)
 
   pub draw-out : {x : List ℕ} → x ≡ sets out 0 (segAt s Z st i .key ++ bodiesAt s Z st (cellsFrom s Z st n i)) → x ≡ outWith out (tookIn s Z st n (length out))
