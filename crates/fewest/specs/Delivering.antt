@@ -10,6 +10,7 @@ use Rattle.packet.specs.declared.Header.{Header}
 use Rattle.packet.specs.declared.SegmentCounter.{SegmentCounter}
 use Rattle.packet.specs.Format.{identification, headerOctets}
 use Rattle.packet.specs.Key.{keyOf}
+use Rattle.sender.specs.Sending.{stepsOf}
 use Rattle.sender.specs.declared.Sender.{Sender}
 use Rattle.sender.specs.declared.Next.the-variants.{At}
 use Rattle.write.specs.declared.HeaderValues.{HeaderValues}
@@ -37,8 +38,8 @@ module _ (s : Settings) (P : ℕ) (v : HeaderValues) (t : Lent) (d : Sender) (n 
     pub last : 2 ≤ n → suc i ≡ n → h .primary .flags ≡ 2
     -- those between have 00
     pub between : 2 ≤ n → (i ≡ 0 → ⊥) → (suc i ≡ n → ⊥) → h .primary .flags ≡ 0
-    -- and its counter is the one that the sender had to start from, and i
-    pub counter : 2 ≤ n → (c : SegmentCounter) × (d .next ≡ At c) × (h .ids .counter .0 ≡ c .0 + i)
+    -- and its counter is i steps from the one that the sender had to start from
+    pub counter : 2 ≤ n → (c : SegmentCounter) × (d .next ≡ At c) × (h .ids .counter .0 ≡ stepsOf suc i (c .0))
 
   -- all of them, of a message with this body
   pub record Delivers (body : List ℕ) (p : ℕ → List ℕ) (h : ℕ → Header) : Type 0 where
