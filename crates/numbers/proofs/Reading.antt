@@ -134,7 +134,7 @@ module _ (s : Settings) (p : List ℕ) where
   texts-ok h w o =
       opt-ok (h .authentication) _ (blob s p) blob-ok _
       (opt-ok (h .domain) _ (domain s p) domain-ok _
-      (opt-ok (h .session) _ (text s p) text-ok _
+      (opt-ok (h .«session_name») _ (text s p) text-ok _
       (opt-ok (h .zone) _ (text s p) text-ok _ (opt-ok (h .timestamp) _ (block (s .t) p) (block-ok (s .t)) w o))))
 
   ended-ok : Ok (ended s p)
