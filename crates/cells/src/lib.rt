@@ -626,22 +626,38 @@ pub fn order_by(
     }
 }
 
-// How many cells a store in order has; 0 where it is not in order.
-pub fn in_order(s: Settings, store: &[u8], zero: &[u8]) -> usize
+// How many cells a store in order has; 0 where it is not in order. The tables lent, which chain no cell yet, then chain all of its cells.
+pub fn in_order_by(
+    s: Settings,
+    store: &[u8],
+    zero: &[u8],
+    heads: &mut [u16; CHAINS],
+    links: &mut [u16; CELLS_MOST],
+) -> usize
     requires { ⌜ now zero ≡ zeroRow (length (now zero)) ⌝ }
+    requires { ⌜ Chained (bucketAt s (length (now zero)) (now store)) (now heads) (now links) 0 ⌝ }
     ensures { λ r. ⌜ r ≡ pick (inOrder s (length (now (zero .entry))) (now (store .entry))) (countIn (length (now (zero .entry))) (now (store .entry))) 0 ⌝ }
+    ensures { λ r. ⌜ (0 < r → Chained (bucketAt s (length (now (zero .entry))) (now (store .entry))) (now (heads .exit)) (now (links .exit)) r) ⌝ }
 {
     let n = count(store.len(), zero.len());
     if n == 0 {
         return 0;
     }
-    let mut heads = [0u16; CHAINS];
-    let mut links = [0u16; CELLS_MOST];
-    let o = order_by(s, store, n, zero, &mut heads, &mut links);
+    let o = order_by(s, store, n, zero, heads, links);
     if octets::both(o.sound, o.distinct) {
         return n;
     }
     0
+}
+
+// The same by tables of its own.
+pub fn in_order(s: Settings, store: &[u8], zero: &[u8]) -> usize
+    requires { ⌜ now zero ≡ zeroRow (length (now zero)) ⌝ }
+    ensures { λ r. ⌜ r ≡ pick (inOrder s (length (now (zero .entry))) (now (store .entry))) (countIn (length (now (zero .entry))) (now (store .entry))) 0 ⌝ }
+{
+    let mut heads = [0u16; CHAINS];
+    let mut links = [0u16; CELLS_MOST];
+    in_order_by(s, store, zero, &mut heads, &mut links)
 }
 
 // The same for cells of 1,024 octets, beside a zero cell made by repetition.
