@@ -1,11 +1,11 @@
--- `arrival::arrive_in` meets its contract: reading's refusal, whole, 17, and then the segment.
+-- `arrival::arrive_in` meets its contract: a segment that fits goes by the cell that the search tells, any other packet by its reading.
 -- Assumes nothing.
-use mathlib.Core.Path.{ap, sym, _∙_}
+use mathlib.Core.Path.{ap, _∙_}
 use denote.Ref.{now}
 use lib.ListN.{length}
 use Rattle.arrival.specs.Told.{arrivalOf}
 use Rattle.arrival.specs.Arriving.{storeWith}
-use Rattle.arrival.proofs.Arrivals.{packet-bad, packet-whole, packet-asked, packet-long, packet-fits}
+use Rattle.arrival.proofs.Arrivals.{unstored-store, told-asked, told-fits, told-segment, told-other}
 use borrow.Author.Needs.{needs}
 use Rattle.arrival.proofs.arrive_in.Statement.{statement}
 use Rattle.arrival.proofs.arrive_in.Tie as tie
@@ -13,53 +13,45 @@ use Rattle.arrival.proofs.arrive_in.Tie as tie
 read-requires : tie.Need-read-requires
 read-requires c κs = search needs
 
+is-segment-requires : tie.Need-is-segment-requires
+is-segment-requires c κs = search needs
+
+unstored-requires : tie.Need-unstored-requires
+unstored-requires c κs = search needs
+
 returns : tie.Need-returns
-unfolding storeWith
 returns c =
-    let e = packet-bad _ _ _ _ _ (c .before .before .before .before .before .before .before .read .ensures .0) (c .if1 .taken) in
-    (ap arrivalOf (sym e), ap (storeWith _ _ _) (sym e))
+    let g = c .before .before .before in
+    let a = g .before .before .before .before .args in
+    let e = told-other _ _ (now (a .store)) _ (a .n) (g .read .ensures .0) (c .before .before .is-segment .ensures) (c .before .if1 .taken) in
+    (c .unstored .ensures ∙ ap arrivalOf e, unstored-store _ _ _ _ ∙ ap (storeWith _ _ _) e)
 
-returns-2 : tie.Need-returns-2
-unfolding storeWith
-returns-2 c =
-    let e = packet-whole _ _ _ _ _ (c .before .before .before .before .before .before .before .before .before .read .ensures .0) (c .before .before .if1 .left)
-    (c .if2 .taken) in
-    (ap arrivalOf (sym e), ap (storeWith _ _ _) (sym e))
+find-requires : tie.Need-find-requires
+find-requires c κs =
+    let g = c .before .before .before .before .before in
+    let k = g .before .before .before .before in
+    let a = told-asked _ (length (now (k .args .zero))) (now (k .args .store)) _ (k .args .n) (g .read .ensures .0) (c .before .before .before .before .is-segment .ensures)
+    (c .before .before .before .if1 .left) (λ i. g .before .shared-slice-known2 .given i .fits) in
+    (k .pre, a)
 
-add-if3 : tie.Need-add-if3
-add-if3 c = search needs
-
-refused-requires : tie.Need-refused-requires
-refused-requires c κs = search needs
-
-returns-3 : tie.Need-returns-3
-unfolding storeWith
-returns-3 c =
-    let e = packet-long _ _ _ _ _ (c .before .before .before .before .before .before .before .before .before .before .before .read .ensures .0)
-    (c .before .before .before .before .if1 .left) (c .before .before .if2 .left) (c .before .if3 .taken) in
-    (c .refused .ensures ∙ ap arrivalOf (sym e), ap (storeWith _ _ _) (sym e))
-
-store-segment-requires : tie.Need-store-segment-requires
-store-segment-requires c κs =
-    let g = c .before .before .before .before .before .before .before .before .before .before .before in
-    let h = g .before .before .before .before in (
-      h .pre,
-      (
-        packet-asked _ (length (now (h .args .zero))) (now (h .args .store)) _ (h .args .n) (g .read .ensures .0)
-            (c .before .before .before .before .if1 .left) (c .before .before .if2 .left) (λ i. g .before .shared-slice-known2 .given i .fits),
-        c .before .if3 .left,
-      ),
-    )
+store-found-requires : tie.Need-store-found-requires
+store-found-requires c κs =
+    let g = c .before .before .before .before .before .before .before in
+    let k = g .before .before .before .before in
+    let l = told-fits _ _ (now (k .args .store)) _ (k .args .n) (g .read .ensures .0) (c .before .before .before .before .before .before .is-segment .ensures)
+    (c .before .before .before .before .before .if1 .left) in
+    (k .pre, (l, c .before .find .ensures))
 
 same-length : tie.Need-same-length
 same-length c = search needs
 
-returns-4 : tie.Need-returns-4
-returns-4 c =
-    let g = c .before .before .before .before in
-    let e = packet-fits _ _ _ _ _ (g .before .before .before .before .before .before .before .before .before .before .read .ensures .0)
-    (g .before .before .before .if1 .left) (g .before .if2 .left) (g .if3 .left) in
-    (c .before .before .store-segment .ensures .0 ∙ ap arrivalOf e, c .before .before .store-segment .ensures .1 ∙ ap (storeWith _ _ _) e)
+returns-2 : tie.Need-returns-2
+returns-2 c =
+    let f = c .before .before in
+    let g = f .before .before .before .before .before .before in
+    let e = told-segment _ _ _ _ _ (g .before .before .read .ensures .0) (g .before .is-segment .ensures) (g .if1 .left) in
+    (f .store-found .ensures .0 ∙ ap arrivalOf e, f .store-found .ensures .1 ∙ ap (storeWith _ _ _) e)
 
 pub arrive-in-spec : {M : Type 1} → statement M
-arrive-in-spec = tie.close (tie.spec read-requires returns returns-2 add-if3 refused-requires returns-3 store-segment-requires same-length returns-4)
+arrive-in-spec =
+    tie.close (tie.spec read-requires is-segment-requires unstored-requires returns find-requires store-found-requires same-length returns-2)
