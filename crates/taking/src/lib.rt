@@ -16,6 +16,7 @@ ghost use Rattle.packet.specs.Format.{packetMost};
 ghost use Rattle.cells.specs.Rows.{zeroRow, packetIn, held};
 ghost use Rattle.cells.specs.Order.{cellsMost, lowest, cellAt};
 ghost use Rattle.cells.specs.Inner.{Asked};
+ghost use Rattle.cells.specs.Chains.{bucketAt, Chained};
 ghost use Rattle.cells.specs.Messages.{cellsOf, runIn, picked, top};
 ghost use Rattle.taking.specs.Taking.{unable, tookIn, outWith, storeLess};
 ghost use Rattle.taking.specs.Told.{takenOf};
@@ -373,7 +374,7 @@ fn draw(
 }
 
 // Taking from the first n cells of any octets, by their chains where they are made.
-fn take_by(
+fn take_lowest(
     s: Settings,
     store: &mut [u8],
     n: usize,
@@ -417,7 +418,7 @@ fn take_plain(s: Settings, store: &mut [u8], n: usize, zero: &[u8], out: &mut [u
 {
     let heads = [0u16; cells::CHAINS];
     let links = [0u16; cells::CELLS_MOST];
-    take_by(s, store, n, zero, out, false, &heads, &links)
+    take_lowest(s, store, n, zero, out, false, &heads, &links)
 }
 
 // The same by chains, which are made first.
@@ -432,7 +433,7 @@ fn take_chained(s: Settings, store: &mut [u8], n: usize, zero: &[u8], out: &mut 
     let mut heads = [0u16; cells::CHAINS];
     let mut links = [0u16; cells::CELLS_MOST];
     cells::order_by(s, store, n, zero, &mut heads, &mut links);
-    take_by(s, store, n, zero, out, true, &heads, &links)
+    take_lowest(s, store, n, zero, out, true, &heads, &links)
 }
 
 // The same: without a last segment nothing is searched, and chains are made only for many cells.
@@ -453,4 +454,27 @@ pub fn take_in(s: Settings, store: &mut [u8], n: usize, zero: &[u8], out: &mut [
         return take_plain(s, store, n, zero, out);
     }
     take_chained(s, store, n, zero, out)
+}
+
+// The same by chains that lead through these cells already.
+pub fn take_by(
+    s: Settings,
+    store: &mut [u8],
+    n: usize,
+    zero: &[u8],
+    out: &mut [u8],
+    heads: &[u16; cells::CHAINS],
+    links: &[u16; cells::CELLS_MOST],
+) -> Taken
+    requires { ⌜ now zero ≡ zeroRow (length (now zero)) ⌝ }
+    requires { ⌜ Chained (bucketAt s (length (now zero)) (now store)) (now heads) (now links) n ⌝ }
+    ensures { λ r. ⌜ r ≡ takenOf (tookIn s (length (now (zero .entry))) (now (store .entry)) n (length (now (out .entry)))) ⌝ }
+    ensures { λ r. ⌜ now (out .exit) ≡ outWith (now (out .entry)) (tookIn s (length (now (zero .entry))) (now (store .entry)) n (length (now (out .entry)))) ⌝ }
+    ensures { λ r. ⌜ now (store .exit) ≡ storeLess s (length (now (zero .entry))) (now (store .entry)) n
+        (tookIn s (length (now (zero .entry))) (now (store .entry)) n (length (now (out .entry)))) ⌝ }
+{
+    if n <= lowest_last(store, n, zero.len()) {
+        return not_taken(REFUSED_INCOMPLETE);
+    }
+    take_lowest(s, store, n, zero, out, true, heads, links)
 }
