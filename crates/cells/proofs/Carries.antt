@@ -116,7 +116,7 @@ held-counter s Z r o h = counter-told s (packetIn r) (octets-part r 2 (number 2 
 
 -- ---- as the code tests it
 
-module _ (s : Settings) (r z q : List ℕ) (stop c : ℕ) (o : Octets r) (a : Asked s q stop) where
+module _ (s : Settings) (r z q : List ℕ) (body-at c : ℕ) (o : Octets r) (a : Asked s q body-at) where
   abbrev k : List ℕ
   k = keyOf q (readPacket s q)
 
@@ -169,13 +169,13 @@ module _ (s : Settings) (r z q : List ℕ) (stop c : ℕ) (o : Octets r) (a : As
     carries-not h = unless-held s (length z) r k c (λ there. absurd (not-held (judged-at s (length z) r et there .0) h))
 
     pub carries-same :
-        {x : List ℕ} {n : ℕ} {b : Bool} → toldHeld (t .content) ≡ true → x ≡ p → n ≡ counterIn x → n ≡ c → b ≡ spansAlike q stop x (t .at) →
+        {x : List ℕ} {n : ℕ} {b : Bool} → toldHeld (t .content) ≡ true → x ≡ p → n ≡ counterIn x → n ≡ c → b ≡ spansAlike q body-at x (t .at) →
         b ≡ carriesIn k c (cellOf s (length z) r)
     carries-same {x} {n} {b} one ex en ec eb =
         let there = judged-one s (length z) r et one in
         let e : c ≡ counterIn p = sym ec ∙ en ∙ ap counterIn ex in
         eb
-        ∙ ap₂ (λ (y : List ℕ) (m : ℕ). spansAlike q stop y m) ex (judged-at s (length z) r et there .1 .0)
+        ∙ ap₂ (λ (y : List ℕ) (m : ℕ). spansAlike q body-at y m) ex (judged-at s (length z) r et there .1 .0)
         ∙ ap (λ (m : ℕ). spansAlike q m p (readPacket s p .body .at)) (a .body)
         ∙ keys there
         ∙ sym (told there ∙ ap (λ (y : Bool). both y (alike k (keyOf p (readPacket s p)))) (eq-eqb c (counterIn p) e))

@@ -34,8 +34,8 @@ both-yes false = refl
 
 -- a segment that is held, as one that is looked for
 asked-held :
-    (s : Settings) (Z : ℕ) (r : List ℕ) → Octets r → Holding s Z r → {q : List ℕ} {stop : ℕ} → q ≡ packetIn r →
-    stop ≡ readPacket s (packetIn r) .body .at → Asked s q stop
+    (s : Settings) (Z : ℕ) (r : List ℕ) → Octets r → Holding s Z r → {q : List ℕ} {body-at : ℕ} → q ≡ packetIn r →
+    body-at ≡ readPacket s (packetIn r) .body .at → Asked s q body-at
 asked-held s Z r o h eq es =
     record {
       octets = rw eq (octets-part r 2 (number 2 r 6 + 7) o);
@@ -56,8 +56,8 @@ module _ (s : Settings) (st : List ℕ) (Z i : ℕ) {r : List ℕ} (er : r ≡ r
 
 -- ---- a cell, told where the body of its segment begins
 
-module _ (s : Settings) (st : List ℕ) (Z i : ℕ) (o : Octets st) {stop : ℕ} (es : stop ≡ bodyAt s Z st i) where
-  module _ (z : stop ≡ 0) where
+module _ (s : Settings) (st : List ℕ) (Z i : ℕ) (o : Octets st) {body-at : ℕ} (es : body-at ≡ bodyAt s Z st i) where
+  module _ (z : body-at ≡ 0) where
     no-segment : segmentIn (cellAt s Z st i) ≡ none
     no-segment = body-zero s Z st i o (sym es ∙ z)
 
@@ -75,7 +75,7 @@ module _ (s : Settings) (st : List ℕ) (Z i : ℕ) (o : Octets st) {stop : ℕ}
         let w : bucketAt s Z st i ≡ chainsAll = ap (bySegment chainsAll (λ t. bucketOf (t .key) (t .counter))) no-segment in
         chained-skip c l (omega arith)
 
-  module _ (some : stop ≡ 0 → ⊥) {r q : List ℕ} (er : r ≡ rowAt Z st i) (eq : q ≡ packetIn r) {c : ℕ} (ec : c ≡ counterIn q) where
+  module _ (some : body-at ≡ 0 → ⊥) {r q : List ℕ} (er : r ≡ rowAt Z st i) (eq : q ≡ packetIn r) {c : ℕ} (ec : c ≡ counterIn q) where
     abbrev p : List ℕ
     p = packetIn (rowAt Z st i)
 
@@ -85,7 +85,7 @@ module _ (s : Settings) (st : List ℕ) (Z i : ℕ) (o : Octets st) {stop : ℕ}
     packet-is : q ≡ p
     packet-is = eq ∙ ap packetIn er
 
-    pub asked-at : Asked s q stop
+    pub asked-at : Asked s q body-at
     asked-at = asked-held s Z (rowAt Z st i) (row-plain s Z st i o) held-there packet-is (es ∙ body-held s Z st i held-there)
 
     key-is : keyOf q (readPacket s q) ≡ keyOf p (readPacket s p)
@@ -102,14 +102,14 @@ module _ (s : Settings) (st : List ℕ) (Z i : ℕ) (o : Octets st) {stop : ℕ}
         (ap₂ (λ (x : List ℕ) (n : ℕ). newTo s Z st i x n) key-is counter-is ∙ sym (ap (newAt s Z st i) (held-there .cell)))
 
     -- its chain is the one that was walked
-    chain-is : bucketOf (keyIn q stop) c ≡ bucketAt s Z st i
+    chain-is : bucketOf (keyIn q body-at) c ≡ bucketAt s Z st i
     unfolding bucketAt segOf
     chain-is =
-        ap₂ (λ (x : List ℕ) (n : ℕ). bucketOf x n) (key-asked s q stop asked-at ∙ key-is) counter-is
+        ap₂ (λ (x : List ℕ) (n : ℕ). bucketOf x n) (key-asked s q body-at asked-at ∙ key-is) counter-is
         ∙ sym (ap bucketIn (held-there .cell))
 
     pub some-on :
-        {b : ℕ} {H L H′ L′ : List ℕ} → Chained (bucketAt s Z st) H L i → i < cellsMost → b ≡ bucketOf (keyIn q stop) c → b < chainsAll →
+        {b : ℕ} {H L H′ L′ : List ℕ} → Chained (bucketAt s Z st) H L i → i < cellsMost → b ≡ bucketOf (keyIn q body-at) c → b < chainsAll →
         H′ ≡ set H b (i + 1) → L′ ≡ set L i (getD H b 0) → Chained (bucketAt s Z st) H′ L′ (i + 1)
     some-on {b} d l eb lb eh el =
         let e : b ≡ bucketAt s Z st i = eb ∙ chain-is in

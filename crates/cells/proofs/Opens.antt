@@ -10,7 +10,7 @@ use lib.Dec.{leb, eqb}
 use Rattle.octets.specs.Octets.{pick, octetAt}
 use Rattle.octets.proofs.Lists.{bool}
 use Rattle.walk.specs.declared.Settings.{Settings}
-use Rattle.walk.specs.Walk.{Reading, Step, going, octets, check, number}
+use Rattle.walk.specs.Walk.{Reading, Step, going, octets, check, uinteger}
 use Rattle.walk.proofs.Steps.{octets-there, check-held, number-refused}
 use Rattle.fields.specs.Fields.{opt, nowhere, block, blob, text, part, domain, partAt, partsTo, Parts, noParts, partsMost}
 use Rattle.packet.specs.declared.Present.{Present}
@@ -32,12 +32,12 @@ module _ (s : Settings) (p : List ℕ) where
   stays-octets : (n : ℕ) → Stays (octets p n)
   stays-octets n w g = octets-there p n w g .went
 
-  stays-number : Stays (λ w. number s p w .walk)
+  stays-number : Stays (λ w. uinteger s p w .walk)
   stays-number w g = ⊎-elim (λ e. e) (λ e. sym (ap (λ (x : Step ℕ). going (x .walk)) (number-refused s p w e)) ∙ g) (bool (going w))
 
   stays-blob : Stays (λ w. blob s p w .walk)
   unfolding blob
-  stays-blob w g = stays-number w (stays-octets (number s p w .value) (number s p w .walk) g)
+  stays-blob w g = stays-number w (stays-octets (uinteger s p w .value) (uinteger s p w .walk) g)
 
   stays-text : Stays (λ w. text s p w .walk)
   unfolding text
@@ -58,16 +58,16 @@ module _ (s : Settings) (p : List ℕ) where
 
   stays-domain : Stays (λ w. domain s p w .walk)
   unfolding domain
-  stays-domain w g = stays-number w (go (leb (number s p w .value) partsMost) g)
+  stays-domain w g = stays-number w (go (leb (uinteger s p w .value) partsMost) g)
     where
       go :
           (b : Bool) →
           going
-          (pick b (partsTo s p (number s p w .value) (record { walk = number s p w .walk; value = noParts (number s p w .value) }))
-          (record { walk = check false 13 (number s p w .walk); value = noParts 0 }) .walk) ≡ true →
-          going (number s p w .walk) ≡ true
-      go true h = stays-parts (number s p w .value) (record { walk = number s p w .walk; value = noParts (number s p w .value) }) h
-      go false h = check-held false 12 (number s p w .walk) h .went
+          (pick b (partsTo s p (uinteger s p w .value) (record { walk = uinteger s p w .walk; value = noParts (uinteger s p w .value) }))
+          (record { walk = check false 13 (uinteger s p w .walk); value = noParts 0 }) .walk) ≡ true →
+          going (uinteger s p w .walk) ≡ true
+      go true h = stays-parts (uinteger s p w .value) (record { walk = uinteger s p w .walk; value = noParts (uinteger s p w .value) }) h
+      go false h = check-held false 12 (uinteger s p w .walk) h .went
 
   stays-fixed : Stays (fixedEnd p)
   unfolding afterSdu afterArea afterService afterOperation afterVersion afterSession afterSecondary afterQualifier afterTransaction afterPresence
@@ -81,7 +81,7 @@ module _ (s : Settings) (p : List ℕ) where
   stays-ids : (has : Present) → Stays (λ w. idsOf s has p w .walk)
   unfolding idsOf octetField wideField
   stays-ids has w g =
-      let d = stays-opt (has .priority) 0 (number s p) stays-number _ g in
+      let d = stays-opt (has .priority) 0 (uinteger s p) stays-number _ g in
       let c = stays-opt (segmented p) 0 (wideField 4 p) (stays-octets 4) _ d in
       let b = stays-opt (has .destination) 0 (octetField p) (stays-octets 1) _ c in
       stays-opt (has .source) 0 (octetField p) (stays-octets 1) w b

@@ -50,7 +50,7 @@ bucketOf k c = chainIn (mixIn (mixed mixStart k) c)
 
 -- the key of a segment by its octets, told where its body begins
 unfoldable pub keyIn : List ℕ → ℕ → List ℕ
-keyIn p end = part p 0 2 ++ (part p 6 (placeIn p - 6) ++ part p (placeIn p + 4) (end - (placeIn p + 4)))
+keyIn p body-at = part p 0 2 ++ (part p 6 (placeIn p - 6) ++ part p (placeIn p + 4) (body-at - (placeIn p + 4)))
 
 -- ---- the chains
 

@@ -30,11 +30,11 @@ counterIn p = number 4 p (placeIn p)
 
 -- two packets agree around their counters, told where their bodies begin
 unfoldable pub spansAlike : List ℕ → ℕ → List ℕ → ℕ → Bool
-spansAlike p end q stop =
-    both (both (eqb (placeIn p) (placeIn q)) (eqb end stop))
+spansAlike p at-p q at-q =
+    both (both (eqb (placeIn p) (placeIn q)) (eqb at-p at-q))
     (both (alike (part p 0 2) (part q 0 2))
     (both (alike (part p 6 (placeIn p - 6)) (part q 6 (placeIn q - 6)))
-    (alike (part p (placeIn p + 4) (end - (placeIn p + 4))) (part q (placeIn q + 4) (stop - (placeIn q + 4))))))
+    (alike (part p (placeIn p + 4) (at-p - (placeIn p + 4))) (part q (placeIn q + 4) (at-q - (placeIn q + 4))))))
 
 -- where the body begins in the packet of a row, by reading it
 abbrev pub bodyIn : Settings → ℕ → List ℕ → ℕ
@@ -71,11 +71,11 @@ module _ (next : ℕ → ℕ) where
   withinIn k c m x = bySegment false (within k c m) (segmentIn x)
 
 -- a segment whose key is looked for: what reading answered of it, and where its body begins
-pub record Asked (s : Settings) (q : List ℕ) (stop : ℕ) : Type 0 where
+pub record Asked (s : Settings) (q : List ℕ) (body-at : ℕ) : Type 0 where
   pub octets : Octets q
   pub accepted : readPacket s q .refusal .number ≡ 0
   pub segment : segmented q ≡ true
-  pub body : stop ≡ readPacket s q .body .at
+  pub body : body-at ≡ readPacket s q .body .at
 
 -- where the body of the segment in cell i begins; 0 where the cell holds none
 unfoldable pub bodyAt : Settings → ℕ → List ℕ → ℕ → ℕ

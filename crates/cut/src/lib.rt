@@ -200,17 +200,17 @@ fn flags_at(single: bool, count: usize, i: usize) -> u8
     ensures { λ r. ⌜ r ≡ pick single 3 (pick (eqb i 0) 1 (pick (eqb (suc i) count) 2 0)) ⌝ }
 {
     if single {
-        return 3;
+        return packet::UNSEGMENTED;
     }
     if i == 0 {
-        return 1;
+        return packet::FIRST;
     }
     if i < count {
         if count - i == 1 {
-            return 2;
+            return packet::LAST;
         }
     }
-    0
+    packet::CONTINUATION
 }
 
 // Where the part of packet i begins.

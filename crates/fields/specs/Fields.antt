@@ -9,7 +9,7 @@ use lib.ListN.{set, replicate}
 use lib.Dec.{leb, eqb}
 use Rattle.octets.specs.Octets.{pick, octetAt}
 use Rattle.walk.specs.declared.Settings.{Settings}
-use Rattle.walk.specs.Walk.{Reading, Step, octets, check, number}
+use Rattle.walk.specs.Walk.{Reading, Step, octets, check, uinteger}
 use Rattle.fields.specs.declared.Place.{Place}
 
 -- a place and a length; absent, both are 0
@@ -31,8 +31,8 @@ block n p w = record { walk = octets p n w; value = place (w .at) n }
 unfoldable pub blob : Settings → List ℕ → Reading → Step Place
 blob s p w =
     record {
-      walk = octets p (number s p w .value) (number s p w .walk);
-      value = place (number s p w .walk .at) (number s p w .value);
+      walk = octets p (uinteger s p w .value) (uinteger s p w .walk);
+      value = place (uinteger s p w .walk .at) (uinteger s p w .value);
     }
 
 -- a text: zone, session name, domain part. Its octets are not looked at
@@ -71,6 +71,6 @@ partsTo s p (suc k) d = partAt s p k (partsTo s p k d)
 -- a count, above sixteen refused by 13, and as many parts
 unfoldable pub domain : Settings → List ℕ → Reading → Step Parts
 domain s p w =
-    pick (leb (number s p w .value) partsMost)
-    (partsTo s p (number s p w .value) (record { walk = number s p w .walk; value = noParts (number s p w .value) }))
-    (record { walk = check false 13 (number s p w .walk); value = noParts 0 })
+    pick (leb (uinteger s p w .value) partsMost)
+    (partsTo s p (uinteger s p w .value) (record { walk = uinteger s p w .walk; value = noParts (uinteger s p w .value) }))
+    (record { walk = check false 13 (uinteger s p w .walk); value = noParts 0 })

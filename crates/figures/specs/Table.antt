@@ -6,7 +6,7 @@ use mathlib.Core.List.{List, [], _∷_}
 use lib.ListN.{length}
 use Rattle.octets.specs.Octets.{pick, number as numberAt}
 use Rattle.varint.specs.Varint.{write}
-use Rattle.walk.specs.Walk.{Step, goes, number}
+use Rattle.walk.specs.Walk.{Step, goes, uinteger}
 use Rattle.packet.specs.declared.Header.{Header}
 use Rattle.packet.specs.Reading.{readPacket}
 use Rattle.write.specs.Writing.{fine, writeOutput}
@@ -42,7 +42,7 @@ varintOf n = pick (fine (n .walk .refusal)) (is (n .value)) (gives (n .walk .ref
 
 -- a Varint read as a field of a header
 abbrev pub varint : List ℕ → Said
-varint l = varintOf (number settings l (goes 0))
+varint l = varintOf (uinteger settings l (goes 0))
 
 -- ---- cutting
 

@@ -11,7 +11,7 @@ use Rattle.octets.proofs.Has.{octets-nil, octets-one, octets-append}
 use Rattle.varint.specs.Varint.{octetsOf as varintOctets, write}
 use Rattle.walk.specs.declared.Settings.{Settings}
 use Rattle.packet.specs.declared.Header.{Header}
-use Rattle.fields.specs.Form.{numberOctets, blobOctets, textOctets, partOctets, joined, domainOctets}
+use Rattle.fields.specs.Form.{uintegerOctets, blobOctets, textOctets, partOctets, joined, domainOctets}
 use Rattle.packet.specs.Format.{Values, Each, presence, identification, fixedOctets, frontOctets, counterOctets, backOctets, secondaryOctets, dataOctets, octetsOf, InRange}
 use Rattle.packet.specs.Reading.{readPacket}
 use Rattle.format.specs.Told.{headOf, valuesOf}
@@ -105,14 +105,15 @@ full =
 
 pub full-octets :
     octetsOf two full
-    ≡ 0x0F ∷ 0xFE ∷ 0x7F ∷ 0xFF ∷ 0 ∷ 43 ∷ 21 ∷ 255 ∷ 255 ∷ 0 ∷ 0 ∷ 1 ∷ 2 ∷ 255 ∷ 0xF7 ∷ 0xFF ∷ 0 ∷ 1 ∷ 255 ∷ 255 ∷ 255 ∷ 255 ∷ 255 ∷ 255 ∷ 255 ∷ 255 ∷ 255
+    ≡ 0x0F ∷ 0xFE ∷ 0x7F ∷ 0xFF ∷ 0 ∷ 43 ∷ 21 ∷ 255 ∷ 255 ∷ 0 ∷ 0 ∷ 1 ∷ 2 ∷ 255 ∷ 0xF7 ∷ 0xFF ∷ 0 ∷ 1 ∷ 255 ∷ 255 ∷ 255 ∷ 255 ∷ 255 ∷ 255 ∷ 255 ∷ 255
+    ∷ 255
     ∷ 255 ∷ 1 ∷ 255 ∷ 255 ∷ 255 ∷ 255 ∷ 0xAC ∷ 2 ∷ 1 ∷ 2 ∷ 1 ∷ 65 ∷ 0 ∷ 2 ∷ 1 ∷ 1 ∷ 66 ∷ 1 ∷ 0 ∷ 2 ∷ 255 ∷ 0 ∷ 7 ∷ []
-unfolding octetsOf identification dataOctets secondaryOctets fixedOctets presence frontOctets counterOctets backOctets wide numberOctets blobOctets
+unfolding octetsOf identification dataOctets secondaryOctets fixedOctets presence frontOctets counterOctets backOctets wide uintegerOctets blobOctets
     textOctets partOctets joined domainOctets write varintOctets
 full-octets = refl
 
 pub full-in-range : InRange two full
-unfolding octetsOf identification dataOctets secondaryOctets fixedOctets presence frontOctets counterOctets backOctets wide numberOctets blobOctets
+unfolding octetsOf identification dataOctets secondaryOctets fixedOctets presence frontOctets counterOctets backOctets wide uintegerOctets blobOctets
     textOctets partOctets joined domainOctets write varintOctets Each
 full-in-range =
     record {

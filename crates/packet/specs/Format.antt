@@ -10,7 +10,7 @@ use Rattle.octets.specs.Octets.{pick, Octets, wide}
 use Rattle.walk.specs.declared.Settings.{Settings}
 use Rattle.walk.specs.Walk.{timestampLeast, timestampMost}
 use Rattle.fields.specs.Fields.{partsMost}
-use Rattle.fields.specs.Form.{numberOctets, blobOctets, textOctets, domainOctets}
+use Rattle.fields.specs.Form.{uintegerOctets, blobOctets, textOctets, domainOctets}
 
 -- what all packets of a message share. Absent fields are 0 or empty
 pub record Head : Type 0 where
@@ -101,7 +101,7 @@ counterOctets v = when (segment (v .flags)) (wide 4 (v .counter))
 -- and those behind it: priority, timestamp, network zone, session name, domain, authentication id
 unfoldable pub backOctets : Settings → Head → List ℕ
 backOctets s h =
-    when (h .has-priority) (numberOctets s (h .priority))
+    when (h .has-priority) (uintegerOctets s (h .priority))
     ++ (when (h .has-timestamp) (h .timestamp)
     ++ (when (h .has-zone) (textOctets s (h .zone))
     ++ (when (h .has-session-name) (textOctets s (h .session-name))

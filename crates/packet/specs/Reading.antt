@@ -9,7 +9,7 @@ use lib.Dec.{ltb, leb, eqb}
 use Rattle.octets.specs.Octets.{pick, octetAt, number}
 use Rattle.walk.specs.declared.Settings.{Settings}
 use Rattle.walk.specs.declared.Refusal.{Refusal}
-use Rattle.walk.specs.Walk.{Reading, Step, noRefusal, going, check, begun, number as numberStep}
+use Rattle.walk.specs.Walk.{Reading, Step, noRefusal, going, check, begun, uinteger}
 use Rattle.fields.specs.Fields.{place, nowhere, opt, block, blob, text, domain, noParts}
 use Rattle.packet.specs.declared.Primary.{Primary}
 use Rattle.packet.specs.declared.Fixed.{Fixed}
@@ -49,7 +49,7 @@ idsOf s has p w =
     let a = opt (has .source) 0 (octetField p) w in
     let b = opt (has .destination) 0 (octetField p) (a .walk) in
     let c = opt (segmented p) 0 (wideField 4 p) (b .walk) in
-    let d = opt (has .priority) 0 (numberStep s p) (c .walk) in
+    let d = opt (has .priority) 0 (uinteger s p) (c .walk) in
     record {
       walk = d .walk;
       value = record { source = a .value; destination = b .value; counter = record { 0 = c .value }; priority = d .value };

@@ -9,5 +9,5 @@ use Rattle.cells.specs.declared.messages.Piece.{Piece}
 
 -- what is kept of a segment, by the octets of its row, told where its packet's body begins
 unfoldable pub pieceIn : List ℕ → ℕ → Piece
-pieceIn r stop =
-    record { flags = octetAt r 4 / 64; at = stop; length = length (part (packetIn r) stop (length (packetIn r))) }
+pieceIn r body-at =
+    record { flags = octetAt r 4 / 64; at = body-at; length = length (part (packetIn r) body-at (length (packetIn r))) }

@@ -83,12 +83,12 @@ module _ (s : Settings) (Z : ℕ) (r : List ℕ) {t : Judged} (et : t ≡ judged
     body-is = ap (λ (x : Judged). x .at) (et ∙ ap (judgedOf (bodyIn s Z r)) (there .cell))
 
     pub key-told :
-        (o : Octets r) {q x : List ℕ} {stop : ℕ} {b : Bool} → Asked s q stop → x ≡ p → b ≡ spansAlike q stop x (t .at) →
+        (o : Octets r) {q x : List ℕ} {body-at : ℕ} {b : Bool} → Asked s q body-at → x ≡ p → b ≡ spansAlike q body-at x (t .at) →
         b ≡ keyed (keyOf q (readPacket s q)) (cellOf s Z r)
     unfolding segOf
-    key-told o {q} {x} {stop} {b} a ex eb =
+    key-told o {q} {x} {body-at} {b} a ex eb =
         eb
-        ∙ ap₂ (λ (y : List ℕ) (m : ℕ). spansAlike q stop y m) ex body-is
+        ∙ ap₂ (λ (y : List ℕ) (m : ℕ). spansAlike q body-at y m) ex body-is
         ∙ ap (λ (m : ℕ). spansAlike q m p (readPacket s p .body .at)) (a .body)
         ∙ keys-same s q p (a .octets) (octets-part r 2 (number 2 r 6 + 7) o) (a .accepted) (there .accepted) (a .segment) (there .segment)
         ∙ sym (ap (keyed (keyOf q (readPacket s q))) (there .cell))

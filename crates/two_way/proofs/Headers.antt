@@ -11,7 +11,7 @@ use borrow.Author.Tests.{leb-true, ltb-true, le-leb, lt-ltb}
 use Rattle.octets.specs.Octets.{pick, Octets, most8, most16, most32}
 use Rattle.walk.specs.declared.Settings.{Settings}
 use Rattle.fields.specs.Fields.{partsMost}
-use Rattle.fields.specs.Form.{numberOctets, partOctets, joined, domainOctets}
+use Rattle.fields.specs.Form.{uintegerOctets, partOctets, joined, domainOctets}
 use Rattle.packet.specs.Format.{Head, Each, headerOctets, textMost, HeadInRange}
 use Rattle.write.specs.declared.HeaderValues.{HeaderValues}
 use Rattle.write.specs.Given.{Lent, headOf, sum, nameChecks, routingChecks, idChecks, textChecks, headerChecks}
@@ -36,17 +36,17 @@ pick-true false n e = let z : _≡_ {A = ℕ} 0 1 = cc in absurd (omega arith)
 
 module _ (s : Settings) (h : Head) where
   zone-long : h .has-zone ≡ true → length (h .zone) ≤ length (headerOctets s h)
-  zone-long e = omega (arith, header-length s h, pick-true (h .has-zone) (length (numberOctets s (length (h .zone))) + length (h .zone)) e)
+  zone-long e = omega (arith, header-length s h, pick-true (h .has-zone) (length (uintegerOctets s (length (h .zone))) + length (h .zone)) e)
 
   name-long : h .has-session-name ≡ true → length (h .session-name) ≤ length (headerOctets s h)
-  name-long e = omega (arith, header-length s h, pick-true (h .has-session-name) (length (numberOctets s (length (h .session-name))) + length (h .session-name)) e)
+  name-long e = omega (arith, header-length s h, pick-true (h .has-session-name) (length (uintegerOctets s (length (h .session-name))) + length (h .session-name)) e)
 
   authentication-long : h .has-authentication ≡ true → length (h .authentication) ≤ length (headerOctets s h)
   authentication-long e =
       omega (
         arith,
         header-length s h,
-        pick-true (h .has-authentication) (length (numberOctets s (length (h .authentication))) + length (h .authentication)) e,
+        pick-true (h .has-authentication) (length (uintegerOctets s (length (h .authentication))) + length (h .authentication)) e,
       )
 
   domain-long : h .has-domain ≡ true → length (joined (partOctets s) (h .domain)) ≤ length (headerOctets s h)
@@ -56,7 +56,7 @@ module _ (s : Settings) (h : Head) where
         arith,
         header-length s h,
         pick-true (h .has-domain) (length (domainOctets s (h .domain))) e,
-        length-append (numberOctets s (length (h .domain))) (joined (partOctets s) (h .domain)),
+        length-append (uintegerOctets s (length (h .domain))) (joined (partOctets s) (h .domain)),
       )
 
 module _ (s : Settings) (v : HeaderValues) (t : Lent) where

@@ -8,7 +8,7 @@ use native.Mathlib.Omega.{arith}
 use lib.ListN.{length}
 use Rattle.octets.specs.Octets.{Octets, wide}
 use Rattle.walk.specs.declared.Settings.{Settings}
-use Rattle.fields.specs.Form.{numberOctets, blobOctets, textOctets, partOctets, joined, domainOctets}
+use Rattle.fields.specs.Form.{uintegerOctets, blobOctets, textOctets, partOctets, joined, domainOctets}
 use Rattle.packet.specs.Format.{Head, Values, Each, when, identification, fixedOctets, frontOctets, counterOctets, backOctets, secondaryOctets, dataOctets, octetsOf}
 use Rattle.write.specs.declared.HeaderValues.{HeaderValues}
 use Rattle.write.specs.Given.{Lent, headOf}
@@ -35,16 +35,16 @@ when-octets false l o e = let z : _≡_ {A = ℕ} 0 1 = cc in absurd (omega arit
 
 blob-octets : (s : Settings) (x : List ℕ) → Octets (blobOctets s x) → Octets x
 unfolding blobOctets
-blob-octets s x o = octets-right (numberOctets s (length x)) x o
+blob-octets s x o = octets-right (uintegerOctets s (length x)) x o
 
 domain-octets : (s : Settings) (ts : List (List ℕ)) → Octets (domainOctets s ts) → Each Octets ts
 unfolding domainOctets
-domain-octets s ts o = parts-octets s ts (octets-right (numberOctets s (length ts)) (joined (partOctets s) ts) o)
+domain-octets s ts o = parts-octets s ts (octets-right (uintegerOctets s (length ts)) (joined (partOctets s) ts) o)
 
 back-texts : (s : Settings) (h : Head) → Octets (backOctets s h) → PlainTexts h
 unfolding backOctets
 back-texts s h o =
-    let a = octets-right (when (h .has-priority) (numberOctets s (h .priority))) _ o in
+    let a = octets-right (when (h .has-priority) (uintegerOctets s (h .priority))) _ o in
     let b = octets-right (when (h .has-timestamp) (h .timestamp)) _ a in
     let c = octets-right (when (h .has-zone) (textOctets s (h .zone))) _ b in
     let d = octets-right (when (h .has-session-name) (textOctets s (h .session-name))) _ c in

@@ -71,14 +71,14 @@ unfoldable pub check : Bool → ℕ → Reading → Reading
 check ok k w = pick (going w) (pick ok w (refused k)) w
 
 -- what a Varint's reading means here. Where its octets end, the header's limit comes first: 12, else 6
-unfoldable pub numberStep : List ℕ → Got → Step ℕ
-numberStep p (value v next) = record { walk = goes next; value = v }
-numberStep p ends = record { walk = refused (pick (leb headerEnd (length p)) 12 6); value = 0 }
-numberStep p bad = record { walk = refused 10; value = 0 }
+unfoldable pub uintegerStep : List ℕ → Got → Step ℕ
+uintegerStep p (value v next) = record { walk = goes next; value = v }
+uintegerStep p ends = record { walk = refused (pick (leb headerEnd (length p)) 12 6); value = 0 }
+uintegerStep p bad = record { walk = refused 10; value = 0 }
 
 -- an unsigned number of at most 32 bits, under the settings: a Varint, among the octets up to the header's limit
-unfoldable pub number : Settings → List ℕ → Reading → Step ℕ
-number s p w = pick (going w) (numberStep p (readAt 32 (take headerEnd p) (w .at))) (record { walk = w; value = 0 })
+unfoldable pub uinteger : Settings → List ℕ → Reading → Step ℕ
+uinteger s p w = pick (going w) (uintegerStep p (readAt 32 (take headerEnd p) (w .at))) (record { walk = w; value = 0 })
 
 -- where reading begins: 15 for T, and then the secondary header behind the six octets of the primary one
 unfoldable pub begun : Settings → Reading

@@ -1,16 +1,16 @@
 // A reading's place and refusal, and the steps that make every refusal of reading.
 //
 // A `Walk` goes by value through every step; a refused one passes through unchanged, so the code above is straight-line. Two
-// steps test octets (`octets` and `read_number`: 12, then 6, then 10), one tests a value (`check`). `Settings` is what both sides
-// agreed on. The number behind lengths, counts and priority is `read_number`, and nothing else knows how it is written.
+// steps test octets (`octets` and `read_uinteger`: 12, then 6, then 10), one tests a value (`check`). `Settings` is what both sides
+// agreed on. The number behind lengths, counts and priority is `read_uinteger`, and nothing else knows how it is written.
 ghost use mathlib.Core.Path.{_≡_};
 ghost use Prim.Native.Nat.{min};
 ghost use lib.Dec.{leb};
 ghost use Rattle.octets.specs.Octets.{pick};
 ghost use lib.ListN.{length};
-ghost use Rattle.walk.specs.Walk.{goes as goesAt, refused as refusedBy, octets as octetsOf, check as checkOf, number, begun};
+ghost use Rattle.walk.specs.Walk.{goes as goesAt, refused as refusedBy, octets as octetsOf, check as checkOf, uinteger, begun};
 ghost use Rattle.walk.specs.Walk.{unless as unlessOf, headerEnd};
-ghost use Rattle.walk.specs.Inner.{asWalk, ofWalk, asNumber};
+ghost use Rattle.walk.specs.Inner.{asWalk, ofWalk, asUInteger};
 use varint::Found;
 
 // Where the secondary header ends at the latest: six octets of primary header and 256.
@@ -116,7 +116,7 @@ pub struct Walk {
 }
 
 // A number that was read, and the reading behind it.
-pub struct Number {
+pub struct UInteger {
     pub walk: Walk,
     pub value: u32,
 }
@@ -211,11 +211,11 @@ fn end_refusal(p: &[u8]) -> u8
 }
 
 // An unsigned number of at most 32 bits at the place, refused by 12, 6 or 10.
-pub fn read_number(s: Settings, p: &[u8], w: Walk) -> Number
-    ensures { λ r. ⌜ r ≡ asNumber (number s (now (p .entry)) (ofWalk w)) ⌝ }
+pub fn read_uinteger(s: Settings, p: &[u8], w: Walk) -> UInteger
+    ensures { λ r. ⌜ r ≡ asUInteger (uinteger s (now (p .entry)) (ofWalk w)) ⌝ }
 {
     if w.refusal.number != 0 {
-        return Number { walk: w, value: 0 };
+        return UInteger { walk: w, value: 0 };
     }
     let at = w.at as usize;
     let end = before_limit(p);
@@ -224,21 +224,21 @@ pub fn read_number(s: Settings, p: &[u8], w: Walk) -> Number
     match varint::read32(head, at) {
         Found::Value(v, next) => {
             let walk = goes(next as u16);
-            Number {
+            UInteger {
                 walk: walk,
                 value: v as u32,
             }
         }
         Found::Ends => {
             let walk = refused(ended);
-            Number {
+            UInteger {
                 walk: walk,
                 value: 0,
             }
         }
         Found::Bad => {
             let walk = refused(REFUSED_VARINT);
-            Number {
+            UInteger {
                 walk: walk,
                 value: 0,
             }

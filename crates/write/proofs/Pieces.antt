@@ -10,7 +10,7 @@ use Rattle.octets.specs.Octets.{wide}
 use Rattle.octets.specs.Laying.{together}
 use Rattle.octets.proofs.Laying.{together-append, one-together}
 use Rattle.walk.specs.declared.Settings.{Settings}
-use Rattle.fields.specs.Form.{numberOctets, blobOctets, textOctets, partOctets, joined, domainOctets}
+use Rattle.fields.specs.Form.{uintegerOctets, blobOctets, textOctets, partOctets, joined, domainOctets}
 use Rattle.fields.specs.Inner.{blobPieces, textPieces, partPieces, partsPieces, domainPieces}
 use Rattle.packet.specs.Format.{when, identification, presence, fixedOctets, frontOctets, counterOctets, backOctets, secondaryOctets, dataOctets, octetsOf}
 use Rattle.write.specs.declared.HeaderValues.{HeaderValues}
@@ -53,7 +53,7 @@ parts-together s (t ∷ ts) =
 
 domain-together : (s : Settings) (ts : List (List ℕ)) → together (domainPieces s ts) ≡ domainOctets s ts
 unfolding domainPieces domainOctets together
-domain-together s ts = ap (λ (y : List ℕ). numberOctets s (length ts) ++ y) (parts-together s ts)
+domain-together s ts = ap (λ (y : List ℕ). uintegerOctets s (length ts) ++ y) (parts-together s ts)
 
 -- ---- the groups
 

@@ -5,7 +5,7 @@ use mathlib.Core.List.{List, [], _∷_, _++_}
 use lib.ListN.{length}
 use Rattle.octets.specs.Octets.{pick, wide}
 use Rattle.walk.specs.declared.Settings.{Settings}
-use Rattle.fields.specs.Form.{numberOctets, domainOctets, split}
+use Rattle.fields.specs.Form.{uintegerOctets, domainOctets, split}
 use Rattle.fields.specs.Inner.{blobPieces, textPieces, domainPieces, capped}
 use Rattle.packet.specs.declared.Present.{Present}
 use Rattle.packet.specs.Format.{segment, bit, when}
@@ -42,7 +42,7 @@ frontPieces v o =
 
 unfoldable pub middlePieces : Settings → HeaderValues → List ℕ → List ℕ → List (List ℕ)
 middlePieces s v timestamp zone =
-    when (v .has .priority) (numberOctets s (v .priority) ∷ [])
+    when (v .has .priority) (uintegerOctets s (v .priority) ∷ [])
     ++ (when (v .has .timestamp) (timestamp ∷ []) ++ when (v .has .zone) (textPieces s zone))
 
 unfoldable pub endPieces : Settings → Present → List ℕ → List ℕ → List ℕ → List ℕ → List (List ℕ)
@@ -65,14 +65,14 @@ packetPieces s v o t n body =
 unfoldable pub middleSize : Settings → HeaderValues → ℕ → ℕ → ℕ
 middleSize s v timestamp zone =
     capped
-    (pick (v .has .priority) (length (numberOctets s (v .priority))) 0
+    (pick (v .has .priority) (length (uintegerOctets s (v .priority))) 0
     + capped
-    (pick (v .has .timestamp) timestamp 0 + pick (v .has .zone) (capped (length (numberOctets s zone) + zone)) 0))
+    (pick (v .has .timestamp) timestamp 0 + pick (v .has .zone) (capped (length (uintegerOctets s zone) + zone)) 0))
 
 unfoldable pub endSize : Settings → Present → ℕ → List ℕ → List ℕ → ℕ → ℕ
 endSize s has name domain lengths authentication =
     capped
-    (pick (has .«session_name») (capped (length (numberOctets s name) + name)) 0
+    (pick (has .«session_name») (capped (length (uintegerOctets s name) + name)) 0
     + capped
     (pick (has .domain) (capped (length (domainOctets s (split lengths domain)))) 0
-    + pick (has .authentication) (capped (length (numberOctets s authentication) + authentication)) 0))
+    + pick (has .authentication) (capped (length (uintegerOctets s authentication) + authentication)) 0))

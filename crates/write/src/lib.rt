@@ -16,7 +16,7 @@ ghost use Rattle.octets.specs.Octets.{pick, wide};
 ghost use Rattle.octets.specs.Laying.{laid, Lays};
 ghost use Rattle.walk.specs.Walk.{unless};
 ghost use Rattle.fields.specs.Fields.{partsMost};
-ghost use Rattle.fields.specs.Form.{numberOctets, split};
+ghost use Rattle.fields.specs.Form.{uintegerOctets, split};
 ghost use Rattle.fields.specs.Inner.{blobPieces, textPieces, domainPieces, capped};
 ghost use Rattle.packet.specs.Format.{segment, headerOctets, headerMost, packetMost, when};
 ghost use Rattle.write.specs.Given.{lent, headOf, numberFits, textFits, exactFits, lengthsFit, sum, nameChecks, routingChecks};
@@ -242,7 +242,7 @@ pub fn test_header(
 fn segmented(flags: u8) -> bool
     ensures { λ r. ⌜ r ≡ segment flags ⌝ }
 {
-    flags != 3
+    flags != packet::UNSEGMENTED
 }
 
 // 22, as far as a packet's own values go.
@@ -251,7 +251,7 @@ fn test_packet(o: PacketValues, r: Refusal) -> Refusal
 {
     let sequence_count = o.sequence_count;
     let counter = o.counter;
-    let a = walk::unless(r, o.flags <= 3, REFUSED_VALUE);
+    let a = walk::unless(r, o.flags <= packet::UNSEGMENTED, REFUSED_VALUE);
     let b = walk::unless(a, sequence_count.0 <= packet::COUNT_MOST, REFUSED_VALUE);
     walk::unless(
         b,
@@ -407,7 +407,7 @@ fn put_front(out: &mut [u8], at: usize, v: HeaderValues, o: PacketValues) -> usi
 }
 
 fn number_if(there: bool, s: Settings, out: &mut [u8], at: usize, n: u64) -> usize
-    ensures { λ r. ⌜ Lays (laid (now (out .entry)) at) (when there (numberOctets s n ∷ [])) (now (out .exit)) r ⌝ }
+    ensures { λ r. ⌜ Lays (laid (now (out .entry)) at) (when there (uintegerOctets s n ∷ [])) (now (out .exit)) r ⌝ }
 {
     if there {
         return fields::put_number(s, out, at, n);

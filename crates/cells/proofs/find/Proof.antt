@@ -15,10 +15,10 @@ use Rattle.cells.proofs.find.Statement.{statement}
 use Rattle.cells.proofs.find.Tie as tie
 
 abbrev Inv-loop : tie.InvT-loop
-Inv-loop s store n zero q stop c z j₀ j = Seeking (λ k. carriesIn (keyOf q (readPacket s q)) (c .0) (cellAt s (length zero) store k)) n j
+Inv-loop s store n zero q body-at c z j₀ j = Seeking (λ k. carriesIn (keyOf q (readPacket s q)) (c .0) (cellAt s (length zero) store k)) n j
 
 abbrev μ-loop : tie.MeasureT-loop
-μ-loop s store n zero q stop c z j₀ j = n - j
+μ-loop s store n zero q body-at c z j₀ j = n - j
 
 loop-holds : tie.Need-loop-holds Inv-loop μ-loop
 loop-holds c = seeking-first _ _

@@ -17,10 +17,10 @@ use Rattle.tally.proofs.key_at.Statement.{statement}
 use Rattle.tally.proofs.key_at.Tie as tie
 
 abbrev Inv-loop : tie.InvT-loop
-Inv-loop s store n zero q stop z j₀ j = Seeking (λ k. keyed (keyOf q (readPacket s q)) (cellAt s (length zero) store k)) n j
+Inv-loop s store n zero q body-at z j₀ j = Seeking (λ k. keyed (keyOf q (readPacket s q)) (cellAt s (length zero) store k)) n j
 
 abbrev μ-loop : tie.MeasureT-loop
-μ-loop s store n zero q stop z j₀ j = n - j
+μ-loop s store n zero q body-at z j₀ j = n - j
 
 loop-holds : tie.Need-loop-holds Inv-loop μ-loop
 loop-holds c = seeking-first _ _

@@ -7,13 +7,13 @@ use denote.Ref.{now}
 use mathlib.Core.Path.{sym, ap}
 use native.Mathlib.Omega.{arith}
 use Rattle.walk.proofs.Steps.{number-refused, number-got, number-told, number-small}
-use Rattle.walk.proofs.read_number.Statement.{statement}
-use Rattle.walk.proofs.read_number.Tie as tie
-use Rattle.walk.specs.Inner.{ofWalk, asNumber}
-use Rattle.walk.specs.Walk.{numberStep}
+use Rattle.walk.proofs.read_uinteger.Statement.{statement}
+use Rattle.walk.proofs.read_uinteger.Tie as tie
+use Rattle.walk.specs.Inner.{ofWalk, asUInteger}
+use Rattle.walk.specs.Walk.{uintegerStep}
 
 returns : tie.Need-returns
-returns c = ap asNumber (sym (number-refused _ _ _ (ne-eqb _ _ (c .if1 .taken))))
+returns c = ap asUInteger (sym (number-refused _ _ _ (ne-eqb _ _ (c .if1 .taken))))
 
 cast-at : tie.Need-cast-at
 cast-at c = search needs
@@ -70,7 +70,7 @@ refused-requires-2 : tie.Need-refused-requires-2
 refused-requires-2 c κs = search needs
 
 returns-2 : tie.Need-returns-2
-unfolding numberStep
+unfolding uintegerStep
 returns-2 c =
     let call = c .before .before .before .before in
     let entry = call .before .before .before .before .before .before .before .before in
@@ -79,7 +79,7 @@ returns-2 c =
     simp (c .goes .ensures, t)
 
 returns-3 : tie.Need-returns-3
-unfolding numberStep
+unfolding uintegerStep
 returns-3 c =
     let call = c .before .before .before in
     let entry = call .before .before .before .before .before .before .before .before in
@@ -88,7 +88,7 @@ returns-3 c =
     simp (c .refused .ensures, call .before .before .end-refusal .ensures, t)
 
 returns-4 : tie.Need-returns-4
-unfolding numberStep
+unfolding uintegerStep
 returns-4 c =
     let call = c .before .before .before in
     let entry = call .before .before .before .before .before .before .before .before in
@@ -96,8 +96,8 @@ returns-4 c =
     (call .read32 .ensures) (c .before .enum-told2 .given .1) (call .before .before .before .before .before .if1 .left) in
     simp (c .refused2 .ensures, t)
 
-pub read-number-spec : {M : Type 1} → statement M
-read-number-spec =
+pub read-uinteger-spec : {M : Type 1} → statement M
+read-uinteger-spec =
     tie.close
     (tie.spec
     returns
