@@ -1,4 +1,4 @@
--- `walk::read_number` meets its contract: each case of the Varint's reading is the definition's, and a place within the limit and a
+-- `walk::read_uinteger` meets its contract: each case of the Varint's reading is the definition's, and a place within the limit and a
 -- value of 32 bits fit.
 -- Assumes nothing.
 use borrow.Author.Needs.{needs}
