@@ -1,7 +1,7 @@
 /*
  * A target for a coverage-guided fuzzer over the calls for C. The first octet of an input chooses what is done with the rest. Every
  * buffer is just as long as it is said to be, so that the address sanitizer sees any octet outside. Beside that the answers are held
- * to what document 01 ties together: a packet that reads writes back to the octet, a message that is cut comes out of the store as it
+ * to what SPEC ties together: a packet that reads writes back to the octet, a message that is cut comes out of the store as it
  * went in, a refusal changes nothing, and a recording gives the messages that joining gives one packet at a time.
  */
 #include <stdio.h>
@@ -103,7 +103,8 @@ static void reading(struct rest in) {
         struct orl_write_answer w;
         hold(r.body.place + r.body.length == length, "the body ends the packet");
         message_of(packet, &r, room, &m);
-        orl_write(t, &m.header, TEXTS(&m), r.flags, r.seq, r.counter, packet + r.body.place, r.body.length, out, length, &w);
+        orl_write(t, &m.header, TEXTS(&m), r.flags, r.sequence_count, r.counter, packet + r.body.place, r.body.length, out, length,
+                  &w);
         hold(w.refusal == 0 && w.length == length && memcmp(out, packet, length) == 0, "what reads writes back");
         free(out);
     }
@@ -161,7 +162,7 @@ static void cutting(struct rest in) {
     if (c.count > 1 && c.count <= 64) {
         struct orl_take_answer k;
         orl_take(t, store, 64 * CELL, joined, 64 * CELL, &k);
-        hold(k.refusal == 0 && k.B == length && k.c == sender.counter, "a message that was cut is complete");
+        hold(k.refusal == 0 && k.B == length && k.counter == sender.counter, "a message that was cut is complete");
         hold(memcmp(joined + 2 + k.H, body, length) == 0, "it comes out as it went in");
         hold(store[0] == 0 && memcmp(store, store + 1, 64 * CELL - 1) == 0, "its cells are free again");
     }

@@ -8,16 +8,16 @@
  *
  * - Every number is a uint64_t. A slice is a pointer and a length: octets, or for the lengths of domain parts uint64_t.
  * - The answer is the last parameter, a struct of uint64_t fields that the call fills whole. Its first field is the refusal: 0
- *   where the call did what was asked, else a number of the list below. On a refusal all other fields are 0, but for a sender's
+ *   if the call did what was asked, else a number of the list below. On a refusal all other fields are 0, but for a sender's
  *   numbers, which are told back as they were given, and no octet that was lent has changed. (orl_join says when it is
  *   otherwise.)
  * - On success only the octets that the call names have changed; the rest of a buffer is as it was.
  * - t is T, the octets of a timestamp that both sides agreed on, 1 to 16. Any other value is refused by 15.
- * - A number too wide for its field is refused by 22 and never made narrower. Where T or P is out of range too, it is 15.
+ * - A number too wide for its field is refused by 22 and never made narrower. If T or P is out of range too, it is 15.
  *
  * What the caller alone must keep
  *
- * - Every pointer is valid for its length, or for its struct, throughout the call, and is not NULL. Where the length is 0
+ * - Every pointer is valid for its length, or for its struct, throughout the call, and is not NULL. If the length is 0
  *   nothing is read or written through it, and it may point to anything, but not be NULL: "" or the address of any object will
  *   do.
  * - Memory that a call may write (store, out, answer) overlaps no other memory lent to the same call. Memory that is only read
@@ -56,7 +56,7 @@
  *   25  the segment counters that are left do not suffice
  *   26  there is no packet with this number
  *
- * Where several apply, the answer is the one that comes first: reading 15, 1 to 5, then as the header is read from left to
+ * If several apply, the answer is the one that comes first: reading 15, 1 to 5, then as the header is read from left to
  * right, 14; writing 15, 22, 13, 23, 12, 14, 21; cutting 15, 22, 13, 23, 12, 24, 25, 26, 21; arrival 15, 16, those of reading,
  * 17, 18, 19; taking 15, 16, 20, 21.
  */
@@ -72,25 +72,26 @@ extern "C" {
 
 /* ---- numbers that several calls share ---- */
 
-/* Where a content stands: its place, counted from the first octet of the packet, and its length. Both are 0 where it is absent. */
+/* Where a content stands: its place, counted from the first octet of the packet, and its length. Both are 0 if it is absent. */
 struct orl_place {
     uint64_t place;
     uint64_t length;
 };
 
 /*
- * A sender's running numbers: the sequence count of the next packet, and the counter of the next segment. has_counter is 1
- * where one is left; where none is, has_counter and counter are 0. A seq above 65,535, a has_counter above 1, a counter above
- * 4,294,967,295, or a counter other than 0 beside has_counter 0 is refused by 22; cutting refuses a seq above 16,383 likewise.
+ * A sender's running numbers: the sequence count of the next packet, and the counter of the next segment. has_counter is 1 if
+ * one is left; if none is, has_counter and counter are 0. A sequence_count above 65,535, a has_counter above 1, a counter above
+ * 4,294,967,295, or a counter other than 0 beside has_counter 0 is refused by 22; cutting refuses a sequence_count above 16,383
+ * likewise.
  */
 struct orl_sender {
-    uint64_t seq;
+    uint64_t sequence_count;
     uint64_t has_counter;
     uint64_t counter;
 };
 
 /*
- * A header to write: all values but the texts. A presence flag is 1 where its field is there, else 0; the value of an absent
+ * A header to write: all values but the texts. A presence flag is 1 if its field is there, else 0; the value of an absent
  * field is 0 and its text is empty.
  */
 struct orl_header {
@@ -122,7 +123,7 @@ struct orl_header {
 
 /*
  * The texts of a header, in every call that takes one: a timestamp of T octets; network zone, session name and authentication
- * id of at most 65,535 octets each; and the domain as one text, all its parts one behind the other, beside domain_count lengths
+ * id of at most 65,535 octets each; and the domain as one text, all its parts one after the other, beside domain_count lengths
  * of at most sixteen parts, which add up to domain_length. An absent domain has no length.
  */
 
@@ -130,11 +131,11 @@ struct orl_header {
 
 struct orl_next_sequence_count_answer {
     uint64_t refusal;
-    uint64_t seq;
+    uint64_t sequence_count;
 };
 
-/* The sequence count behind seq: 0 comes after 16,383, and after any number from there up to 65,535. A larger one is 22. */
-void orl_next_sequence_count(uint64_t seq, struct orl_next_sequence_count_answer *answer);
+/* The next sequence count: 0 comes after 16,383, and after any number from there up to 65,535. A larger one is 22. */
+void orl_next_sequence_count(uint64_t sequence_count, struct orl_next_sequence_count_answer *answer);
 
 /* ---- reading ---- */
 
@@ -147,7 +148,7 @@ struct orl_read_answer {
     uint64_t packet_type;
     uint64_t apid;
     uint64_t flags; /* sequence flags: 1 first, 0 continuation, 2 last, 3 unsegmented */
-    uint64_t seq;   /* sequence count */
+    uint64_t sequence_count;
     uint64_t sdu;
     uint64_t area;
     uint64_t service;
@@ -169,7 +170,7 @@ struct orl_read_answer {
     uint64_t has_authentication;
     uint64_t source;
     uint64_t destination;
-    uint64_t counter; /* segment counter, 0 where flags is 3 */
+    uint64_t counter; /* segment counter, 0 if flags is 3 */
     uint64_t priority;
     struct orl_place timestamp;
     struct orl_place zone;
@@ -178,7 +179,7 @@ struct orl_read_answer {
     struct orl_place domain[16];
     struct orl_place authentication;
     uint64_t H;
-    struct orl_place body; /* of length 0 at the packet's end where it is empty */
+    struct orl_place body; /* of length 0 at the packet's end if it is empty */
 };
 
 /* Reads one whole packet. */
@@ -193,12 +194,12 @@ struct orl_write_answer {
 
 /*
  * Writes one packet with the header, its texts, its own sequence flags (0 to 3), sequence count (0 to 16,383) and segment
- * counter (0 where flags is 3), and the body.
+ * counter (0 if flags is 3), and the body.
  */
 void orl_write(uint64_t t, const struct orl_header *header, const uint8_t *timestamp, size_t timestamp_length, const uint8_t *zone,
                size_t zone_length, const uint8_t *session_name, size_t session_name_length, const uint8_t *domain,
                size_t domain_length, const uint64_t *domain_lengths, size_t domain_count, const uint8_t *authentication,
-               size_t authentication_length, uint64_t flags, uint64_t seq, uint64_t counter, const uint8_t *body,
+               size_t authentication_length, uint64_t flags, uint64_t sequence_count, uint64_t counter, const uint8_t *body,
                size_t body_length, uint8_t *out, size_t out_length, struct orl_write_answer *answer);
 
 /* ---- a sender's numbers, and cutting ---- */
@@ -217,12 +218,12 @@ void orl_after_segment(const struct orl_sender *sender, struct orl_after_answer 
 struct orl_cut_count_answer {
     uint64_t refusal;
     uint64_t count;           /* how many packets */
-    struct orl_sender sender; /* as it is behind the message; on a refusal as it was given */
+    struct orl_sender sender; /* as it is after the message; on a refusal as it was given */
 };
 
 /*
  * How many packets of at most p octets (27 to 65,542) a message with this header and a body of body_length octets is cut into:
- * one where it fits, else as few segments as can be. Only the body's length is asked for.
+ * one if it fits, else as few segments as can be. Only the body's length is asked for.
  */
 void orl_cut_count(uint64_t t, uint64_t p, const struct orl_header *header, const uint8_t *timestamp, size_t timestamp_length,
                    const uint8_t *zone, size_t zone_length, const uint8_t *session_name, size_t session_name_length,
@@ -271,9 +272,9 @@ void orl_arrive(uint64_t t, uint8_t *store, size_t store_length, const uint8_t *
 
 struct orl_take_answer {
     uint64_t refusal;
-    uint64_t H; /* octets of the secondary header without its counter */
-    uint64_t B; /* octets of the body */
-    uint64_t c; /* the first segment's counter */
+    uint64_t H;       /* octets of the secondary header without its counter */
+    uint64_t B;       /* octets of the body */
+    uint64_t counter; /* the first segment's */
 };
 
 /*
@@ -294,11 +295,11 @@ struct orl_join_answer {
     uint64_t length;
     uint64_t H; /* this and the next two as taking tells them; 0 for a packet that came whole */
     uint64_t B;
-    uint64_t c;
+    uint64_t counter;
 };
 
 /*
- * A packet arrives, and where it did not come whole, a message is taken out. Where arrival refuses, nothing has changed. Where
+ * A packet arrives, and if it did not come whole, a message is taken out. If arrival refuses, nothing has changed. If
  * taking refuses (20 or 21), the segment that arrived stays in the store. For a packet that came whole, out is not touched and
  * may be empty.
  */
@@ -312,7 +313,7 @@ struct orl_view_answer {
 };
 
 /*
- * The part of the named buffer at a place: the place and the length as they were given where the part lies inside the buffer,
+ * The part of the named buffer at a place: the place and the length as they were given if the part lies inside the buffer,
  * else 0 and 0, for an empty part. A which above 2 is refused by 22. Nothing is read but the two lengths.
  */
 void orl_view(const uint8_t *packet, size_t packet_length, const uint8_t *joined, size_t joined_length, uint64_t which,
@@ -328,20 +329,20 @@ void orl_in_order(uint64_t t, const uint8_t *store, size_t store_length, struct 
 
 /* ---- a whole recording ---- */
 
-/* Why the joining of a recording stopped. */
-#define ORL_ENDED 1    /* the recording ends behind a packet */
+/* Why the joining of a recording stopped: after any but the first, octets from place on were not read. */
+#define ORL_ENDED 1    /* the recording ends after a packet */
 #define ORL_UNMARKED 2 /* other octets than the mark 4D 50 follow */
-#define ORL_TORN 3     /* the mark, or a packet behind it, is not whole */
+#define ORL_TORN 3     /* the mark, or the packet after it, is not whole */
 
 struct orl_join_recording_answer {
-    uint64_t refusal; /* 21 where out is shorter than the recording, which is always enough */
+    uint64_t refusal; /* 21 if out is shorter than the recording; as long is always enough */
     uint64_t written; /* octets written, from the first of out on */
     uint64_t place;   /* the place in the recording where it stopped */
     uint64_t stop;    /* one of the three above */
 };
 
 /*
- * Joins a recording that is in hand whole, with T 8 and a store of 32 cells of its own: packets, each behind the mark 4D 50.
+ * Joins a recording that is in hand whole, with T 8 and a store of 32 cells of its own: packets, each after the mark 4D 50.
  * For each message out gets 4D 4D, a length of four octets, and what taking writes, and for a packet that came whole likewise.
  * Refused packets and those above 32,768 octets are passed over.
  */

@@ -1,4 +1,4 @@
-"""A model of reading a packet and of joining a recording, written word by word from document 01 and independent of the code: see read()
+"""A model of reading a packet and of joining a recording, written from the rules and independent of the code: see read()
 and Joining."""
 
 PRESENCE = ("source", "destination", "priority", "timestamp", "zone", "session_name", "domain", "authentication")
@@ -197,7 +197,7 @@ class Segment:
 
 
 class Joining:
-    """Document 01's small program over a whole recording: what it writes, and what it counts."""
+    """The recording program (SPEC G-1 to G-7) over a whole recording: what it writes, and what it counts."""
 
     def __init__(self, stream):
         self.cells = [None] * CELLS
@@ -273,7 +273,7 @@ class Joining:
         return run
 
     def take(self):
-        """The complete message whose first lies in the lowest cell is written, and its cells are free again."""
+        """The complete message with its first in the lowest cell is written, and its cells are free again."""
         for cell in self.cells:
             run = self.run(cell) if cell and cell.flags == FIRST else None
             if run:

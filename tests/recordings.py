@@ -41,22 +41,27 @@ def words():
     return [tools / "bin" / "qemu-x86_64", tools / "lib" / "ld-linux-x86-64.so.2", "--library-path", tools / "lib", PROGRAM]
 
 
-def summary(joining):
-    """What the program must say of a recording, refusal lines by their beginning alone."""
-    refused = sum(joining.refused.values())
-    lines = [f"packets seen: {joining.seen}", f"whole: {joining.whole}", f"joined: {joining.joined}", f"stored or held: {joining.kept}"]
-    lines += [f"passed over as too long: {joining.passed}", f"segments left in the store: {joining.segments}"]
-    lines += [f"different keys among them: {joining.keys}", f"octets written: {len(joining.output)}", f"refused: {refused}"]
-    lines += [f"  refused {number}: {joining.refused[number]}" for number in sorted(joining.refused)]
-    return lines + [f"stopped at octet {joining.place}: {joining.stop}"]
+STOPS = (model.ENDED, model.UNMARKED, model.TORN)
 
 
-def shortened(line):
-    """A line of the summary; of a refusal's the words are left out."""
-    if not line.startswith("  refused "):
-        return line
-    number, _, rest = line.partition(", ")
-    return f"{number}: {rest.rpartition(': ')[2]}"
+def segment_lines(cells):
+    """The line of each held cell: the lowest cell of its key, whose message it is of, and which segment it is."""
+    held = [(number, cell) for number, cell in enumerate(cells) if cell]
+    for _, cell in held:
+        key = cell.key
+        lowest = next(number for number, other in held if other.key == key)
+        ids = int.from_bytes(key[:2], "big")
+        numbers = (lowest, ids >> 12 & 1, ids & 2047, key[2] & 31, int.from_bytes(key[14:22], "big"), cell.flags, cell.counter)
+        yield "segment " + " ".join(map(str, numbers))
+
+
+def findings(joining):
+    """What the program must find in a recording, but for the octets that it read."""
+    lines = [f"packets {joining.seen}", f"whole {joining.whole}", f"joined {joining.joined}", f"kept {joining.kept}"]
+    lines += [f"long {joining.passed}", f"segments {joining.segments}", f"keys {joining.keys}", f"written {len(joining.output)}"]
+    lines += [f"refused {sum(joining.refused.values())}", f"used {joining.place}"]
+    lines += [f"refusal {number} {joining.refused[number]}" for number in sorted(joining.refused)]
+    return lines + [*segment_lines(joining.cells), f"stop {STOPS.index(joining.stop) + 1}", "done"]
 
 
 def fault(stream):
@@ -70,9 +75,9 @@ def fault(stream):
     joining = model.Joining(stream)
     if ran.stdout != joining.output:
         return "it wrote something else than the model"
-    said = [shortened(line) for line in ran.stderr.decode("ascii").splitlines()]
-    if said != summary(joining):
-        return f"it said {said} where the model says {summary(joining)}"
+    said = [line for line in ran.stderr.decode("ascii").splitlines() if not line.startswith("read ")]
+    if said != findings(joining):
+        return f"it found {said} where the model finds {findings(joining)}"
     return None
 
 

@@ -21,7 +21,8 @@ fn sum(r: &Reading) -> u64 {
         r.has_authentication,
     ];
     let presence = has.iter().fold(0, |octet, flag| octet << 1 | flag);
-    let names = r.packet_type + r.apid.0 + r.flags + r.seq.0 + r.sdu + r.area + r.service + r.operation + r.area_version;
+    let names =
+        r.packet_type + r.apid.0 + r.flags + r.sequence_count.0 + r.sdu + r.area + r.service + r.operation + r.area_version;
     let ids = r.source + r.destination + r.counter.0 + r.priority + r.domain_count + r.h + r.refusal;
     let routing = r.error + r.qos + r.session + r.secondary_apid.0 + r.qualifier;
     r.transaction ^ (texts + presence + names + ids + routing)
@@ -36,7 +37,8 @@ fn model_sum(answer: &Result<model::Reading, model::Refusal>) -> u64 {
     let stamp = model::Span { place: r.timestamp, length: if r.has(3) { T as u32 } else { 0 } };
     let places = [stamp, r.zone, r.session_name, r.authentication, r.body];
     let texts: u64 = places.iter().chain(&r.domain).map(|p| u64::from(p.place) ^ u64::from(p.length) << 20).sum();
-    let names = u64::from(r.packet_type) + u64::from(r.apid) + u64::from(r.flags) + u64::from(r.seq) + u64::from(r.sdu);
+    let names =
+        u64::from(r.packet_type) + u64::from(r.apid) + u64::from(r.flags) + u64::from(r.sequence_count) + u64::from(r.sdu);
     let words = u64::from(r.area) + u64::from(r.service) + u64::from(r.operation) + u64::from(r.area_version);
     let ids = u64::from(r.source) + u64::from(r.destination) + u64::from(r.counter) + u64::from(r.priority);
     let ends = u64::from(r.domain_count) + u64::from(r.h) + u64::from(r.presence);
@@ -60,7 +62,9 @@ fn write(shape: &str, header: &Header, flags: u64, counter: u64, octets: usize) 
     let lent = values(header);
     let times = both(
         &mut || {
-            let a = orlyukan::write(black_box(T), black_box(header), flags, 3, counter, black_box(&body), black_box(&mut ours));
+            let own = (SequenceCount(3), SegmentCounter(counter));
+            let a =
+                orlyukan::write(black_box(T), black_box(header), flags, own.0, own.1, black_box(&body), black_box(&mut ours));
             a.refusal + a.length
         },
         &mut || {
@@ -77,25 +81,25 @@ fn cut() {
     let (header, body, p) = (plain(9), vec![0x5a; 1_048_576], 1022);
     let lent = values(&header);
     let (mut ours, mut theirs) = (vec![0; 1022], vec![0; 1022]);
-    let given = Sender { seq: SequenceCount(5), counter: Next::At(SegmentCounter(7)) };
-    let model_given = model::Sender { seq: 5, counter: Some(7) };
+    let given = Sender { sequence_count: SequenceCount(5), counter: Next::At(SegmentCounter(7)) };
+    let model_given = model::Sender { sequence_count: 5, counter: Some(7) };
     let times = both(
         &mut || {
             let counted = orlyukan::cut_count(T, p, black_box(&header), body.len() as u64, given);
             let Next::At(SegmentCounter(next)) = counted.sender.counter else { return 0 };
-            let mut total = counted.refusal + counted.count + counted.sender.seq.0 + next;
+            let mut total = counted.refusal + counted.count + counted.sender.sequence_count.0 + next;
             for i in 0..counted.count {
                 let made = orlyukan::cut_packet(T, p, black_box(&header), black_box(&body), given, i, black_box(&mut ours));
-                total += made.refusal + made.length + made.sender.seq.0;
+                total += made.refusal + made.length + made.sender.sequence_count.0;
             }
             total
         },
         &mut || {
             let Ok((count, after)) = model::count(T, p, black_box(&lent), body.len() as u64, model_given) else { return 0 };
-            let mut total = count + after.seq + after.counter.unwrap_or(0);
+            let mut total = count + after.sequence_count + after.counter.unwrap_or(0);
             for i in 0..count {
                 let made = model::packet(T, p, black_box(&lent), black_box(&body), model_given, i, black_box(&mut theirs));
-                total += made.map_or_else(|refusal| refusal.0 as u64, |length| length as u64) + model_given.seq;
+                total += made.map_or_else(|refusal| refusal.0 as u64, |length| length as u64) + model_given.sequence_count;
             }
             total
         },

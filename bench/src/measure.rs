@@ -54,7 +54,7 @@ pub fn both(ours: &mut dyn FnMut() -> u64, model: &mut dyn FnMut() -> u64) -> Ti
     best
 }
 
-/// Times both in turn where each call needs its buffers made ready, which is not timed.
+/// Times both in turn if each call needs its buffers made ready, which is not timed.
 pub fn both_made_ready<B>(
     buffers: &mut B,
     ready: impl Fn(&mut B),

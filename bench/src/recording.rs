@@ -35,7 +35,7 @@ struct Buffers {
 
 fn join(shape: &str, recording: &[u8]) {
     let mut buffers = Buffers { out: vec![0; recording.len()], model_out: Vec::with_capacity(recording.len()) };
-    let ours = |b: &mut Buffers| orlyukan::join_recording_into(black_box(recording), &mut b.out).written;
+    let ours = |b: &mut Buffers| orlyukan::join_recording(black_box(recording), &mut b.out).written;
     let model = |b: &mut Buffers| {
         b.model_out.clear();
         model::join_recording_into(black_box(recording), &mut b.model_out);

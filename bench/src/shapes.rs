@@ -1,6 +1,6 @@
 //! The inputs that are timed.
 
-use orlyukan::{Apid, Header, SecondaryApid};
+use orlyukan::{Apid, Header, SecondaryApid, SegmentCounter, SequenceCount};
 
 pub const T: u64 = 8;
 
@@ -82,11 +82,12 @@ pub fn values<'a>(h: &Header<'a>) -> model::Values<'a> {
 }
 
 /// A packet of these values and so many octets in all.
-pub fn packet(header: &Header, flags: u64, seq: u64, counter: u64, octets: usize) -> Vec<u8> {
+pub fn packet(header: &Header, flags: u64, sequence_count: u64, counter: u64, octets: usize) -> Vec<u8> {
+    let (sequence_count, counter) = (SequenceCount(sequence_count), SegmentCounter(counter));
     let mut out = vec![0; octets + 300];
-    let empty = orlyukan::write(T, header, flags, seq, counter, &[7], &mut out).length as usize - 1;
+    let empty = orlyukan::write(T, header, flags, sequence_count, counter, &[7], &mut out).length as usize - 1;
     let body: Vec<u8> = (0..octets - empty).map(|i| (i * 7 + 3) as u8).collect();
-    let written = orlyukan::write(T, header, flags, seq, counter, &body, &mut out);
+    let written = orlyukan::write(T, header, flags, sequence_count, counter, &body, &mut out);
     assert_eq!((written.refusal, written.length), (0, octets as u64));
     out.truncate(octets);
     out

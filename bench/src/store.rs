@@ -88,10 +88,10 @@ fn take(cells: usize, count: usize) {
         |b| b.store.copy_from_slice(&b.given),
         |b| {
             let taken = orlyukan::take(T, &mut b.store, &mut b.out);
-            taken.refusal + taken.h + taken.b + taken.c.0
+            taken.refusal + taken.h + taken.b + taken.counter.0
         },
         |b| match model::take(T, &mut b.store, &mut b.out) {
-            Ok(taken) => (taken.h + taken.b) as u64 + u64::from(taken.c),
+            Ok(taken) => (taken.h + taken.b) as u64 + u64::from(taken.counter),
             Err(model::Refusal(number)) => number.into(),
         },
     );

@@ -3,11 +3,11 @@
 The work is done by the proved library, a shared object: the one that the environment variable ORLYUKAN_LIB names, else the one in
 target/native of the repository in which this file stands.
 
-Each call answers an object whose `refusal` is 0, or the number of document 01's table; then every other number is zero, but a
+Each call answers an object whose `refusal` is 0, or a number of SPEC's table; then every other number is zero, but a
 sender's two, which stay. `store` and `out` are bytearrays, changed in place and by success alone (but see `join`). A header is an
-object or a dict; a sender is one of `seq` and `counter`, where None says that no counter is left. Octets are bytes or a bytearray.
-Numbers may be of any size: one that is negative or too wide is refused and never cut off. A call that lends a bytearray must be
-over before another thread touches it.
+object or a dict; a sender is one of `sequence_count` and `counter`, and a counter of None says that none is left. Octets are bytes or
+a bytearray. Numbers may be of any size: one that is negative or too wide is refused and never cut off. A call that lends a bytearray
+must be over before another thread touches it.
 """
 
 import ctypes
@@ -18,12 +18,15 @@ import pathlib
 import types
 
 __all__ = [
+    "after_packet",
+    "after_segment",
     "arrive",
     "cut_count",
     "cut_packet",
     "in_order",
     "join",
     "join_recording",
+    "next_sequence_count",
     "read",
     "take",
     "view",
@@ -34,6 +37,7 @@ _MOST = 2**64 - 1
 _PARTS = 16
 _KINDS = ("", "whole", "stored", "held")
 _WHICH = ("", "packet", "joined")
+_STOPS = ("", "ended", "unmarked", "torn")
 
 # The header's numbers and texts in the order in which C takes them.
 _NUMBERS = (
@@ -41,9 +45,9 @@ _NUMBERS = (
     " has_destination has_priority has_timestamp has_zone has_session_name has_domain has_authentication source destination priority"
 ).split()
 _READ = (
-    "refusal packet_type apid flags seq sdu area service operation area_version error qos session secondary_apid qualifier"
-    " transaction has_source has_destination has_priority has_timestamp has_zone has_session_name has_domain has_authentication"
-    " source destination counter priority"
+    "refusal packet_type apid flags sequence_count sdu area service operation area_version error qos session secondary_apid"
+    " qualifier transaction has_source has_destination has_priority has_timestamp has_zone has_session_name has_domain"
+    " has_authentication source destination counter priority"
 ).split()
 
 
@@ -127,8 +131,8 @@ def _apart(store, out):
 
 
 def _header(header, others):
-    """The header as C takes it. Where a number of it, or one of the others, is outside 64 bits, the packet type is out of range in
-    its place: the refusal is 22 either way."""
+    """The header as C takes it. If a number of it, or one of the others, is outside 64 bits, the packet type is out of range in its
+    place: the refusal is 22 either way."""
     numbers = [_get(header, name) for name in _NUMBERS]
     lengths = list(_get(header, "domain_lengths"))
     if not all(map(_fits, [*numbers, *lengths, *others])):
@@ -144,7 +148,18 @@ def _header(header, others):
 def _sender(sender):
     """Sequence count, whether a counter is left, the counter."""
     counter = _get(sender, "counter")
-    return [_get(sender, "seq"), int(counter is not None), 0 if counter is None else counter]
+    return [_get(sender, "sequence_count"), int(counter is not None), 0 if counter is None else counter]
+
+
+def _lent_sender(given):
+    """Those three as C takes them. If one is outside 64 bits, the sequence count is out of range in its place: 22 either way."""
+    return ctypes.byref((ctypes.c_uint64 * 3)(*(given if all(map(_fits, given)) else [_MOST, 0, 0])))
+
+
+def _told_sender(refusal, moved, given):
+    """The sender that a call answers. On a refusal its numbers stay as they were given, whatever they are."""
+    sequence_count, has_counter, counter = given if refusal else moved
+    return Answer(sequence_count=sequence_count, counter=counter if has_counter else None)
 
 
 def _run(name, count, *words):
@@ -158,19 +173,44 @@ def _places(numbers):
     return [Answer(place=place, length=length) for place, length in zip(numbers[::2], numbers[1::2])]
 
 
+# The running numbers.
+
+
+def next_sequence_count(sequence_count):
+    """The next sequence count: 0 comes after 16,383, and after any number from there up to 65,535. A larger one is refused by 22."""
+    n = _run("next_sequence_count", 2, _number(sequence_count if _fits(sequence_count) else _MOST))
+    return Answer(refusal=n[0], sequence_count=n[1])
+
+
+def _after(name, sender):
+    given = _sender(sender)
+    n = _run(name, 4, _lent_sender(given))
+    return Answer(refusal=n[0], sender=_told_sender(n[0], n[1:], given))
+
+
+def after_packet(sender):
+    """The sender after one unsegmented packet: its sequence count moves on, its counter stays."""
+    return _after("after_packet", sender)
+
+
+def after_segment(sender):
+    """The sender after one segment: both numbers move on. No counter is left once 4,294,967,295 has been used."""
+    return _after("after_segment", sender)
+
+
 # Reading, writing and cutting.
 
 
 def read(t, packet):
     """Reads one packet whose timestamp, if it has one, is of t octets: every value of its header, every place, H and the body."""
     n = _run("read", 72, _setting(t), *_lent(packet))
-    zone, session_name = _places(n[30:34])
+    timestamp, zone, session_name = _places(n[28:34])
     parts = _places(n[35 : 35 + 2 * _PARTS])
     authentication = _places(n[67:69])[0]
     body = _places(n[70:72])[0]
     return Answer(
         **dict(zip(_READ, n)),
-        timestamp=n[28],
+        timestamp=timestamp,
         zone=zone,
         session_name=session_name,
         domain_count=n[34],
@@ -181,9 +221,9 @@ def read(t, packet):
     )
 
 
-def write(t, header, flags, seq, counter, body, out):
+def write(t, header, flags, sequence_count, counter, body, out):
     """Writes one packet over the front of out: the octets it took."""
-    own = (flags, seq, counter)
+    own = (flags, sequence_count, counter)
     words = _header(header, own)
     own = [value if _fits(value) else 0 for value in own]
     n = _run("write", 2, _setting(t), *words, *map(_number, own), *_lent(body), *_changed(out))
@@ -191,18 +231,15 @@ def write(t, header, flags, seq, counter, body, out):
 
 
 def _cut(name, what, t, p, header, sender, others, words):
-    """One of the cutting calls. On a refusal the sender's numbers stay as they were given, whatever they are."""
+    """One of the cutting calls."""
     given = _sender(sender)
     fields = _header(header, [*given, *others])
-    numbers = given if all(map(_fits, given)) else [0, 0, 0]
-    held = (ctypes.c_uint64 * 3)(*numbers)
-    n = _run(name, 5, _setting(t), _setting(p), *fields, *words(ctypes.byref(held)))
-    seq, has_counter, counter = n[2:] if n[0] == 0 else given
-    return Answer(refusal=n[0], sender=Answer(seq=seq, counter=counter if has_counter else None), **{what: n[1]})
+    n = _run(name, 5, _setting(t), _setting(p), *fields, *words(_lent_sender(given)))
+    return Answer(refusal=n[0], **{what: n[1]}, sender=_told_sender(n[0], n[2:], given))
 
 
 def cut_count(t, p, header, body_length, sender):
-    """How many packets of at most p octets a message takes, and the sender behind it."""
+    """How many packets of at most p octets a message takes, and the sender after it."""
     others = [min(operator.index(body_length), _MOST)]
     return _cut("cut_count", "count", t, p, header, sender, others, lambda held: [_size(max(others[0], 0)), held])
 
@@ -219,7 +256,7 @@ def cut_packet(t, p, header, body, sender, i, out):
 
 
 def in_order(t, store):
-    """Whether a store is in order, and how many cells it has: 15 or 16 where it is not."""
+    """Whether a store is in order, and how many cells it has: 15 or 16 if it is not."""
     n = _run("in_order", 2, _setting(t), *_lent(store))
     return Answer(refusal=n[0], cells=n[1])
 
@@ -231,21 +268,22 @@ def arrive(t, store, packet):
 
 
 def take(t, store, out):
-    """Takes the complete message whose first lies in the lowest cell out of the store, into the front of out."""
+    """Takes the complete message with its first in the lowest cell out of the store, into the front of out: the octets of its
+    header and its body, and its first segment's counter."""
     _apart(store, out)
     n = _run("take", 4, _setting(t), *_changed(store), *_changed(out))
-    return Answer(refusal=n[0], H=n[1], B=n[2], c=n[3])
+    return Answer(refusal=n[0], H=n[1], B=n[2], counter=n[3])
 
 
 def join(t, store, packet, out):
-    """Arrival, and where the packet did not come whole, taking. Refused by 20 or 21 the store has changed by that arrival."""
+    """Arrival, and if the packet did not come whole, taking. Refused by 20 or 21 the store has changed by that arrival."""
     _apart(store, out)
     n = _run("join", 7, _setting(t), *_changed(store), *_lent(packet), *_changed(out))
-    return Answer(refusal=n[0], which=_WHICH[n[1]], place=n[2], length=n[3], H=n[4], B=n[5], c=n[6])
+    return Answer(refusal=n[0], which=_WHICH[n[1]], place=n[2], length=n[3], H=n[4], B=n[5], counter=n[6])
 
 
 def view(packet, joined, which, place, length):
-    """The octets that joining told of: a part of the packet or of the joined buffer, empty where it does not lie inside."""
+    """The octets that joining told of: a part of the packet or of the joined buffer, empty if it does not lie inside."""
     if not _fits(place) or not _fits(length):
         return b""
     number = _number(_WHICH.index(which))
@@ -254,8 +292,12 @@ def view(packet, joined, which, place, length):
     return bytes(buffer[n[1] : n[1] + n[2]])
 
 
-def join_recording(octets):
-    """The messages of a recording, with T 8 and 32 cells: each after its mark and its length."""
-    out = bytearray(len(octets))
-    n = _run("join_recording", 4, *_lent(octets), *_changed(out))
-    return bytes(out[: n[1]])
+# A whole recording.
+
+
+def join_recording(recording, out):
+    """Joins a recording into the front of out, which has at least as many octets (else 21), with T 8 and 32 cells: the octets written,
+    the place in the recording where it stopped, and why. 'ended' says that all of it was read; 'unmarked' that other octets than a
+    mark follow; 'torn' that a mark, or the packet after it, is not whole."""
+    n = _run("join_recording", 4, *_lent(recording), *_changed(out))
+    return Answer(refusal=n[0], written=n[1], place=n[2], stop=_STOPS[n[3]])

@@ -1,8 +1,10 @@
-"""The Python module over the cases with their answers, and what Python alone can give: numbers of any size, one buffer lent twice."""
+"""The Python module over the cases with their answers; its names beside those of the C header; and what Python alone can give: numbers
+of any size, one buffer lent twice."""
 
 import json
 import os
 import pathlib
+import re
 import sys
 import types
 import unittest
@@ -15,6 +17,8 @@ ROOT = pathlib.Path(__file__).resolve().parent.parent.parent
 VECTORS = pathlib.Path(os.environ.get("ORLYUKAN_VECTORS", ROOT.parent / "shared" / "vectors"))
 FIGURE_14 = bytes.fromhex("18 05 C0 00 00 14 00 00 01 00 02 00 03 01 20 06 00 07 00 00 00 00 00 00 00 09 00")
 HUGE = (-1, 2**64, 2**64 + 5, -(2**70), 2**200)
+# The cases' names for what the calls name otherwise.
+NAMES = {"seq": "sequence_count", "c": "counter"}
 PRESENCE = "source destination priority timestamp zone session_name domain authentication".split()
 
 
@@ -25,6 +29,10 @@ def octets(text):
         value, star, times = piece.partition("*")
         made += bytes.fromhex(value) * (int(times) if star else 1)
     return bytes(made)
+
+
+def renamed(case):
+    return {NAMES.get(name, name): value for name, value in case.items()}
 
 
 def header(given):
@@ -60,7 +68,7 @@ class Cases(unittest.TestCase):
             self.skipTest(f"no folder {VECTORS} with cases")
         with open(VECTORS / f"{call}.jsonl", encoding="utf-8") as lines:
             for line in lines:
-                case = json.loads(line)
+                case = json.loads(line, object_hook=renamed)
                 expect = case["expect"]
                 answer, buffers = run(case)
                 said = {name: value for name, value in expect["answer"].items() if name in answer}
@@ -70,12 +78,18 @@ class Cases(unittest.TestCase):
                     self.assertEqual(octets(expect[name]), bytes(buffer), line)
 
     def test_read(self):
-        self.each("read", lambda case: (told(orlyukan.read(case["T"], octets(case["packet"]))), {}))
+        def run(case):
+            answer = told(orlyukan.read(case["T"], octets(case["packet"])))
+            timestamp = answer["timestamp"]
+            self.assertEqual(timestamp["length"], answer["has_timestamp"] * case["T"])
+            return answer | {"timestamp": timestamp["place"]}, {}
+
+        self.each("read", run)
 
     def test_write(self):
         def run(case):
             out = bytearray(octets(case["out"]))
-            values, own = header(case["header"]), (case["flags"], case["seq"], case["counter"])
+            values, own = header(case["header"]), (case["flags"], case["sequence_count"], case["counter"])
             return told(orlyukan.write(case["T"], values, *own, octets(case["body"]), out)), {"out": out}
 
         self.each("write", run)
@@ -134,15 +148,74 @@ class Cases(unittest.TestCase):
 
     def test_program(self):
         def run(case):
-            return {"refusal": 0}, {"out": orlyukan.join_recording(octets(case["stream"]))}
+            recording = octets(case["stream"])
+            out = bytearray(len(recording))
+            answer = orlyukan.join_recording(recording, out)
+            return {"refusal": answer.refusal}, {"out": out[: answer.written]}
 
         self.each("program", run)
+
+
+class Names(unittest.TestCase):
+    """The calls of the C header, and the names of what they answer."""
+
+    text = (ROOT / "include" / "orlyukan.h").read_text(encoding="utf-8")
+
+    def fields(self, struct):
+        body = re.search(rf"^struct orl_{struct} {{\n(.*?)^}};", self.text, re.MULTILINE | re.DOTALL)[1]
+        return re.findall(r"^    [^;/]*?(\w+)(?:\[\d+\])?;", body, re.MULTILINE)
+
+    def test_calls(self):
+        calls = re.findall(r"^void orl_(\w+)\(", self.text, re.MULTILINE)
+        self.assertEqual(sorted(orlyukan.__all__), sorted(calls))
+        self.assertEqual(len(calls), 13)
+
+    def test_answers(self):
+        store, out, sender, head = bytearray(1024), bytearray(64), {"sequence_count": 7, "counter": 5}, figure_14()
+        answers = {
+            "next_sequence_count_answer": orlyukan.next_sequence_count(7),
+            "read_answer": orlyukan.read(8, FIGURE_14),
+            "write_answer": orlyukan.write(8, head, 3, 0, 0, b"", out),
+            "after_answer": orlyukan.after_packet(sender),
+            "cut_count_answer": orlyukan.cut_count(8, 64, head, 5, sender),
+            "cut_packet_answer": orlyukan.cut_packet(8, 64, head, b"12345", sender, 0, out),
+            "arrive_answer": orlyukan.arrive(8, store, FIGURE_14),
+            "take_answer": orlyukan.take(8, store, out),
+            "join_answer": orlyukan.join(8, store, FIGURE_14, out),
+            "in_order_answer": orlyukan.in_order(8, store),
+            "join_recording_answer": orlyukan.join_recording(b"", out),
+        }
+        for struct, answer in answers.items():
+            self.assertEqual(list(vars(answer)), self.fields(struct), struct)
+        self.assertEqual(list(vars(answers["read_answer"].body)), self.fields("place"))
+        self.assertEqual(["sequence_count", "has_counter", "counter"], self.fields("sender"))
+        self.assertEqual(list(vars(answers["after_answer"].sender)), ["sequence_count", "counter"])
+        self.assertEqual(orlyukan._NUMBERS, self.fields("header"))
+
+    def test_every_field(self):
+        """One packet with every field, each of another value, written and read back, each compared by its name."""
+        names = [name for name in self.fields("header") if not name.startswith("has_")]
+        values = (1, 291, 17, 4370, 8482, 12594, 65, 0, 3, 2, 837, 20818, 2**63 + 9, 113, 114, 300)
+        self.assertEqual(len(names), len(values))
+        given = dict(zip(names, values)) | {"has_" + name: 1 for name in PRESENCE}
+        texts = {"timestamp": b"7octets", "zone": b"zn", "session_name": b"ses", "authentication": b"authn"}
+        parts = [bytes([160 + k]) * (k + 1) for k in range(16)]
+        domain = {"domain": b"".join(parts), "domain_lengths": [len(part) for part in parts]}
+        out = bytearray(300)
+        length = orlyukan.write(7, given | texts | domain, 1, 6699, 2172814212, b"tile", out).length
+        answer = orlyukan.read(7, out[:length])
+        own = {"refusal": 0, "flags": 1, "sequence_count": 6699, "counter": 2172814212, "domain_count": 16, "H": 214}
+        for name, value in (given | own).items():
+            self.assertEqual(answer[name], value, name)
+        for name, text in (texts | {"body": b"tile"}).items():
+            self.assertEqual(out[answer[name].place :][: answer[name].length], text, name)
+        self.assertEqual([out[part.place :][: part.length] for part in answer.domain], parts)
 
 
 class Numbers(unittest.TestCase):
     """Numbers that no field and no 64 bits can hold are refused and never cut off."""
 
-    sender = {"seq": 7, "counter": 5}
+    sender = {"sequence_count": 7, "counter": 5}
 
     def test_figure_14(self):
         out = bytearray(b"\xff" * 28)
@@ -150,7 +223,34 @@ class Numbers(unittest.TestCase):
         self.assertEqual(bytes(out), FIGURE_14 + b"\xff")
         answer = orlyukan.read(8, bytearray(FIGURE_14))
         self.assertEqual((answer.refusal, answer.apid, answer["transaction"], answer.H, answer.body.place), (0, 5, 9, 21, 27))
-        self.assertEqual(orlyukan.join_recording(b"MP" + FIGURE_14), bytes.fromhex("4D4D000000171805") + FIGURE_14[6:])
+
+    def test_next_sequence_count(self):
+        for given, refusal, following in ((0, 0, 1), (16382, 0, 16383), (16383, 0, 0), (65535, 0, 0), (65536, 22, 0)):
+            answer = orlyukan.next_sequence_count(given)
+            self.assertEqual(told(answer), {"refusal": refusal, "sequence_count": following}, given)
+        for huge in HUGE:
+            self.assertEqual(told(orlyukan.next_sequence_count(huge)), {"refusal": 22, "sequence_count": 0}, huge)
+
+    def test_after(self):
+        none, last = None, 4294967295
+        moves = (
+            ((7, 300), (8, 300), (8, 301)),
+            ((16383, last), (0, last), (0, none)),
+            ((65535, 0), (0, 0), (0, 1)),
+            ((7, none), (8, none), (8, none)),
+        )
+        for given, packet, segment in moves:
+            sender = dict(zip(("sequence_count", "counter"), given))
+            for call, moved in ((orlyukan.after_packet, packet), (orlyukan.after_segment, segment)):
+                for lent in (sender, types.SimpleNamespace(**sender), orlyukan.Answer(**sender)):
+                    expected = dict(zip(("sequence_count", "counter"), moved))
+                    self.assertEqual(told(call(lent)), {"refusal": 0, "sender": expected}, given)
+        too_wide = [(number, counter) for number in (65536, *HUGE) for counter in (0, none)]
+        too_wide += [(7, number) for number in (last + 1, *HUGE)]
+        for given in too_wide:
+            sender = dict(zip(("sequence_count", "counter"), given))
+            for call in (orlyukan.after_packet, orlyukan.after_segment):
+                self.assertEqual(told(call(sender)), {"refusal": 22, "sender": sender})
 
     def test_settings(self):
         for huge in HUGE:
@@ -181,7 +281,8 @@ class Numbers(unittest.TestCase):
         for huge in HUGE:
             for own in ((huge, 0, 0), (3, huge, 0), (1, 0, huge)):
                 self.assertEqual(orlyukan.write(8, figure_14(), *own, b"1", bytearray(64)).refusal, 22)
-            for sender in ({"seq": huge, "counter": 0}, {"seq": 0, "counter": huge}, {"seq": huge, "counter": None}):
+            for sender in ((huge, 0), (0, huge), (huge, None)):
+                sender = dict(zip(("sequence_count", "counter"), sender))
                 answer = orlyukan.cut_count(8, 64, figure_14(), 5, sender)
                 self.assertEqual(told(answer), {"refusal": 22, "count": 0, "sender": sender})
                 answer = orlyukan.cut_packet(8, 64, figure_14(), b"5", sender, 0, bytearray(64))
@@ -200,11 +301,12 @@ class Numbers(unittest.TestCase):
 
     def test_none_left(self):
         out = bytearray(64)
-        for sender in ({"seq": 16383, "counter": None}, types.SimpleNamespace(seq=16383, counter=None)):
+        given = {"sequence_count": 16383, "counter": None}
+        for sender in (given, types.SimpleNamespace(**given)):
             answer = orlyukan.cut_count(8, 64, figure_14(), 37, sender)
-            self.assertEqual(told(answer), {"refusal": 0, "count": 1, "sender": {"seq": 0, "counter": None}})
+            self.assertEqual(told(answer), {"refusal": 0, "count": 1, "sender": {"sequence_count": 0, "counter": None}})
             self.assertEqual(orlyukan.cut_packet(8, 64, figure_14(), bytes(38), sender, 0, out).refusal, 25)
-        last = orlyukan.cut_count(8, 64, figure_14(), 38, {"seq": 0, "counter": 4294967294})
+        last = orlyukan.cut_count(8, 64, figure_14(), 38, {"sequence_count": 0, "counter": 4294967294})
         self.assertEqual((last.refusal, last.count, last.sender.counter), (0, 2, None))
 
 
@@ -213,12 +315,12 @@ class Buffers(unittest.TestCase):
 
     def test_in_place(self):
         store, out = bytearray(2048), bytearray(100)
-        body, sender = bytes(range(38)), {"seq": 0, "counter": 3}
+        body, sender = bytes(range(38)), {"sequence_count": 0, "counter": 3}
         for i, kind in ((0, "stored"), (0, "held"), (1, "stored")):
             packet = bytearray(64)
             size = orlyukan.cut_packet(8, 64, figure_14(), body, sender, i, packet).length
             self.assertEqual(told(orlyukan.arrive(8, store, packet[:size])), {"refusal": 0, "kind": kind})
-        self.assertEqual(told(orlyukan.take(8, store, out)), {"refusal": 0, "H": 21, "B": 38, "c": 3})
+        self.assertEqual(told(orlyukan.take(8, store, out)), {"refusal": 0, "H": 21, "B": 38, "counter": 3})
         self.assertEqual(out[23:61], body)
         self.assertEqual(store, bytes(2048))
 
@@ -234,13 +336,48 @@ class Buffers(unittest.TestCase):
             orlyukan.read(8.0, FIGURE_14)
         with self.assertRaises(TypeError):
             orlyukan.read(8, 27)
+        with self.assertRaises(TypeError):
+            orlyukan.join_recording(b"MP", bytes(2))
+        with self.assertRaises(TypeError):
+            orlyukan.next_sequence_count(7.0)
 
     def test_empty(self):
         self.assertEqual(orlyukan.read(8, b"").refusal, 1)
         self.assertEqual(orlyukan.arrive(8, bytearray(), FIGURE_14).refusal, 16)
         self.assertEqual(orlyukan.join(8, bytearray(1024), FIGURE_14, bytearray()).which, "packet")
-        self.assertEqual(orlyukan.join_recording(b""), b"")
         self.assertEqual(orlyukan.view(b"", b"", "", 0, 0), b"")
+
+
+class Recordings(unittest.TestCase):
+    """Where and why a recording stopped, so that one that is not whole is told from one that is."""
+
+    begun = b"MP\x1f\xff" + FIGURE_14[2:] + b"MP" + FIGURE_14  # an idle packet, which is passed over, and figure 14
+    message = bytes.fromhex("4D4D000000171805") + FIGURE_14[6:]
+
+    def stops(self, more, stop):
+        recording = self.begun + more
+        out = bytearray(b"\xee" * (len(recording) + 1))
+        for lent in (recording, bytearray(recording)):
+            answer = orlyukan.join_recording(lent, out)
+            self.assertEqual(told(answer), {"refusal": 0, "written": 29, "place": 58, "stop": stop}, more)
+            self.assertEqual(out, self.message + b"\xee" * (len(out) - 29), more)
+        short = bytearray(b"\xee" * (len(recording) - 1))
+        refused = {"refusal": 21, "written": 0, "place": 0, "stop": ""}
+        self.assertEqual(told(orlyukan.join_recording(recording, short)), refused, more)
+        self.assertEqual(short, b"\xee" * len(short), more)
+
+    def test_whole(self):
+        self.stops(b"", "ended")
+        answer = orlyukan.join_recording(b"", bytearray())
+        self.assertEqual(told(answer), {"refusal": 0, "written": 0, "place": 0, "stop": "ended"})
+
+    def test_unmarked(self):
+        for more in (b"x", b"MS", b"MM" + FIGURE_14):
+            self.stops(more, "unmarked")
+
+    def test_torn(self):
+        for more in (b"M", b"MP", b"MP" + FIGURE_14[:5], b"MP" + FIGURE_14[:6], b"MP" + FIGURE_14[:-1]):
+            self.stops(more, "torn")
 
 
 if __name__ == "__main__":

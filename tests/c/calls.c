@@ -1,25 +1,8 @@
 /*
- * The calls as C and C++ see them, compared with document 01's figures. Compiled twice, as C11 and as C++17; `run` beside it does so.
+ * The calls as C and C++ see them, compared with SPEC's figures: each call, each field of its answer, and each number that
+ * the header names. Compiled twice, as C11 and as C++17; `run` beside it does so.
  */
-#include "orlyukan.h"
-
-#include <stdio.h>
-#include <string.h>
-
-static int failures = 0;
-
-/* One number, compared. */
-static void expect(const char *what, uint64_t got, uint64_t want) {
-    if (got != want) {
-        printf("%s: %llu, not %llu\n", what, (unsigned long long)got, (unsigned long long)want);
-        failures += 1;
-    }
-}
-
-/* Octets, compared. */
-static void expect_octets(const char *what, const uint8_t *got, const uint8_t *want, size_t n) {
-    expect(what, (uint64_t)memcmp(got, want, n), 0);
-}
+#include "expect.h"
 
 static const uint8_t figure_14[27] = {0x18, 0x05, 0xC0, 0x00, 0x00, 0x14, 0x00, 0x00, 0x01, 0x00, 0x02, 0x00, 0x03, 0x01,
                                       0x20, 0x06, 0x00, 0x07, 0x00, 0x00, 0x00, 0x00, 0x00, 0x00, 0x00, 0x09, 0x00};
@@ -44,15 +27,6 @@ static struct orl_header header_14(void) {
     return h;
 }
 
-/* Every struct is an array of numbers, without gaps. */
-static void sizes(void) {
-    expect("numbers of a header", sizeof(struct orl_header) / 8, 24);
-    expect("numbers of a reading", sizeof(struct orl_read_answer) / 8, 72);
-    expect("numbers of a sender", sizeof(struct orl_sender) / 8, 3);
-    expect("numbers of a count", sizeof(struct orl_cut_count_answer) / 8, 5);
-    expect("place of H", offsetof(struct orl_read_answer, H) / 8, 69);
-}
-
 static void reading(void) {
     struct orl_read_answer a;
     orl_read(8, figure_14, 27, &a);
@@ -60,7 +34,7 @@ static void reading(void) {
     expect("packet type", a.packet_type, 1);
     expect("APID", a.apid, 5);
     expect("flags", a.flags, 3);
-    expect("sequence count", a.seq, 0);
+    expect("sequence count", a.sequence_count, 0);
     expect("area", a.area, 1);
     expect("service", a.service, 2);
     expect("operation", a.operation, 3);
@@ -100,7 +74,7 @@ static void writing(void) {
     expect("write", a.refusal, 0);
     expect("written", a.length, 27);
     expect_octets("figure 14", out, figure_14, 27);
-    expect("behind it", out[27], 0xEE);
+    expect("after it", out[27], 0xEE);
     h.area = 65536;
     write_14(&h, 3, 0, out, 28, &a);
     expect("area 65,536", a.refusal, 22);
@@ -117,49 +91,57 @@ static void writing(void) {
     expect("length of a refusal", a.length, 0);
 }
 
-static void numbers(void) {
+static void next_count(uint64_t sequence_count, uint64_t refusal, uint64_t next) {
     struct orl_next_sequence_count_answer n;
-    struct orl_sender s = {16383, 1, 4294967295u};
+    orl_next_sequence_count(sequence_count, &n);
+    expect("next sequence count, refusal", n.refusal, refusal);
+    expect("next sequence count", n.sequence_count, next);
+}
+
+/* A sender after a packet and after a segment. */
+static void after(struct orl_sender given, uint64_t refusal, struct orl_sender packet, struct orl_sender segment) {
     struct orl_after_answer a;
-    orl_next_sequence_count(16383, &n);
-    expect("behind 16,383", n.seq, 0);
-    orl_next_sequence_count(65536, &n);
-    expect("behind 65,536", n.refusal, 22);
-    orl_after_packet(&s, &a);
-    expect("after a packet", a.sender.seq, 0);
-    expect("its counter", a.sender.counter, 4294967295u);
-    orl_after_segment(&s, &a);
-    expect("after a segment", a.sender.seq, 0);
-    expect("no counter left", a.sender.has_counter, 0);
-    expect("told as 0", a.sender.counter, 0);
-    s.has_counter = 0;
-    orl_after_segment(&s, &a);
-    expect("a counter beside none", a.refusal, 22);
-    expect("as given", a.sender.counter, 4294967295u);
+    orl_after_packet(&given, &a);
+    expect("after a packet, refusal", a.refusal, refusal);
+    expect_sender("after a packet", a.sender, packet);
+    orl_after_segment(&given, &a);
+    expect("after a segment, refusal", a.refusal, refusal);
+    expect_sender("after a segment", a.sender, segment);
+}
+
+static void numbers(void) {
+    next_count(0, 0, 1);
+    next_count(16382, 0, 16383);
+    next_count(16383, 0, 0);
+    next_count(65535, 0, 0);
+    next_count(65536, 22, 0);
+    next_count(UINT64_MAX, 22, 0);
+    after(sender(7, 1, 300), 0, sender(8, 1, 300), sender(8, 1, 301));
+    after(sender(16383, 1, 4294967295u), 0, sender(0, 1, 4294967295u), sender(0, 0, 0));
+    after(sender(7, 0, 0), 0, sender(8, 0, 0), sender(8, 0, 0));
+    after(sender(7, 0, 300), 22, sender(7, 0, 300), sender(7, 0, 300));
+    after(sender(65536, 1, 300), 22, sender(65536, 1, 300), sender(65536, 1, 300));
 }
 
 /* Figures 7 to 12: the count at P for a body of so many octets, from a counter. */
 static void count(const char *what, uint64_t p, uint64_t body, uint64_t counter, uint64_t refusal, uint64_t packets) {
     struct orl_header h = header_14();
-    struct orl_sender s;
+    struct orl_sender s = sender(7, 1, counter);
     struct orl_cut_count_answer a;
-    s.seq = 7;
-    s.has_counter = 1;
-    s.counter = counter;
     orl_cut_count(8, p, &h, none, 0, none, 0, none, 0, none, 0, no_lengths, 0, none, 0, body, &s, &a);
     expect(what, a.refusal, refusal);
     expect(what, a.count, packets);
-    expect(what, a.sender.seq, refusal != 0 ? 7 : 7 + packets);
+    expect(what, a.sender.sequence_count, refusal != 0 ? 7 : 7 + packets);
 }
 
 static uint64_t packet(uint64_t i, uint8_t *out, size_t room, size_t *length) {
     struct orl_header h = header_14();
-    struct orl_sender s = {7, 1, 5};
+    struct orl_sender s = sender(7, 1, 5);
     struct orl_cut_packet_answer a;
     uint8_t body[38];
     memset(body, 0x42, sizeof body);
     orl_cut_packet(8, 64, &h, none, 0, none, 0, none, 0, none, 0, no_lengths, 0, none, 0, body, sizeof body, &s, i, out, room, &a);
-    expect("the sender stays", a.sender.counter, 5);
+    expect_sender("the sender stays", a.sender, s);
     *length = (size_t)a.length;
     return a.refusal;
 }
@@ -192,7 +174,6 @@ static void storing(void) {
     size_t first_length = 0, last_length = 0;
     struct orl_arrive_answer a;
     struct orl_join_answer j;
-    struct orl_view_answer v;
     struct orl_in_order_answer o;
     packet(0, first, 64, &first_length);
     packet(1, last, 64, &last_length);
@@ -201,6 +182,8 @@ static void storing(void) {
     expect("stored", a.kind, ORL_STORED);
     orl_arrive(8, store, sizeof store, last, last_length, &a);
     expect("held", a.kind, ORL_HELD);
+    orl_arrive(8, store, sizeof store, figure_14, 27, &a);
+    expect("whole", a.kind, ORL_WHOLE);
     orl_join(8, store, sizeof store, first, first_length, out, sizeof out, &j);
     expect("the first is joined", j.refusal, 0);
     expect("which", j.which, ORL_JOINED);
@@ -208,16 +191,47 @@ static void storing(void) {
     expect("length", j.length, 38);
     expect("H", j.H, 21);
     expect("B", j.B, 38);
-    expect("c", j.c, 5);
+    expect("counter", j.counter, 5);
     expect_octets("packet identification", out, figure_14, 2);
-    orl_view(first, first_length, out, sizeof out, j.which, j.place, j.length, &v);
-    expect("the body's place", v.place, 23);
-    expect("the body's length", v.length, 38);
-    orl_view(first, first_length, out, sizeof out, j.which, UINT64_MAX, 1, &v);
-    expect("outside", v.length, 0);
     orl_in_order(8, store, sizeof store, &o);
     expect("in order", o.refusal, 0);
     expect("cells", o.cells, 2);
+}
+
+/* A packet that comes whole: its body stands where it stood, and nothing is told of a message that was taken. */
+static void joining_whole(void) {
+    static uint8_t store[1024];
+    struct orl_header h = header_14();
+    struct orl_write_answer w;
+    struct orl_join_answer j;
+    uint8_t packet[40], out[1];
+    orl_write(8, &h, none, 0, none, 0, none, 0, none, 0, no_lengths, 0, none, 0, 3, 0, 0, figure_14, 4, packet, sizeof packet, &w);
+    orl_join(8, store, sizeof store, packet, (size_t)w.length, out, 0, &j);
+    expect("a whole packet is joined", j.refusal, 0);
+    expect("which", j.which, ORL_PACKET);
+    expect("place", j.place, 27);
+    expect("length", j.length, 4);
+    expect("H", j.H, 0);
+    expect("B", j.B, 0);
+    expect("counter", j.counter, 0);
+}
+
+static void view(uint64_t which, uint64_t place, uint64_t length, uint64_t refusal, uint64_t at, uint64_t octets) {
+    static const uint8_t packet[5] = {0}, joined[9] = {0};
+    struct orl_view_answer v;
+    orl_view(packet, sizeof packet, joined, sizeof joined, which, place, length, &v);
+    expect("view, refusal", v.refusal, refusal);
+    expect("view, place", v.place, at);
+    expect("view, length", v.length, octets);
+}
+
+static void viewing(void) {
+    view(ORL_PACKET, 1, 4, 0, 1, 4);
+    view(ORL_PACKET, 2, 4, 0, 0, 0);
+    view(ORL_JOINED, 2, 4, 0, 2, 4);
+    view(ORL_JOINED, UINT64_MAX, 1, 0, 0, 0);
+    view(ORL_NOTHING, 0, 1, 0, 0, 0);
+    view(3, 1, 2, 22, 0, 0);
 }
 
 static void taking(void) {
@@ -231,34 +245,53 @@ static void taking(void) {
     expect("not in order", t.refusal, 16);
 }
 
-/* Figure 14 alone as a recording. */
-static void recording(void) {
+/* An idle packet, which is passed over, and figure 14, and then so many octets more. */
+static void recorded(const char *what, const char *more, size_t octets, uint64_t stop) {
     static const uint8_t front[8] = {0x4D, 0x4D, 0x00, 0x00, 0x00, 0x17, 0x18, 0x05};
-    uint8_t in[29], out[29];
+    uint8_t in[80], out[80];
     struct orl_join_recording_answer a;
-    in[0] = 0x4D;
-    in[1] = 0x50;
+    memset(out, 0xEE, sizeof out);
+    memcpy(in, "MP", 2);
     memcpy(in + 2, figure_14, 27);
-    orl_join_recording(in, sizeof in, out, sizeof out, &a);
-    expect("the recording", a.refusal, 0);
-    expect("written", a.written, 29);
-    expect("where it stopped", a.place, 29);
-    expect("why", a.stop, ORL_ENDED);
+    in[2] |= 0x07;
+    in[3] = 0xFF;
+    memcpy(in + 29, "MP", 2);
+    memcpy(in + 31, figure_14, 27);
+    memcpy(in + 58, more, octets);
+    orl_join_recording(in, 58 + octets, out, 57 + octets, &a);
+    expect(what, a.refusal, 21);
+    expect(what, a.written, 0);
+    expect(what, a.place, 0);
+    expect(what, a.stop, 0);
+    expect(what, out[0], 0xEE);
+    orl_join_recording(in, 58 + octets, out, 58 + octets, &a);
+    expect(what, a.refusal, 0);
+    expect(what, a.written, 29);
+    expect(what, a.place, 58);
+    expect(what, a.stop, stop);
     expect_octets("mark, length and identification", out, front, 8);
     expect_octets("header", out + 8, figure_14 + 6, 21);
+    expect(what, out[29], 0xEE);
+}
+
+static void recording(void) {
+    recorded("a whole recording", "", 0, ORL_ENDED);
+    recorded("an unmarked recording", "x", 1, ORL_UNMARKED);
+    recorded("a recording with a store's mark", "MS\x18\x05\xC0", 5, ORL_UNMARKED);
+    recorded("a recording torn in a mark", "M", 1, ORL_TORN);
+    recorded("a recording torn after a mark", "MP", 2, ORL_TORN);
+    recorded("a recording torn in a packet", "MP\x18\x05\xC0\x00\x00\x14\x00", 9, ORL_TORN);
 }
 
 int main(void) {
-    sizes();
     reading();
     writing();
     numbers();
     cutting();
     storing();
+    joining_whole();
+    viewing();
     taking();
     recording();
-    if (failures == 0) {
-        printf("all as expected\n");
-    }
-    return failures == 0 ? 0 : 1;
+    return told("calls");
 }

@@ -2,7 +2,7 @@
 
 use crate::header::{Apid, SecondaryApid, SegmentCounter, Sender, SequenceCount};
 
-/// The number of a refusal, from document 01's table.
+/// The number of a refusal, from SPEC's table.
 #[derive(Clone, Copy, Debug, PartialEq, Eq)]
 pub struct Refusal(pub u64);
 
@@ -18,7 +18,7 @@ impl std::error::Error for Refusal {}
 pub trait Answer: Sized {
     fn refusal(&self) -> u64;
 
-    /// The answer where the call succeeded, else the refusal alone.
+    /// The answer if the call succeeded, else the refusal alone.
     fn accepted(self) -> Result<Self, Refusal> {
         match self.refusal() {
             0 => Ok(self),
@@ -43,7 +43,7 @@ pub struct Reading {
     pub packet_type: u64,
     pub apid: Apid,
     pub flags: u64,
-    pub seq: SequenceCount,
+    pub sequence_count: SequenceCount,
     pub sdu: u64,
     pub area: u64,
     pub service: u64,
@@ -84,7 +84,7 @@ pub struct Written {
     pub length: u64,
 }
 
-/// How many packets a message takes, and the sender behind it; on a refusal the sender as it was given.
+/// How many packets a message takes, and the sender after it; on a refusal the sender as it was given.
 #[derive(Clone, Copy, Debug, PartialEq, Eq)]
 pub struct Cut {
     pub refusal: u64,
@@ -115,13 +115,13 @@ pub struct Arrived {
     pub kind: Option<Kind>,
 }
 
-/// A taking's answer.
+/// A taking's answer: H, B, and the first segment's counter.
 #[derive(Clone, Copy, Debug, Default, PartialEq, Eq)]
 pub struct Taken {
     pub refusal: u64,
     pub h: u64,
     pub b: u64,
-    pub c: SegmentCounter,
+    pub counter: SegmentCounter,
 }
 
 /// Which buffer holds a body.
@@ -142,7 +142,7 @@ pub struct Joined {
     pub length: u64,
     pub h: u64,
     pub b: u64,
-    pub c: SegmentCounter,
+    pub counter: SegmentCounter,
 }
 
 /// How many cells a store in order has.

@@ -1,15 +1,23 @@
 //! Reading, writing and cutting.
 
-use crate::answers::{Cut, CutPacket, Reading, Written};
-use crate::header::{Header, Sender, SequenceCount};
+use crate::answers::{Cut, CutPacket, Reading, Refusal, Written};
+use crate::header::{Header, SegmentCounter, Sender, SequenceCount};
 use crate::raw::{self, RawAfter, RawCut, RawNumber, RawSender};
 
-/// The sequence count behind another: 0 follows 16,383.
-pub fn next_sequence_count(seq: SequenceCount) -> SequenceCount {
+/// An answer that has nothing to tell on a refusal but its number.
+fn unless_refused<A>(refusal: u64, answer: A) -> Result<A, Refusal> {
+    match refusal {
+        0 => Ok(answer),
+        number => Err(Refusal(number)),
+    }
+}
+
+/// The next sequence count: 0 comes after 16,383, and after any number from there up to 65,535. A larger one is refused with 22.
+pub fn next_sequence_count(sequence_count: SequenceCount) -> Result<SequenceCount, Refusal> {
     let mut answer = RawNumber::default();
     // SAFETY: the answer is ours alone.
-    unsafe { raw::orl_next_sequence_count(seq.0, &mut answer) };
-    SequenceCount(answer.number)
+    unsafe { raw::orl_next_sequence_count(sequence_count.0, &mut answer) };
+    unless_refused(answer.refusal, SequenceCount(answer.number))
 }
 
 /// Reads one packet whose timestamp, if it has one, is of t octets.
@@ -20,9 +28,27 @@ pub fn read(t: u64, packet: &[u8]) -> Reading {
     answer
 }
 
-/// Writes one packet over the front of `out`.
+/// Writes one packet over the front of `out`: its own sequence flags, sequence count and segment counter beside the header's values.
+///
+/// ```
+/// use orlyukan::{write, Header, SegmentCounter, SequenceCount};
+/// let mut out = [0; 64];
+/// let written = write(8, &Header::default(), 1, SequenceCount(7), SegmentCounter(300), b"tile", &mut out);
+/// assert_eq!((written.refusal, written.length), (0, 35));
+/// ```
+///
+/// A counter can't stand in for a sequence count:
+///
+/// ```compile_fail
+/// use orlyukan::{write, Header, SegmentCounter, SequenceCount};
+/// let mut out = [0; 64];
+/// let written = write(8, &Header::default(), 1, SegmentCounter(300), SequenceCount(7), b"tile", &mut out);
+/// assert_eq!((written.refusal, written.length), (0, 35));
+/// ```
 #[rustfmt::skip]
-pub fn write(t: u64, header: &Header, flags: u64, seq: u64, counter: u64, body: &[u8], out: &mut [u8]) -> Written {
+pub fn write(
+    t: u64, header: &Header, flags: u64, sequence_count: SequenceCount, counter: SegmentCounter, body: &[u8], out: &mut [u8],
+) -> Written {
     let mut answer = RawNumber::default();
     let numbers = header.numbers();
     // SAFETY: each slice's pointer is valid for its length; `out` is lent to us alone and so overlaps none of the others.
@@ -30,13 +56,13 @@ pub fn write(t: u64, header: &Header, flags: u64, seq: u64, counter: u64, body: 
         raw::orl_write(t, &numbers, header.timestamp.as_ptr(), header.timestamp.len(), header.zone.as_ptr(), header.zone.len(),
             header.session_name.as_ptr(), header.session_name.len(), header.domain.as_ptr(), header.domain.len(),
             header.domain_lengths.as_ptr(), header.domain_lengths.len(), header.authentication.as_ptr(),
-            header.authentication.len(), flags, seq, counter, body.as_ptr(), body.len(), out.as_mut_ptr(), out.len(),
-            &mut answer);
+            header.authentication.len(), flags, sequence_count.0, counter.0, body.as_ptr(), body.len(),
+            out.as_mut_ptr(), out.len(), &mut answer);
     }
     Written { refusal: answer.refusal, length: answer.number }
 }
 
-/// How many packets of at most p octets a message takes whose body has `body_length` octets, and the sender behind it.
+/// How many packets of at most p octets a message takes whose body has `body_length` octets, and the sender after it.
 #[rustfmt::skip]
 pub fn cut_count(t: u64, p: u64, header: &Header, body_length: u64, sender: Sender) -> Cut {
     let mut answer = RawCut::default();
@@ -66,26 +92,18 @@ pub fn cut_packet(t: u64, p: u64, header: &Header, body: &[u8], sender: Sender, 
     CutPacket { refusal: answer.refusal, length: answer.number, sender: answer.sender.into() }
 }
 
-/// The answer of a call that moves a sender on.
-fn moved(answer: RawAfter) -> Result<Sender, crate::Refusal> {
-    match answer.refusal {
-        0 => Ok(answer.sender.into()),
-        number => Err(crate::Refusal(number)),
-    }
-}
-
 /// The sender after one unsegmented packet.
-pub fn after_packet(sender: Sender) -> Result<Sender, crate::Refusal> {
+pub fn after_packet(sender: Sender) -> Result<Sender, Refusal> {
     let mut answer = RawAfter::default();
     // SAFETY: sender and answer are ours alone.
     unsafe { raw::orl_after_packet(&RawSender::from(sender), &mut answer) };
-    moved(answer)
+    unless_refused(answer.refusal, answer.sender.into())
 }
 
 /// The sender after one segment.
-pub fn after_segment(sender: Sender) -> Result<Sender, crate::Refusal> {
+pub fn after_segment(sender: Sender) -> Result<Sender, Refusal> {
     let mut answer = RawAfter::default();
     // SAFETY: sender and answer are ours alone.
     unsafe { raw::orl_after_segment(&RawSender::from(sender), &mut answer) };
-    moved(answer)
+    unless_refused(answer.refusal, answer.sender.into())
 }

@@ -2,7 +2,7 @@
 
 use crate::raw::{RawHeader, RawSender};
 
-/// An APID: of the packet, not of the sender or receiver behind it.
+/// The APID of the primary header.
 #[repr(transparent)]
 #[derive(Clone, Copy, Debug, Default, PartialEq, Eq)]
 pub struct Apid(pub u64);
@@ -29,19 +29,29 @@ pub enum Next {
     NoneLeft,
 }
 
-/// A sender's two running numbers.
+/// A sender's two running numbers: the sequence count of its next packet and the counter of its next segment.
+///
+/// ```
+/// use orlyukan::{Next, SegmentCounter, Sender, SequenceCount};
+/// let sender = Sender { sequence_count: SequenceCount(7), counter: Next::At(SegmentCounter(300)) };
+/// ```
+///
+/// ```compile_fail
+/// use orlyukan::{Next, SegmentCounter, Sender, SequenceCount};
+/// let sender = Sender { sequence_count: SegmentCounter(300), counter: Next::At(SequenceCount(7)) };
+/// ```
 #[derive(Clone, Copy, Debug, PartialEq, Eq)]
 pub struct Sender {
-    pub seq: SequenceCount,
+    pub sequence_count: SequenceCount,
     pub counter: Next,
 }
 
 impl From<Sender> for RawSender {
     fn from(sender: Sender) -> Self {
-        let seq = sender.seq.0;
+        let sequence_count = sender.sequence_count.0;
         match sender.counter {
-            Next::At(SegmentCounter(counter)) => RawSender { seq, has_counter: 1, counter },
-            Next::NoneLeft => RawSender { seq, has_counter: 0, counter: 0 },
+            Next::At(SegmentCounter(counter)) => RawSender { sequence_count, has_counter: 1, counter },
+            Next::NoneLeft => RawSender { sequence_count, has_counter: 0, counter: 0 },
         }
     }
 }
@@ -49,11 +59,21 @@ impl From<Sender> for RawSender {
 impl From<RawSender> for Sender {
     fn from(raw: RawSender) -> Self {
         let counter = if raw.has_counter == 0 { Next::NoneLeft } else { Next::At(SegmentCounter(raw.counter)) };
-        Sender { seq: SequenceCount(raw.seq), counter }
+        Sender { sequence_count: SequenceCount(raw.sequence_count), counter }
     }
 }
 
 /// A header's values to write or to cut. A `has_` of 0 says that the field is absent; its value must then be 0 or empty.
+///
+/// ```
+/// use orlyukan::{Apid, Header, SecondaryApid};
+/// let header = Header { apid: Apid(5), secondary_apid: SecondaryApid(6), ..Header::default() };
+/// ```
+///
+/// ```compile_fail
+/// use orlyukan::{Apid, Header, SecondaryApid};
+/// let header = Header { apid: SecondaryApid(6), secondary_apid: Apid(5), ..Header::default() };
+/// ```
 #[derive(Clone, Copy, Debug, Default, PartialEq, Eq)]
 pub struct Header<'a> {
     pub packet_type: u64,

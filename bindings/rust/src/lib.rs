@@ -2,9 +2,11 @@
 //!
 //! The work is done by the proved library, whose promises stand beside its source. These wrappers see to what a caller of C must
 //! see to alone: pointers that are valid, lengths that are true, buffers that do not overlap. Each call answers a plain struct whose
-//! `refusal` is 0, or the number of document 01's table with every other field zero; [`Answer::accepted`] makes a `Result` of it.
+//! `refusal` is 0, or a number of SPEC's table with every other field zero; [`Answer::accepted`] makes a `Result` of it. The
+//! three calls that only move a number on answer such a `Result` at once.
 //!
-//! Numbers to write are as wide as the library takes them, so that a number too wide for its field is refused and never cut off.
+//! APID, secondary APID, sequence count and segment counter are kinds of their own, and none can stand in for another. They and all
+//! other numbers are as wide as the library takes them, so that a number too wide for its field is refused and never cut off.
 
 mod answers;
 mod codec;
@@ -16,7 +18,7 @@ mod store;
 pub use answers::{Answer, Arrived, Cut, CutPacket, Joined, Kind, Order, Place, Reading, Refusal, Taken, Which, Written};
 pub use codec::{after_packet, after_segment, cut_count, cut_packet, next_sequence_count, read, write};
 pub use header::{Apid, Header, Next, SecondaryApid, SegmentCounter, Sender, SequenceCount};
-pub use recording::{join_recording, join_recording_into, Recording, Stop};
+pub use recording::{join_recording, Recording, Stop};
 pub use store::{arrive, in_order, join, take, view};
 
 /// The octets of a cell of the store, and the most cells it may have.

@@ -2,11 +2,26 @@
 
 use crate::answers::{Place, Reading};
 
-/// A sender's running numbers: `has_counter` 1 and the next segment's counter, or 0 and 0 where none is left.
+/// What an arrival comes to.
+pub const ORL_WHOLE: u64 = 1;
+pub const ORL_STORED: u64 = 2;
+pub const ORL_HELD: u64 = 3;
+
+/// Which buffer holds a body.
+pub const ORL_NOTHING: u64 = 0;
+pub const ORL_PACKET: u64 = 1;
+pub const ORL_JOINED: u64 = 2;
+
+/// Why the joining of a recording stopped.
+pub const ORL_ENDED: u64 = 1;
+pub const ORL_UNMARKED: u64 = 2;
+pub const ORL_TORN: u64 = 3;
+
+/// A sender's running numbers: `has_counter` 1 and the next segment's counter, or 0 and 0 if none is left.
 #[repr(C)]
 #[derive(Clone, Copy, Debug, Default, PartialEq, Eq)]
 pub struct RawSender {
-    pub seq: u64,
+    pub sequence_count: u64,
     pub has_counter: u64,
     pub counter: u64,
 }
@@ -72,7 +87,7 @@ pub struct RawTaken {
     pub refusal: u64,
     pub h: u64,
     pub b: u64,
-    pub c: u64,
+    pub counter: u64,
 }
 
 #[repr(C)]
@@ -84,7 +99,7 @@ pub struct RawJoined {
     pub length: u64,
     pub h: u64,
     pub b: u64,
-    pub c: u64,
+    pub counter: u64,
 }
 
 #[repr(C)]
@@ -110,12 +125,12 @@ type M = *mut u8;
 
 #[rustfmt::skip]
 extern "C" {
-    pub fn orl_next_sequence_count(seq: u64, answer: *mut RawNumber);
+    pub fn orl_next_sequence_count(sequence_count: u64, answer: *mut RawNumber);
     pub fn orl_read(t: u64, packet: P, packet_length: usize, answer: *mut Reading);
     pub fn orl_write(t: u64, header: *const RawHeader, timestamp: P, timestamp_length: usize, zone: P, zone_length: usize,
         session_name: P, session_name_length: usize, domain: P, domain_length: usize, domain_lengths: *const u64,
-        domain_count: usize, authentication: P, authentication_length: usize, flags: u64, seq: u64, counter: u64, body: P,
-        body_length: usize, out: M, out_length: usize, answer: *mut RawNumber);
+        domain_count: usize, authentication: P, authentication_length: usize, flags: u64, sequence_count: u64, counter: u64,
+        body: P, body_length: usize, out: M, out_length: usize, answer: *mut RawNumber);
     pub fn orl_after_packet(sender: *const RawSender, answer: *mut RawAfter);
     pub fn orl_after_segment(sender: *const RawSender, answer: *mut RawAfter);
     pub fn orl_cut_count(t: u64, p: u64, header: *const RawHeader, timestamp: P, timestamp_length: usize, zone: P,

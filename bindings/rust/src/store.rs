@@ -10,23 +10,23 @@ pub fn arrive(t: u64, store: &mut [u8], packet: &[u8]) -> Arrived {
     // SAFETY: each slice's pointer is valid for its length; the store is lent to us alone.
     unsafe { raw::orl_arrive(t, store.as_mut_ptr(), store.len(), packet.as_ptr(), packet.len(), &mut answer) };
     let kind = match answer.number {
-        1 => Some(Kind::Whole),
-        2 => Some(Kind::Stored),
-        3 => Some(Kind::Held),
+        raw::ORL_WHOLE => Some(Kind::Whole),
+        raw::ORL_STORED => Some(Kind::Stored),
+        raw::ORL_HELD => Some(Kind::Held),
         _ => None,
     };
     Arrived { refusal: answer.refusal, kind }
 }
 
-/// Takes the complete message whose first lies in the lowest cell out of the store, into the front of `out`.
+/// Takes the complete message with its first in the lowest cell out of the store, into the front of `out`.
 pub fn take(t: u64, store: &mut [u8], out: &mut [u8]) -> Taken {
     let mut answer = RawTaken::default();
     // SAFETY: each slice's pointer is valid for its length; store and output are each lent to us alone.
     unsafe { raw::orl_take(t, store.as_mut_ptr(), store.len(), out.as_mut_ptr(), out.len(), &mut answer) };
-    Taken { refusal: answer.refusal, h: answer.h, b: answer.b, c: SegmentCounter(answer.c) }
+    Taken { refusal: answer.refusal, h: answer.h, b: answer.b, counter: SegmentCounter(answer.counter) }
 }
 
-/// Arrival, and where the packet did not come whole, taking.
+/// Arrival, and if the packet did not come whole, taking.
 #[rustfmt::skip]
 pub fn join(t: u64, store: &mut [u8], packet: &[u8], out: &mut [u8]) -> Joined {
     let mut answer = RawJoined::default();
@@ -36,22 +36,22 @@ pub fn join(t: u64, store: &mut [u8], packet: &[u8], out: &mut [u8]) -> Joined {
             &mut answer);
     }
     let which = match answer.which {
-        1 => Which::Packet,
-        2 => Which::Joined,
+        raw::ORL_PACKET => Which::Packet,
+        raw::ORL_JOINED => Which::Joined,
         _ => Which::Nothing,
     };
-    let RawJoined { refusal, place, length, h, b, c, .. } = answer;
-    Joined { refusal, which, place, length, h, b, c: SegmentCounter(c) }
+    let RawJoined { refusal, place, length, h, b, counter, .. } = answer;
+    Joined { refusal, which, place, length, h, b, counter: SegmentCounter(counter) }
 }
 
-/// The part of the named buffer that joining told of; empty where place and length do not lie inside it.
+/// The part of the named buffer that joining told of; empty if place and length do not lie inside it.
 #[rustfmt::skip]
 pub fn view<'a>(packet: &'a [u8], joined: &'a [u8], which: Which, place: u64, length: u64) -> &'a [u8] {
     let mut answer = RawView::default();
     let (number, buffer): (u64, &[u8]) = match which {
-        Which::Nothing => (0, &[]),
-        Which::Packet => (1, packet),
-        Which::Joined => (2, joined),
+        Which::Nothing => (raw::ORL_NOTHING, &[]),
+        Which::Packet => (raw::ORL_PACKET, packet),
+        Which::Joined => (raw::ORL_JOINED, joined),
     };
     // SAFETY: each slice's pointer is valid for its length; the answer is ours alone.
     unsafe {
@@ -60,7 +60,7 @@ pub fn view<'a>(packet: &'a [u8], joined: &'a [u8], which: Which, place: u64, le
     &buffer[answer.part.place as usize..][..answer.part.length as usize]
 }
 
-/// Whether a store is in order: 15 or 16 where it is not.
+/// Whether a store is in order, and how many cells it has: 15 or 16 if it is not.
 pub fn in_order(t: u64, store: &[u8]) -> Order {
     let mut answer = RawNumber::default();
     // SAFETY: the slice's pointer is valid for its length; the answer is ours alone.

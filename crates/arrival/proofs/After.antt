@@ -16,11 +16,11 @@ use Rattle.packet.specs.Reading.{readPacket, segmented}
 use Rattle.cells.specs.Segments.{Seg, segOf, sameRest}
 use Rattle.cells.specs.Rows.{free, held, heldRow, cellOf}
 use Rattle.cells.specs.Order.{isFree, cellAt}
-use Rattle.messages.specs.Messages.{cellsOf, look}
-use Rattle.messages.proofs.Picking.{pick-yes, pick-tells}
+use Rattle.cells.specs.Messages.{cellsOf, look}
+use Rattle.cells.proofs.Picking.{pick-yes, pick-tells}
 use Rattle.cells.proofs.Rows.{row-written, row-other}
-use Rattle.messages.proofs.HeldRow.{held-long, cell-held}
-use Rattle.messages.proofs.Listed.{Lowest, lowest-is, is-free}
+use Rattle.cells.proofs.HeldRow.{held-long, cell-held}
+use Rattle.cells.proofs.Listed.{Lowest, lowest-is, is-free}
 use Rattle.arrival.specs.Arriving.{Arrived, whole, stored, again, refused, placed, beside, lowestFree, segmentArrived, arrivedIn, storeWith}
 
 -- ---- when an arrival is stored

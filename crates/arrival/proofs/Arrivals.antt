@@ -2,16 +2,17 @@
 -- Assumes nothing.
 use Prim.Native.Nat.{ℕ, suc, _+_, _*_, _/_, _≤_, _<_}
 use mathlib.Core.Path.{_≡_, refl, ap, ap₂, sym, _∙_}
+use mathlib.Core.Logic.{⊎-elim}
 use mathlib.Core.Bool.{Bool, true, false, not}
 use mathlib.Core.List.{List, _∷_}
 use mathlib.Core.Option.{Option}
 use native.Mathlib.Omega.{arith}
 use lib.ListN.{length, drop, length-take, length-drop}
 use lib.Seq.{sets}
-use lib.Dec.{eqb}
-use borrow.Author.Tests.{le-leb, lt-leb, eq-eqb, ne-eqb}
+use lib.Dec.{leb, eqb}
+use borrow.Author.Tests.{le-leb, lt-leb, leb-true, leb-false, eq-eqb, ne-eqb, eqb-true, eqb-false}
 use Rattle.octets.specs.Octets.{pick, Octets, octetAt, part, alike}
-use Rattle.octets.proofs.Lists.{alike-true}
+use Rattle.octets.proofs.Lists.{alike-true, bool}
 use Rattle.walk.specs.declared.Settings.{Settings}
 use Rattle.packet.specs.declared.Header.{Header}
 use Rattle.packet.specs.Reading.{readPacket, segmented}
@@ -21,14 +22,14 @@ use Rattle.cells.specs.Rows.{rowAt, zeroRow, heldRow, packetIn}
 use Rattle.cells.specs.Inner.{Asked}
 use Rattle.cells.specs.Order.{isFree, lowest, cellAt, foundIn}
 use Rattle.cells.proofs.Scans.{free-is}
-use Rattle.cells.proofs.Held.{flags-same}
+use Rattle.cells.proofs.Held.{flags-same, both-true}
 use Rattle.cells.proofs.Laid.{held-laid}
-use Rattle.arrival.specs.Arriving.{whole, stored, again, refused, placed, beside, lowestFree, segmentArrived, arrivedIn}
-use Rattle.messages.specs.declared.Piece.{Piece}
-use Rattle.messages.specs.Inner.{segIn, pieceOf}
-use Rattle.arrival.specs.Inner.{segWith}
-use Rattle.messages.proofs.Looks.{lowest-holds, lowest-same, look-found, look-none}
-use Rattle.messages.proofs.Found.{found-held}
+use Rattle.arrival.specs.Arriving.{whole, stored, again, refused, placed, beside, lowestFree, segmentArrived, arrivedIn, storeWith}
+use Rattle.cells.specs.declared.messages.Piece.{Piece}
+use Rattle.cells.specs.Pieces.{segIn, pieceOf}
+use Rattle.arrival.specs.Inner.{segWith, segmentFits, unstoredOf}
+use Rattle.cells.proofs.Looks.{lowest-holds, lowest-same, look-found, look-none}
+use Rattle.cells.proofs.Found.{found-held}
 
 -- ---- a new segment
 
@@ -108,7 +109,7 @@ module _ (s : Settings) (st z p : List ℕ) (n flags at long c : ℕ) (ez : z �
 
 -- flags and body compared as they stand in two packets
 pub rest-same :
-    (s : Settings) (r p : List ℕ) (flags at long : ℕ) {q : List ℕ} {u : Piece} {b : Bool} → q ≡ packetIn 0 r → u ≡ pieceOf (readPacket s (packetIn 0 r)) →
+    (s : Settings) (r p : List ℕ) (flags at long : ℕ) {q : List ℕ} {u : Piece} {b : Bool} → q ≡ packetIn r → u ≡ pieceOf (readPacket s (packetIn r)) →
     b ≡ both (eqb (u .flags) flags) (alike (part q (u .at) (u .length)) (part p at long)) → b ≡ sameRest (segIn s 0 r) (segWith s p flags at long 0)
 unfolding sameRest segOf segWith pieceOf
 rest-same s r p flags at long eq eu eb =
@@ -157,3 +158,85 @@ module _ (s : Settings) (Z : ℕ) (st p : List ℕ) (n : ℕ) {h : Header} (e : 
       packet-fits l =
           ap (λ (x : Header). segmentArrived s Z st n (segWith s p (x .primary .flags) (x .body .at) (x .body .length) (x .ids .counter .0))) e
           ∙ sym (rw (eq-eqb r 0 fine, packet-segment, le-leb (2 + length p) Z l) refl)
+
+-- ---- a packet, as the code tells a segment that fits a cell from any other
+
+not-true : (b : Bool) → not b ≡ true → b ≡ false
+not-true false e = refl
+not-true true e = absurd (let z : _≡_ {A = ℕ} 0 1 = cc in omega arith)
+
+not-false : (b : Bool) → not b ≡ false → b ≡ true
+not-false true e = refl
+not-false false e = absurd (let z : _≡_ {A = ℕ} 0 1 = cc in omega arith)
+
+module _ (h : Header) where
+  abbrev number : ℕ
+  number = h .refusal .number
+
+  abbrev flags : ℕ
+  flags = h .primary .flags
+
+  pub unstored-bad : (number ≡ 0 → ⊥) → refused number ≡ unstoredOf h
+  unfolding unstoredOf
+  unstored-bad bad = rw (ne-eqb number 0 bad) refl
+
+  module _ (ok : number ≡ 0) where
+    pub unstored-whole : flags ≡ 3 → whole ≡ unstoredOf h
+    unfolding unstoredOf
+    unstored-whole f = rw (eq-eqb number 0 ok, eq-eqb flags 3 f) refl
+
+    pub unstored-long : (flags ≡ 3 → ⊥) → refused 17 ≡ unstoredOf h
+    unfolding unstoredOf
+    unstored-long f = rw (eq-eqb number 0 ok, ne-eqb flags 3 f) refl
+
+  -- it leaves the store as it is
+  pub unstored-store : (Z : ℕ) (st p : List ℕ) → st ≡ storeWith Z st p (unstoredOf h)
+  unfolding unstoredOf storeWith
+  unstored-store Z st p = go (eqb number 0) (eqb flags 3)
+    where
+      go : (a b : Bool) → st ≡ storeWith Z st p (pick a (pick b whole (refused 17)) (refused number))
+      go true true = refl
+      go true false = refl
+      go false b = refl
+
+module _ (s : Settings) (Z : ℕ) (st p : List ℕ) (n : ℕ) {h : Header} (e : h ≡ readPacket s p) {b : Bool} (eb : b ≡ segmentFits h (length p) Z) where
+  module _ (y : not b ≡ false) where
+    tests : (both (eqb (h .refusal .number) 0) (not (eqb (h .primary .flags) 3)) ≡ true) × (leb (2 + length p) Z ≡ true)
+    tests = both-true (both (eqb (h .refusal .number) 0) (not (eqb (h .primary .flags) 3))) (leb (2 + length p) Z)
+        (sym eb ∙ not-false b y)
+
+    first-tests : (eqb (h .refusal .number) 0 ≡ true) × (not (eqb (h .primary .flags) 3) ≡ true)
+    first-tests = both-true (eqb (h .refusal .number) 0) (not (eqb (h .primary .flags) 3)) (tests .0)
+
+    ok : h .refusal .number ≡ 0
+    ok = eqb-true (h .refusal .number) 0 (first-tests .0)
+
+    more : h .primary .flags ≡ 3 → ⊥
+    more = eqb-false (h .primary .flags) 3 (not-true (eqb (h .primary .flags) 3) (first-tests .1))
+
+    pub told-asked : Octets p → Asked s p (h .body .at)
+    told-asked = packet-asked s Z st p n e ok more
+
+    pub told-fits : 2 + length p ≤ Z
+    told-fits = leb-true (2 + length p) Z (tests .1)
+
+    pub told-segment :
+        segmentArrived s Z st n (segWith s p (h .primary .flags) (h .body .at) (h .body .length) (h .ids .counter .0)) ≡ arrivedIn s Z st n p
+    told-segment = packet-fits s Z st p n e ok more told-fits
+
+  -- any other packet
+  pub told-other : not b ≡ true → unstoredOf h ≡ arrivedIn s Z st n p
+  told-other x = ⊎-elim accepted bad (bool (eqb (h .refusal .number) 0))
+    where
+      bad : eqb (h .refusal .number) 0 ≡ false → unstoredOf h ≡ arrivedIn s Z st n p
+      bad f = let d = eqb-false (h .refusal .number) 0 f in sym (unstored-bad h d) ∙ sym (packet-bad s Z st p n e d)
+
+      accepted : eqb (h .refusal .number) 0 ≡ true → unstoredOf h ≡ arrivedIn s Z st n p
+      accepted g =
+          let ok = eqb-true (h .refusal .number) 0 g in
+          ⊎-elim
+          (λ f. let d = eqb-true (h .primary .flags) 3 f in sym (unstored-whole h ok d) ∙ sym (packet-whole s Z st p n e ok d))
+          (λ f. let d = eqb-false (h .primary .flags) 3 f in
+          let l : leb (2 + length p) Z ≡ false = sym (rw (g, f) at eb) ∙ not-true b x in
+          sym (unstored-long h ok d) ∙ sym (packet-long s Z st p n e ok d (leb-false (2 + length p) Z l)))
+          (bool (eqb (h .primary .flags) 3))

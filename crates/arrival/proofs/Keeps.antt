@@ -13,13 +13,13 @@ use Rattle.walk.specs.declared.Settings.{Settings}
 use Rattle.walk.specs.Walk.{begun}
 use Rattle.cells.specs.Segments.{Seg, carries}
 use Rattle.cells.specs.Rows.{held, heldRow}
-use Rattle.cells.specs.Order.{isSound, carriesIn, cellAt, countIn, inOrder}
+use Rattle.cells.specs.Order.{isSound, carriesIn, cellAt, countIn, inOrder, gate}
+use Rattle.cells.proofs.Gate.{through-tells, open-true}
 use Rattle.cells.proofs.Lowest.{same-or}
-use Rattle.messages.proofs.Picking.{pick-tells}
-use Rattle.messages.proofs.Listed.{among-below}
-use Rattle.messages.proofs.Looking.{look-none}
-use Rattle.messages.proofs.Distinct.{Apart, carries-yes}
-use Rattle.messages.proofs.Order.{cells-inside, Ordered, order-tells, order-same}
+use Rattle.cells.proofs.Listed.{among-below}
+use Rattle.cells.proofs.Looking.{look-none}
+use Rattle.cells.proofs.Distinct.{Apart, carries-yes}
+use Rattle.cells.proofs.StoreOrder.{cells-inside, Ordered, order-tells, order-same}
 use Rattle.arrival.specs.Arriving.{Arrived, whole, stored, again, refused, arrivedIn, arrived, storeWith}
 use Rattle.arrival.proofs.After.{segment, Stored, not-refused, stored-tells, cell-kept, cell-stored}
 
@@ -35,9 +35,9 @@ module _ (s : Settings) (Z : ℕ) (st p : List ℕ) where
   pub arrived-tells : (i : ℕ) → arrived s Z st p ≡ stored i → (eqb (begun s .refusal .number) 0 ≡ true) × ((inOrder s Z st ≡ true) × (arrivedIn s Z st (countIn Z st) p ≡ stored i))
   unfolding arrived
   arrived-tells i e =
-      let a = pick-tells (eqb (begun s .refusal .number) 0) _ _ (stored i) (not-refused 15 i) e in
-      let b = pick-tells (inOrder s Z st) _ _ (stored i) (not-refused 16 i) (a .1) in
-      (a .0, (b .0, b .1))
+      let a = through-tells (gate s Z st) (arrivedIn s Z st (countIn Z st) p) refused (stored i) (λ k. not-refused k i) e in
+      let b = open-true s Z st (a .0) in
+      (b .0, (b .1, a .1))
 
   module _ (o : Ordered s Z st) (i : ℕ) (e : arrivedIn s Z st (countIn Z st) p ≡ stored i) where
     abbrev x : List ℕ

@@ -1,5 +1,4 @@
 pub mod Arrivals
-pub mod Beside
 pub mod Checked
 pub mod After
 pub mod Keeps

@@ -1,7 +1,6 @@
 -- A packet arrives at a store.
--- Document 01, "The store": "an unsegmented packet is answered "whole" and the store isn't touched. A new segment goes to the lowest
--- free cell and is answered "stored". A segment held already is answered "held", even in a full store." The order of the refusals:
--- "Arrival: 15, 16, reading, whole, 17, held, 18, 19."
+-- SPEC S-7: an unsegmented packet is told as whole; a new segment takes the lowest free cell; one that is there already is held, room
+-- or not. The tests in their order: 15, 16, reading's, whole, 17, held, 18, 19.
 -- Assumes nothing: these are definitions.
 use Prim.Native.Nat.{ℕ, _+_, _*_}
 use mathlib.Core.List.{List}
@@ -11,12 +10,11 @@ use lib.Seq.{sets}
 use lib.Dec.{leb, ltb, eqb}
 use Rattle.octets.specs.Octets.{pick}
 use Rattle.walk.specs.declared.Settings.{Settings}
-use Rattle.walk.specs.Walk.{begun}
 use Rattle.packet.specs.Reading.{readPacket, segmented}
 use Rattle.cells.specs.Segments.{Seg, segOf, sameRest}
 use Rattle.cells.specs.Rows.{heldRow}
-use Rattle.cells.specs.Order.{isFree, lowest, cellAt, inOrder, countIn}
-use Rattle.messages.specs.Messages.{cellsOf, look}
+use Rattle.cells.specs.Order.{isFree, lowest, cellAt, countIn, gate, through}
+use Rattle.cells.specs.Messages.{cellsOf, look}
 
 -- what an arrival comes to: a new segment with the cell it goes to
 pub data Arrived : Type 0 where
@@ -52,10 +50,7 @@ arrivedIn s Z st n p =
 
 -- a packet at any octets
 unfoldable pub arrived : Settings → ℕ → List ℕ → List ℕ → Arrived
-arrived s Z st p =
-    pick (eqb (begun s .refusal .number) 0)
-    (pick (inOrder s Z st) (arrivedIn s Z st (countIn Z st) p) (refused 16))
-    (refused 15)
+arrived s Z st p = through (gate s Z st) (arrivedIn s Z st (countIn Z st) p) refused
 
 -- the store behind it: a new segment's cell is written, and nothing else
 unfoldable pub storeWith : ℕ → List ℕ → List ℕ → Arrived → List ℕ

@@ -1,4 +1,3 @@
 pub mod Arriving
-pub mod Beside
 pub mod Told
 pub mod Inner

@@ -8,13 +8,19 @@ ghost use lib.ListN.{length};
 ghost use Rattle.octets.specs.Octets.{alike};
 ghost use Rattle.cells.specs.Segments.{sameRest};
 ghost use Rattle.cells.specs.Rows.{rowAt, zeroRow};
-ghost use Rattle.cells.specs.Order.{lowest};
-ghost use Rattle.cells.specs.Inner.{Asked};
-ghost use Rattle.messages.specs.Inner.{segIn};
+ghost use Rattle.packet.specs.Reading.{readPacket};
+ghost use Rattle.packet.specs.Key.{keyOf};
+ghost use Rattle.cells.specs.Order.{lowest, foundIn};
+ghost use Rattle.cells.specs.Chains.{bucketAt, Chained};
+ghost use Rattle.cells.specs.Pieces.{segIn};
 ghost use Rattle.arrival.specs.Arriving.{refused as refusedBy, placed, segmentArrived, arrivedIn, storeWith};
-ghost use Rattle.arrival.specs.Beside.{arrivedBeside};
 ghost use Rattle.arrival.specs.Told.{arrivalOf};
-ghost use Rattle.arrival.specs.Inner.{segWith};
+ghost use Rattle.arrival.specs.Inner.{segWith, segmentFits, unstoredOf};
+use packet::Header;
+use packet::UNSEGMENTED;
+use walk::REFUSED_CELL;
+use walk::REFUSED_CONTRADICTS;
+use walk::REFUSED_FULL;
 use walk::Refusal;
 use walk::Settings;
 
@@ -42,7 +48,7 @@ fn is_same(s: Settings, row: &[u8], p: &[u8], flags: u8, at: usize, long: usize)
     ensures { λ r. ⌜ r ≡ sameRest (segIn s 0 (now (row .entry))) (segWith s (now (p .entry)) flags at long 0) ⌝ }
 {
     let q = cells::packet_in(row);
-    let t = messages::piece_in(s, row);
+    let t = cells::messages::piece_in(s, row);
     cells::same_rest(q, t.flags, t.at, t.length, p, flags, at, long)
 }
 
@@ -51,85 +57,130 @@ fn store_new(store: &mut [u8], n: usize, zero: &[u8], p: &[u8]) -> Arrival
     requires { ⌜ now zero ≡ zeroRow (length (now zero)) ⌝ }
     requires { ⌜ 2 + length (now p) ≤ length (now zero) ⌝ }
     ensures { λ r. ⌜ r ≡ arrivalOf (placed n (lowest (λ j. alike (rowAt (length (now (zero .entry))) (now (store .entry)) j) (now (zero .entry))) n 0)) ⌝ }
-    ensures { λ r. ⌜ now (store .exit) ≡ storeWith (length (now (zero .entry))) (now (store .entry)) (now (p .entry)) (placed n (lowest (λ j. alike (rowAt (length (now (zero .entry))) (now (store .entry)) j) (now (zero .entry))) n 0)) ⌝ }
+    ensures { λ r. ⌜ now (store .exit) ≡ storeWith (length (now (zero .entry))) (now (store .entry)) (now (p .entry))
+        (placed n (lowest (λ j. alike (rowAt (length (now (zero .entry))) (now (store .entry)) j) (now (zero .entry))) n 0)) ⌝ }
 {
     let i = cells::lowest_free(store, n, zero);
     if n <= i {
-        return refused(19);
+        return refused(REFUSED_FULL);
     }
     cells::put_cell(store, zero.len(), i, p);
     Arrival::Answer(Kind::Stored)
 }
 
-// A segment that fits a cell, with what reading answered of it, at the first n cells.
-fn store_segment(
+// Whether a packet is a segment that fits a cell, by what reading answered of it.
+fn is_segment(h: Header, p: &[u8], zero: &[u8]) -> bool
+    ensures { λ r. ⌜ r ≡ segmentFits h (length (now (p .entry))) (length (now (zero .entry))) ⌝ }
+{
+    let refusal = h.refusal;
+    let primary = h.primary;
+    let segment = octets::both(refusal.number == 0, primary.flags != UNSEGMENTED);
+    octets::both(segment, 2 + p.len() <= zero.len())
+}
+
+// What any other packet comes to, whatever the store holds.
+fn unstored(h: Header) -> Arrival
+    ensures { λ r. ⌜ r ≡ arrivalOf (unstoredOf h) ⌝ }
+{
+    let refusal = h.refusal;
+    let primary = h.primary;
+    if refusal.number != 0 {
+        return Arrival::Refused(refusal);
+    }
+    if primary.flags == UNSEGMENTED {
+        return Arrival::Answer(Kind::Whole);
+    }
+    refused(REFUSED_CELL)
+}
+
+// A segment that fits a cell, with what reading answered of it, at the first n cells, told the lowest that holds its key and counter: n
+// if there is none.
+fn store_found(
     s: Settings,
     store: &mut [u8],
     n: usize,
     zero: &[u8],
     p: &[u8],
-    flags: u8,
-    at: usize,
-    long: usize,
-    counter: u32,
+    h: Header,
+    j: usize,
 ) -> Arrival
     requires { ⌜ now zero ≡ zeroRow (length (now zero)) ⌝ }
-    requires { ⌜ Asked s (now p) at ⌝ }
     requires { ⌜ 2 + length (now p) ≤ length (now zero) ⌝ }
-    ensures { λ r. ⌜ r ≡ arrivalOf (segmentArrived s (length (now (zero .entry))) (now (store .entry)) n (segWith s (now (p .entry)) flags at long counter)) ⌝ }
-    ensures { λ r. ⌜ now (store .exit) ≡ storeWith (length (now (zero .entry))) (now (store .entry)) (now (p .entry)) (segmentArrived s (length (now (zero .entry))) (now (store .entry)) n (segWith s (now (p .entry)) flags at long counter)) ⌝ }
+    requires { ⌜ j ≡ foundIn s (length (now zero)) (now store) n (keyOf (now p) (readPacket s (now p))) (h .ids .counter .0) ⌝ }
+    ensures { λ r. ⌜ r ≡ arrivalOf (segmentArrived s (length (now (zero .entry))) (now (store .entry)) n
+        (segWith s (now (p .entry)) (h .primary .flags) (h .body .at) (h .body .length) (h .ids .counter .0))) ⌝ }
+    ensures { λ r. ⌜ now (store .exit) ≡ storeWith (length (now (zero .entry))) (now (store .entry)) (now (p .entry))
+        (segmentArrived s (length (now (zero .entry))) (now (store .entry)) n
+        (segWith s (now (p .entry)) (h .primary .flags) (h .body .at) (h .body .length) (h .ids .counter .0))) ⌝ }
 {
-    let j = cells::find(s, store, n, zero, p, at, counter as u64);
     if n <= j {
         return store_new(store, n, zero, p);
     }
-    if is_same(s, cells::row(store, zero.len(), j), p, flags, at, long) {
+    let primary = h.primary;
+    let body = h.body;
+    if is_same(
+        s,
+        cells::row(store, zero.len(), j),
+        p,
+        primary.flags,
+        body.at,
+        body.length,
+    ) {
         return Arrival::Answer(Kind::Held);
     }
-    refused(18)
+    refused(REFUSED_CONTRADICTS)
 }
 
 // A packet at the first n cells of any octets, beside a zero cell.
-pub fn arrive_on(s: Settings, store: &mut [u8], n: usize, zero: &[u8], p: &[u8]) -> Arrival
+pub fn arrive_in(s: Settings, store: &mut [u8], n: usize, zero: &[u8], p: &[u8]) -> Arrival
     requires { ⌜ now zero ≡ zeroRow (length (now zero)) ⌝ }
     ensures { λ r. ⌜ r ≡ arrivalOf (arrivedIn s (length (now (zero .entry))) (now (store .entry)) n (now (p .entry))) ⌝ }
-    ensures { λ r. ⌜ now (store .exit) ≡ storeWith (length (now (zero .entry))) (now (store .entry)) (now (p .entry)) (arrivedIn s (length (now (zero .entry))) (now (store .entry)) n (now (p .entry))) ⌝ }
+    ensures { λ r. ⌜ now (store .exit) ≡ storeWith (length (now (zero .entry))) (now (store .entry)) (now (p .entry))
+        (arrivedIn s (length (now (zero .entry))) (now (store .entry)) n (now (p .entry))) ⌝ }
 {
     let h = packet::read(s, p);
-    let refusal = h.refusal;
-    let primary = h.primary;
+    if !is_segment(h, p, zero) {
+        return unstored(h);
+    }
     let body = h.body;
     let ids = h.ids;
-    let counter = ids.counter;
-    if refusal.number != 0 {
-        return Arrival::Refused(refusal);
+    let j = cells::find(s, store, n, zero, p, body.at, ids.counter);
+    store_found(s, store, n, zero, p, h, j)
+}
+
+// The same by chains that lead through these cells.
+pub fn arrive_by(
+    s: Settings,
+    store: &mut [u8],
+    n: usize,
+    zero: &[u8],
+    p: &[u8],
+    heads: &[u16; cells::CHAINS],
+    links: &[u16; cells::CELLS_MOST],
+) -> Arrival
+    requires { ⌜ now zero ≡ zeroRow (length (now zero)) ⌝ }
+    requires { ⌜ Chained (bucketAt s (length (now zero)) (now store)) (now heads) (now links) n ⌝ }
+    ensures { λ r. ⌜ r ≡ arrivalOf (arrivedIn s (length (now (zero .entry))) (now (store .entry)) n (now (p .entry))) ⌝ }
+    ensures { λ r. ⌜ now (store .exit) ≡ storeWith (length (now (zero .entry))) (now (store .entry)) (now (p .entry))
+        (arrivedIn s (length (now (zero .entry))) (now (store .entry)) n (now (p .entry))) ⌝ }
+{
+    let h = packet::read(s, p);
+    if !is_segment(h, p, zero) {
+        return unstored(h);
     }
-    if primary.flags == 3 {
-        return Arrival::Answer(Kind::Whole);
-    }
-    if zero.len() < 2 + p.len() {
-        return refused(17);
-    }
-    store_segment(
+    let body = h.body;
+    let ids = h.ids;
+    let j = cells::find_by(
         s,
         store,
         n,
         zero,
         p,
-        primary.flags,
         body.at,
-        body.length,
-        counter.0,
-    )
-}
-
-// The same beside any octets: where they are not all zeros, no store is in order beside them.
-pub fn arrive_in(s: Settings, store: &mut [u8], n: usize, zero: &[u8], p: &[u8]) -> Arrival
-    ensures { λ r. ⌜ r ≡ arrivalOf (arrivedBeside s (now (zero .entry)) (now (store .entry)) n (now (p .entry))) ⌝ }
-    ensures { λ r. ⌜ now (store .exit) ≡ storeWith (length (now (zero .entry))) (now (store .entry)) (now (p .entry)) (arrivedBeside s (now (zero .entry)) (now (store .entry)) n (now (p .entry))) ⌝ }
-{
-    if !octets::zeros(zero) {
-        return refused(16);
-    }
-    arrive_on(s, store, n, zero, p)
+        ids.counter,
+        true,
+        heads,
+        links,
+    );
+    store_found(s, store, n, zero, p, h, j)
 }

@@ -15,10 +15,10 @@ ghost use Rattle.flat.specs.Answers.{nextNumbers, writeNumbers, writeOut, after
 
 // The next sequence count: 0 follows 16,383.
 #[no_mangle]
-pub extern "C" fn orl_next_sequence_count(seq: u64, answer: &mut [u64; 2])
-    ensures { λ r. ⌜ now (answer .exit) ≡ nextNumbers seq ⌝ }
+pub extern "C" fn orl_next_sequence_count(sequence_count: u64, answer: &mut [u64; 2])
+    ensures { λ r. ⌜ now (answer .exit) ≡ nextNumbers «sequence_count» ⌝ }
 {
-    *answer = flat::next_sequence_count(seq);
+    *answer = flat::next_sequence_count(sequence_count);
 }
 
 // Reading a packet.
@@ -41,14 +41,18 @@ pub extern "C" fn orl_write(
     lengths: &[u64],
     authentication: &[u8],
     flags: u64,
-    seq: u64,
+    sequence_count: u64,
     counter: u64,
     body: &[u8],
     out: &mut [u8],
     answer: &mut [u64; 2],
 )
-    ensures { λ r. ⌜ now (answer .exit) ≡ writeNumbers t (now (header .entry)) (lent (now (timestamp .entry)) (now (zone .entry)) (now (name .entry)) (now (domain .entry)) (now (lengths .entry)) (now (authentication .entry))) flags seq counter (now (body .entry)) (length (now (out .entry))) ⌝ }
-    ensures { λ r. ⌜ now (out .exit) ≡ writeOut t (now (header .entry)) (lent (now (timestamp .entry)) (now (zone .entry)) (now (name .entry)) (now (domain .entry)) (now (lengths .entry)) (now (authentication .entry))) flags seq counter (now (body .entry)) (now (out .entry)) ⌝ }
+    ensures { λ r. ⌜ now (answer .exit) ≡ writeNumbers t (now (header .entry))
+        (lent (now (timestamp .entry)) (now (zone .entry)) (now (name .entry)) (now (domain .entry)) (now (lengths .entry))
+        (now (authentication .entry))) flags «sequence_count» counter (now (body .entry)) (length (now (out .entry))) ⌝ }
+    ensures { λ r. ⌜ now (out .exit) ≡ writeOut t (now (header .entry))
+        (lent (now (timestamp .entry)) (now (zone .entry)) (now (name .entry)) (now (domain .entry)) (now (lengths .entry))
+        (now (authentication .entry))) flags «sequence_count» counter (now (body .entry)) (now (out .entry)) ⌝ }
 {
     *answer = flat::write(
         t,
@@ -60,7 +64,7 @@ pub extern "C" fn orl_write(
         lengths,
         authentication,
         flags,
-        seq,
+        sequence_count,
         counter,
         body,
         out,
@@ -99,7 +103,9 @@ pub extern "C" fn orl_cut_count(
     sender: &[u64; 3],
     answer: &mut [u64; 5],
 )
-    ensures { λ r. ⌜ now (answer .exit) ≡ countNumbers t p (now (header .entry)) (lent (now (timestamp .entry)) (now (zone .entry)) (now (name .entry)) (now (domain .entry)) (now (lengths .entry)) (now (authentication .entry))) body (now (sender .entry)) ⌝ }
+    ensures { λ r. ⌜ now (answer .exit) ≡ countNumbers t p (now (header .entry))
+        (lent (now (timestamp .entry)) (now (zone .entry)) (now (name .entry)) (now (domain .entry)) (now (lengths .entry))
+        (now (authentication .entry))) body (now (sender .entry)) ⌝ }
 {
     *answer = flat::cut_count(
         t,
@@ -134,8 +140,12 @@ pub extern "C" fn orl_cut_packet(
     out: &mut [u8],
     answer: &mut [u64; 5],
 )
-    ensures { λ r. ⌜ now (answer .exit) ≡ packetNumbers t p (now (header .entry)) (lent (now (timestamp .entry)) (now (zone .entry)) (now (name .entry)) (now (domain .entry)) (now (lengths .entry)) (now (authentication .entry))) (now (body .entry)) (now (sender .entry)) i (length (now (out .entry))) ⌝ }
-    ensures { λ r. ⌜ now (out .exit) ≡ packetOut t p (now (header .entry)) (lent (now (timestamp .entry)) (now (zone .entry)) (now (name .entry)) (now (domain .entry)) (now (lengths .entry)) (now (authentication .entry))) (now (body .entry)) (now (sender .entry)) i (now (out .entry)) ⌝ }
+    ensures { λ r. ⌜ now (answer .exit) ≡ packetNumbers t p (now (header .entry))
+        (lent (now (timestamp .entry)) (now (zone .entry)) (now (name .entry)) (now (domain .entry)) (now (lengths .entry))
+        (now (authentication .entry))) (now (body .entry)) (now (sender .entry)) i (length (now (out .entry))) ⌝ }
+    ensures { λ r. ⌜ now (out .exit) ≡ packetOut t p (now (header .entry))
+        (lent (now (timestamp .entry)) (now (zone .entry)) (now (name .entry)) (now (domain .entry)) (now (lengths .entry))
+        (now (authentication .entry))) (now (body .entry)) (now (sender .entry)) i (now (out .entry)) ⌝ }
 {
     *answer = flat::cut_packet(
         t,

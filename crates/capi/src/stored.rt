@@ -1,7 +1,7 @@
 // The store's half: arrival, taking, joining, the view, the order of a store, and a whole recording.
 ghost use mathlib.Core.Path.{_≡_};
 ghost use lib.ListN.{length};
-ghost use Rattle.cells.specs.Order.{countIn};
+ghost use Rattle.cells.specs.Order.{countIn, cellSize};
 ghost use Rattle.arrival.specs.Arriving.{arrived, storeWith};
 ghost use Rattle.taking.specs.Taking.{took, outWith, storeLess};
 ghost use Rattle.join.specs.Joining.{joining, storeJoined, outJoined};
@@ -9,13 +9,14 @@ ghost use Rattle.recording.specs.Ending.{recordedOf, outRecorded};
 ghost use Rattle.walk.specs.Walk.{settingsOf};
 ghost use Rattle.flat_store.specs.Numbers.{arriveNumbers, takeNumbers, joinNumbers, orderNumbers};
 ghost use Rattle.flat_store.specs.Views.{viewNumbers};
-ghost use Rattle.flat_recording.specs.Numbers.{recordedNumbers};
+ghost use Rattle.flat_store.specs.Recordings.{recordedNumbers};
 
 // A packet arrives.
 #[no_mangle]
 pub extern "C" fn orl_arrive(t: u64, store: &mut [u8], packet: &[u8], answer: &mut [u64; 2])
-    ensures { λ r. ⌜ now (answer .exit) ≡ arriveNumbers (arrived (settingsOf t) 1024 (now (store .entry)) (now (packet .entry))) ⌝ }
-    ensures { λ r. ⌜ now (store .exit) ≡ storeWith 1024 (now (store .entry)) (now (packet .entry)) (arrived (settingsOf t) 1024 (now (store .entry)) (now (packet .entry))) ⌝ }
+    ensures { λ r. ⌜ now (answer .exit) ≡ arriveNumbers (arrived (settingsOf t) cellSize (now (store .entry)) (now (packet .entry))) ⌝ }
+    ensures { λ r. ⌜ now (store .exit) ≡ storeWith cellSize (now (store .entry)) (now (packet .entry))
+        (arrived (settingsOf t) cellSize (now (store .entry)) (now (packet .entry))) ⌝ }
 {
     *answer = flat_store::arrive(t, store, packet);
 }
@@ -23,9 +24,10 @@ pub extern "C" fn orl_arrive(t: u64, store: &mut [u8], packet: &[u8], answer: &m
 // A message is taken out.
 #[no_mangle]
 pub extern "C" fn orl_take(t: u64, store: &mut [u8], out: &mut [u8], answer: &mut [u64; 4])
-    ensures { λ r. ⌜ now (answer .exit) ≡ takeNumbers (took (settingsOf t) 1024 (now (store .entry)) (length (now (out .entry)))) ⌝ }
-    ensures { λ r. ⌜ now (out .exit) ≡ outWith (now (out .entry)) (took (settingsOf t) 1024 (now (store .entry)) (length (now (out .entry)))) ⌝ }
-    ensures { λ r. ⌜ now (store .exit) ≡ storeLess (settingsOf t) 1024 (now (store .entry)) (countIn 1024 (now (store .entry))) (took (settingsOf t) 1024 (now (store .entry)) (length (now (out .entry)))) ⌝ }
+    ensures { λ r. ⌜ now (answer .exit) ≡ takeNumbers (took (settingsOf t) cellSize (now (store .entry)) (length (now (out .entry)))) ⌝ }
+    ensures { λ r. ⌜ now (out .exit) ≡ outWith (now (out .entry)) (took (settingsOf t) cellSize (now (store .entry)) (length (now (out .entry)))) ⌝ }
+    ensures { λ r. ⌜ now (store .exit) ≡ storeLess (settingsOf t) cellSize (now (store .entry)) (countIn cellSize (now (store .entry)))
+        (took (settingsOf t) cellSize (now (store .entry)) (length (now (out .entry)))) ⌝ }
 {
     *answer = flat_store::take(t, store, out);
 }
@@ -39,9 +41,10 @@ pub extern "C" fn orl_join(
     out: &mut [u8],
     answer: &mut [u64; 7],
 )
-    ensures { λ r. ⌜ now (answer .exit) ≡ joinNumbers (joining (settingsOf t) 1024 (now (store .entry)) (now (packet .entry)) (length (now (out .entry)))) ⌝ }
-    ensures { λ r. ⌜ now (store .exit) ≡ storeJoined (settingsOf t) 1024 (now (store .entry)) (now (packet .entry)) (length (now (out .entry))) ⌝ }
-    ensures { λ r. ⌜ now (out .exit) ≡ outJoined (settingsOf t) 1024 (now (store .entry)) (now (packet .entry)) (now (out .entry)) ⌝ }
+    ensures { λ r. ⌜ now (answer .exit) ≡ joinNumbers (joining (settingsOf t) cellSize (now (store .entry)) (now (packet .entry))
+        (length (now (out .entry)))) ⌝ }
+    ensures { λ r. ⌜ now (store .exit) ≡ storeJoined (settingsOf t) cellSize (now (store .entry)) (now (packet .entry)) (length (now (out .entry))) ⌝ }
+    ensures { λ r. ⌜ now (out .exit) ≡ outJoined (settingsOf t) cellSize (now (store .entry)) (now (packet .entry)) (now (out .entry)) ⌝ }
 {
     *answer = flat_store::join(t, store, packet, out);
 }
@@ -64,7 +67,7 @@ pub extern "C" fn orl_view(
 // Whether a store is in order.
 #[no_mangle]
 pub extern "C" fn orl_in_order(t: u64, store: &[u8], answer: &mut [u64; 2])
-    ensures { λ r. ⌜ now (answer .exit) ≡ orderNumbers (settingsOf t) 1024 (now (store .entry)) ⌝ }
+    ensures { λ r. ⌜ now (answer .exit) ≡ orderNumbers (settingsOf t) cellSize (now (store .entry)) ⌝ }
 {
     *answer = flat_store::in_order(t, store);
 }
@@ -75,5 +78,5 @@ pub extern "C" fn orl_join_recording(recording: &[u8], out: &mut [u8], answer: &
     ensures { λ r. ⌜ now (answer .exit) ≡ recordedNumbers (recordedOf (length (now (out .entry))) (now (recording .entry))) ⌝ }
     ensures { λ r. ⌜ now (out .exit) ≡ outRecorded (now (out .entry)) (now (recording .entry)) ⌝ }
 {
-    *answer = flat_recording::join_recording(recording, out);
+    *answer = flat_store::recordings::join_recording(recording, out);
 }

@@ -3,6 +3,7 @@
 use Prim.Native.Nat.{ℕ, zero, suc, _+_, _*_, _≤_, _<_}
 use mathlib.Core.Path.{_≡_, refl, ap, _∙_}
 use mathlib.Core.Logic.{_⊎_, inl, inr, ⊎-elim, _≢_}
+use mathlib.Core.Option.{none}
 use mathlib.Core.List.{List}
 use native.Mathlib.Omega.{arith}
 use lib.ListN.{length, getD, set, replicate, length-set, length-replicate}
@@ -15,9 +16,10 @@ use Rattle.packet.specs.Reading.{readPacket}
 use Rattle.format.specs.Accepted.{Accepted}
 use Rattle.format.proofs.Accepting.{accepted}
 use Rattle.cells.specs.declared.Judged.{Judged}
-use Rattle.cells.specs.Rows.{Cell, free, broken, rowAt, packetIn, cellOf}
+use Rattle.cells.specs.Rows.{Cell, segmentIn, rowAt, packetIn, cellOf}
 use Rattle.cells.specs.Order.{cellsMost, cellAt}
 use Rattle.cells.specs.Inner.{bodyIn, judgedOf, bodyAt, bodiesTo, Bodies}
+use Rattle.cells.proofs.CellSegments.{judged-none}
 use Rattle.cells.proofs.Carries.{Holding, kinds}
 use Rattle.cells.proofs.Lowest.{same-or}
 
@@ -28,7 +30,7 @@ module _ (s : Settings) (Z : ℕ) (st : List ℕ) (i : ℕ) where
   r = rowAt Z st i
 
   abbrev p : List ℕ
-  p = packetIn Z r
+  p = packetIn r
 
   -- as it is judged
   pub body-judged : {x : List ℕ} {t : Judged} → x ≡ r → t ≡ judgedOf (bodyIn s Z x) (cellOf s Z x) → t .at ≡ bodyAt s Z st i
@@ -42,8 +44,8 @@ module _ (s : Settings) (Z : ℕ) (st : List ℕ) (i : ℕ) where
   pub body-held : Holding s Z r → bodyAt s Z st i ≡ readPacket s p .body .at
   body-held h = body-of (h .cell)
 
-  body-none : (cellAt s Z st i ≡ free) ⊎ (cellAt s Z st i ≡ broken) → bodyAt s Z st i ≡ 0
-  body-none w = ⊎-elim (λ e. body-of e) (λ e. body-of e) w
+  body-none : segmentIn (cellAt s Z st i) ≡ none → bodyAt s Z st i ≡ 0
+  body-none n = body-of refl ∙ judged-none (bodyIn s Z r) (cellAt s Z st i) n .1
 
   -- 0 is none
   pub body-some : (bodyAt s Z st i ≡ 0 → ⊥) → Holding s Z r
@@ -56,7 +58,7 @@ module _ (s : Settings) (Z : ℕ) (st : List ℕ) (i : ℕ) where
     taken : Holding s Z r → Accepted s p (readPacket s p)
     taken h = accepted s p (octets-part r 2 (number 2 r 6 + 7) row-plain) (h .accepted)
 
-    pub body-zero : bodyAt s Z st i ≡ 0 → (cellAt s Z st i ≡ free) ⊎ (cellAt s Z st i ≡ broken)
+    pub body-zero : bodyAt s Z st i ≡ 0 → segmentIn (cellAt s Z st i) ≡ none
     body-zero z = ⊎-elim (λ h. absurd (omega (arith, body-held h, taken h .body-low))) (λ w. w) (kinds s Z r)
 
     pub body-top : bodyAt s Z st i ≤ headerEnd

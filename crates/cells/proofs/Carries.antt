@@ -3,7 +3,8 @@
 use Prim.Native.Nat.{ℕ, _+_, _≤_}
 use mathlib.Core.Path.{_≡_, refl, ap, ap₂, sym, _∙_}
 use mathlib.Core.Logic.{_⊎_, inl, inr, ⊎-elim}
-use mathlib.Core.Bool.{Bool, true, false}
+use mathlib.Core.Bool.{Bool, true, false, false≢true}
+use mathlib.Core.Option.{none}
 use mathlib.Core.List.{List}
 use native.Mathlib.Omega.{arith}
 use lib.ListN.{length}
@@ -16,10 +17,11 @@ use Rattle.walk.specs.declared.Settings.{Settings}
 use Rattle.packet.specs.Reading.{readPacket, segmented}
 use Rattle.packet.specs.Key.{keyOf}
 use Rattle.cells.specs.Segments.{Seg, segOf, carries, both}
-use Rattle.cells.specs.Rows.{Cell, free, held, broken, zeroRow, heldRow, packetIn, mayHold, holds, cellOf}
+use Rattle.cells.specs.Rows.{free, held, broken, segmentIn, bySegment, zeroRow, heldRow, packetIn, mayHold, holds, cellOf}
 use Rattle.cells.specs.Order.{isSound, carriesIn}
 use Rattle.cells.specs.declared.Judged.{Judged}
-use Rattle.cells.specs.Inner.{placeIn, counterIn, spansAlike, bodyIn, judgedOf, Asked}
+use Rattle.cells.specs.Inner.{placeIn, counterIn, spansAlike, bodyIn, judgedOf, toldHeld, Asked}
+use Rattle.cells.proofs.CellSegments.{held-not, judged-none}
 use Rattle.cells.proofs.Held.{both-true}
 use Rattle.cells.proofs.Counters.{counter-told}
 use Rattle.cells.proofs.SameKeys.{keys-same}
@@ -27,17 +29,17 @@ use Rattle.cells.proofs.Transactions.{spans-transaction}
 
 -- what a row that is sound and not free holds
 pub record Holding (s : Settings) (Z : ℕ) (r : List ℕ) : Type 0 where
-  pub accepted : readPacket s (packetIn Z r) .refusal .number ≡ 0
-  pub segment : segmented (packetIn Z r) ≡ true
-  pub cell : cellOf s Z r ≡ held (segOf (packetIn Z r) (readPacket s (packetIn Z r)))
-  pub row : r ≡ heldRow Z (packetIn Z r)
-  pub fits : 2 + length (packetIn Z r) ≤ Z
+  pub accepted : readPacket s (packetIn r) .refusal .number ≡ 0
+  pub segment : segmented (packetIn r) ≡ true
+  pub cell : cellOf s Z r ≡ held (segOf (packetIn r) (readPacket s (packetIn r)))
+  pub row : r ≡ heldRow Z (packetIn r)
+  pub fits : 2 + length (packetIn r) ≤ Z
 
 pub free-cell : (s : Settings) (Z : ℕ) (r : List ℕ) → alike r (zeroRow Z) ≡ true → cellOf s Z r ≡ free
 unfolding cellOf
 free-cell s Z r e = rw e refl
 
-held-cell : (s : Settings) (Z : ℕ) (r : List ℕ) → alike r (zeroRow Z) ≡ false → holds s Z r ≡ true → cellOf s Z r ≡ held (segOf (packetIn Z r) (readPacket s (packetIn Z r)))
+held-cell : (s : Settings) (Z : ℕ) (r : List ℕ) → alike r (zeroRow Z) ≡ false → holds s Z r ≡ true → cellOf s Z r ≡ held (segOf (packetIn r) (readPacket s (packetIn r)))
 unfolding cellOf
 held-cell s Z r a b = rw (a, b) refl
 
@@ -48,15 +50,15 @@ broken-cell s Z r a b = rw (a, b) refl
 made : (s : Settings) (Z : ℕ) (r : List ℕ) → alike r (zeroRow Z) ≡ false → holds s Z r ≡ true → Holding s Z r
 unfolding holds mayHold
 made s Z r a b =
-    let x = both-true (alike r (heldRow Z (packetIn Z r))) (mayHold s Z (packetIn Z r)) b in
-    let y = both-true (leb (2 + length (packetIn Z r)) Z) (both (eqb (readPacket s (packetIn Z r) .refusal .number) 0) (segmented (packetIn Z r))) (x .1) in
-    let w = both-true (eqb (readPacket s (packetIn Z r) .refusal .number) 0) (segmented (packetIn Z r)) (y .1) in
+    let x = both-true (alike r (heldRow Z (packetIn r))) (mayHold s Z (packetIn r)) b in
+    let y = both-true (leb (2 + length (packetIn r)) Z) (both (eqb (readPacket s (packetIn r) .refusal .number) 0) (segmented (packetIn r))) (x .1) in
+    let w = both-true (eqb (readPacket s (packetIn r) .refusal .number) 0) (segmented (packetIn r)) (y .1) in
     record {
-      accepted = eqb-true (readPacket s (packetIn Z r) .refusal .number) 0 (w .0);
+      accepted = eqb-true (readPacket s (packetIn r) .refusal .number) 0 (w .0);
       segment = w .1;
       cell = held-cell s Z r a b;
-      row = alike-true r (heldRow Z (packetIn Z r)) (x .0);
-      fits = leb-true (2 + length (packetIn Z r)) Z (y .0);
+      row = alike-true r (heldRow Z (packetIn r)) (x .0);
+      fits = leb-true (2 + length (packetIn r)) Z (y .0);
     }
 
 pub holding : (s : Settings) (Z : ℕ) (r : List ℕ) → isSound (cellOf s Z r) ≡ true → alike r (zeroRow Z) ≡ false → Holding s Z r
@@ -68,70 +70,58 @@ holding s Z r g a = ⊎-elim yes-it no-it (bool (holds s Z r))
     no-it : holds s Z r ≡ false → Holding s Z r
     no-it b = let e : isSound broken ≡ true = ap isSound (sym (broken-cell s Z r a b)) ∙ g in let z : _≡_ {A = ℕ} 0 1 = cc in absurd (omega arith)
 
--- a row holds a segment, or is free or broken
-pub kinds : (s : Settings) (Z : ℕ) (r : List ℕ) → Holding s Z r ⊎ ((cellOf s Z r ≡ free) ⊎ (cellOf s Z r ≡ broken))
+-- a row holds a segment, or none
+pub kinds : (s : Settings) (Z : ℕ) (r : List ℕ) → Holding s Z r ⊎ (segmentIn (cellOf s Z r) ≡ none)
 kinds s Z r =
     ⊎-elim
-    (λ a. inr (inl (free-cell s Z r a)))
-    (λ a. ⊎-elim (λ b. inl (made s Z r a b)) (λ b. inr (inr (broken-cell s Z r a b))) (bool (holds s Z r)))
+    (λ a. inr (ap segmentIn (free-cell s Z r a)))
+    (λ a. ⊎-elim (λ b. inl (made s Z r a b)) (λ b. inr (ap segmentIn (broken-cell s Z r a b))) (bool (holds s Z r)))
     (bool (alike r (zeroRow Z)))
 
 pub held-is : (s : Settings) (Z : ℕ) (r : List ℕ) (t : Seg) → cellOf s Z r ≡ held t → Holding s Z r
-held-is s Z r t e = ⊎-elim (λ h. h) (λ h. absurd (⊎-elim no-free no-broken h)) (kinds s Z r)
-  where
-    no-free : cellOf s Z r ≡ free → ⊥
-    no-free d = let f : free ≡ held t = sym d ∙ e in let z : _≡_ {A = ℕ} 0 1 = cc in omega arith
-
-    no-broken : cellOf s Z r ≡ broken → ⊥
-    no-broken d = let f : broken ≡ held t = sym d ∙ e in let z : _≡_ {A = ℕ} 0 1 = cc in omega arith
+held-is s Z r t e = ⊎-elim (λ h. h) (λ n. absurd (held-not (cellOf s Z r) e n)) (kinds s Z r)
 
 -- a row that carries something holds it
 pub carrying : (s : Settings) (Z : ℕ) (r k : List ℕ) (c : ℕ) → carriesIn k c (cellOf s Z r) ≡ true → Holding s Z r
-carrying s Z r k c e = go (cellOf s Z r) refl e
-  where
-    go : (x : Cell) → cellOf s Z r ≡ x → carriesIn k c x ≡ true → Holding s Z r
-    go free d f = let z : _≡_ {A = ℕ} 0 1 = cc in absurd (omega arith)
-    go (held t) d f = held-is s Z r t d
-    go broken d f = let z : _≡_ {A = ℕ} 0 1 = cc in absurd (omega arith)
+carrying s Z r k c e = ⊎-elim (λ h. h) (λ n. absurd (false≢true (sym (ap (bySegment false (carries k c)) n) ∙ e))) (kinds s Z r)
 
 -- so one that could only carry what it holds carries nothing where it does not
 unless-held : (s : Settings) (Z : ℕ) (r k : List ℕ) (c : ℕ) → (Holding s Z r → false ≡ carriesIn k c (cellOf s Z r)) → false ≡ carriesIn k c (cellOf s Z r)
 unless-held s Z r k c h = ⊎-elim (λ e. h (carrying s Z r k c e)) (λ e. sym e) (bool (carriesIn k c (cellOf s Z r)))
 
 -- a row that is judged held is
-abbrev kind : Judged → ℕ
-kind t = t .kind
+abbrev held-told : Judged → Bool
+held-told t = toldHeld (t .content)
 
-pub judged-one : (s : Settings) (Z : ℕ) (r : List ℕ) {t : Judged} → t ≡ judgedOf (bodyIn s Z r) (cellOf s Z r) → t .kind ≡ 1 → Holding s Z r
-judged-one s Z r {t} e h = go (cellOf s Z r) refl (ap kind (sym e) ∙ h)
-  where
-    go : (x : Cell) → cellOf s Z r ≡ x → judgedOf (bodyIn s Z r) x .kind ≡ 1 → Holding s Z r
-    go free d f = absurd (omega (arith, f))
-    go (held u) d f = held-is s Z r u d
-    go broken d f = absurd (omega (arith, f))
+pub not-held : {b : Bool} → b ≡ true → b ≡ false → ⊥
+not-held e f = let z : _≡_ {A = ℕ} 0 1 = cc in omega arith
+
+pub judged-one : (s : Settings) (Z : ℕ) (r : List ℕ) {t : Judged} → t ≡ judgedOf (bodyIn s Z r) (cellOf s Z r) → toldHeld (t .content) ≡ true → Holding s Z r
+judged-one s Z r {t} e h =
+    ⊎-elim (λ w. w) (λ n. absurd (not-held (ap held-told (sym e) ∙ h) (judged-none (bodyIn s Z r) (cellOf s Z r) n .0))) (kinds s Z r)
 
 -- and tells where its body begins, and its counter
 pub judged-at :
     (s : Settings) (Z : ℕ) (r : List ℕ) {t : Judged} → t ≡ judgedOf (bodyIn s Z r) (cellOf s Z r) → Holding s Z r →
-    (t .kind ≡ 1) × ((t .at ≡ readPacket s (packetIn Z r) .body .at) × (t .counter ≡ readPacket s (packetIn Z r) .ids .counter .0))
+    (toldHeld (t .content) ≡ true) × ((t .at ≡ readPacket s (packetIn r) .body .at) × (t .counter .0 ≡ readPacket s (packetIn r) .ids .counter .0))
 unfolding segOf
 judged-at s Z r {t} e h =
     let f = e ∙ ap (judgedOf (bodyIn s Z r)) (h .cell) in
-    (ap kind f, (ap (λ (x : Judged). x .at) f, ap (λ (x : Judged). x .counter) f))
+    (ap held-told f, (ap (λ (x : Judged). x .at) f, ap (λ (x : Judged). x .counter .0) f))
 
 -- the counter of a segment that is held stands where its presence octet says
-pub held-counter : (s : Settings) (Z : ℕ) (r : List ℕ) → Octets r → Holding s Z r → counterIn (packetIn Z r) ≡ readPacket s (packetIn Z r) .ids .counter .0
+pub held-counter : (s : Settings) (Z : ℕ) (r : List ℕ) → Octets r → Holding s Z r → counterIn (packetIn r) ≡ readPacket s (packetIn r) .ids .counter .0
 unfolding counterIn placeIn
-held-counter s Z r o h = counter-told s (packetIn Z r) (octets-part r 2 (number 2 r 6 + 7) o) (h .accepted) (h .segment)
+held-counter s Z r o h = counter-told s (packetIn r) (octets-part r 2 (number 2 r 6 + 7) o) (h .accepted) (h .segment)
 
 -- ---- as the code tests it
 
-module _ (s : Settings) (r z q : List ℕ) (stop c : ℕ) (o : Octets r) (a : Asked s q stop) where
+module _ (s : Settings) (r z q : List ℕ) (body-at c : ℕ) (o : Octets r) (a : Asked s q body-at) where
   abbrev k : List ℕ
   k = keyOf q (readPacket s q)
 
   abbrev p : List ℕ
-  p = packetIn (length z) r
+  p = packetIn r
 
   plain : Octets p
   plain = octets-part r 2 (number 2 r 6 + 7) o
@@ -175,17 +165,17 @@ module _ (s : Settings) (r z q : List ℕ) (stop c : ℕ) (o : Octets r) (a : As
       ∙ pick-false (eqb c (counterIn p))))
 
   module _ {t : Judged} (et : t ≡ judgedOf (bodyIn s (length z) r) (cellOf s (length z) r)) where
-    pub carries-not : (t .kind ≡ 1 → ⊥) → false ≡ carriesIn k c (cellOf s (length z) r)
-    carries-not h = unless-held s (length z) r k c (λ there. absurd (h (judged-at s (length z) r et there .0)))
+    pub carries-not : toldHeld (t .content) ≡ false → false ≡ carriesIn k c (cellOf s (length z) r)
+    carries-not h = unless-held s (length z) r k c (λ there. absurd (not-held (judged-at s (length z) r et there .0) h))
 
     pub carries-same :
-        {x : List ℕ} {n : ℕ} {b : Bool} → t .kind ≡ 1 → x ≡ p → n ≡ counterIn x → n ≡ c → b ≡ spansAlike q stop x (t .at) →
+        {x : List ℕ} {n : ℕ} {b : Bool} → toldHeld (t .content) ≡ true → x ≡ p → n ≡ counterIn x → n ≡ c → b ≡ spansAlike q body-at x (t .at) →
         b ≡ carriesIn k c (cellOf s (length z) r)
     carries-same {x} {n} {b} one ex en ec eb =
         let there = judged-one s (length z) r et one in
         let e : c ≡ counterIn p = sym ec ∙ en ∙ ap counterIn ex in
         eb
-        ∙ ap₂ (λ (y : List ℕ) (m : ℕ). spansAlike q stop y m) ex (judged-at s (length z) r et there .1 .0)
+        ∙ ap₂ (λ (y : List ℕ) (m : ℕ). spansAlike q body-at y m) ex (judged-at s (length z) r et there .1 .0)
         ∙ ap (λ (m : ℕ). spansAlike q m p (readPacket s p .body .at)) (a .body)
         ∙ keys there
         ∙ sym (told there ∙ ap (λ (y : Bool). both y (alike k (keyOf p (readPacket s p)))) (eq-eqb c (counterIn p) e))

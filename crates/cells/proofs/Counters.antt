@@ -30,7 +30,7 @@ presence-has : (s : Settings) (v : Values) → Has (octetsOf s v) 26 (wide 1 (pr
 unfolding octetsOf dataOctets secondaryOctets fixedOctets identification
 presence-has s v =
     let a = has-second (wide 2 _) _ (has-self (octetsOf s v)) in
-    let b = has-second (wide 2 (v .flags * 16384 + v .count)) _ a in
+    let b = has-second (wide 2 (v .flags * 16384 + v .sequence-count)) _ a in
     let c = has-second (wide 2 (length (dataOctets s v) - 1)) (dataOctets s v) b in
     let d = has-first (fixedOctets (v .head)) _ (has-first (secondaryOctets s v) (v .body) c) in
     let e = has-second (wide 1 (v .head .sdu)) _ d in
@@ -38,11 +38,12 @@ presence-has s v =
     let g = has-second (wide 2 (v .head .service)) _ f in
     let h = has-second (wide 2 (v .head .operation)) _ g in
     let i = has-second (wide 1 (v .head .version)) _ h in
-    let j = has-second (wide 2 (v .head .error * 32768 + v .head .qos * 8192 + v .head .session * 2048 + v .head .second)) _ i in
+    let j = has-second (wide 2 (v .head .error * 32768 + v .head .qos * 8192 + v .head .session * 2048 + v .head .secondary-apid)) _ i in
     let k = has-second (wide 2 (v .head .qualifier)) _ j in
     let l = has-second (wide 8 (v .head .transaction)) (wide 1 (presence (v .head))) k in
     subst (λ (n : ℕ). Has (octetsOf s v) n (wide 1 (presence (v .head))))
-    (places (wide-length 2 _) (wide-length 2 _) (wide-length 2 _) (wide-length 1 _) (wide-length 2 _) (wide-length 2 _) (wide-length 2 _) (wide-length 1 _) (wide-length 2 _) (wide-length 2 _) (wide-length 8 _))
+    (places (wide-length 2 _) (wide-length 2 _) (wide-length 2 _) (wide-length 1 _) (wide-length 2 _) (wide-length 2 _) (wide-length 2 _)
+    (wide-length 1 _) (wide-length 2 _) (wide-length 2 _) (wide-length 8 _))
     l
 
 presence-octet : {p : List ℕ} (x : ℕ) → Has p 26 (wide 1 x) → octetAt p 26 ≡ x % 256
@@ -71,8 +72,10 @@ module _ (s : Settings) (p : List ℕ) (o : Octets p) (z : readPacket s p .refus
   unfolding counterPlace presence valuesOf headOf
   place-told =
       let hd = headOf p h in
-      let a = source-bit _ _ _ _ _ _ _ _ (bit-top (hd .has-source)) (bit-top (hd .has-destination)) (bit-top (hd .has-priority)) (bit-top (hd .has-timestamp)) (bit-top (hd .has-zone)) (bit-top (hd .has-name)) (bit-top (hd .has-domain)) (bit-top (hd .has-authentication)) in
-      let b = destination-bit _ _ _ _ _ _ _ _ (bit-top (hd .has-source)) (bit-top (hd .has-destination)) (bit-top (hd .has-priority)) (bit-top (hd .has-timestamp)) (bit-top (hd .has-zone)) (bit-top (hd .has-name)) (bit-top (hd .has-domain)) (bit-top (hd .has-authentication)) in
+      let a = source-bit _ _ _ _ _ _ _ _ (bit-top (hd .has-source)) (bit-top (hd .has-destination)) (bit-top (hd .has-priority))
+      (bit-top (hd .has-timestamp)) (bit-top (hd .has-zone)) (bit-top (hd .has-session-name)) (bit-top (hd .has-domain)) (bit-top (hd .has-authentication)) in
+      let b = destination-bit _ _ _ _ _ _ _ _ (bit-top (hd .has-source)) (bit-top (hd .has-destination)) (bit-top (hd .has-priority))
+      (bit-top (hd .has-timestamp)) (bit-top (hd .has-zone)) (bit-top (hd .has-session-name)) (bit-top (hd .has-domain)) (bit-top (hd .has-authentication)) in
       rw octet-is (rw (a, b) refl)
 
   pub counter-told : segmented p ≡ true → number 4 p (27 + (octetAt p 26 / 128 % 2 + octetAt p 26 / 64 % 2)) ≡ h .ids .counter .0

@@ -4,6 +4,7 @@ use Prim.Native.Nat.{ℕ, _+_, _<_}
 use mathlib.Core.Path.{_≡_, refl, ap, ap₂, sym, _∙_}
 use mathlib.Core.Logic.{_⊎_, ⊎-elim}
 use mathlib.Core.Bool.{Bool, true, false}
+use mathlib.Core.Option.{none}
 use mathlib.Core.List.{List}
 use native.Mathlib.Omega.{arith}
 use lib.ListN.{getD, set}
@@ -17,11 +18,11 @@ use Rattle.packet.specs.Reading.{readPacket}
 use Rattle.packet.specs.Key.{keyOf}
 use Rattle.cells.specs.declared.Judged.{Judged}
 use Rattle.cells.specs.Segments.{segOf, both}
-use Rattle.cells.specs.Rows.{Cell, free, broken, rowAt, packetIn, cellOf}
+use Rattle.cells.specs.Rows.{Cell, segmentIn, bySegment, rowAt, packetIn, cellOf}
 use Rattle.cells.specs.Order.{cellsMost, carriesIn, cellAt, newTo, newAt, foundIn}
-use Rattle.cells.specs.Inner.{counterIn, bodyIn, judgedOf, bodyAt, Asked}
+use Rattle.cells.specs.Inner.{counterIn, bodyIn, judgedOf, toldHeld, bodyAt, Asked}
 use Rattle.cells.specs.Chains.{chainsAll, bucketOf, keyIn, bucketIn, bucketAt, Chained}
-use Rattle.cells.proofs.Carries.{Holding, kinds, held-counter}
+use Rattle.cells.proofs.Carries.{Holding, judged-one, judged-at, held-counter}
 use Rattle.cells.proofs.Mixing.{key-asked}
 use Rattle.cells.proofs.Lowest.{none-new, some-known}
 use Rattle.cells.proofs.Chaining.{chained-skip, chained-push}
@@ -33,8 +34,8 @@ both-yes false = refl
 
 -- a segment that is held, as one that is looked for
 asked-held :
-    (s : Settings) (Z : ℕ) (r : List ℕ) → Octets r → Holding s Z r → {q : List ℕ} {stop : ℕ} → q ≡ packetIn Z r →
-    stop ≡ readPacket s (packetIn Z r) .body .at → Asked s q stop
+    (s : Settings) (Z : ℕ) (r : List ℕ) → Octets r → Holding s Z r → {q : List ℕ} {body-at : ℕ} → q ≡ packetIn r →
+    body-at ≡ readPacket s (packetIn r) .body .at → Asked s q body-at
 asked-held s Z r o h eq es =
     record {
       octets = rw eq (octets-part r 2 (number 2 r 6 + 7) o);
@@ -46,29 +47,23 @@ asked-held s Z r o h eq es =
 -- ---- a row that is judged held
 
 module _ (s : Settings) (st : List ℕ) (Z i : ℕ) {r : List ℕ} (er : r ≡ rowAt Z st i) {t : Judged} (et : t ≡ judgedOf (bodyIn s Z r) (cellOf s Z r))
-    (o : Octets st) (sound : t .kind ≡ 2 → ⊥) (some : t .kind ≡ 0 → ⊥) where
-  told : {d : Cell} → cellOf s Z r ≡ d → t ≡ judgedOf (bodyIn s Z r) d
-  told e = et ∙ ap (judgedOf (bodyIn s Z r)) e
-
-  abbrev kind : Judged → ℕ
-  kind x = x .kind
-
+    (o : Octets st) (one : toldHeld (t .content) ≡ true) where
   there : Holding s Z r
-  there = ⊎-elim (λ h. h) (λ w. absurd (⊎-elim (λ e. some (ap kind (told e))) (λ e. sound (ap kind (told e))) w)) (kinds s Z r)
+  there = judged-one s Z r et one
 
-  pub asked : {q : List ℕ} → q ≡ packetIn Z r → Asked s q (t .at)
-  asked eq = asked-held s Z r (rw er (row-plain s Z st i o)) there eq (ap (λ (x : Judged). x .at) (told (there .cell)))
+  pub asked : {q : List ℕ} → q ≡ packetIn r → Asked s q (t .at)
+  asked eq = asked-held s Z r (rw er (row-plain s Z st i o)) there eq (judged-at s Z r et there .1 .0)
 
 -- ---- a cell, told where the body of its segment begins
 
-module _ (s : Settings) (st : List ℕ) (Z i : ℕ) (o : Octets st) {stop : ℕ} (es : stop ≡ bodyAt s Z st i) where
-  module _ (z : stop ≡ 0) where
-    none : (cellAt s Z st i ≡ free) ⊎ (cellAt s Z st i ≡ broken)
-    none = body-zero s Z st i o (sym es ∙ z)
+module _ (s : Settings) (st : List ℕ) (Z i : ℕ) (o : Octets st) {body-at : ℕ} (es : body-at ≡ bodyAt s Z st i) where
+  module _ (z : body-at ≡ 0) where
+    no-segment : segmentIn (cellAt s Z st i) ≡ none
+    no-segment = body-zero s Z st i o (sym es ∙ z)
 
     none-true : newAt s Z st i (cellAt s Z st i) ≡ true
     unfolding newAt
-    none-true = ⊎-elim (λ e. ap (newAt s Z st i) e) (λ e. ap (newAt s Z st i) e) none
+    none-true = ap (bySegment true (λ t. newTo s Z st i (t .key) (t .counter))) no-segment
 
     pub none-apart : (a : Bool) → a ≡ both a (newAt s Z st i (cellAt s Z st i))
     none-apart a = sym (both-yes a) ∙ ap (both a) (sym none-true)
@@ -76,19 +71,21 @@ module _ (s : Settings) (st : List ℕ) (Z i : ℕ) (o : Octets st) {stop : ℕ}
     -- it is on no chain
     pub none-off : {H L : List ℕ} → Chained (bucketAt s Z st) H L i → i < cellsMost → Chained (bucketAt s Z st) H L (i + 1)
     unfolding bucketAt
-    none-off c l = let w : bucketAt s Z st i ≡ chainsAll = ⊎-elim (λ e. ap bucketIn e) (λ e. ap bucketIn e) none in chained-skip c l (omega arith)
+    none-off c l =
+        let w : bucketAt s Z st i ≡ chainsAll = ap (bySegment chainsAll (λ t. bucketOf (t .key) (t .counter))) no-segment in
+        chained-skip c l (omega arith)
 
-  module _ (some : stop ≡ 0 → ⊥) {r q : List ℕ} (er : r ≡ rowAt Z st i) (eq : q ≡ packetIn Z r) {c : ℕ} (ec : c ≡ counterIn q) where
+  module _ (some : body-at ≡ 0 → ⊥) {r q : List ℕ} (er : r ≡ rowAt Z st i) (eq : q ≡ packetIn r) {c : ℕ} (ec : c ≡ counterIn q) where
     abbrev p : List ℕ
-    p = packetIn Z (rowAt Z st i)
+    p = packetIn (rowAt Z st i)
 
     held-there : Holding s Z (rowAt Z st i)
     held-there = body-some s Z st i (λ e. some (es ∙ e))
 
     packet-is : q ≡ p
-    packet-is = eq ∙ ap (packetIn Z) er
+    packet-is = eq ∙ ap packetIn er
 
-    pub asked-at : Asked s q stop
+    pub asked-at : Asked s q body-at
     asked-at = asked-held s Z (rowAt Z st i) (row-plain s Z st i o) held-there packet-is (es ∙ body-held s Z st i held-there)
 
     key-is : keyOf q (readPacket s q) ≡ keyOf p (readPacket s p)
@@ -105,14 +102,14 @@ module _ (s : Settings) (st : List ℕ) (Z i : ℕ) (o : Octets st) {stop : ℕ}
         (ap₂ (λ (x : List ℕ) (n : ℕ). newTo s Z st i x n) key-is counter-is ∙ sym (ap (newAt s Z st i) (held-there .cell)))
 
     -- its chain is the one that was walked
-    chain-is : bucketOf (keyIn q stop) c ≡ bucketAt s Z st i
+    chain-is : bucketOf (keyIn q body-at) c ≡ bucketAt s Z st i
     unfolding bucketAt segOf
     chain-is =
-        ap₂ (λ (x : List ℕ) (n : ℕ). bucketOf x n) (key-asked s q stop asked-at ∙ key-is) counter-is
+        ap₂ (λ (x : List ℕ) (n : ℕ). bucketOf x n) (key-asked s q body-at asked-at ∙ key-is) counter-is
         ∙ sym (ap bucketIn (held-there .cell))
 
     pub some-on :
-        {b : ℕ} {H L H′ L′ : List ℕ} → Chained (bucketAt s Z st) H L i → i < cellsMost → b ≡ bucketOf (keyIn q stop) c → b < chainsAll →
+        {b : ℕ} {H L H′ L′ : List ℕ} → Chained (bucketAt s Z st) H L i → i < cellsMost → b ≡ bucketOf (keyIn q body-at) c → b < chainsAll →
         H′ ≡ set H b (i + 1) → L′ ≡ set L i (getD H b 0) → Chained (bucketAt s Z st) H′ L′ (i + 1)
     some-on {b} d l eb lb eh el =
         let e : b ≡ bucketAt s Z st i = eb ∙ chain-is in

@@ -25,10 +25,10 @@ asks s st Z q c j = carriesIn (keyOf q (readPacket s q)) c (cellAt s Z st j)
 abbrev pub Finding : Settings → List ℕ → ℕ → List ℕ → ℕ → ℕ → ℕ → ℕ → ℕ → Type 0
 Finding s st Z q c n b cur best = Walked (bucketAt s Z st) (asks s st Z q c) n b cur best
 
-module _ (s : Settings) (st : List ℕ) (Z : ℕ) (q : List ℕ) (stop c n : ℕ) {b : ℕ} {H L : List ℕ}
-    (a : Asked s q stop) (ch : Chained (bucketAt s Z st) H L n) (eb : b ≡ bucketOf (keyIn q stop) c) where
+module _ (s : Settings) (st : List ℕ) (Z : ℕ) (q : List ℕ) (body-at c n : ℕ) {b : ℕ} {H L : List ℕ}
+    (a : Asked s q body-at) (ch : Chained (bucketAt s Z st) H L n) (eb : b ≡ bucketOf (keyIn q body-at) c) where
   chain-is : b ≡ bucketOf (keyOf q (readPacket s q)) c
-  chain-is = eb ∙ ap (λ (y : List ℕ). bucketOf y c) (key-asked s q stop a)
+  chain-is = eb ∙ ap (λ (y : List ℕ). bucketOf y c) (key-asked s q body-at a)
 
   pub chain-low : b < chainsAll
   chain-low = rw chain-is (bucket-low (keyOf q (readPacket s q)) c)

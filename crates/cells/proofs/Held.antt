@@ -17,6 +17,7 @@ use Rattle.walk.specs.declared.Settings.{Settings}
 use Rattle.packet.specs.declared.Header.{Header}
 use Rattle.packet.specs.Reading.{readPacket, segmented, acceptedHeader, primaryOf}
 use Rattle.format.proofs.Start.{answer}
+use Rattle.cells.specs.declared.Content.the-variants.{Free, Held, Broken}
 use Rattle.cells.specs.declared.Judged.{Judged}
 use Rattle.cells.specs.Segments.{segOf, both}
 use Rattle.cells.specs.Rows.{zeroRow, heldRow, packetIn, mayHold, holds, cellOf}
@@ -94,7 +95,7 @@ part-fits Z k r e h = omega (arith, length-take k (drop 2 r), length-drop 2 r)
 
 -- what is told of a held row, by its packet's header
 abbrev noted : Header → Judged
-noted h = record { kind = 1; at = h .body .at; counter = h .ids .counter .0 }
+noted h = record { content = Held; at = h .body .at; counter = h .ids .counter }
 
 nothing : (a b c d : Bool) → c ≡ false → both a (both b (both c d)) ≡ false
 nothing true true c d e = rw e refl
@@ -108,7 +109,7 @@ not-both false b h = refl
 
 module _ (s : Settings) (Z : ℕ) (r : List ℕ) where
   abbrev p : List ℕ
-  p = packetIn Z r
+  p = packetIn r
 
   abbrev tested : Bool
   tested =
@@ -154,7 +155,7 @@ module _ (s : Settings) (Z : ℕ) (r : List ℕ) where
       (bool (eqb (length r) Z))
 
   -- what the row is
-  pub judged-free : alike r (zeroRow Z) ≡ true → record { kind = 0; at = 0; counter = 0 } ≡ judgedOf (bodyIn s Z r) (cellOf s Z r)
+  pub judged-free : alike r (zeroRow Z) ≡ true → record { content = Free; at = 0; counter = record { 0 = 0 } } ≡ judgedOf (bodyIn s Z r) (cellOf s Z r)
   unfolding cellOf
   judged-free e = rw e refl
 
@@ -163,7 +164,7 @@ module _ (s : Settings) (Z : ℕ) (r : List ℕ) where
     unfolding cellOf segOf
     judged-held e = rw (no, e) refl
 
-    pub judged-broken : holds s Z r ≡ false → record { kind = 2; at = 0; counter = 0 } ≡ judgedOf (bodyIn s Z r) (cellOf s Z r)
+    pub judged-broken : holds s Z r ≡ false → record { content = Broken; at = 0; counter = record { 0 = 0 } } ≡ judgedOf (bodyIn s Z r) (cellOf s Z r)
     unfolding cellOf
     judged-broken e = rw (no, e) refl
 
@@ -189,7 +190,7 @@ pub part-room : (r : List ℕ) (k : ℕ) {n : ℕ} → n ≡ length (part r 2 k)
 part-room r k e h = omega (arith, length-take k (drop 2 r), length-drop 2 r)
 
 module _ (s : Settings) (r z : List ℕ) (ez : z ≡ zeroRow (length z)) where
-  pub told-free : {b : Bool} → b ≡ alike r z → b ≡ true → record { kind = 0; at = 0; counter = 0 } ≡ judgedOf (bodyIn s (length z) r) (cellOf s (length z) r)
+  pub told-free : {b : Bool} → b ≡ alike r z → b ≡ true → record { content = Free; at = 0; counter = record { 0 = 0 } } ≡ judgedOf (bodyIn s (length z) r) (cellOf s (length z) r)
   told-free e t = judged-free s (length z) r (ap (alike r) (sym ez) ∙ sym e ∙ t)
 
   module _ {b m t : Bool} {p : List ℕ} {h : Header} (eb : b ≡ alike r z) (no : b ≡ false) (ep : p ≡ part r 2 (number 2 r 6 + 7)) (eh : h ≡ readPacket s p)
@@ -213,7 +214,7 @@ module _ (s : Settings) (r z : List ℕ) (ez : z ≡ zeroRow (length z)) where
     pub told-held : t ≡ true → noted h ≡ judgedOf (bodyIn s (length z) r) (cellOf s (length z) r)
     told-held e = ap noted (eh ∙ ap (readPacket s) ep) ∙ judged-held s (length z) r row-free (sym row-holds ∙ e)
 
-    pub told-broken : t ≡ false → record { kind = 2; at = 0; counter = 0 } ≡ judgedOf (bodyIn s (length z) r) (cellOf s (length z) r)
+    pub told-broken : t ≡ false → record { content = Broken; at = 0; counter = record { 0 = 0 } } ≡ judgedOf (bodyIn s (length z) r) (cellOf s (length z) r)
     told-broken e = judged-broken s (length z) r row-free (sym row-holds ∙ e)
 
 -- a counter's place is one of three

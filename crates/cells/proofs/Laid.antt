@@ -43,7 +43,8 @@ held-laid Z i st p e h =
     there : (k : ℕ) → k < Z → getD st (i * Z + k) 0 ≡ 0
     there k b = sym (getD-drop (i * Z) st k 0) ∙ sym (getD-take Z (drop (i * Z) st) k 0 b) ∙ ap (λ (x : List ℕ). getD x k 0) e ∙ getD-replicate Z k 0 0 b
 
-    zeros : (k : ℕ) → k < length {A = ℕ} (replicate (Z - (2 + length p)) 0) → getD (sets st (i * Z) (0x4d ∷ 0x53 ∷ p)) (i * Z + length (0x4d ∷ 0x53 ∷ p) + k) 0 ≡ getD {A = ℕ} (replicate (Z - (2 + length p)) 0) k 0
+    zeros : (k : ℕ) → k < length {A = ℕ} (replicate (Z - (2 + length p)) 0) → getD (sets st (i * Z) (0x4d ∷ 0x53 ∷ p))
+        (i * Z + length (0x4d ∷ 0x53 ∷ p) + k) 0 ≡ getD {A = ℕ} (replicate (Z - (2 + length p)) 0) k 0
     zeros k b =
         let n : k < Z - (2 + length p) = omega (arith, length-replicate {A = ℕ} (Z - (2 + length p)) 0) in
         let m : suc (suc (length p)) + k < Z = omega arith in

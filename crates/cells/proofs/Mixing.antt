@@ -1,6 +1,6 @@
 -- A key mixed in its three parts is mixed whole, and chooses one of the chains.
 -- Assumes nothing.
-use Prim.Native.Nat.{ℕ, _+_, _-_, _%_, _≤_, _<_}
+use Prim.Native.Nat.{ℕ, _+_, _-_, _≤_, _<_}
 use mathlib.Core.Path.{_≡_, refl, ap, sym, _∙_}
 use mathlib.Core.Bool.{Bool}
 use mathlib.Core.List.{List, [], _∷_, _++_}
@@ -45,19 +45,19 @@ mixed-append m [] b = refl
 mixed-append m (x ∷ a) b = mixed-append (mixIn m x) a b
 
 pub bucket-told :
-    (q : List ℕ) (stop c : ℕ) {a f t r : ℕ} → a ≡ mixed mixStart (part q 0 2) → f ≡ mixed a (part q 6 (placeIn q - 6)) →
-    t ≡ mixed f (part q (placeIn q + 4) (stop - (placeIn q + 4))) → r ≡ chainIn (mixIn t (c % 4294967296)) → r ≡ bucketOf (keyIn q stop) c
+    (q : List ℕ) (body-at c : ℕ) {a f t r : ℕ} → a ≡ mixed mixStart (part q 0 2) → f ≡ mixed a (part q 6 (placeIn q - 6)) →
+    t ≡ mixed f (part q (placeIn q + 4) (body-at - (placeIn q + 4))) → r ≡ chainIn (mixIn t c) → r ≡ bucketOf (keyIn q body-at) c
 unfolding bucketOf keyIn
-bucket-told q stop c {a} {f} {t} ea ef et er =
+bucket-told q body-at c {a} {f} {t} ea ef et er =
     let u : List ℕ = part q 0 2 in
     let v : List ℕ = part q 6 (placeIn q - 6) in
-    let w : List ℕ = part q (placeIn q + 4) (stop - (placeIn q + 4)) in
+    let w : List ℕ = part q (placeIn q + 4) (body-at - (placeIn q + 4)) in
     let e : t ≡ mixed mixStart (u ++ (v ++ w)) =
     et
     ∙ ap (λ (n : ℕ). mixed n w) (ef ∙ ap (λ (n : ℕ). mixed n v) ea)
     ∙ sym (mixed-append (mixed mixStart u) v w)
     ∙ sym (mixed-append mixStart u (v ++ w)) in
-    er ∙ ap (λ (n : ℕ). chainIn (mixIn n (c % 4294967296))) e
+    er ∙ ap (λ (n : ℕ). chainIn (mixIn n c)) e
 
 -- it is one of the chains
 pub bucket-low : (k : List ℕ) (c : ℕ) → bucketOf k c < chainsAll
@@ -66,7 +66,7 @@ bucket-low k c = omega arith
 
 -- ---- the key of a segment that is looked for
 
-pub key-asked : (s : Settings) (q : List ℕ) (stop : ℕ) → Asked s q stop → keyIn q stop ≡ keyOf q (readPacket s q)
+pub key-asked : (s : Settings) (q : List ℕ) (body-at : ℕ) → Asked s q body-at → keyIn q body-at ≡ keyOf q (readPacket s q)
 unfolding keyIn placeIn
-key-asked s q stop a =
-    sym (key-told q (readPacket s q) (placeIn q) stop (place-told s q (a .octets) (a .accepted)) (ap (λ (b : Bool). pick b 4 0) (a .segment)) (sym (a .body)))
+key-asked s q body-at a =
+    sym (key-told q (readPacket s q) (placeIn q) body-at (place-told s q (a .octets) (a .accepted)) (ap (λ (b : Bool). pick b 4 0) (a .segment)) (sym (a .body)))

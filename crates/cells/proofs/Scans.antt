@@ -32,7 +32,7 @@ told false false t = refl
 
 pub free-is : (s : Settings) (Z : ℕ) (r : List ℕ) → isFree (cellOf s Z r) ≡ alike r (zeroRow Z)
 unfolding cellOf
-free-is s Z r = told (alike r (zeroRow Z)) (holds s Z r) (segOf (packetIn Z r) (readPacket s (packetIn Z r)))
+free-is s Z r = told (alike r (zeroRow Z)) (holds s Z r) (segOf (packetIn r) (readPacket s (packetIn r)))
 
 -- ---- the lowest
 

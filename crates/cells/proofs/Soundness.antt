@@ -14,13 +14,13 @@ use Rattle.cells.specs.declared.Judged.{Judged}
 use Rattle.cells.specs.Segments.{both}
 use Rattle.cells.specs.Rows.{Cell, free, held, broken, rowAt, cellOf}
 use Rattle.cells.specs.Order.{isSound, cellAt, allTo, sound}
-use Rattle.cells.specs.Inner.{bodyIn, judgedOf, bodiesTo}
+use Rattle.cells.specs.Inner.{bodyIn, judgedOf, toldSound, bodiesTo}
 use Rattle.cells.proofs.Bodies.{body-judged, body-top}
 
-sound-kind : (at : ℕ) (d : Cell) → not (eqb (judgedOf at d .kind) 2) ≡ isSound d
-sound-kind at free = refl
-sound-kind at (held t) = refl
-sound-kind at broken = refl
+sound-told : (at : ℕ) (d : Cell) → toldSound (judgedOf at d .content) ≡ isSound d
+sound-told at free = refl
+sound-told at (held t) = refl
+sound-told at broken = refl
 
 pub record Sounding (s : Settings) (Z : ℕ) (st : List ℕ) (n : ℕ) (first table : List ℕ) (a : Bool) (i : ℕ) : Type 0 where
   pub most : i ≤ n
@@ -34,22 +34,22 @@ module _ {s : Settings} {Z : ℕ} {st : List ℕ} {n : ℕ} {first : List ℕ} w
 
   module _ {table : List ℕ} {a : Bool} {i : ℕ} (p : Sounding s Z st n first table a i) where
     module _ {r : List ℕ} {t : Judged} (er : r ≡ rowAt Z st i) (et : t ≡ judgedOf (bodyIn s Z r) (cellOf s Z r)) where
-      is-sound : not (eqb (t .kind) 2) ≡ isSound (cellAt s Z st i)
+      is-sound : toldSound (t .content) ≡ isSound (cellAt s Z st i)
       is-sound =
-          ap (λ (x : Judged). not (eqb (x .kind) 2)) et
-          ∙ sound-kind (bodyIn s Z r) (cellOf s Z r)
+          ap (λ (x : Judged). toldSound (x .content)) et
+          ∙ sound-told (bodyIn s Z r) (cellOf s Z r)
           ∙ ap (λ (x : List ℕ). isSound (cellOf s Z x)) er
 
       -- the place is small
       pub place-small : Octets st → t .at < 65536
       place-small o = omega (arith, body-judged s Z st i er et, body-top s Z st i o)
 
-      pub sounding-turn : {b : Bool} → i < n → b ≡ both a (not (eqb (t .kind) 2)) → Sounding s Z st n first (set table i (t .at)) b (i + 1)
+      pub sounding-turn : {b d : Bool} → i < n → d ≡ toldSound (t .content) → b ≡ both a d → Sounding s Z st n first (set table i (t .at)) b (i + 1)
       unfolding sound allTo bodiesTo
-      sounding-turn h e =
+      sounding-turn h ed e =
           record {
             most = omega arith;
-            so-far = rw (add-one i) (e ∙ ap₂ both (p .so-far) is-sound);
+            so-far = rw (add-one i) (e ∙ ap₂ both (p .so-far) (ed ∙ is-sound));
             bodies =
                 rw (add-one i)
                 (ap₂ (λ (x : List ℕ) (k : ℕ). set x i k) (p .bodies) (body-judged s Z st i er et));

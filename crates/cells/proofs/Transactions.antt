@@ -40,11 +40,11 @@ parts-transaction p q n l e = numbers-same 8 p q 18 octet
         ∙ part-octet q 6 n (12 + k) m
         ∙ ap (octetAt q) (sym x)
 
-pub spans-transaction : (p q : List ℕ) (end stop : ℕ) → spansAlike p end q stop ≡ true → number 8 p 18 ≡ number 8 q 18
+pub spans-transaction : (p q : List ℕ) (end body-at : ℕ) → spansAlike p end q body-at ≡ true → number 8 p 18 ≡ number 8 q 18
 unfolding spansAlike
-spans-transaction p q end stop e =
-    let a = both-true (both (eqb (placeIn p) (placeIn q)) (eqb end stop)) _ e in
-    let b = both-true (eqb (placeIn p) (placeIn q)) (eqb end stop) (a .0) in
+spans-transaction p q end body-at e =
+    let a = both-true (both (eqb (placeIn p) (placeIn q)) (eqb end body-at)) _ e in
+    let b = both-true (eqb (placeIn p) (placeIn q)) (eqb end body-at) (a .0) in
     let c = both-true (alike (part p 0 2) (part q 0 2)) _ (a .1) in
     let d = both-true (alike (part p 6 (placeIn p - 6)) (part q 6 (placeIn q - 6))) _ (c .1) in
     let f : placeIn p ≡ placeIn q = eqb-true (placeIn p) (placeIn q) (b .0) in

@@ -3,7 +3,8 @@
 use Prim.Native.Nat.{ℕ, suc, _-_, _≤_, _<_}
 use mathlib.Core.Path.{_≡_, ap, sym, _∙_}
 use mathlib.Core.Logic.{_⊎_, inl, inr, ⊎-elim}
-use mathlib.Core.Bool.{Bool, true, false}
+use mathlib.Core.Bool.{Bool, true, false, false≢true}
+use mathlib.Core.Option.{Option, none, some}
 use mathlib.Core.List.{List}
 use native.Mathlib.Omega.{arith}
 use lib.ListN.{getD}
@@ -12,8 +13,8 @@ use borrow.Author.Tests.{eqb-true}
 use Rattle.octets.specs.Octets.{alike}
 use Rattle.octets.proofs.Lists.{bool, alike-true}
 use Rattle.walk.specs.declared.Settings.{Settings}
-use Rattle.cells.specs.Segments.{carries}
-use Rattle.cells.specs.Rows.{Cell, free, held, broken}
+use Rattle.cells.specs.Segments.{Seg, carries}
+use Rattle.cells.specs.Rows.{Cell, segmentIn, bySegment}
 use Rattle.cells.specs.Order.{lowest, carriesIn, cellAt}
 use Rattle.cells.specs.Chains.{chainsAll, bucketOf, bucketIn, bucketAt, Chained}
 use Rattle.cells.proofs.Held.{both-true}
@@ -86,13 +87,15 @@ module _ {b : ℕ → ℕ} {H L : List ℕ} {n : ℕ} (c : Chained b H L n) (g :
 
 carries-chain : (k : List ℕ) (c : ℕ) (d : Cell) → carriesIn k c d ≡ true → bucketIn d ≡ bucketOf k c
 unfolding carries
-carries-chain k c free e = let z : _≡_ {A = ℕ} 0 1 = cc in absurd (omega arith)
-carries-chain k c broken e = let z : _≡_ {A = ℕ} 0 1 = cc in absurd (omega arith)
-carries-chain k c (held t) e =
-    let w = both-true (eqb c (t .counter)) (alike k (t .key)) e in
-    let p : c ≡ t .counter = eqb-true c (t .counter) (w .0) in
-    let q : k ≡ t .key = alike-true k (t .key) (w .1) in
-    ap (λ (y : List ℕ). bucketOf y (t .counter)) (sym q) ∙ ap (bucketOf k) (sym p)
+carries-chain k c d e = go (segmentIn d) e
+  where
+    go : (o : Option Seg) → bySegment false (carries k c) o ≡ true → bySegment chainsAll (λ t. bucketOf (t .key) (t .counter)) o ≡ bucketOf k c
+    go none f = absurd (false≢true f)
+    go (some t) f =
+        let w = both-true (eqb c (t .counter)) (alike k (t .key)) f in
+        let p : c ≡ t .counter = eqb-true c (t .counter) (w .0) in
+        let q : k ≡ t .key = alike-true k (t .key) (w .1) in
+        ap (λ (y : List ℕ). bucketOf y (t .counter)) (sym q) ∙ ap (bucketOf k) (sym p)
 
 pub cell-chain : (s : Settings) (Z : ℕ) (st k : List ℕ) (c j : ℕ) {x : ℕ} → x ≡ bucketOf k c → carriesIn k c (cellAt s Z st j) ≡ true → bucketAt s Z st j ≡ x
 unfolding bucketAt

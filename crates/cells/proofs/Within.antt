@@ -1,27 +1,26 @@
--- Octets that are a segment's key, and a cell that holds a segment of a key between two counters, as the code tests them.
+-- Octets that are a segment's key, and a cell that holds a segment of a key and of a range of counters, as the code tests them.
 -- Assumes nothing.
-use Prim.Native.Nat.{ℕ, suc, _+_, _-_, _≤_, _<_}
+use Prim.Native.Nat.{ℕ, suc, _+_, _-_}
 use mathlib.Core.Path.{_≡_, refl, ap, ap₂, sym, _∙_}
 use mathlib.Core.Logic.{⊎-elim}
-use mathlib.Core.Bool.{Bool, false}
+use mathlib.Core.Bool.{Bool, true, false}
 use mathlib.Core.List.{List, [], _∷_, _++_}
 use native.Mathlib.Omega.{arith}
 use lib.ListN.{length, take, drop}
 use lib.Seq.{drop-drop}
-use lib.Dec.{eqb, leb, ltb}
-use borrow.Author.Tests.{le-leb, lt-leb}
+use lib.Dec.{eqb}
 use Rattle.octets.specs.Octets.{Octets, octetAt, part, number, alike}
 use Rattle.octets.proofs.Has.{octets-part}
-use Rattle.octets.proofs.Lists.{bool, pick-false}
+use Rattle.octets.proofs.Lists.{bool}
 use Rattle.walk.specs.declared.Settings.{Settings}
 use Rattle.packet.specs.Reading.{readPacket}
 use Rattle.packet.specs.Key.{keyOf}
 use Rattle.cells.specs.declared.Judged.{Judged}
 use Rattle.cells.specs.Segments.{segOf, both}
-use Rattle.cells.specs.Rows.{Cell, free, held, broken, packetIn, cellOf}
-use Rattle.cells.specs.Inner.{placeIn, counterIn, bodyIn, judgedOf, withinIn, Asked}
+use Rattle.cells.specs.Rows.{Cell, packetIn, cellOf, bySegment}
+use Rattle.cells.specs.Inner.{placeIn, counterIn, bodyIn, judgedOf, toldHeld, reaches, withinIn, Asked, within}
 use Rattle.cells.specs.Chains.{keyIn}
-use Rattle.cells.proofs.Carries.{Holding, held-is, judged-one, judged-at, held-counter}
+use Rattle.cells.proofs.Carries.{Holding, not-held, judged-one, judged-at, held-counter, kinds}
 use Rattle.cells.proofs.Mixing.{key-asked}
 
 -- ---- a key
@@ -57,58 +56,48 @@ module _ (k p : List ℕ) (end : ℕ) {c : ℕ} {i f : List ℕ} (ec : c ≡ pla
 
 -- ---- a cell
 
-module _ (s : Settings) (r z k : List ℕ) (from to : ℕ) (o : Octets r) where
+module _ (s : Settings) (r z k : List ℕ) (first steps : ℕ) (o : Octets r) where
   abbrev here : Cell
   here = cellOf s (length z) r
 
   abbrev p : List ℕ
-  p = packetIn (length z) r
+  p = packetIn r
 
   -- it holds a segment, or is none
-  unless-held : (Holding s (length z) r → false ≡ withinIn k from to here) → false ≡ withinIn k from to here
-  unless-held h = go here refl
-    where
-      go : (x : Cell) → cellOf s (length z) r ≡ x → false ≡ withinIn k from to here
-      go free d = sym (ap (withinIn k from to) d)
-      go (held t) d = h (held-is s (length z) r t d)
-      go broken d = sym (ap (withinIn k from to) d)
+  unless-held : (Holding s (length z) r → false ≡ withinIn suc k first steps here) → false ≡ withinIn suc k first steps here
+  unless-held h = ⊎-elim h (λ e. sym (ap (bySegment false (within suc k first steps)) e)) (kinds s (length z) r)
 
-  told : Holding s (length z) r → withinIn k from to here ≡ both (both (leb from (counterIn p)) (ltb (counterIn p) to)) (alike k (keyOf p (readPacket s p)))
+  told : Holding s (length z) r → withinIn suc k first steps here ≡ both (reaches suc steps first (counterIn p)) (alike k (keyOf p (readPacket s p)))
   unfolding segOf
   told there =
-      ap (withinIn k from to) (there .cell)
-      ∙ ap (λ (n : ℕ). both (both (leb from n) (ltb n to)) (alike k (keyOf p (readPacket s p)))) (sym (held-counter s (length z) r o there))
+      ap (withinIn suc k first steps) (there .cell)
+      ∙ ap (λ (n : ℕ). both (reaches suc steps first n) (alike k (keyOf p (readPacket s p)))) (sym (held-counter s (length z) r o there))
 
-  pub within-free : {b : ℕ} → b ≡ octetAt r 0 → b ≡ 0 → false ≡ withinIn k from to here
+  pub within-free : {b : ℕ} → b ≡ octetAt r 0 → b ≡ 0 → false ≡ withinIn suc k first steps here
   within-free {b} e t = unless-held held-it
     where
-      held-it : Holding s (length z) r → false ≡ withinIn k from to here
+      held-it : Holding s (length z) r → false ≡ withinIn suc k first steps here
       held-it h = let w : _≡_ {A = ℕ} 0x4d 0 = ap (λ (x : List ℕ). octetAt x 0) (sym (h .row)) ∙ sym e ∙ t in absurd (omega arith)
 
   module _ {x : List ℕ} {n : ℕ} (ex : x ≡ p) (en : n ≡ counterIn x) where
     counter-is : n ≡ counterIn p
     counter-is = en ∙ ap counterIn ex
 
-    by-counter : {a : Bool} → both (leb from n) (ltb n to) ≡ a → Holding s (length z) r → withinIn k from to here ≡ both a (alike k (keyOf p (readPacket s p)))
+    by-counter : {a : Bool} → a ≡ reaches suc steps first n → Holding s (length z) r → withinIn suc k first steps here ≡ both a (alike k (keyOf p (readPacket s p)))
     by-counter e there =
         told there
         ∙ ap (λ (w : Bool). both w (alike k (keyOf p (readPacket s p))))
-        (ap (λ (m : ℕ). both (leb from m) (ltb m to)) (sym counter-is) ∙ e)
+        (ap (λ (m : ℕ). reaches suc steps first m) (sym counter-is) ∙ sym e)
 
-    pub within-low : n < from → false ≡ withinIn k from to here
-    within-low h = unless-held (λ there. sym (by-counter (ap (λ (w : Bool). both w (ltb n to)) (lt-leb from n h)) there))
-
-    pub within-high : to ≤ n → false ≡ withinIn k from to here
-    within-high h =
-        let l : to < suc n = omega arith in
-        unless-held (λ there. sym (by-counter (ap (both (leb from n)) (lt-leb (suc n) to l) ∙ pick-false (leb from n)) there))
+    pub within-out : {a : Bool} → a ≡ reaches suc steps first n → a ≡ false → false ≡ withinIn suc k first steps here
+    within-out e h = unless-held (λ there. sym (by-counter (sym h ∙ e) there))
 
     module _ {t : Judged} (et : t ≡ judgedOf (bodyIn s (length z) r) here) where
-      pub within-not : (t .kind ≡ 1 → ⊥) → false ≡ withinIn k from to here
-      within-not h = unless-held (λ there. absurd (h (judged-at s (length z) r et there .0)))
+      pub within-not : toldHeld (t .content) ≡ false → false ≡ withinIn suc k first steps here
+      within-not h = unless-held (λ there. absurd (not-held (judged-at s (length z) r et there .0) h))
 
-      pub within-same : {b : Bool} → t .kind ≡ 1 → from ≤ n → n < to → b ≡ alike k (keyIn x (t .at)) → b ≡ withinIn k from to here
-      within-same {b} one lo hi eb =
+      pub within-same : {a b : Bool} → toldHeld (t .content) ≡ true → a ≡ reaches suc steps first n → a ≡ true → b ≡ alike k (keyIn x (t .at)) → b ≡ withinIn suc k first steps here
+      within-same one ea in-it eb =
           let there = judged-one s (length z) r et one in
           let a : Asked s p (t .at) =
           record {
@@ -117,8 +106,7 @@ module _ (s : Settings) (r z k : List ℕ) (from to : ℕ) (o : Octets r) where
             segment = there .segment;
             body = judged-at s (length z) r et there .1 .0;
           } in
-          let l : suc n ≤ to = omega arith in
           eb
           ∙ ap (λ (w : List ℕ). alike k (keyIn w (t .at))) ex
           ∙ ap (alike k) (key-asked s p (t .at) a)
-          ∙ sym (by-counter (ap₂ both (le-leb from n lo) (le-leb (suc n) to l)) there)
+          ∙ sym (by-counter (sym in-it ∙ ea) there)

@@ -7,7 +7,7 @@ use mathlib.Core.List.{List, [], _∷_, _++_}
 use lib.ListN.{length, getD}
 use Rattle.octets.specs.Octets.{part}
 use Rattle.walk.specs.declared.Settings.{Settings}
-use Rattle.cells.specs.Rows.{Cell, free, held, broken}
+use Rattle.cells.specs.Rows.{Cell, segmentIn, bySegment}
 use Rattle.cells.specs.Order.{cellsMost, cellAt}
 use Rattle.cells.specs.Inner.{placeIn}
 
@@ -17,9 +17,19 @@ chainsAll = 4096
 
 -- ---- the chain of a key and a counter
 
--- a number mixed into a number of 32 bits
+-- mixed numbers have 32 bits, two halves of 16 each
+abbrev pub mixAll : ℕ
+mixAll = 4294967296
+
+abbrev pub mixHalf : ℕ
+mixHalf = 65536
+
+abbrev pub mixFactor : ℕ
+mixFactor = 16777619
+
+-- a number mixed into a mixed number
 abbrev pub mixIn : ℕ → ℕ → ℕ
-mixIn m x = (m * 16777619 + x) % 4294967296
+mixIn m x = (m * mixFactor + x) % mixAll
 
 -- octets mixed in, one after the other
 unfoldable pub mixed : ℕ → List ℕ → ℕ
@@ -32,23 +42,21 @@ mixStart = 2166136261
 
 -- a chain by the high and the low half of a mixed number
 abbrev pub chainIn : ℕ → ℕ
-chainIn m = (m / 65536 + m) % chainsAll
+chainIn m = (m / mixHalf + m) % chainsAll
 
 -- the whole key and the counter choose the chain
 unfoldable pub bucketOf : List ℕ → ℕ → ℕ
-bucketOf k c = chainIn (mixIn (mixed mixStart k) (c % 4294967296))
+bucketOf k c = chainIn (mixIn (mixed mixStart k) c)
 
 -- the key of a segment by its octets, told where its body begins
 unfoldable pub keyIn : List ℕ → ℕ → List ℕ
-keyIn p end = part p 0 2 ++ (part p 6 (placeIn p - 6) ++ part p (placeIn p + 4) (end - (placeIn p + 4)))
+keyIn p body-at = part p 0 2 ++ (part p 6 (placeIn p - 6) ++ part p (placeIn p + 4) (body-at - (placeIn p + 4)))
 
 -- ---- the chains
 
 -- the chain of a cell: none for one that holds no segment
 abbrev pub bucketIn : Cell → ℕ
-bucketIn free = chainsAll
-bucketIn (held t) = bucketOf (t .key) (t .counter)
-bucketIn broken = chainsAll
+bucketIn x = bySegment chainsAll (λ t. bucketOf (t .key) (t .counter)) (segmentIn x)
 
 unfoldable pub bucketAt : Settings → ℕ → List ℕ → ℕ → ℕ
 bucketAt s Z st i = bucketIn (cellAt s Z st i)

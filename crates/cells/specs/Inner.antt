@@ -5,13 +5,15 @@ use mathlib.Core.Path.{_≡_}
 use mathlib.Core.List.{List}
 use mathlib.Core.Bool.{Bool, true, false}
 use lib.ListN.{length, getD, drop, set}
-use lib.Dec.{leb, ltb, eqb}
-use Rattle.octets.specs.Octets.{Octets, octetAt, part, number, alike}
+use lib.Dec.{eqb}
+use Rattle.octets.specs.Octets.{pick, Octets, octetAt, part, number, alike}
 use Rattle.walk.specs.declared.Settings.{Settings}
 use Rattle.packet.specs.Reading.{readPacket, segmented}
-use Rattle.cells.specs.Segments.{both}
+use Rattle.cells.specs.Segments.{Seg, both}
+use Rattle.cells.specs.declared.Content.{Content}
+use Rattle.cells.specs.declared.Content.the-variants.{Free, Held, Broken}
 use Rattle.cells.specs.declared.Judged.{Judged}
-use Rattle.cells.specs.Rows.{Cell, free, held, broken, rowAt, packetIn}
+use Rattle.cells.specs.Rows.{Cell, free, held, broken, segmentIn, bySegment, rowAt, packetIn}
 use Rattle.cells.specs.Order.{cellAt}
 
 -- a row begins with the mark, and from n on is as the zero cell
@@ -28,34 +30,52 @@ counterIn p = number 4 p (placeIn p)
 
 -- two packets agree around their counters, told where their bodies begin
 unfoldable pub spansAlike : List ℕ → ℕ → List ℕ → ℕ → Bool
-spansAlike p end q stop =
-    both (both (eqb (placeIn p) (placeIn q)) (eqb end stop))
+spansAlike p at-p q at-q =
+    both (both (eqb (placeIn p) (placeIn q)) (eqb at-p at-q))
     (both (alike (part p 0 2) (part q 0 2))
     (both (alike (part p 6 (placeIn p - 6)) (part q 6 (placeIn q - 6)))
-    (alike (part p (placeIn p + 4) (end - (placeIn p + 4))) (part q (placeIn q + 4) (stop - (placeIn q + 4))))))
+    (alike (part p (placeIn p + 4) (at-p - (placeIn p + 4))) (part q (placeIn q + 4) (at-q - (placeIn q + 4))))))
 
 -- where the body begins in the packet of a row, by reading it
 abbrev pub bodyIn : Settings → ℕ → List ℕ → ℕ
-bodyIn s Z r = readPacket s (packetIn Z r) .body .at
+bodyIn s Z r = readPacket s (packetIn r) .body .at
 
--- a cell told in numbers, with the place of its body: 0 free, 1 held, 2 broken
+-- what is told of a cell, with the place of its body
 abbrev pub judgedOf : ℕ → Cell → Judged
-judgedOf at free = record { kind = 0; at = 0; counter = 0 }
-judgedOf at (held t) = record { kind = 1; at = at; counter = t .counter }
-judgedOf at broken = record { kind = 2; at = 0; counter = 0 }
+judgedOf at free = record { content = Free; at = 0; counter = record { 0 = 0 } }
+judgedOf at (held t) = record { content = Held; at = at; counter = record { 0 = t .counter } }
+judgedOf at broken = record { content = Broken; at = 0; counter = record { 0 = 0 } }
 
--- the cell holds a segment of this key, with a counter from c on and below d
-abbrev pub withinIn : List ℕ → ℕ → ℕ → Cell → Bool
-withinIn k c d free = false
-withinIn k c d (held t) = both (both (leb c (t .counter)) (ltb (t .counter) d)) (alike k (t .key))
-withinIn k c d broken = false
+-- what is told of a cell tells whether it holds a segment, and whether it is free or holds one
+abbrev pub toldHeld : Content → Bool
+toldHeld Free = false
+toldHeld Held = true
+toldHeld Broken = false
+
+abbrev pub toldSound : Content → Bool
+toldSound Free = true
+toldSound Held = true
+toldSound Broken = false
+
+module _ (next : ℕ → ℕ) where
+  -- the counter x is c or one of m steps after it
+  unfoldable pub reaches : ℕ → ℕ → ℕ → Bool
+  reaches zero c x = eqb c x
+  reaches (suc m) c x = let r = reaches m (next c) x in pick (eqb c x) true r
+
+  -- the segment has this key, and its counter is c or one of m steps after it; and a cell that holds such a one
+  abbrev pub within : List ℕ → ℕ → ℕ → Seg → Bool
+  within k c m t = both (reaches m c (t .counter)) (alike k (t .key))
+
+  abbrev pub withinIn : List ℕ → ℕ → ℕ → Cell → Bool
+  withinIn k c m x = bySegment false (within k c m) (segmentIn x)
 
 -- a segment whose key is looked for: what reading answered of it, and where its body begins
-pub record Asked (s : Settings) (q : List ℕ) (stop : ℕ) : Type 0 where
+pub record Asked (s : Settings) (q : List ℕ) (body-at : ℕ) : Type 0 where
   pub octets : Octets q
   pub accepted : readPacket s q .refusal .number ≡ 0
   pub segment : segmented q ≡ true
-  pub body : stop ≡ readPacket s q .body .at
+  pub body : body-at ≡ readPacket s q .body .at
 
 -- where the body of the segment in cell i begins; 0 where the cell holds none
 unfoldable pub bodyAt : Settings → ℕ → List ℕ → ℕ → ℕ

@@ -1,6 +1,5 @@
 -- A store in order, and searches in it.
--- Document 01, "The store": "A store is in order if its length fits, each cell is as above and readable under T, and no two cells have
--- equal key and counter."
+-- SPEC S-6: a whole number of cells, each free or held, and no key and counter twice.
 -- Assumes nothing: these are definitions.
 use Prim.Native.Nat.{ℕ, zero, suc, _/_, _%_}
 use mathlib.Core.List.{List}
@@ -9,10 +8,11 @@ use lib.ListN.{length}
 use lib.Dec.{leb, eqb}
 use Rattle.octets.specs.Octets.{pick}
 use Rattle.walk.specs.declared.Settings.{Settings}
+use Rattle.walk.specs.Walk.{begun}
 use Rattle.cells.specs.Segments.{carries, both}
-use Rattle.cells.specs.Rows.{Cell, free, held, broken, rowAt, cellOf}
+use Rattle.cells.specs.Rows.{Cell, free, held, broken, segmentIn, bySegment, rowAt, cellOf}
 
--- "Cells of 1,024 octets"
+-- SPEC N-10: 1,024 octets a cell
 abbrev pub cellSize : ℕ
 cellSize = 1024
 
@@ -40,9 +40,7 @@ isSound broken = false
 
 -- the cell holds a segment of this key and counter
 abbrev pub carriesIn : List ℕ → ℕ → Cell → Bool
-carriesIn k c free = false
-carriesIn k c (held t) = carries k c t
-carriesIn k c broken = false
+carriesIn k c x = bySegment false (carries k c) (segmentIn x)
 
 -- the lowest of n numbers, from i on, of which a test holds: n + i where there is none
 unfoldable pub lowest : (ℕ → Bool) → ℕ → ℕ → ℕ
@@ -63,9 +61,7 @@ newTo s Z st n k c = allTo (λ j. not (carriesIn k c (cellAt s Z st j))) n
 
 -- no cell below i has the key and counter of this one
 unfoldable pub newAt : Settings → ℕ → List ℕ → ℕ → Cell → Bool
-newAt s Z st i free = true
-newAt s Z st i broken = true
-newAt s Z st i (held t) = newTo s Z st i (t .key) (t .counter)
+newAt s Z st i x = bySegment true (λ t. newTo s Z st i (t .key) (t .counter)) (segmentIn x)
 
 -- no two of the first n cells have equal key and counter
 unfoldable pub distinct : Settings → ℕ → List ℕ → ℕ → Bool
@@ -76,6 +72,14 @@ sound s Z st n = allTo (λ i. isSound (cellAt s Z st i)) n
 
 unfoldable pub inOrder : Settings → ℕ → List ℕ → Bool
 inOrder s Z st = both (lengthFits Z (length st)) (both (sound s Z st (countIn Z st)) (distinct s Z st (countIn Z st)))
+
+-- what every call on a store tests before anything else: 15, then 16; 0 if both pass
+unfoldable pub gate : Settings → ℕ → List ℕ → ℕ
+gate s Z st = pick (eqb (begun s .refusal .number) 0) (pick (inOrder s Z st) 0 16) 15
+
+-- what a call comes to by that number: a if it is 0, and else the refusal by it
+abbrev pub through : {A : Type 0} → ℕ → A → (ℕ → A) → A
+through g a refuse = pick (eqb g 0) a (refuse g)
 
 -- the lowest of the first n cells with this key and counter; n where there is none
 unfoldable pub foundIn : Settings → ℕ → List ℕ → ℕ → List ℕ → ℕ → ℕ

@@ -1,10 +1,10 @@
 -- The store's cells, over the cell size Z: rows of Z octets.
--- Document 01, "The store": "Each record has a two-byte mark before it: 4D 53 held, 00 00 free. A held cell is the mark, one segmented
--- packet of at most 1,022 octets as it arrived, and zeros. A free cell is all zeros."
+-- SPEC S-2, S-3: a free cell is zeros; a held one is the mark 4D 53, a segment's packet that fits, just as it came, and zeros.
 -- Assumes nothing: these are definitions.
 use Prim.Native.Nat.{ℕ, _+_, _-_, _*_}
 use mathlib.Core.List.{List, _∷_, _++_}
 use mathlib.Core.Bool.{Bool}
+use mathlib.Core.Option.{Option, none, some}
 use lib.ListN.{length, replicate}
 use lib.Dec.{leb, eqb}
 use Rattle.octets.specs.Octets.{pick, part, number, alike}
@@ -18,6 +18,17 @@ pub data Cell : Type 0 where
   held : Seg → Cell
   broken : Cell
 
+-- the segment that a cell holds; whatever else is told of the segments in cells goes through this
+abbrev pub segmentIn : Cell → Option Seg
+segmentIn free = none
+segmentIn (held t) = some t
+segmentIn broken = none
+
+-- what is told of a segment, if there is one, and else a
+abbrev pub bySegment : {A : Type 0} → A → (Seg → A) → Option Seg → A
+bySegment a f none = a
+bySegment a f (some t) = f t
+
 -- row number i of the store's octets
 abbrev pub rowAt : ℕ → List ℕ → ℕ → List ℕ
 rowAt Z st i = part st (i * Z) Z
@@ -30,11 +41,11 @@ abbrev pub heldRow : ℕ → List ℕ → List ℕ
 heldRow Z p = 0x4d ∷ 0x53 ∷ p ++ replicate (Z - (2 + length p)) 0
 
 -- how long the packet in a row is, its length field says
-abbrev pub sizeIn : ℕ → List ℕ → ℕ
-sizeIn Z r = number 2 r 6 + 7
+abbrev pub sizeIn : List ℕ → ℕ
+sizeIn r = number 2 r 6 + 7
 
-abbrev pub packetIn : ℕ → List ℕ → List ℕ
-packetIn Z r = part r 2 (sizeIn Z r)
+abbrev pub packetIn : List ℕ → List ℕ
+packetIn r = part r 2 (sizeIn r)
 
 -- a packet that may be held: reading accepts it, it is segmented, and fits the cell behind the mark
 unfoldable pub mayHold : Settings → ℕ → List ℕ → Bool
@@ -42,9 +53,9 @@ mayHold s Z p = both (leb (2 + length p) Z) (both (eqb (readPacket s p .refusal 
 
 -- a row that holds one, just as it arrived
 unfoldable pub holds : Settings → ℕ → List ℕ → Bool
-holds s Z r = both (alike r (heldRow Z (packetIn Z r))) (mayHold s Z (packetIn Z r))
+holds s Z r = both (alike r (heldRow Z (packetIn r))) (mayHold s Z (packetIn r))
 
 unfoldable pub cellOf : Settings → ℕ → List ℕ → Cell
 cellOf s Z r =
     pick (alike r (zeroRow Z)) free
-    (pick (holds s Z r) (held (segOf (packetIn Z r) (readPacket s (packetIn Z r)))) broken)
+    (pick (holds s Z r) (held (segOf (packetIn r) (readPacket s (packetIn r)))) broken)

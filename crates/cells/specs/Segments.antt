@@ -1,6 +1,6 @@
 -- A segment as the store's rules read it, and when two are the same or contradict.
--- Document 01, "The store": "Two segments are the same if key, counter, sequence flags and body are; sequence counts may differ. They
--- contradict if key and counter agree and flags or body don't."
+-- SPEC S-5: of two with one key and counter, equal flags and bodies make them the same, anything else contradicts; sequence counts
+-- are not looked at.
 -- Assumes nothing: these are definitions.
 use Prim.Native.Nat.{ℕ}
 use mathlib.Core.List.{List}

@@ -7,8 +7,11 @@
 //
 // Chains lead through the held cells, so that a key and a counter are found without a look at every cell: a number mixed from both
 // chooses the chain, `heads` has the highest cell of each chain and `links` the next lower one of each cell; 0 is none, and cell i is i + 1.
+pub mod messages;
+pub mod opening;
+
 ghost use mathlib.Core.Path.{_≡_};
-ghost use Prim.Native.Nat.{_+_, _*_, _/_, _%_, _≤_, _<_};
+ghost use Prim.Native.Nat.{suc, _+_, _*_, _/_, _≤_, _<_};
 ghost use lib.ListN.{length, getD, drop, set};
 ghost use lib.Seq.{sets};
 ghost use mathlib.Core.List.{_∷_};
@@ -16,12 +19,15 @@ ghost use Rattle.octets.specs.Octets.{pick, part, number, alike};
 ghost use lib.Dec.{eqb};
 ghost use Rattle.cells.specs.Segments.{both};
 ghost use Rattle.cells.specs.Rows.{rowAt, zeroRow, cellOf};
-ghost use Rattle.cells.specs.Inner.{heldRowTest, judgedOf, bodyIn, placeIn, counterIn, spansAlike, withinIn, Asked, bodyAt, bodiesTo, Bodies};
+ghost use Rattle.cells.specs.Inner.{heldRowTest, judgedOf, toldHeld, toldSound, bodyIn, placeIn, counterIn, spansAlike, reaches};
+ghost use Rattle.cells.specs.Inner.{withinIn, Asked, bodyAt, bodiesTo, Bodies};
 ghost use mathlib.Core.Bool.{true};
 ghost use Rattle.packet.specs.Reading.{readPacket};
 ghost use Rattle.packet.specs.Key.{keyOf};
-ghost use Rattle.cells.specs.Order.{cellsMost, lowest, lengthFits, sound, cellAt, carriesIn, newTo, newAt, distinct, inOrder, countIn, foundIn};
+ghost use Rattle.cells.specs.Order.{cellsMost, lowest, lengthFits, sound, cellAt, carriesIn, newTo, newAt, distinct, inOrder, countIn, foundIn, cellSize};
 ghost use Rattle.cells.specs.Chains.{mixIn, mixed, chainIn, bucketOf, keyIn, chainsAll, bucketAt, Chained};
+use packet::SegmentCounter;
+use packet::UNSEGMENTED;
 use walk::Settings;
 
 // The octets of a cell.
@@ -73,24 +79,24 @@ pub fn counter_place(p: &[u8]) -> usize
 }
 
 // The segment counter that stands there.
-pub fn counter_in(p: &[u8]) -> u32
-    ensures { λ r. ⌜ r ≡ counterIn (now (p .entry)) ⌝ }
+pub fn counter_in(p: &[u8]) -> SegmentCounter
+    ensures { λ r. ⌜ r .0 ≡ counterIn (now (p .entry)) ⌝ }
 {
-    octets::be32(p, counter_place(p))
+    SegmentCounter(octets::be32(p, counter_place(p)))
 }
 
 // Whether two segments have the same key, told where their bodies begin.
-pub fn same_key(p: &[u8], end: usize, q: &[u8], stop: usize) -> bool
-    ensures { λ r. ⌜ r ≡ spansAlike (now (p .entry)) end (now (q .entry)) stop ⌝ }
+pub fn same_key(p: &[u8], body_at: usize, q: &[u8], q_body_at: usize) -> bool
+    ensures { λ r. ⌜ r ≡ spansAlike (now (p .entry)) «body_at» (now (q .entry)) «q_body_at» ⌝ }
 {
     let c = counter_place(p);
     let d = counter_place(q);
-    let long = octets::both(c == d, end == stop);
+    let long = octets::both(c == d, body_at == q_body_at);
     let ids = octets::same(span(p, 0, 2), span(q, 0, 2));
     let fore = octets::same(span(p, 6, c - 6), span(q, 6, d - 6));
     let aft = octets::same(
-        span(p, c + 4, octets::less(end, c + 4)),
-        span(q, d + 4, octets::less(stop, d + 4)),
+        span(p, c + 4, octets::less(body_at, c + 4)),
+        span(q, d + 4, octets::less(q_body_at, d + 4)),
     );
     octets::both(long, octets::both(ids, octets::both(fore, aft)))
 }
@@ -115,11 +121,42 @@ fn is_held_row(row: &[u8], n: usize, zero: &[u8]) -> bool
     octets::both(first, octets::both(second, octets::both(long, rest)))
 }
 
-// What a row is: 0 free, 1 held, 2 broken; of a held one where the body begins, and the segment counter.
+// What stands in a cell: zeros, a segment, or neither.
+pub enum Content {
+    Free,
+    Held,
+    Broken,
+}
+
+// What a row is; of a held one where the body begins, and the segment counter.
 pub struct Judged {
-    pub kind: u8,
+    pub content: Content,
     pub at: usize,
-    pub counter: u32,
+    pub counter: SegmentCounter,
+}
+
+// Whether a row that was judged holds a segment.
+pub fn is_held(t: Judged) -> bool
+    ensures { λ r. ⌜ r ≡ toldHeld (t .content) ⌝ }
+{
+    let content = t.content;
+    match content {
+        Content::Free => false,
+        Content::Held => true,
+        Content::Broken => false,
+    }
+}
+
+// Whether it is free or holds one.
+fn is_sound(t: Judged) -> bool
+    ensures { λ r. ⌜ r ≡ toldSound (t .content) ⌝ }
+{
+    let content = t.content;
+    match content {
+        Content::Free => true,
+        Content::Held => true,
+        Content::Broken => false,
+    }
 }
 
 // Whether a row is as the zero cell. A held one differs in its first octet, and is not compared any further.
@@ -139,9 +176,9 @@ pub fn judge(s: Settings, row: &[u8], zero: &[u8]) -> Judged
 {
     if is_free(row, zero) {
         return Judged {
-            kind: 0,
+            content: Content::Free,
             at: 0,
-            counter: 0,
+            counter: SegmentCounter(0),
         };
     }
     let p = packet_in(row);
@@ -154,18 +191,18 @@ pub fn judge(s: Settings, row: &[u8], zero: &[u8]) -> Judged
     let marked = is_held_row(row, 2 + p.len(), zero);
     if octets::both(
         marked,
-        octets::both(refusal.number == 0, primary.flags != 3),
+        octets::both(refusal.number == 0, primary.flags != UNSEGMENTED),
     ) {
         return Judged {
-            kind: 1,
+            content: Content::Held,
             at: body.at,
-            counter: counter.0,
+            counter: counter,
         };
     }
     Judged {
-        kind: 2,
+        content: Content::Broken,
         at: 0,
-        counter: 0,
+        counter: SegmentCounter(0),
     }
 }
 
@@ -206,60 +243,82 @@ pub fn count(len: usize, z: usize) -> usize
 
 // Whether a cell holds a segment with the key and counter of the one that is looked for. The cheap tests come first: the row is judged
 // only where counter and transaction id agree.
-pub fn carries_at(s: Settings, row: &[u8], zero: &[u8], q: &[u8], stop: usize, c: u64) -> bool
+pub fn carries_at(
+    s: Settings,
+    row: &[u8],
+    zero: &[u8],
+    q: &[u8],
+    body_at: usize,
+    c: SegmentCounter,
+) -> bool
     requires { ⌜ now zero ≡ zeroRow (length (now zero)) ⌝ }
-    requires { ⌜ Asked s (now q) stop ⌝ }
-    ensures { λ r. ⌜ r ≡ carriesIn (keyOf (now (q .entry)) (readPacket s (now (q .entry)))) c (cellOf s (length (now (zero .entry))) (now (row .entry))) ⌝ }
+    requires { ⌜ Asked s (now q) «body_at» ⌝ }
+    ensures { λ r. ⌜ r ≡ carriesIn (keyOf (now (q .entry)) (readPacket s (now (q .entry)))) (c .0)
+        (cellOf s (length (now (zero .entry))) (now (row .entry))) ⌝ }
 {
     if octets::octet(row, 0) == 0 {
         return false;
     }
     let p = packet_in(row);
-    if counter_in(p) as u64 != c {
+    let d = counter_in(p);
+    if d.0 != c.0 {
         return false;
     }
     if octets::be64(p, TRANSACTION_PLACE) != octets::be64(q, TRANSACTION_PLACE) {
         return false;
     }
     let t = judge(s, row, zero);
-    if t.kind != 1 {
+    if !is_held(t) {
         return false;
     }
-    same_key(q, stop, p, t.at)
+    same_key(q, body_at, p, t.at)
 }
 
 // Whether octets are the key of a segment, told where its body begins.
-fn is_key(k: &[u8], p: &[u8], end: usize) -> bool
-    ensures { λ r. ⌜ r ≡ alike (now (k .entry)) (keyIn (now (p .entry)) end) ⌝ }
+fn is_key(k: &[u8], p: &[u8], body_at: usize) -> bool
+    ensures { λ r. ⌜ r ≡ alike (now (k .entry)) (keyIn (now (p .entry)) «body_at») ⌝ }
 {
     let c = counter_place(p);
     let ids = span(p, 0, 2);
     let fore = span(p, 6, c - 6);
-    let aft = span(p, c + 4, octets::less(end, c + 4));
+    let aft = span(p, c + 4, octets::less(body_at, c + 4));
     let first = octets::same(span(k, 0, ids.len()), ids);
     let second = octets::same(span(k, ids.len(), fore.len()), fore);
     let third = octets::same(tail(k, ids.len() + fore.len()), aft);
     octets::both(first, octets::both(second, third))
 }
 
-// Whether a cell holds a segment with this key and a counter from one number on and below another. The cheap tests come first.
-pub fn is_within(s: Settings, row: &[u8], zero: &[u8], k: &[u8], from: u64, to: u64) -> bool
+// Whether a counter is the first or one of so many steps after it.
+fn is_reached(first: SegmentCounter, steps: u32, c: SegmentCounter) -> bool
+    ensures { λ r. ⌜ r ≡ reaches suc steps (first .0) (c .0) ⌝ }
+{
+    if c.0 < first.0 {
+        return false;
+    }
+    c.0 - first.0 <= steps
+}
+
+// Whether a cell holds a segment with this key, its counter the first or one of so many steps after it. The cheap tests come first.
+pub fn is_within(
+    s: Settings,
+    row: &[u8],
+    zero: &[u8],
+    k: &[u8],
+    first: SegmentCounter,
+    steps: u32,
+) -> bool
     requires { ⌜ now zero ≡ zeroRow (length (now zero)) ⌝ }
-    ensures { λ r. ⌜ r ≡ withinIn (now (k .entry)) from to (cellOf s (length (now (zero .entry))) (now (row .entry))) ⌝ }
+    ensures { λ r. ⌜ r ≡ withinIn suc (now (k .entry)) (first .0) steps (cellOf s (length (now (zero .entry))) (now (row .entry))) ⌝ }
 {
     if octets::octet(row, 0) == 0 {
         return false;
     }
     let p = packet_in(row);
-    let c = counter_in(p) as u64;
-    if c < from {
-        return false;
-    }
-    if to <= c {
+    if !is_reached(first, steps, counter_in(p)) {
         return false;
     }
     let t = judge(s, row, zero);
-    if t.kind != 1 {
+    if !is_held(t) {
         return false;
     }
     is_key(k, p, t.at)
@@ -272,17 +331,17 @@ pub fn find(
     n: usize,
     zero: &[u8],
     q: &[u8],
-    stop: usize,
-    c: u64,
+    body_at: usize,
+    c: SegmentCounter,
 ) -> usize
     requires { ⌜ now zero ≡ zeroRow (length (now zero)) ⌝ }
-    requires { ⌜ Asked s (now q) stop ⌝ }
-    ensures { λ r. ⌜ r ≡ foundIn s (length (now (zero .entry))) (now (store .entry)) n (keyOf (now (q .entry)) (readPacket s (now (q .entry)))) c ⌝ }
+    requires { ⌜ Asked s (now q) «body_at» ⌝ }
+    ensures { λ r. ⌜ r ≡ foundIn s (length (now (zero .entry))) (now (store .entry)) n (keyOf (now (q .entry)) (readPacket s (now (q .entry)))) (c .0) ⌝ }
 {
     let z = zero.len();
     let mut j: usize = 0;
     while j < n {
-        if carries_at(s, row(store, z, j), zero, q, stop, c) {
+        if carries_at(s, row(store, z, j), zero, q, body_at, c) {
             return j;
         }
         j += 1;
@@ -340,21 +399,21 @@ fn mix(start: u32, x: &[u8]) -> u32
 }
 
 // The chain by a mixed number and a counter.
-fn chain(m: u32, c: u64) -> usize
-    ensures { λ r. ⌜ r ≡ chainIn (mixIn m (c % 4294967296)) ⌝ }
+fn chain(m: u32, c: SegmentCounter) -> usize
+    ensures { λ r. ⌜ r ≡ chainIn (mixIn m (c .0)) ⌝ }
 {
-    let x = mix_in(m, (c % 4294967296) as u32) as usize;
+    let x = mix_in(m, c.0) as usize;
     (x / 65536 + x) % CHAINS
 }
 
 // The chain of the key of a segment, told where its body begins, beside a counter.
-pub fn bucket(q: &[u8], stop: usize, c: u64) -> usize
-    ensures { λ r. ⌜ r ≡ bucketOf (keyIn (now (q .entry)) stop) c ⌝ }
+pub fn bucket(q: &[u8], body_at: usize, c: SegmentCounter) -> usize
+    ensures { λ r. ⌜ r ≡ bucketOf (keyIn (now (q .entry)) «body_at») (c .0) ⌝ }
 {
     let d = counter_place(q);
     let ids = mix(MIX_START, span(q, 0, 2));
     let fore = mix(ids, span(q, 6, d - 6));
-    let aft = mix(fore, span(q, d + 4, octets::less(stop, d + 4)));
+    let aft = mix(fore, span(q, d + 4, octets::less(body_at, d + 4)));
     chain(aft, c)
 }
 
@@ -365,24 +424,24 @@ fn find_on(
     n: usize,
     zero: &[u8],
     q: &[u8],
-    stop: usize,
-    c: u64,
+    body_at: usize,
+    c: SegmentCounter,
     b: usize,
     heads: &[u16; CHAINS],
     links: &[u16; CELLS_MOST],
 ) -> usize
     requires { ⌜ now zero ≡ zeroRow (length (now zero)) ⌝ }
-    requires { ⌜ Asked s (now q) stop ⌝ }
+    requires { ⌜ Asked s (now q) «body_at» ⌝ }
     requires { ⌜ Chained (bucketAt s (length (now zero)) (now store)) (now heads) (now links) n ⌝ }
-    requires { ⌜ b ≡ bucketOf (keyIn (now q) stop) c ⌝ }
-    ensures { λ r. ⌜ r ≡ foundIn s (length (now (zero .entry))) (now (store .entry)) n (keyOf (now (q .entry)) (readPacket s (now (q .entry)))) c ⌝ }
+    requires { ⌜ b ≡ bucketOf (keyIn (now q) «body_at») (c .0) ⌝ }
+    ensures { λ r. ⌜ r ≡ foundIn s (length (now (zero .entry))) (now (store .entry)) n (keyOf (now (q .entry)) (readPacket s (now (q .entry)))) (c .0) ⌝ }
 {
     let z = zero.len();
     let mut best = n;
     let mut cur = heads[b] as usize;
     while 0 < cur {
         let j = cur - 1;
-        if carries_at(s, row(store, z, j), zero, q, stop, c) {
+        if carries_at(s, row(store, z, j), zero, q, body_at, c) {
             best = j;
         }
         cur = links[j] as usize;
@@ -397,22 +456,22 @@ pub fn find_by(
     n: usize,
     zero: &[u8],
     q: &[u8],
-    stop: usize,
-    c: u64,
+    body_at: usize,
+    c: SegmentCounter,
     chained: bool,
     heads: &[u16; CHAINS],
     links: &[u16; CELLS_MOST],
 ) -> usize
     requires { ⌜ now zero ≡ zeroRow (length (now zero)) ⌝ }
-    requires { ⌜ Asked s (now q) stop ⌝ }
+    requires { ⌜ Asked s (now q) «body_at» ⌝ }
     requires { ⌜ (chained ≡ true → Chained (bucketAt s (length (now zero)) (now store)) (now heads) (now links) n) ⌝ }
-    ensures { λ r. ⌜ r ≡ foundIn s (length (now (zero .entry))) (now (store .entry)) n (keyOf (now (q .entry)) (readPacket s (now (q .entry)))) c ⌝ }
+    ensures { λ r. ⌜ r ≡ foundIn s (length (now (zero .entry))) (now (store .entry)) n (keyOf (now (q .entry)) (readPacket s (now (q .entry)))) (c .0) ⌝ }
 {
     if chained {
-        let b = bucket(q, stop, c);
-        return find_on(s, store, n, zero, q, stop, c, b, heads, links);
+        let b = bucket(q, body_at, c);
+        return find_on(s, store, n, zero, q, body_at, c, b, heads, links);
     }
-    find(s, store, n, zero, q, stop, c)
+    find(s, store, n, zero, q, body_at, c)
 }
 
 // Cell i becomes the head of chain b, and the head that was its link.
@@ -433,21 +492,22 @@ fn is_new(
     i: usize,
     zero: &[u8],
     q: &[u8],
-    stop: usize,
-    c: u64,
+    body_at: usize,
+    c: SegmentCounter,
     b: usize,
     apart: bool,
     heads: &[u16; CHAINS],
     links: &[u16; CELLS_MOST],
 ) -> bool
     requires { ⌜ now zero ≡ zeroRow (length (now zero)) ⌝ }
-    requires { ⌜ Asked s (now q) stop ⌝ }
+    requires { ⌜ Asked s (now q) «body_at» ⌝ }
     requires { ⌜ Chained (bucketAt s (length (now zero)) (now store)) (now heads) (now links) i ⌝ }
-    requires { ⌜ b ≡ bucketOf (keyIn (now q) stop) c ⌝ }
-    ensures { λ r. ⌜ r ≡ both apart (newTo s (length (now (zero .entry))) (now (store .entry)) i (keyOf (now (q .entry)) (readPacket s (now (q .entry)))) c) ⌝ }
+    requires { ⌜ b ≡ bucketOf (keyIn (now q) «body_at») (c .0) ⌝ }
+    ensures { λ r. ⌜ r ≡ both apart (newTo s (length (now (zero .entry))) (now (store .entry)) i
+        (keyOf (now (q .entry)) (readPacket s (now (q .entry)))) (c .0)) ⌝ }
 {
     if apart {
-        return find_on(s, store, i, zero, q, stop, c, b, heads, links) == i;
+        return find_on(s, store, i, zero, q, body_at, c, b, heads, links) == i;
     }
     false
 }
@@ -471,7 +531,7 @@ pub fn sound_by(
     while i < n {
         let t = judge(s, row(store, zero.len(), i), zero);
         bodies[i] = t.at as u16;
-        all = octets::both(all, t.kind != 2);
+        all = octets::both(all, is_sound(t));
         i += 1;
     }
     all
@@ -484,25 +544,26 @@ fn enter(
     store: &[u8],
     i: usize,
     zero: &[u8],
-    stop: usize,
+    body_at: usize,
     apart: bool,
     heads: &mut [u16; CHAINS],
     links: &mut [u16; CELLS_MOST],
 ) -> bool
     requires { ⌜ now zero ≡ zeroRow (length (now zero)) ⌝ }
     requires { ⌜ i < cellsMost ⌝ }
-    requires { ⌜ stop ≡ bodyAt s (length (now zero)) (now store) i ⌝ }
+    requires { ⌜ «body_at» ≡ bodyAt s (length (now zero)) (now store) i ⌝ }
     requires { ⌜ Chained (bucketAt s (length (now zero)) (now store)) (now heads) (now links) i ⌝ }
-    ensures { λ r. ⌜ r ≡ both apart (newAt s (length (now (zero .entry))) (now (store .entry)) i (cellAt s (length (now (zero .entry))) (now (store .entry)) i)) ⌝ }
+    ensures { λ r. ⌜ r ≡ both apart (newAt s (length (now (zero .entry))) (now (store .entry)) i
+        (cellAt s (length (now (zero .entry))) (now (store .entry)) i)) ⌝ }
     ensures { λ r. ⌜ Chained (bucketAt s (length (now (zero .entry))) (now (store .entry))) (now (heads .exit)) (now (links .exit)) (i + 1) ⌝ }
 {
-    if stop == 0 {
+    if body_at == 0 {
         return apart;
     }
     let q = packet_in(row(store, zero.len(), i));
-    let c = counter_in(q) as u64;
-    let b = bucket(q, stop, c);
-    let new = is_new(s, store, i, zero, q, stop, c, b, apart, heads, links);
+    let c = counter_in(q);
+    let b = bucket(q, body_at, c);
+    let new = is_new(s, store, i, zero, q, body_at, c, b, apart, heads, links);
     push(i, b, heads, links);
     new
 }
@@ -565,27 +626,43 @@ pub fn order_by(
     }
 }
 
-// How many cells a store in order has; 0 where it is not in order.
-pub fn in_order(s: Settings, store: &[u8], zero: &[u8]) -> usize
+// How many cells a store in order has; 0 where it is not in order. The tables lent, which chain no cell yet, then chain all of its cells.
+pub fn in_order_by(
+    s: Settings,
+    store: &[u8],
+    zero: &[u8],
+    heads: &mut [u16; CHAINS],
+    links: &mut [u16; CELLS_MOST],
+) -> usize
     requires { ⌜ now zero ≡ zeroRow (length (now zero)) ⌝ }
+    requires { ⌜ Chained (bucketAt s (length (now zero)) (now store)) (now heads) (now links) 0 ⌝ }
     ensures { λ r. ⌜ r ≡ pick (inOrder s (length (now (zero .entry))) (now (store .entry))) (countIn (length (now (zero .entry))) (now (store .entry))) 0 ⌝ }
+    ensures { λ r. ⌜ (0 < r → Chained (bucketAt s (length (now (zero .entry))) (now (store .entry))) (now (heads .exit)) (now (links .exit)) r) ⌝ }
 {
     let n = count(store.len(), zero.len());
     if n == 0 {
         return 0;
     }
-    let mut heads = [0u16; CHAINS];
-    let mut links = [0u16; CELLS_MOST];
-    let o = order_by(s, store, n, zero, &mut heads, &mut links);
+    let o = order_by(s, store, n, zero, heads, links);
     if octets::both(o.sound, o.distinct) {
         return n;
     }
     0
 }
 
+// The same by tables of its own.
+pub fn in_order(s: Settings, store: &[u8], zero: &[u8]) -> usize
+    requires { ⌜ now zero ≡ zeroRow (length (now zero)) ⌝ }
+    ensures { λ r. ⌜ r ≡ pick (inOrder s (length (now (zero .entry))) (now (store .entry))) (countIn (length (now (zero .entry))) (now (store .entry))) 0 ⌝ }
+{
+    let mut heads = [0u16; CHAINS];
+    let mut links = [0u16; CELLS_MOST];
+    in_order_by(s, store, zero, &mut heads, &mut links)
+}
+
 // The same for cells of 1,024 octets, beside a zero cell made by repetition.
 pub fn order(s: Settings, store: &[u8]) -> usize
-    ensures { λ r. ⌜ r ≡ pick (inOrder s 1024 (now (store .entry))) (countIn 1024 (now (store .entry))) 0 ⌝ }
+    ensures { λ r. ⌜ r ≡ pick (inOrder s cellSize (now (store .entry))) (countIn cellSize (now (store .entry))) 0 ⌝ }
 {
     let zero = [0u8; CELL];
     in_order(s, store, &zero)

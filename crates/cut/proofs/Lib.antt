@@ -1,3 +1,4 @@
 pub mod Counting
 pub mod Plans
 pub mod Packets
+pub mod Arguments

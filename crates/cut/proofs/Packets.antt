@@ -17,9 +17,13 @@ use Rattle.walk.specs.Walk.{unless}
 use Rattle.fields.specs.Inner.{capped}
 use Rattle.octets.proofs.Places.{part-at}
 use Rattle.packet.specs.Format.{Values, segment, octetsOf}
+use Rattle.packet.specs.Numbers.{countAt}
 use Rattle.sender.specs.declared.Sender.{Sender}
 use Rattle.sender.specs.declared.Next.{Next}
 use Rattle.sender.specs.declared.Next.the-variants.{At, NoneLeft}
+use Rattle.sender.proofs.Stepping.{steps-suc}
+use Rattle.sender.specs.Sending.{counterNumber}
+use Rattle.sender.proofs.Moving.{after-fits}
 use Rattle.write.specs.declared.HeaderValues.{HeaderValues}
 use Rattle.write.specs.declared.PacketValues.{PacketValues}
 use Rattle.write.specs.Given.{Lent, headOf, packetOf}
@@ -28,9 +32,8 @@ use Rattle.write.specs.Inner.{packetPieces}
 use Rattle.write.proofs.Tests.{unless-fine}
 use Rattle.write.proofs.Answers.{unless-same, size-is, packet-laid, packet-length, secondary-length, packet-least}
 use Rattle.cut.specs.declared.Plan.{Plan}
-use Rattle.cut.specs.Cutting.{countersFit, counterAt, countAt, single, chunk, packets, headerLength, countRefusal, flagsAt, bodyAt, packetAt, givenAt, packetRefusal, packetAnswer, packetOutput}
+use Rattle.cut.specs.Cutting.{countersFit, counterAt, single, chunk, packets, headerLength, countRefusal, flagsAt, bodyAt, packetAt, givenAt, packetRefusal, packetAnswer, packetOutput}
 use Rattle.cut.specs.Inner.{planOf, counterOf, fromOf, toOf, valuesOf}
-use Rattle.cut.proofs.Counting.{count-is}
 use Rattle.cut.proofs.Plans.{before, planned, refusal-same}
 
 -- ---- the part of the body
@@ -55,12 +58,12 @@ body-part false C i body ef et = part-at body (i * C) C ef et
 -- ---- the numbers of the packet
 
 counter-same : (one : Bool) (n : Next) (i k : ℕ) → i < k → pick one true (countersFit n k) ≡ true → counterOf one n i ≡ pick one 0 (counterAt n i)
-unfolding counterOf counterAt countersFit
+unfolding counterNumber counterAt countersFit
 counter-same true (At c) i k h g = refl
 counter-same false (At c) i k h g =
     let a = leb-true (c .0 + k) (suc most32) g in
     let b : c .0 + i ≤ most32 = omega arith in
-    rw (le-leb (c .0 + i) most32 b)
+    ap counterNumber (after-fits i c b) ∙ sym (steps-suc i (c .0))
 counter-same true NoneLeft i k h g = refl
 counter-same false NoneLeft i k h g = let z : _≡_ {A = ℕ} 0 1 = cc in absurd (omega arith)
 
@@ -120,7 +123,7 @@ module _ (s : Settings) (P : ℕ) (v : HeaderValues) (t : Lent) (body : List ℕ
       let one = k .single-is in
       let f : o .flags ≡ flagsAt P H (length body) i =
       ap (λ (x : PacketValues). x .flags) eo ∙ ap₂ (λ (b : Bool) (n : ℕ). pick b 3 (pick (eqb i 0) 1 (pick (eqb (suc i) n) 2 0))) one (k .count-is) in
-      let c : o .count .0 ≡ countAt (d .count .0) i = ap (λ (x : PacketValues). x .count .0) eo ∙ sym (count-is (d .count .0) i (k .good-values .count)) in
+      let c : o .«sequence_count» .0 ≡ countAt (d .«sequence_count» .0) i = ap (λ (x : PacketValues). x .«sequence_count» .0) eo in
       let m : i < packets P H (length body) = omega (arith, k .count-is) in
       let n : o .counter .0 ≡ pick (single P H (length body)) 0 (counterAt (d .next) i) =
       ap (λ (x : PacketValues). x .counter .0) eo
@@ -129,7 +132,7 @@ module _ (s : Settings) (P : ℕ) (v : HeaderValues) (t : Lent) (body : List ℕ
       let b : piece ≡ pick (single P H (length body)) body (part body (i * chunk P H) (chunk P H)) =
       body-part (q .single) (q .chunk) i body ef et
       ∙ ap₂ (λ (x : Bool) (y : ℕ). pick x body (part body (i * y) y)) one (k .chunk-is) in
-      λ j. record { head = headOf v t; flags = f j; count = c j; counter = n j; body = b j }
+      λ j. record { head = headOf v t; flags = f j; sequence-count = c j; counter = n j; body = b j }
 
   module _ {second size : ℕ} (es : second ≡ capped (h + pick (segment (o .flags)) 4 0)) (ez : size ≡ capped (6 + second + length piece)) where
     pub size-exact : fine (q .refusal) ≡ true → i < q .count → size ≡ length (octetsOf s (givenAt s P v t body d i))

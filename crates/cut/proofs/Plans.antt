@@ -18,14 +18,17 @@ use Rattle.fields.specs.Fields.{partsMost}
 use Rattle.packet.specs.Format.{headerMost, packetMost}
 use Rattle.packet.specs.Numbers.{countMost}
 use Rattle.sender.specs.declared.Sender.{Sender}
-use Rattle.sender.specs.Sending.{afterPacket}
+use Rattle.sender.specs.declared.Sent.{Sent}
+use Rattle.sender.specs.declared.Sent.the-variants.{Whole, Segments}
+use Rattle.sender.specs.Sending.{afterPacket, afterSegments, afterMessage}
 use Rattle.write.specs.declared.HeaderValues.{HeaderValues}
 use Rattle.write.specs.Given.{Lent, headerChecks, unlessAll}
 use Rattle.write.specs.Writing.{settingsTest, partsTest, fine}
 use Rattle.write.proofs.Tests.{unless-fine, unlessAll-fine, AllHold}
 use Rattle.write.proofs.Answers.{shut, below-cap, cap-middle}
 use Rattle.cut.specs.declared.Plan.{Plan}
-use Rattle.cut.specs.Cutting.{afterSegments, countersFit, single, chunk, packets, limitTest, valueTests, messageTests, headerLength, countRefusal, senderAfter, countAnswer, bodyMost, limitLeast}
+use Rattle.cut.specs.Cutting.{countersFit, single, chunk, packets, limitTest, valueTests, messageTests, headerLength, countRefusal, senderAfter, countAnswer, bodyMost, limitLeast}
+use Rattle.cut.proofs.Counting.{sent-on}
 use Rattle.cut.specs.Inner.{singleOf, packetsOf, planRefusal, planOf}
 
 -- ---- the tests before the plan
@@ -36,7 +39,7 @@ before s P v t d = partsTest t (valueTests s v t d (limitTest s P noRefusal))
 -- what holds where none of them refused
 pub record Good (s : Settings) (P : ℕ) (v : HeaderValues) (t : Lent) (d : Sender) : Type 0 where
   pub parts : length (t .lengths) ≤ partsMost
-  pub count : d .count .0 ≤ countMost
+  pub sequence-count : d .«sequence_count» .0 ≤ countMost
   pub checks : AllHold (headerChecks s v t)
   pub low : limitLeast ≤ P
   pub top : P ≤ packetMost
@@ -46,13 +49,13 @@ pub good : (s : Settings) (P : ℕ) (v : HeaderValues) (t : Lent) (d : Sender) �
 unfolding partsTest valueTests limitTest
 good s P v t d g =
     let a = unless-fine (leb (length (t .lengths)) partsMost) 12 (valueTests s v t d (limitTest s P noRefusal)) g in
-    let b = unless-fine (leb (d .count .0) countMost) 21 (unlessAll (headerChecks s v t) 22 (limitTest s P noRefusal)) (a .before) in
+    let b = unless-fine (leb (d .«sequence_count» .0) countMost) 21 (unlessAll (headerChecks s v t) 22 (limitTest s P noRefusal)) (a .before) in
     let c = unlessAll-fine (headerChecks s v t) 21 (limitTest s P noRefusal) (b .before) in
     let e = unless-fine (leb P packetMost) 14 (unless (leb limitLeast P) 15 (settingsTest s noRefusal)) (c .0) in
     let f = unless-fine (leb limitLeast P) 14 (settingsTest s noRefusal) (e .before) in
     record {
       parts = leb-true (length (t .lengths)) partsMost (a .held);
-      count = leb-true (d .count .0) countMost (b .held);
+      sequence-count = leb-true (d .«sequence_count» .0) countMost (b .held);
       checks = c .1;
       low = leb-true limitLeast P (f .held);
       top = leb-true P packetMost (e .held);
@@ -173,18 +176,15 @@ module _ (s : Settings) (P : ℕ) (v : HeaderValues) (t : Lent) (B : ℕ) (d : S
         sender = ap (λ (x : Bool). pick x (senderAfter P H B d) d) (sym f) i;
       }
 
-  pub small-count : q .refusal .number ≡ 0 → d .count .0 ≤ countMost
-  small-count z = planned (eq-eqb (q .refusal .number) 0 z) .good-values .count
-
   pub made-count :
-      q .refusal .number ≡ 0 → {m : Sender} → m ≡ pick (q .single) (afterPacket d) (afterSegments (q .count) d) →
+      q .refusal .number ≡ 0 → {m : Sender} {w : Sent} → w ≡ pick (q .single) Whole (Segments (q .count)) → m ≡ afterMessage w d →
       record { refusal = q .refusal; count = q .count; sender = m } ≡ countAnswer s P v t B d
   unfolding countAnswer senderAfter
-  made-count z {m} em =
+  made-count z {m} ew em =
       let k = planned (eq-eqb (q .refusal .number) 0 z) in
       let f = k .fine-count in
       let a : m ≡ pick (single P H B) (afterPacket d) (afterSegments (packets P H B) d) =
-      em ∙ ap₂ (λ (o : Bool) (n : ℕ). pick o (afterPacket d) (afterSegments n d)) (k .single-is) (k .count-is) in
+      sent-on (q .single) (q .count) d ew em ∙ ap₂ (λ (o : Bool) (n : ℕ). pick o (afterPacket d) (afterSegments n d)) (k .single-is) (k .count-is) in
       λ i.
       record {
         refusal = refusal-same i;

@@ -1,9 +1,8 @@
 -- Cutting a message into packets of at most P octets.
--- Document 01, "Cutting": "H is the secondary header's length without a counter, B the body's. If 6 + H + B is at most P, one
--- unsegmented packet. Otherwise each packet carries C = P - H - 10 body octets except the last, which carries the rest (1 to C). The
--- count is B / C rounded up. Refusal 12 is judged on H for one packet and on H + 4 where cutting is needed."
+-- SPEC C-2 to C-4: one unsegmented packet if 6 + H + B is not above P; else segments of C = P - H - 10 body octets, the last one with
+-- what remains, as many as B / C, rounded up. 12 is judged on H alone, or with the counter's 4 octets if there is a cut.
 -- Assumes nothing: these are definitions.
-use Prim.Native.Nat.{ℕ, zero, suc, _+_, _-_, _*_, _/_}
+use Prim.Native.Nat.{ℕ, suc, _+_, _-_, _*_, _/_}
 use mathlib.Core.List.{List, _++_}
 use mathlib.Core.Bool.{Bool, true, false}
 use lib.ListN.{length, drop}
@@ -13,11 +12,11 @@ use Rattle.walk.specs.declared.Settings.{Settings}
 use Rattle.walk.specs.declared.Refusal.{Refusal}
 use Rattle.walk.specs.Walk.{noRefusal, unless}
 use Rattle.packet.specs.Format.{Head, Values, headerOctets, octetsOf, packetMost, headerMost}
-use Rattle.packet.specs.Numbers.{countMost, nextCount}
+use Rattle.packet.specs.Numbers.{countMost, countAt}
 use Rattle.sender.specs.declared.Sender.{Sender}
 use Rattle.sender.specs.declared.Next.{Next}
 use Rattle.sender.specs.declared.Next.the-variants.{At, NoneLeft}
-use Rattle.sender.specs.Sending.{afterPacket, afterSegment}
+use Rattle.sender.specs.Sending.{afterPacket, afterSegments, stepsOf}
 use Rattle.write.specs.declared.HeaderValues.{HeaderValues}
 use Rattle.write.specs.Given.{Lent, headOf, headerChecks, unlessAll}
 use Rattle.write.specs.Writing.{settingsTest, partsTest, fine}
@@ -51,25 +50,15 @@ packets P H B = pick (single P H B) 1 (rounded B (chunk P H))
 
 -- ---- the sender's numbers along a message
 
--- the state after n segments: "by one for each packet in the sequence count, by one for each segment in the counter"
-unfoldable pub afterSegments : ℕ → Sender → Sender
-afterSegments zero d = d
-afterSegments (suc n) d = afterSegment (afterSegments n d)
-
 -- whether n segments have a counter each
 unfoldable pub countersFit : Next → ℕ → Bool
 countersFit (At c) n = leb (c .0 + n) (suc most32)
 countersFit NoneLeft n = false
 
--- the counter of segment number i, where they fit
+-- the counter of segment number i, if they fit: i steps from the sender's
 unfoldable pub counterAt : Next → ℕ → ℕ
-counterAt (At c) i = c .0 + i
+counterAt (At c) i = stepsOf suc i (c .0)
 counterAt NoneLeft i = 0
-
--- the sequence count of packet number i
-unfoldable pub countAt : ℕ → ℕ → ℕ
-countAt c zero = c
-countAt c (suc i) = nextCount (countAt c i)
 
 -- ---- the refusals
 
@@ -79,7 +68,7 @@ limitTest s P r = unless (leb P packetMost) 15 (unless (leb limitLeast P) 15 (se
 
 -- 22: the header's checks, and the sender's sequence count (its counter always fits its type)
 unfoldable pub valueTests : Settings → HeaderValues → Lent → Sender → Refusal → Refusal
-valueTests s v t d r = unless (leb (d .count .0) countMost) 22 (unlessAll (headerChecks s v t) 22 r)
+valueTests s v t d r = unless (leb (d .«sequence_count» .0) countMost) 22 (unlessAll (headerChecks s v t) 22 r)
 
 -- 23: the body; 12: the header; 24: C below 1; 25: the counters
 unfoldable pub messageTests : ℕ → ℕ → ℕ → Sender → Refusal → Refusal
@@ -127,7 +116,7 @@ packetAt P H h body d i =
     record {
       head = h;
       flags = flagsAt P H (length body) i;
-      count = countAt (d .count .0) i;
+      sequence-count = countAt (d .«sequence_count» .0) i;
       counter = pick (single P H (length body)) 0 (counterAt (d .next) i);
       body = bodyAt P H body i;
     }

@@ -1,17 +1,17 @@
 -- The plan of a message as the code makes it, from a size h that is told up to the limit; and the numbers of a packet, total.
 -- Assumes nothing: these are definitions.
-use Prim.Native.Nat.{ℕ, zero, suc, _+_, _*_, _%_, min}
+use Prim.Native.Nat.{ℕ, suc, _+_, _*_, min}
 use mathlib.Core.Bool.{Bool, true}
 use lib.Dec.{leb, eqb}
-use Rattle.octets.specs.Octets.{pick, roomOf, most32}
+use Rattle.octets.specs.Octets.{pick, roomOf}
 use Rattle.walk.specs.declared.Refusal.{Refusal}
 use Rattle.walk.specs.Walk.{unless}
 use Rattle.fields.specs.Inner.{capped}
 use Rattle.packet.specs.Format.{headerMost}
+use Rattle.packet.specs.Numbers.{sequenceCountAt}
 use Rattle.sender.specs.declared.Sender.{Sender}
 use Rattle.sender.specs.declared.Next.{Next}
-use Rattle.sender.specs.declared.Next.the-variants.{At, NoneLeft}
-use Rattle.sender.specs.Sending.{nextCounter}
+use Rattle.sender.specs.Sending.{counterNumber, counterAfter}
 use Rattle.write.specs.declared.PacketValues.{PacketValues}
 use Rattle.cut.specs.declared.Plan.{Plan}
 use Rattle.cut.specs.Cutting.{countersFit, bodyMost, chunk, rounded}
@@ -37,23 +37,13 @@ planOf P h B d r =
       count = packetsOf (singleOf P h B) B (chunk P h);
     }
 
--- the counter behind n segments
-unfoldable pub counterAfter : ℕ → Next → Next
-counterAfter zero n = n
-counterAfter (suc k) n = nextCounter (counterAfter k n)
-
 -- the counter of segment i where it fits, else 0
-unfoldable pub counterOf : Bool → Next → ℕ → ℕ
-counterOf one (At c) i = pick one 0 (pick (leb (c .0 + i) most32) (c .0 + i) 0)
-counterOf one NoneLeft i = 0
+abbrev pub counterOf : Bool → Next → ℕ → ℕ
+counterOf one n i = pick one 0 (counterNumber (counterAfter i n))
 
 -- where the part of packet i begins
 abbrev pub fromOf : Bool → ℕ → ℕ → ℕ → ℕ
 fromOf one C i B = pick one 0 (min (i * C) B)
-
--- and the sequence count
-abbrev pub countOf : ℕ → ℕ → ℕ
-countOf c i = (c + i % 16384) % 16384
 
 abbrev pub toOf : Bool → ℕ → ℕ → ℕ → ℕ
 toOf one from C B = pick one B (from + roomOf B from C)
@@ -63,6 +53,6 @@ unfoldable pub valuesOf : Bool → ℕ → Sender → ℕ → PacketValues
 valuesOf one n d i =
     record {
       flags = pick one 3 (pick (eqb i 0) 1 (pick (eqb (suc i) n) 2 0));
-      count = record { 0 = countOf (d .count .0) i };
+      «sequence_count» = sequenceCountAt (d .«sequence_count») i;
       counter = record { 0 = counterOf one (d .next) i };
     }

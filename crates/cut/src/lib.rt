@@ -3,28 +3,35 @@
 //   H octets of header, B of body:   6 + H + B <= P   one unsegmented packet
 //                                    else             C = P - H - 10 body octets a packet, the last one the rest
 //
-// `count` answers how many packets a message takes and the sender's two numbers moved on; `packet` writes packet number i, by the
-// numbers as they stood before the message, and moves neither. A refusal leaves the sender and the output as they were. The sender is
-// that of crate `sender`; the tests on a header, its size and its octets are those of crate `write`.
+// `count` answers how many packets a message takes and the sender's two numbers moved on; `packet` writes packet number i, from the
+// sender before the message, which it leaves as it is. A refusal leaves the sender and the output as they were. The sender is that of
+// crate `sender`; the tests on a header, its size and its octets are those of crate `write`.
 ghost use mathlib.Core.Path.{_≡_};
-ghost use Prim.Native.Nat.{suc, _+_, _≤_};
-ghost use Rattle.packet.specs.Numbers.{countMost};
+ghost use Prim.Native.Nat.{suc, _+_};
 ghost use lib.ListN.{length};
 ghost use lib.Dec.{eqb};
 ghost use Rattle.fields.specs.Inner.{capped};
 ghost use Rattle.octets.specs.Octets.{pick};
 ghost use Rattle.walk.specs.Walk.{unless};
 ghost use Rattle.write.specs.Given.{lent};
-ghost use Rattle.sender.specs.Sending.{afterPacket};
-ghost use Rattle.cut.specs.Cutting.{afterSegments, countersFit, limitTest, valueTests, chunk as chunkOf, rounded, countAnswer, packetAnswer, packetOutput};
-ghost use Rattle.cut.specs.Inner.{packetsOf, planOf, counterAfter, counterOf, fromOf, toOf, countOf, valuesOf};
+ghost use Rattle.write.specs.Lending.{Lends};
+ghost use Rattle.sender.specs.declared.Sent.the-variants.{Whole, Segments};
+ghost use Rattle.cut.specs.Cutting.{countersFit, limitTest, valueTests, chunk as chunkOf, rounded, countAnswer, packetAnswer, packetOutput};
+ghost use Rattle.cut.specs.Inner.{packetsOf, planOf, counterOf, fromOf, toOf, valuesOf};
 ghost use Rattle.write.specs.Writing.{partsTest};
 ghost use Rattle.walk.specs.Walk.{noRefusal};
 use packet::SegmentCounter;
-use packet::SequenceCount;
-use sender::COUNTER_MOST;
 use sender::Next;
 use sender::Sender;
+use sender::Sent;
+use walk::REFUSED_COUNTER;
+use walk::REFUSED_HEADER_LONG;
+use walk::REFUSED_LARGE;
+use walk::REFUSED_NO_ROOM;
+use walk::REFUSED_NUMBER;
+use walk::REFUSED_OUTPUT;
+use walk::REFUSED_SETTINGS;
+use walk::REFUSED_VALUE;
 use walk::Refusal;
 use walk::Settings;
 use write::HeaderValues;
@@ -63,8 +70,8 @@ pub fn test_limit(s: Settings, p: usize, r: Refusal) -> Refusal
     ensures { λ q. ⌜ q ≡ limitTest s p r ⌝ }
 {
     let a = write::test_settings(s, r);
-    let b = walk::unless(a, LIMIT_LEAST <= p, 15);
-    walk::unless(b, p <= write::PACKET_MOST, 15)
+    let b = walk::unless(a, LIMIT_LEAST <= p, REFUSED_SETTINGS);
+    walk::unless(b, p <= write::PACKET_MOST, REFUSED_SETTINGS)
 }
 
 // 15, 22, 13.
@@ -80,13 +87,16 @@ fn test_message(
     id: &[u8],
     sender: Sender,
 ) -> Refusal
-    ensures { λ q. ⌜ q ≡ partsTest (lent (now (time .entry)) (now (zone .entry)) (now (name .entry)) (now (domain .entry)) (now (lengths .entry)) (now (id .entry))) (valueTests s v (lent (now (time .entry)) (now (zone .entry)) (now (name .entry)) (now (domain .entry)) (now (lengths .entry)) (now (id .entry))) sender (limitTest s p noRefusal)) ⌝ }
+    ensures { λ q. ⌜ q ≡ partsTest (lent (now (time .entry)) (now (zone .entry)) (now (name .entry)) (now (domain .entry))
+        (now (lengths .entry)) (now (id .entry))) (valueTests s v
+        (lent (now (time .entry)) (now (zone .entry)) (now (name .entry)) (now (domain .entry)) (now (lengths .entry)) (now (id .entry)))
+        sender (limitTest s p noRefusal)) ⌝ }
 {
     let none = Refusal { number: 0 };
-    let count = sender.count;
+    let sequence_count = sender.sequence_count;
     let a = test_limit(s, p, none);
     let b = write::test_header(s, v, time, zone, name, domain, lengths, id, a);
-    let c = walk::unless(b, count.0 <= packet::COUNT_MOST, 22);
+    let c = walk::unless(b, sequence_count.0 <= packet::COUNT_MOST, REFUSED_VALUE);
     write::test_parts(lengths.len(), c)
 }
 
@@ -150,10 +160,18 @@ fn plan_of(p: usize, h: usize, b: usize, sender: Sender, r: Refusal) -> Plan
     let chunk = chunk_of(p, h);
     let count = count_of(single, b, chunk);
     let next = sender.next;
-    let a = walk::unless(r, b <= BODY_MOST, 23);
-    let c = walk::unless(a, header_of(single, h) <= write::HEADER_MOST, 12);
-    let d = walk::unless(c, octets::either(single, 1 <= chunk), 24);
-    let e = walk::unless(d, octets::either(single, counters_fit(next, count)), 25);
+    let a = walk::unless(r, b <= BODY_MOST, REFUSED_LARGE);
+    let c = walk::unless(
+        a,
+        header_of(single, h) <= write::HEADER_MOST,
+        REFUSED_HEADER_LONG,
+    );
+    let d = walk::unless(c, octets::either(single, 1 <= chunk), REFUSED_NO_ROOM);
+    let e = walk::unless(
+        d,
+        octets::either(single, counters_fit(next, count)),
+        REFUSED_COUNTER,
+    );
     Plan {
         refusal: e,
         single: single,
@@ -164,47 +182,15 @@ fn plan_of(p: usize, h: usize, b: usize, sender: Sender, r: Refusal) -> Plan
 
 // ---- the numbers of a sender and of a packet
 
-// The counter behind n segments.
-fn counter_after(next: Next, n: usize) -> Next
-    ensures { λ r. ⌜ r ≡ counterAfter n next ⌝ }
-{
-    match next {
-        Next::At(c) => {
-            let x = c.0;
-            let left = (COUNTER_MOST - x) as u64;
-            if n as u64 <= left {
-                return Next::At(SegmentCounter(x + n as u32));
-            }
-            Next::NoneLeft
-        }
-        Next::NoneLeft => Next::NoneLeft,
-    }
-}
-
-// The sequence count n packets on.
-fn count_after(c: SequenceCount, n: usize) -> SequenceCount
-    ensures { λ r. ⌜ r .0 ≡ countOf (c .0) n ⌝ }
-{
-    let x = c.0 as u32 + (n % 16384) as u32;
-    SequenceCount((x % 16384) as u16)
-}
-
-// The counter of segment i, 0 where there is none.
+// The counter of segment i, 0 if there is none.
 fn counter_at(single: bool, next: Next, i: usize) -> SegmentCounter
     ensures { λ r. ⌜ r .0 ≡ counterOf single next i ⌝ }
 {
-    match next {
-        Next::At(c) => {
-            let x = c.0;
-            let left = (COUNTER_MOST - x) as u64;
-            if single {
-                return SegmentCounter(0);
-            }
-            if i as u64 <= left {
-                return SegmentCounter(x + i as u32);
-            }
-            SegmentCounter(0)
-        }
+    if single {
+        return SegmentCounter(0);
+    }
+    match next.after(i) {
+        Next::At(c) => c,
         Next::NoneLeft => SegmentCounter(0),
     }
 }
@@ -214,17 +200,17 @@ fn flags_at(single: bool, count: usize, i: usize) -> u8
     ensures { λ r. ⌜ r ≡ pick single 3 (pick (eqb i 0) 1 (pick (eqb (suc i) count) 2 0)) ⌝ }
 {
     if single {
-        return 3;
+        return packet::UNSEGMENTED;
     }
     if i == 0 {
-        return 1;
+        return packet::FIRST;
     }
     if i < count {
         if count - i == 1 {
-            return 2;
+            return packet::LAST;
         }
     }
-    0
+    packet::CONTINUATION
 }
 
 // Where the part of packet i begins.
@@ -252,36 +238,28 @@ fn values_at(single: bool, count: usize, sender: Sender, i: usize) -> PacketValu
     ensures { λ r. ⌜ r ≡ valuesOf single count sender i ⌝ }
 {
     let next = sender.next;
-    let first = sender.count;
+    let first = sender.sequence_count;
     let flags = flags_at(single, count, i);
-    let number = count_after(first, i);
+    let number = packet::sequence_count_after(first, i);
     let counter = counter_at(single, next, i);
     PacketValues {
         flags: flags,
-        count: number,
+        sequence_count: number,
         counter: counter,
     }
 }
 
-// The sender behind a message. Its sequence count is one of 14 bits.
-fn moved_on(single: bool, n: usize, sender: Sender) -> Sender
-    requires { ⌜ sender .count .0 ≤ countMost ⌝ }
-    ensures { λ r. ⌜ r ≡ pick single (afterPacket sender) (afterSegments n sender) ⌝ }
+// How a message of n packets is sent.
+fn sent_as(single: bool, n: usize) -> Sent
+    ensures { λ r. ⌜ r ≡ pick single Whole (Segments n) ⌝ }
 {
     if single {
-        return sender.after_packet();
+        return Sent::Whole;
     }
-    let next = sender.next;
-    let moved = counter_after(next, n);
-    let first = sender.count;
-    let count = count_after(first, n);
-    Sender {
-        count: count,
-        next: moved,
-    }
+    Sent::Segments(n)
 }
 
-// The number of packets of a message with a body of so many octets, and the sender's numbers behind it.
+// The number of packets of a message with a body of so many octets, and the sender's numbers after it.
 pub fn count(
     s: Settings,
     p: usize,
@@ -295,7 +273,8 @@ pub fn count(
     body: usize,
     sender: Sender,
 ) -> Counted
-    ensures { λ r. ⌜ r ≡ countAnswer s p v (lent (now (time .entry)) (now (zone .entry)) (now (name .entry)) (now (domain .entry)) (now (lengths .entry)) (now (id .entry))) body sender ⌝ }
+    ensures { λ r. ⌜ r ≡ countAnswer s p v (lent (now (time .entry)) (now (zone .entry)) (now (name .entry)) (now (domain .entry))
+        (now (lengths .entry)) (now (id .entry))) body sender ⌝ }
 {
     let values = test_message(s, p, v, time, zone, name, domain, lengths, id, sender);
     let h = write::header_size(s, v, time, zone, name, domain, lengths, id);
@@ -308,7 +287,8 @@ pub fn count(
             sender: sender,
         };
     }
-    let moved = moved_on(plan.single, plan.count, sender);
+    let sent = sent_as(plan.single, plan.count);
+    let moved = sender.after_message(sent);
     Counted {
         refusal: refusal,
         count: plan.count,
@@ -343,8 +323,14 @@ pub fn packet(
     i: usize,
     out: &mut [u8],
 ) -> Cut
-    ensures answer { λ r. ⌜ r ≡ packetAnswer s p v (lent (now (time .entry)) (now (zone .entry)) (now (name .entry)) (now (domain .entry)) (now (lengths .entry)) (now (id .entry))) (now (body .entry)) sender i (length (now (out .entry))) ⌝ }
-    ensures octets { λ r. ⌜ now (out .exit) ≡ packetOutput s p v (lent (now (time .entry)) (now (zone .entry)) (now (name .entry)) (now (domain .entry)) (now (lengths .entry)) (now (id .entry))) (now (body .entry)) sender i (now (out .entry)) ⌝ }
+    ensures answer { λ r. ⌜ r ≡ packetAnswer s p v (lent (now (time .entry)) (now (zone .entry)) (now (name .entry)) (now (domain .entry))
+        (now (lengths .entry)) (now (id .entry))) (now (body .entry)) sender i (length (now (out .entry))) ⌝ }
+    ensures octets { λ r. ⌜ now (out .exit) ≡ packetOutput s p v
+        (lent (now (time .entry)) (now (zone .entry)) (now (name .entry)) (now (domain .entry)) (now (lengths .entry)) (now (id .entry)))
+        (now (body .entry)) sender i (now (out .entry)) ⌝ }
+    ensures lends { λ r. ⌜ Lends v
+        (lent (now (time .entry)) (now (zone .entry)) (now (name .entry)) (now (domain .entry)) (now (lengths .entry)) (now (id .entry)))
+        (now (body .entry)) ⌝ }
 {
     let values = test_message(s, p, v, time, zone, name, domain, lengths, id, sender);
     let h = write::header_size(s, v, time, zone, name, domain, lengths, id);
@@ -354,8 +340,8 @@ pub fn packet(
     let to = to_of(plan.single, from, plan.chunk, body.len());
     let part = &body[from..to];
     let size = write::packet_size(write::secondary_size(h, o.flags), part.len());
-    let a = walk::unless(plan.refusal, i < plan.count, 26);
-    let r = walk::unless(a, size <= out.len(), 21);
+    let a = walk::unless(plan.refusal, i < plan.count, REFUSED_NUMBER);
+    let r = walk::unless(a, size <= out.len(), REFUSED_OUTPUT);
     if r.number != 0 {
         return refused(r, sender);
     }

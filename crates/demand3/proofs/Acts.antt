@@ -16,13 +16,13 @@ use Rattle.walk.specs.declared.Settings.{Settings}
 use Rattle.packet.specs.Reading.{segmented}
 use Rattle.cells.specs.Segments.{Seg, sameRest}
 use Rattle.cells.specs.Rows.{Cell, mayHold}
-use Rattle.messages.specs.Messages.{cellsOf, look, top}
+use Rattle.cells.specs.Messages.{cellsOf, look, top}
 use Rattle.arrival.specs.Arriving.{stored, again, refused, placed, beside, lowestFree, segmentArrived, arrivedIn, arrived}
 use Rattle.taking.specs.Taking.{message}
-use Rattle.keeping.specs.Cells.{hasFree}
-use Rattle.messages.proofs.Picking.{pick-yes}
+use Rattle.demand3.specs.Cells.{hasFree}
+use Rattle.cells.proofs.Picking.{pick-yes}
 use Rattle.arrival.proofs.After.{segment}
-use Rattle.keeping.proofs.After.{has-free}
+use Rattle.demand3.proofs.After.{has-free}
 use Rattle.demand3.specs.Traffic.{Event, arrives, passes, takes, empty, takenFrom, after, Room as CellRoom}
 use Rattle.demand3.specs.Promise.{Untaken as CellUntaken}
 use Rattle.demand3.specs.Calls.{Call, arrival, taking, joining, Brings, Handed, outOf, goesOn, draws, storeAfter, storeBy}

@@ -15,8 +15,9 @@ use Rattle.packet.specs.Format.{Opt, counterOctets, headerMost, packetMost, Set
 use Rattle.format.proofs.Frame.{packet-long}
 use Rattle.format.proofs.Back.{data-long}
 use Rattle.format.proofs.Stretches.{counter-long, secondary-long}
-use Rattle.demand3.specs.Sendings.{Sending, flagsIn, manyOf, startOf, valuesAt, packetWith, headerSize, IsCut}
+use Rattle.demand3.specs.Sendings.{Sending, flagsIn, manyOf, startOf, valuesAt, packetWith, headerSize, IsCut, counterIn}
 use Rattle.demand3.proofs.ReadAs.{flags-segment}
+use Rattle.sender.proofs.Stepping.{steps-suc}
 
 flags-top : (n i : ℕ) → flagsIn n i < 4
 unfolding flagsIn
@@ -53,9 +54,10 @@ module _ (s : Settings) (m : Sending) where
             settings = t;
             head = h;
             flags = flags-top (manyOf s m) i;
-            count = omega arith;
+            sequence-count = omega arith;
             counter =
-                subst (λ (b : Bool). Opt b (λ x. x < 4294967296) 0 (startOf s m + i)) (sym (flags-segment (manyOf s m) i)) (omega arith);
+                subst (λ (b : Bool). Opt b (λ x. x < 4294967296) 0 (counterIn s m i)) (sym (flags-segment (manyOf s m) i))
+                (omega (arith, steps-suc i (startOf s m)));
             body = parts i l .0;
             packet = omega (arith, segment-long i 0, parts i l .2);
             header = omega (arith, secondary-long s (valuesAt s m i 0), counter-four i 0);

@@ -1,7 +1,7 @@
--- Demand 3 in document 01's words, from the law for any counter; and without the room, that whatever is taken under a message's key
+-- Demand 3 in SPEC's words, from the law for any counter; and without the room, that whatever is taken under a message's key
 -- is one of the messages of that key.
 -- Assumes nothing.
-use Prim.Native.Nat.{ℕ, zero, suc, _+_, _-_, _≤_}
+use Prim.Native.Nat.{ℕ, suc, _+_, _-_, _≤_}
 use mathlib.Core.Path.{_≡_, refl, sym, _∙_, ap}
 use mathlib.Core.Logic.{_≢_, _⊎_, inl, inr}
 use mathlib.Core.Option.{some}
@@ -11,8 +11,8 @@ use native.Mathlib.Omega.{arith}
 use lib.ListN.{length}
 use Rattle.cells.specs.Segments.{Seg}
 use Rattle.cells.specs.Rows.{Cell}
-use Rattle.messages.specs.Messages.{Run, middle, last, top, picked}
-use Rattle.demand3.specs.Complete.{Held, Single, steps, Complete}
+use Rattle.cells.specs.Messages.{Run, middle, last, top, picked}
+use Rattle.demand3.specs.Complete.{Held, Single, Complete}
 use Rattle.demand3.specs.Traffic.{Sent, stepsIn, runOf, segmentsOf, Event, arrives, empty, after, OneOf, Stray, Traffic}
 use Rattle.demand3.specs.Promise.{Original, Done, AllCame, fresh, Given, Delivery, Promise}
 use Rattle.demand3.specs.Base.{CompleteFrom, final, Done01, Traffic01, Given01, Demand3·01, Soundness01, Genuine01}
@@ -21,11 +21,8 @@ use Rattle.demand3.proofs.Finds.{picked-held}
 use Rattle.demand3.proofs.Exactly.{picked-complete, complete-picks}
 use Rattle.demand3.proofs.Takings.{taken-picked, held-after, held-empty}
 use Rattle.demand3.proofs.Demand.{demand3, soundness}
-
-pub steps-suc : (n c : ℕ) → steps suc n c ≡ c + n
-unfolding steps
-steps-suc zero c = omega arith
-steps-suc (suc n) c = steps-suc n (suc c) ∙ omega arith
+use Rattle.sender.specs.Sending.{stepsOf}
+use Rattle.sender.proofs.Stepping.{steps-suc}
 
 -- ---- no counter comes twice
 
@@ -78,7 +75,7 @@ key-of m t h = opened-key suc (runOf suc m) (sent-opened suc m) t h ∙ sent-key
 traffic-of : (ms : List Sent) (es : List Event) → Traffic01 ms es → Traffic suc top ms es
 traffic-of ms es tr =
     record {
-      short = λ m h. omega (arith, tr .no-wrap m h);
+      short = λ m h. omega (arith, tr .no-wrap m h, steps-suc (stepsIn m) (m .start));
       steady = λ m h. sent-steady m;
       apart = tr .apart;
       source = λ t h. go t (tr .source t h);
@@ -93,23 +90,23 @@ given-of cells ms es g = record { traffic = traffic-of ms es (g .traffic); room 
 
 -- ---- complete
 
-pub from-complete : (cs : List Cell) (k : List ℕ) (c n : ℕ) → Complete suc top cs k c n → CompleteFrom cs k c (c + n)
+pub from-complete : (cs : List Cell) (k : List ℕ) (c n : ℕ) → Complete suc top cs k c n → CompleteFrom cs k c (stepsOf suc n c)
 from-complete cs k c n d =
     record {
       opens = d .opens;
-      closes = rw (steps-suc n c) at (d .closes);
-      below = omega (arith, d .onward);
+      closes = d .closes;
+      below = omega (arith, d .onward, steps-suc n c);
       between = λ x p q.
           let j : ℕ = x - c in
-          let e : steps suc j c ≡ x = steps-suc j c ∙ omega arith in
-          rw e at (d .between j (omega arith) (omega arith));
+          let e : stepsOf suc j c ≡ x = steps-suc j c ∙ omega arith in
+          rw e at (d .between j (omega arith) (omega (arith, steps-suc n c)));
     }
 
 pub to-complete : (cs : List Cell) (k : List ℕ) (c d : ℕ) → d ≤ top → CompleteFrom cs k c d → Complete suc top cs k c (d - c)
 to-complete cs k c d l f =
     record {
       opens = f .opens;
-      closes = (let e : steps suc (d - c) c ≡ d = steps-suc (d - c) c ∙ omega (arith, f .below) in rw e (f .closes));
+      closes = (let e : stepsOf suc (d - c) c ≡ d = steps-suc (d - c) c ∙ omega (arith, f .below) in rw e (f .closes));
       onward = omega (arith, f .below);
       within = omega arith;
       between = λ j p q. rw (steps-suc j c) (f .between (c + j) (omega arith) (omega arith));
@@ -121,13 +118,13 @@ module _ (m : Sent) (cs : List Cell) where
 
   to-done : final m ≤ top → Done01 m cs → Done suc top m cs
   to-done l d =
-      let e : final m - m .start ≡ stepsIn m = omega arith in
+      let e : final m - m .start ≡ stepsIn m = omega (arith, steps-suc (stepsIn m) (m .start)) in
       let f : Complete suc top cs (m .key) (m .start) (final m - m .start) = to-complete cs (m .key) (m .start) (final m) l d in
       rw e at f
 
 -- what taking picks is complete, in these words
 pub picked-complete01 : (cs : List Cell) → Single cs → (r : Run) → picked suc top cs ≡ some r →
-    CompleteFrom cs (r .head .key) (r .head .counter) (r .head .counter + length (r .rest))
+    CompleteFrom cs (r .head .key) (r .head .counter) (stepsOf suc (length (r .rest)) (r .head .counter))
 picked-complete01 cs s r e =
     from-complete cs (r .head .key) (r .head .counter) (length (r .rest)) (picked-complete suc top cs s r e .complete)
 

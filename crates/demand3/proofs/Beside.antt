@@ -10,13 +10,13 @@ use mathlib.Core.List.{List, [], _∷_, List·Memᴰ·head, List·Memᴰ·tail, 
 use Rattle.octets.proofs.Lists.{bool}
 use Rattle.cells.specs.Segments.{Seg, carries}
 use Rattle.cells.specs.Rows.{Cell}
-use Rattle.messages.specs.Messages.{first, Run, segments, look, chain, among, or}
-use Rattle.messages.proofs.Distinct.{carries-yes, carries-true}
-use Rattle.keeping.specs.Cells.{put, hasFree, clear}
+use Rattle.cells.specs.Messages.{first, Run, segments, look, restFrom, among, or}
+use Rattle.cells.proofs.Distinct.{carries-yes, carries-true}
+use Rattle.demand3.specs.Cells.{put, hasFree, clear}
 use Rattle.demand3.specs.Complete.{Held, Single}
 use Rattle.demand3.proofs.Looks.{carries-no, look-held, look-at, look-same, put-same, put-other, put-full, put-held, clear-kept, clear-held}
 use Rattle.demand3.proofs.Links.{Mem, roleIn, first-middle, first-last, Opened, linked-key, linked-first, opened-key, opened-before}
-use Rattle.demand3.proofs.Finds.{Only, Joint, link-inv, look-own, chain-linked, chain-only, Found}
+use Rattle.demand3.proofs.Finds.{Only, Joint, link-inv, look-own, rest-linked, rest-only, Found}
 
 -- ---- the freed
 
@@ -125,27 +125,27 @@ module _
     (o : Opened next own)
     (cs : List Cell)
     (b : Beside own cs) where
-  -- a chain that begins at none of the message's later counters meets none of its counters
-  chain-avoids :
+  -- a rest that begins at none of the message's later counters meets none of its counters
+  rest-avoids :
       (n : ℕ) (c : ℕ) (r : List Seg) → ((t : Seg) → Mem t (own .rest) → c ≢ t .counter) →
-      chain next span n cs (own .head .key) c ≡ some r →
+      restFrom next span n cs (own .head .key) c ≡ some r →
       (s : Seg) → Mem s r → (t : Seg) → Mem t (segments own) → s .counter ≢ t .counter
-  unfolding chain
-  chain-avoids zero c r a e s h t g = absurd (Option·none-ne-some r e)
-  chain-avoids (suc n) c r a e s h t g =
-      go (chain-avoids n (next c)) (link-inv (look cs (own .head .key) c) (chain next span n cs (own .head .key) (next c)) r e)
+  unfolding restFrom
+  rest-avoids zero c r a e s h t g = absurd (Option·none-ne-some r e)
+  rest-avoids (suc n) c r a e s h t g =
+      go (rest-avoids n (next c)) (link-inv (look cs (own .head .key) c) (restFrom next span n cs (own .head .key) (next c)) r e)
     where
       go : ((r′ : List Seg) → ((t′ : Seg) → Mem t′ (own .rest) → next c ≢ t′ .counter) →
-          chain next span n cs (own .head .key) (next c) ≡ some r′ →
+          restFrom next span n cs (own .head .key) (next c) ≡ some r′ →
           (s′ : Seg) → Mem s′ r′ → (t′ : Seg) → Mem t′ (segments own) → s′ .counter ≢ t′ .counter) →
-          (u : Seg) × (look cs (own .head .key) c ≡ some u) × Joint (chain next span n cs (own .head .key) (next c)) r u →
+          (u : Seg) × (look cs (own .head .key) c ≡ some u) × Joint (restFrom next span n cs (own .head .key) (next c)) r u →
           s .counter ≢ t .counter
       go ih w = on (w .2)
         where
           mine : w .0 .counter ≡ c
           mine = look-own cs (own .head .key) c (w .0) (w .1) .1
 
-          not-first : Joint (chain next span n cs (own .head .key) (next c)) r (w .0) → roleIn (w .0) ≡ first → ⊥
+          not-first : Joint (restFrom next span n cs (own .head .key) (next c)) r (w .0) → roleIn (w .0) ≡ first → ⊥
           not-first (inl q) f = first-last f (q .0)
           not-first (inr q) f = first-middle f (q .0)
 
@@ -165,7 +165,7 @@ module _
           from ss f (inl q) e′ = off t g (sym mine ∙ ap (λ (x : Seg). x .counter) (sym q) ∙ e′)
           from ss f (inr k) e′ = f k e′
 
-          on : Joint (chain next span n cs (own .head .key) (next c)) r (w .0) → s .counter ≢ t .counter
+          on : Joint (restFrom next span n cs (own .head .key) (next c)) r (w .0) → s .counter ≢ t .counter
           on (inl q) = from [] (λ k. absurd (List·Memᴰ·not-nil k)) (List·Memᴰ·cases-cons (subst (Mem s) (q .1) h))
           on (inr q) = from (q .1 .0) (λ k. ih (q .1 .0) onwards (q .1 .1) s k t g) (List·Memᴰ·cases-cons (subst (Mem s) (q .1 .2) h))
 
@@ -185,11 +185,11 @@ module _
       go (inl a) =
           let p = carries-true (own .head .key) (own .head .counter) (r .head) a in
           let q : r .head ≡ own .head = same (own .head) (List·Memᴰ·head refl) (sym (p .0)) (sym (p .1)) in
-          let z : chain next span span cs (own .head .key) (next (own .head .counter)) ≡ some (r .rest) =
-          ap (λ (x : Seg). chain next span span cs (x .key) (next (x .counter))) (sym q) ∙ f .finds in
+          let z : restFrom next span span cs (own .head .key) (next (own .head .counter)) ≡ some (r .rest) =
+          ap (λ (x : Seg). restFrom next span span cs (x .key) (next (x .counter))) (sym q) ∙ f .finds in
           inl
           (same-run r q
-          (chain-only next span span cs (own .head .key) (next (own .head .counter)) (own .rest) (r .rest) (o .follows)
+          (rest-only next span span cs (own .head .key) (next (own .head .counter)) (own .rest) (r .rest) (o .follows)
           (λ t u m. b .only t u (List·Memᴰ·tail m)) z))
       go (inr a) = inr off
         where
@@ -211,12 +211,12 @@ module _
               on : (s ≡ r .head) ⊎ Mem s (r .rest) → ⊥
               on (inl e) = head-off t k (ap (λ (x : Seg). x .key) (sym e) ∙ p) (ap (λ (x : Seg). x .counter) (sym e) ∙ q)
               on (inr e) =
-                  let l = chain-linked next span span cs (r .head .key) (next (r .head .counter)) (r .rest) (f .finds) .0 in
+                  let l = rest-linked next span span cs (r .head .key) (next (r .head .counter)) (r .rest) (f .finds) .0 in
                   let kk : r .head .key ≡ own .head .key =
                   sym (linked-key next (r .head .key) (next (r .head .counter)) (r .rest) l s e) ∙ p ∙ opened-key next own o t k in
-                  let z : chain next span span cs (own .head .key) (next (r .head .counter)) ≡ some (r .rest) =
-                  ap (λ (x : List ℕ). chain next span span cs x (next (r .head .counter))) (sym kk) ∙ f .finds in
-                  chain-avoids span (next (r .head .counter)) (r .rest)
+                  let z : restFrom next span span cs (own .head .key) (next (r .head .counter)) ≡ some (r .rest) =
+                  ap (λ (x : List ℕ). restFrom next span span cs x (next (r .head .counter))) (sym kk) ∙ f .finds in
+                  rest-avoids span (next (r .head .counter)) (r .rest)
                   (λ u g y.
                   let d = opened-before next own o u g in
                   head-off (d .0) (d .1) (kk ∙ sym (opened-key next own o (d .0) (d .1)))

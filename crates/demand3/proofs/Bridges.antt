@@ -2,7 +2,7 @@
 -- leave is the store and the output behind the call, and they answer what it comes to; what `cut::count` answers and `cut::packet`
 -- writes are a message's count and its packets. So where demand 3 says that a call hands out a message, its answer and its output do.
 -- Assumes nothing.
-use Prim.Native.Nat.{ℕ, suc, _+_, _-_}
+use Prim.Native.Nat.{ℕ, zero, suc, _+_, _-_}
 use mathlib.Core.Path.{_≡_, refl, ap, sym, _∙_}
 use mathlib.Core.Logic.{_⊎_, inl, inr}
 use mathlib.Core.Bool.{Bool, true, false}
@@ -12,29 +12,33 @@ use native.Mathlib.Omega.{arith}
 use contract.Lifetimes as L
 use denote.Ref.{now}
 use lib.ListN.{length, take, drop}
-use lib.Dec.{leb, eqb}
+use lib.Dec.{leb}
 use Rattle.octets.specs.Octets.{pick}
 use Rattle.walk.specs.declared.Settings.{Settings}
-use Rattle.walk.specs.Walk.{begun, refusal}
+use Rattle.walk.specs.Walk.{refusal}
 use Rattle.sender.specs.declared.Sender.{Sender}
 use Rattle.write.specs.declared.HeaderValues.{HeaderValues}
-use Rattle.write.specs.Given.{Lent, lent}
+use Rattle.write.specs.Given.{Lent}
 use Rattle.cut.specs.declared.Counted.{Counted}
 use Rattle.cut.specs.Cutting.{countAnswer}
+use Rattle.cut.proofs.Arguments.{count-call, cut-call, cut-output}
 use Rattle.cut.proofs.count.Reads as counts
 use Rattle.cut.proofs.packet.Reads as cuts
 use Rattle.fewest.proofs.Calls.{packet-wrote}
-use Rattle.cells.specs.Order.{inOrder, countIn, cellSize}
-use Rattle.messages.specs.Messages.{Run, cellsOf, picked, top}
+use Rattle.cells.specs.Order.{countIn, cellSize, gate}
+use Rattle.cells.specs.Messages.{Run, cellsOf, picked, top}
 use Rattle.arrival.specs.Arriving.{Arrived, whole, stored, again, refused, arrived, storeWith}
 use Rattle.taking.specs.Taking.{Took, message, unable, writing, drawn, tookIn, took}
 use Rattle.taking.specs.declared.Taken.{Taken}
 use Rattle.arrival.specs.Told.{arrivalOf}
 use Rattle.taking.specs.Told.{takenOf}
+use Rattle.taking.proofs.Checked.{took-open, took-shut}
+use Rattle.store.proofs.Arguments.{arrive-call, arrive-store, take-call, take-store, take-output}
 use Rattle.store.proofs.arrive.Reads as arrives
 use Rattle.store.proofs.take.Reads as takes
 use Rattle.join.specs.Joining.{Joining, inPacket, unjoined, bodyFrom, tookAs, joinedBy, joining as joined}
 use Rattle.join.specs.Told.{taken, joinedOf}
+use Rattle.join.proofs.Arguments.{join-call, join-store, join-output}
 use Rattle.join.proofs.join.Reads as joins
 use Rattle.demand3.specs.Calls.{arrival, taking, joining, goesOn, storeBy, tookBy, outBy}
 use Rattle.demand3.specs.Sendings.{Sending, wholeBody, identificationOf, headerOf, headerSize, bodySize, startOf}
@@ -43,11 +47,11 @@ use Rattle.demand3.specs.Whole.{Delivers}
 
 -- `store::arrive`
 pub arrive-answers : (κs : L.Lfts 2) (a : _) (r : _) (x : _) → arrives.Post κs a r x →
-    r ≡ arrivalOf (arrived (a .0) cellSize (now (a .1 .0)) (now (a .1 .1 .0)))
+    r ≡ arrivalOf (arrived (arrive-call κs a .settings) cellSize (arrive-call κs a .store) (arrive-call κs a .packet))
 arrive-answers κs a r x k = k .0
 
 pub arrive-steps : (κs : L.Lfts 2) (a : _) (r : _) (x : _) → arrives.Post κs a r x →
-    now (x .1 .0) ≡ storeBy (a .0) cellSize (now (a .1 .0)) (arrival (now (a .1 .1 .0)))
+    arrive-store κs x ≡ storeBy (arrive-call κs a .settings) cellSize (arrive-call κs a .store) (arrival (arrive-call κs a .packet))
 unfolding storeBy
 arrive-steps κs a r x k = k .1
 
@@ -85,38 +89,39 @@ module _ (s : Settings) (Z : ℕ) (st out p : List ℕ) where
 
 -- `store::take`
 pub take-answers : (κs : L.Lfts 2) (a : _) (r : _) (x : _) → takes.Post κs a r x →
-    some r ≡ Option·map takenOf (tookBy (a .0) cellSize (now (a .1 .0)) (taking (now (a .1 .1 .0))))
+    some r ≡ Option·map takenOf (tookBy (take-call κs a .settings) cellSize (take-call κs a .store) (taking (take-call κs a .output)))
 unfolding tookBy
 take-answers κs a r x k = ap some (k .0)
 
 pub take-writes : (κs : L.Lfts 2) (a : _) (r : _) (x : _) → takes.Post κs a r x →
-    now (x .1 .1 .0) ≡ outBy (a .0) cellSize (now (a .1 .0)) (taking (now (a .1 .1 .0)))
+    take-output κs x ≡ outBy (take-call κs a .settings) cellSize (take-call κs a .store) (taking (take-call κs a .output))
 unfolding outBy
 take-writes κs a r x k = k .1 .0
 
 pub take-steps : (κs : L.Lfts 2) (a : _) (r : _) (x : _) → takes.Post κs a r x →
-    now (x .1 .0) ≡ storeBy (a .0) cellSize (now (a .1 .0)) (taking (now (a .1 .1 .0)))
+    take-store κs x ≡ storeBy (take-call κs a .settings) cellSize (take-call κs a .store) (taking (take-call κs a .output))
 unfolding storeBy
 take-steps κs a r x k = k .1 .1
 
 -- `join::join`
 pub join-answers : (κs : L.Lfts 3) (a : _) (r : _) (x : _) → joins.Post κs a r x → (t : Took) →
-    tookBy (a .0) cellSize (now (a .1 .0)) (joining (now (a .1 .1 .0)) (now (a .1 .1 .1 .0))) ≡ some t → r ≡ joinedOf (tookAs t)
+    tookBy (join-call κs a .settings) cellSize (join-call κs a .store) (joining (join-call κs a .packet) (join-call κs a .output)) ≡ some t → r ≡ joinedOf (tookAs t)
 join-answers κs a r x k t e =
-    k .0 ∙ ap joinedOf (joining-takes (a .0) cellSize (now (a .1 .0)) (now (a .1 .1 .1 .0)) (now (a .1 .1 .0)) t e)
+    k .0 ∙ ap joinedOf (joining-takes (join-call κs a .settings) cellSize (join-call κs a .store) (join-call κs a .output) (join-call κs a .packet) t e)
 
 pub join-ends : (κs : L.Lfts 3) (a : _) (r : _) (x : _) → joins.Post κs a r x →
-    tookBy (a .0) cellSize (now (a .1 .0)) (joining (now (a .1 .1 .0)) (now (a .1 .1 .1 .0))) ≡ none →
-    (j : Joining) × (r ≡ joinedOf j) × Ended (a .0) (now (a .1 .1 .0)) (arrived (a .0) cellSize (now (a .1 .0)) (now (a .1 .1 .0))) j
-join-ends κs a r x k e = (_, k .0, joining-ends (a .0) cellSize (now (a .1 .0)) (now (a .1 .1 .1 .0)) (now (a .1 .1 .0)) e)
+    tookBy (join-call κs a .settings) cellSize (join-call κs a .store) (joining (join-call κs a .packet) (join-call κs a .output)) ≡ none →
+    (j : Joining) × (r ≡ joinedOf j) × Ended (join-call κs a .settings) (join-call κs a .packet)
+    (arrived (join-call κs a .settings) cellSize (join-call κs a .store) (join-call κs a .packet)) j
+join-ends κs a r x k e = (_, k .0, joining-ends (join-call κs a .settings) cellSize (join-call κs a .store) (join-call κs a .output) (join-call κs a .packet) e)
 
 pub join-steps : (κs : L.Lfts 3) (a : _) (r : _) (x : _) → joins.Post κs a r x →
-    now (x .1 .0) ≡ storeBy (a .0) cellSize (now (a .1 .0)) (joining (now (a .1 .1 .0)) (now (a .1 .1 .1 .0)))
+    join-store κs x ≡ storeBy (join-call κs a .settings) cellSize (join-call κs a .store) (joining (join-call κs a .packet) (join-call κs a .output))
 unfolding storeBy
 join-steps κs a r x k = k .1 .0
 
 pub join-writes : (κs : L.Lfts 3) (a : _) (r : _) (x : _) → joins.Post κs a r x →
-    now (x .1 .1 .1 .0) ≡ outBy (a .0) cellSize (now (a .1 .0)) (joining (now (a .1 .1 .0)) (now (a .1 .1 .1 .0)))
+    join-output κs x ≡ outBy (join-call κs a .settings) cellSize (join-call κs a .store) (joining (join-call κs a .packet) (join-call κs a .output))
 unfolding outBy
 join-writes κs a r x k = k .1 .1
 
@@ -132,13 +137,14 @@ drawn-not (some r) long e = go (leb (length (writing r)) long) e
     go false d = let z : _≡_ {A = ℕ} 21 0 = cc in omega arith
 
 took-not : (s : Settings) (Z : ℕ) (st : List ℕ) (long : ℕ) → took s Z st long ≡ unable 0 → ⊥
-unfolding took tookIn
-took-not s Z st long e = go (eqb (begun s .refusal .number) 0) (inOrder s Z st) e
+unfolding tookIn
+took-not s Z st long e = go (gate s Z st) refl
   where
-    go : (a b : Bool) → pick a (pick b (drawn (picked suc top (cellsOf s Z st (countIn Z st))) long) (unable 16)) (unable 15) ≡ unable 0 → ⊥
-    go true true d = drawn-not (picked suc top (cellsOf s Z st (countIn Z st))) long d
-    go true false d = let z : _≡_ {A = ℕ} 16 0 = cc in omega arith
-    go false b d = let z : _≡_ {A = ℕ} 15 0 = cc in omega arith
+    go : (g : ℕ) → gate s Z st ≡ g → ⊥
+    go zero h = drawn-not (picked suc top (cellsOf s Z st (countIn Z st))) long (took-open s Z st long h ∙ e)
+    go (suc g) h =
+        let d : unable (suc g) ≡ unable 0 = ap unable (sym h) ∙ sym (took-shut s Z st long (λ k. omega (arith, h, k))) ∙ e in
+        let z : _≡_ {A = ℕ} (suc g) 0 = cc in omega arith
 
 -- so an answer without a refusal is a message's
 joined-tells : (s : Settings) (Z : ℕ) (st p out : List ℕ) (x : Taken) → x .refusal .number ≡ 0 →
@@ -164,24 +170,24 @@ module _ (s : Settings) (m : Sending) where
   abbrev pub itsAnswer : Taken
   itsAnswer = record { refusal = refusal 0; header = headerSize s m; body = bodySize s m; counter = record { 0 = startOf s m } }
 
-  -- "the original identification, header and body", and behind them the output as it was
+  -- the identification, header and body that were sent, and after them the output as it was
   abbrev pub itsOutput : List ℕ → List ℕ
   itsOutput out = identificationOf s m ++ headerOf s m ++ wholeBody m ++ drop (2 + headerSize s m + bodySize s m) out
 
 pub take-hands-out : (κs : L.Lfts 2) (a : _) (r : _) (x : _) → takes.Post κs a r x → (n : ℕ) (m : Sending) →
-    Delivers (a .0) cellSize n m (now (a .1 .0)) (taking (now (a .1 .1 .0))) →
-    (r ≡ itsAnswer (a .0) m) × (now (x .1 .1 .0) ≡ itsOutput (a .0) m (now (a .1 .1 .0)))
+    Delivers (take-call κs a .settings) cellSize n m (take-call κs a .store) (taking (take-call κs a .output)) →
+    (r ≡ itsAnswer (take-call κs a .settings) m) × (take-output κs x ≡ itsOutput (take-call κs a .settings) m (take-call κs a .output))
 take-hands-out κs a r x k n m d = (
-  Option·some-injective r (itsAnswer (a .0) m) (take-answers κs a r x k ∙ d .told),
+  Option·some-injective r (itsAnswer (take-call κs a .settings) m) (take-answers κs a r x k ∙ d .told),
   take-writes κs a r x k ∙ d .written,
 )
 
 pub join-hands-out : (κs : L.Lfts 3) (a : _) (r : _) (x : _) → joins.Post κs a r x → (n : ℕ) (m : Sending) →
-    Delivers (a .0) cellSize n m (now (a .1 .0)) (joining (now (a .1 .1 .0)) (now (a .1 .1 .1 .0))) →
-    (r ≡ taken (itsAnswer (a .0) m)) × (now (x .1 .1 .1 .0) ≡ itsOutput (a .0) m (now (a .1 .1 .1 .0)))
+    Delivers (join-call κs a .settings) cellSize n m (join-call κs a .store) (joining (join-call κs a .packet) (join-call κs a .output)) →
+    (r ≡ taken (itsAnswer (join-call κs a .settings) m)) × (join-output κs x ≡ itsOutput (join-call κs a .settings) m (join-call κs a .output))
 join-hands-out κs a r x k n m d = (
   k .0
-      ∙ joined-tells (a .0) cellSize (now (a .1 .0)) (now (a .1 .1 .0)) (now (a .1 .1 .1 .0)) (itsAnswer (a .0) m) refl (d .told),
+      ∙ joined-tells (join-call κs a .settings) cellSize (join-call κs a .store) (join-call κs a .packet) (join-call κs a .output) (itsAnswer (join-call κs a .settings) m) refl (d .told),
   join-writes κs a r x k ∙ d .written,
 )
 
@@ -196,23 +202,13 @@ plain-count : (s : Settings) (P B : ℕ) (v : HeaderValues) (t : Lent) (d : Send
 plain-count s P B v t d r k body e = ap (λ (x : ℕ). countAnswer s P v t x d) e ∙ sym k
 
 -- `cut::count`
-pub count-steps : (κs : L.Lfts 6) (a : _) (r : _) (x : _) → counts.Post κs a r x → (body : List ℕ) →
-    length body ≡ a .1 .1 .1 .1 .1 .1 .1 .1 .1 .0 →
-    countOf (a .0)
-    (cutting (a .1 .0) (a .1 .1 .0)
-    (lent (now (a .1 .1 .1 .0)) (now (a .1 .1 .1 .1 .0)) (now (a .1 .1 .1 .1 .1 .0)) (now (a .1 .1 .1 .1 .1 .1 .0))
-    (now (a .1 .1 .1 .1 .1 .1 .1 .0)) (now (a .1 .1 .1 .1 .1 .1 .1 .1 .0)))
-    body (a .1 .1 .1 .1 .1 .1 .1 .1 .1 .1 .0))
-    ≡ r
-count-steps κs a r x k body e = plain-count (a .0) (a .1 .0) _ (a .1 .1 .0) _ _ r k body e
+pub count-steps : (κs : L.Lfts 6) (a : _) (r : _) (x : _) → counts.Post κs a r x → (body : List ℕ) → length body ≡ count-call κs a .long →
+    (let c = count-call κs a in countOf (c .settings) (cutting (c .limit) (c .header) (c .texts) body (c .sender))) ≡ r
+count-steps κs a r x k body e =
+    let c = count-call κs a in plain-count (c .settings) (c .limit) (c .long) (c .header) (c .texts) (c .sender) r k body e
 
 -- `cut::packet`
 pub packet-steps : (κs : L.Lfts 8) (a : _) (r : _) (x : _) → cuts.Post κs a r x → r .refusal .number ≡ 0 →
-    take (r .length) (now (x .1 .1 .1 .1 .1 .1 .1 .1 .1 .1 .1 .1 .0)) ≡
-    packetOf (a .0)
-    (cutting (a .1 .0) (a .1 .1 .0)
-    (lent (now (a .1 .1 .1 .0)) (now (a .1 .1 .1 .1 .0)) (now (a .1 .1 .1 .1 .1 .0)) (now (a .1 .1 .1 .1 .1 .1 .0))
-    (now (a .1 .1 .1 .1 .1 .1 .1 .0)) (now (a .1 .1 .1 .1 .1 .1 .1 .1 .0)))
-    (now (a .1 .1 .1 .1 .1 .1 .1 .1 .1 .0)) (a .1 .1 .1 .1 .1 .1 .1 .1 .1 .1 .0))
-    (a .1 .1 .1 .1 .1 .1 .1 .1 .1 .1 .1 .0)
+    take (r .length) (cut-output κs x) ≡
+    (let c = cut-call κs a in packetOf (c .settings) (cutting (c .limit) (c .header) (c .texts) (c .body) (c .sender)) (c .index))
 packet-steps κs a r x k z = packet-wrote κs a r x k z .octets

@@ -12,10 +12,10 @@ use lib.ListN.{length}
 use Rattle.walk.specs.declared.Settings.{Settings}
 use Rattle.cells.specs.Segments.{Seg, segOf}
 use Rattle.cells.specs.Rows.{Cell}
-use Rattle.messages.specs.Messages.{cellsOf, look, top}
+use Rattle.cells.specs.Messages.{cellsOf, look, top}
 use Rattle.taking.specs.Taking.{message}
-use Rattle.keeping.specs.Cells.{hasFree}
-use Rattle.messages.proofs.Empty.{empty-cells, empty-count, empty-order}
+use Rattle.demand3.specs.Cells.{hasFree}
+use Rattle.cells.proofs.Empty.{empty-cells, empty-count, empty-order}
 use Rattle.demand3.specs.Traffic.{Sent, segmentsOf, Event, arrives, takes, empty, takenFrom, after, OneOf, Room as CellRoom}
 use Rattle.demand3.specs.Promise.{Anew as CellAnew, fresh as cell-fresh, retaken as cell-retaken, Untaken as CellUntaken, AllCame as CellAllCame}
 use Rattle.demand3.specs.Base.{final, Traffic01}

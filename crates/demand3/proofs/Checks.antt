@@ -10,10 +10,10 @@ use native.Mathlib.Omega.{arith}
 use Rattle.cells.specs.Segments.{Seg, carries, both}
 use Rattle.cells.specs.Rows.{Cell}
 use Rattle.cells.proofs.Held.{both-true}
-use Rattle.messages.specs.Messages.{look}
-use Rattle.messages.proofs.Distinct.{carries-yes}
+use Rattle.cells.specs.Messages.{look}
+use Rattle.cells.proofs.Distinct.{carries-yes}
 use Rattle.taking.specs.Taking.{Took, message, unable}
-use Rattle.keeping.specs.Cells.{hasFree}
+use Rattle.demand3.specs.Cells.{hasFree}
 use Rattle.demand3.specs.Traffic.{Sent, Event, arrives, passes, takes, takenFrom, stepped, after, Room}
 use Rattle.demand3.specs.Promise.{Untaken}
 

@@ -17,8 +17,9 @@ use Rattle.octets.specs.Laying.{together}
 use Rattle.walk.specs.declared.Settings.{Settings}
 use Rattle.fields.specs.Form.{joined}
 use Rattle.packet.specs.Format.{identification, headerOctets, octetsOf, InRange}
+use Rattle.packet.specs.Numbers.{countAt}
 use Rattle.write.specs.Given.{headOf}
-use Rattle.cut.specs.Cutting.{counterAt, countAt, single, packets, headerLength, countRefusal, countAnswer, flagsAt, bodyAt, packetAt, givenAt}
+use Rattle.cut.specs.Cutting.{counterAt, single, packets, headerLength, countRefusal, countAnswer, flagsAt, bodyAt, packetAt, givenAt}
 use Rattle.fewest.specs.Carrying.{firstOf}
 use Rattle.fewest.specs.Runs.{place}
 use Rattle.fewest.proofs.Lists.{first-length, first-at}
@@ -31,6 +32,7 @@ use Rattle.demand3.specs.Sendings.{Sending, wholeBody, flagsIn, ReadsAs,
 use Rattle.demand3.specs.Cutter.{Cutting, countOf, packetOf, sendingOf, Succeeds}
 use Rattle.demand3.specs.Whole.{Delivers}
 use Rattle.demand3.proofs.ReadAs.{recounted-long, recounted-range, repeat-reads}
+use Rattle.sender.specs.Sending.{stepsOf}
 
 together-joined : (l : List (List ℕ)) → together l ≡ joined (λ (x : List ℕ). x) l
 unfolding together joined
@@ -88,33 +90,33 @@ module _ (s : Settings) (Z : ℕ) (m : Cutting) (k : Succeeds s Z m) where
       ∙ ap (λ (n : ℕ). pick (eqb i 0) 1 (pick (eqb (suc i) n) 2 0)) (sym (cutter-many ∙ many-is))
 
   -- the sender's sequence count for packet i
-  abbrev pub seqOf : ℕ → ℕ
-  seqOf i = countAt (m .sender .count .0) i
+  abbrev pub sequenceCountOf : ℕ → ℕ
+  sequenceCountOf i = countAt (m .sender .«sequence_count» .0) i
 
   module _ (i : ℕ) (l : i < manyOf s (sendingOf s m)) where
-    values-are : givenAt s P (m .values) (m .texts) (m .body) (m .sender) i ≡ valuesAt s (sendingOf s m) i (seqOf i)
+    values-are : givenAt s P (m .values) (m .texts) (m .body) (m .sender) i ≡ valuesAt s (sendingOf s m) i (sequenceCountOf i)
     unfolding packetAt
     values-are =
         let f = flags-are i in
-        let c : pick (single P H B) 0 (counterAt (m .sender .next) i) ≡ place (m .sender .next) + i =
+        let c : pick (single P H B) 0 (counterAt (m .sender .next) i) ≡ stepsOf suc i (place (m .sender .next)) =
         ap (λ (b : Bool). pick b 0 (counterAt (m .sender .next) i)) is-cut ∙ counter-of (m .sender .next) (starts .start) i (starts .starts)
-        ∙ ap (λ (x : ℕ). x + i) (sym start-is) in
+        ∙ ap (stepsOf suc i) (sym start-is) in
         let b : bodyAt P H (m .body) i ≡ getD (firstOf (bodyAt P H (m .body)) (countOf s m .count)) i [] =
         sym (first-at (bodyAt P H (m .body)) (countOf s m .count) i [] (omega (arith, cutter-many))) in
-        λ j. record { head = sendingOf s m .head; flags = f j; count = seqOf i; counter = c j; body = b j }
+        λ j. record { head = sendingOf s m .head; flags = f j; sequence-count = sequenceCountOf i; counter = c j; body = b j }
 
-    given-range : InRange s (valuesAt s (sendingOf s m) i (seqOf i))
+    given-range : InRange s (valuesAt s (sendingOf s m) i (sequenceCountOf i))
     given-range =
         subst (InRange s) values-are
-        (packet-range s P (m .values) (m .texts) (m .body) (m .sender) no-refusal (k .texts) (k .body) i
+        (packet-range s P (m .values) (m .texts) (m .body) (m .sender) no-refusal (k .lends) i
         (omega (arith, cutter-many, many-is)))
 
     -- packet i is the message's packet i, with the sender's sequence count
-    pub cutter-packet : packetOf s m i ≡ packetWith s (sendingOf s m) i (seqOf i)
+    pub cutter-packet : packetOf s m i ≡ packetWith s (sendingOf s m) i (sequenceCountOf i)
     cutter-packet = ap (octetsOf s) values-are
 
-    pub seq-fits : seqOf i < 16384
-    seq-fits = given-range .count
+    pub sequence-count-fits : sequenceCountOf i < 16384
+    sequence-count-fits = given-range .sequence-count
 
     cut-fits : 2 + length (packetWith s (sendingOf s m) i 0) ≤ Z
     cut-fits =
@@ -122,7 +124,7 @@ module _ (s : Settings) (Z : ℕ) (m : Cutting) (k : Succeeds s Z m) where
           arith,
           k .fits i (omega (arith, cutter-many)),
           ap length cutter-packet,
-          recounted-long s (valuesAt s (sendingOf s m) i (seqOf i)) 0,
+          recounted-long s (valuesAt s (sendingOf s m) i (sequenceCountOf i)) 0,
         )
 
   -- a message of demand 3
@@ -130,7 +132,7 @@ module _ (s : Settings) (Z : ℕ) (m : Cutting) (k : Succeeds s Z m) where
   cutter-cut =
       record {
         many = omega (arith, cutter-many, k .many);
-        range = λ i l. recounted-range s (valuesAt s (sendingOf s m) i (seqOf i)) 0 (omega arith) (given-range i l);
+        range = λ i l. recounted-range s (valuesAt s (sendingOf s m) i (sequenceCountOf i)) 0 (omega arith) (given-range i l);
         fits = cut-fits;
       }
 
@@ -139,7 +141,7 @@ module _ (s : Settings) (Z : ℕ) (m : Cutting) (k : Succeeds s Z m) where
   cutter-reads i h =
       let l : i < manyOf s (sendingOf s m) = omega (arith, cutter-many) in
       subst (λ (p : List ℕ). ReadsAs s p (segmentAt s (sendingOf s m) i)) (sym (cutter-packet i l))
-      (repeat-reads s Z (sendingOf s m) cutter-cut i l (seqOf i) (seq-fits i l))
+      (repeat-reads s Z (sendingOf s m) cutter-cut i l (sequenceCountOf i) (sequence-count-fits i l))
 
   -- and what a call hands out is what the cutter was given: H, B and the first counter, the header's octets, the body
   pub cutter-hands-out : (n : ℕ) (st : List ℕ) (c : Call) → Delivers s Z n (sendingOf s m) st c →

@@ -18,16 +18,18 @@ use Rattle.walk.specs.declared.Settings.{Settings}
 use Rattle.walk.specs.Walk.{begun, check, octets, unless}
 use Rattle.fields.specs.Form.{split}
 use Rattle.packet.specs.Format.{presence, identification, fixedOctets, frontOctets, backOctets, headerOctets, InRange}
-use Rattle.packet.specs.FixedPart.{octetField, wideField, sduField, afterSdu, afterArea, afterService, afterOperation, afterVersion, afterSession, afterSecondary, afterQualifier, afterTransaction, afterPresence, fixedOf, flagsOf, presentOf}
+use Rattle.packet.specs.FixedPart.{octetField, wideField, sduField, afterSdu, afterArea, afterService, afterOperation, afterVersion, afterSession}
+use Rattle.packet.specs.FixedPart.{afterSecondary, afterQualifier, afterTransaction, afterPresence, fixedOf, flagsOf, presentOf}
 use Rattle.packet.specs.Reading.{primaryTests, primaryOf, idsOf, textsOf, bodyTest, refusedHeader, acceptedHeader, readPacket}
 use Rattle.packet.specs.Key.{counterPlace, keyOf}
 use Rattle.sender.specs.declared.Next.the-variants.{At}
+use Rattle.sender.specs.Sending.{stepsOf}
 use Rattle.write.specs.Given.{headOf, sum, nameChecks, routingChecks, idChecks, textChecks, headerChecks, unlessAll}
 use Rattle.write.specs.Writing.{settingsTest, partsTest}
-use Rattle.two_way.proofs.Figures.{header as values, texts}
+use Rattle.write.specs.Lending.{Lends}
+use Rattle.write.specs.Figure14.{header as values, texts}
 use Rattle.cut.specs.Cutting.{countersFit, packets, rounded, limitTest, valueTests, messageTests, countRefusal, countAnswer, bodyAt}
 use Rattle.cut.proofs.Packets.{packet-most}
-use Rattle.fewest.specs.Cutting.{Lends}
 use Rattle.fewest.specs.Carrying.{firstOf}
 use Rattle.fewest.specs.Runs.{place}
 use Rattle.fewest.proofs.Numbers.{cuts-well}
@@ -54,7 +56,7 @@ cutting =
       values = values;
       texts = texts;
       body = 1 ∷ 2 ∷ 3 ∷ 4 ∷ 5 ∷ 6 ∷ 7 ∷ 8 ∷ [];
-      sender = record { count = record { 0 = 0 }; next = At (record { 0 = 7 }) };
+      sender = record { «sequence_count» = record { 0 = 0 }; next = At (record { 0 = 7 }) };
     }
 
 abbrev pub three : Sending
@@ -128,23 +130,29 @@ other-octets = octets-by other refl
 
 -- ---- the messages are cut
 
-lends : Lends values texts
+lends : Lends values texts (cutting .body)
 lends =
     record {
-      timestamp = octets-nil;
-      zone = octets-nil;
-      name = octets-nil;
-      domain = octets-nil;
-      authentication = octets-nil;
+      octets =
+          record {
+            timestamp = octets-nil;
+            zone = octets-nil;
+            session-name = octets-nil;
+            domain = octets-nil;
+            authentication = octets-nil;
+            body = octets-by (cutting .body) refl;
+          };
       transaction = omega arith;
     }
 
 three-counts : countOf settings cutting .refusal .number ≡ 0
-unfolding countAnswer countRefusal messageTests limitTest valueTests settingsTest partsTest unless unlessAll headerChecks nameChecks routingChecks idChecks textChecks sum packets rounded countersFit headOf split headerOctets fixedOctets frontOctets backOctets wide
+unfolding countAnswer countRefusal messageTests limitTest valueTests settingsTest partsTest unless unlessAll headerChecks nameChecks routingChecks
+    idChecks textChecks sum packets rounded countersFit headOf split headerOctets fixedOctets frontOctets backOctets wide
 three-counts = refl
 
 three-count : countOf settings cutting .count ≡ 3
-unfolding countAnswer countRefusal messageTests limitTest valueTests settingsTest partsTest unless unlessAll headerChecks nameChecks routingChecks idChecks textChecks sum packets rounded countersFit headOf split headerOctets fixedOctets frontOctets backOctets wide
+unfolding countAnswer countRefusal messageTests limitTest valueTests settingsTest partsTest unless unlessAll headerChecks nameChecks routingChecks
+    idChecks textChecks sum packets rounded countersFit headOf split headerOctets fixedOctets frontOctets backOctets wide
 three-count = refl
 
 -- a packet has at most P octets
@@ -157,8 +165,7 @@ most i =
 pub succeeds : Succeeds settings cellSize cutting
 succeeds =
     record {
-      texts = lends;
-      body = octets-by (cutting .body) refl;
+      lends = lends;
       counts = three-counts;
       many = omega (arith, three-count);
       fits = λ i l. omega (arith, most i);
@@ -220,45 +227,54 @@ two-at i l t e c h =
     repeat-event settings cellSize two two-cut i k c h ∙ ap arrives e
 
 pub is-seven : (c : ℕ) → c < 16384 → eventOf settings cellSize (of-three 0 c) ≡ arrives (seg 7 1 (1 ∷ 2 ∷ 3 ∷ []))
-unfolding place flagsIn firstOf bodyAt countAnswer countRefusal messageTests limitTest valueTests settingsTest partsTest unless unlessAll headerChecks nameChecks routingChecks idChecks textChecks sum packets rounded countersFit headOf split headerOctets fixedOctets frontOctets backOctets wide identification presence
+unfolding stepsOf place flagsIn firstOf bodyAt countAnswer countRefusal messageTests limitTest valueTests settingsTest partsTest unless unlessAll
+    headerChecks nameChecks routingChecks idChecks textChecks sum packets rounded countersFit headOf split headerOctets fixedOctets frontOctets backOctets wide identification presence
 is-seven = three-at 0 (omega arith) (seg 7 1 (1 ∷ 2 ∷ 3 ∷ [])) refl
 
 pub is-eight : (c : ℕ) → c < 16384 → eventOf settings cellSize (of-three 1 c) ≡ arrives (seg 8 0 (4 ∷ 5 ∷ 6 ∷ []))
-unfolding place flagsIn firstOf bodyAt countAnswer countRefusal messageTests limitTest valueTests settingsTest partsTest unless unlessAll headerChecks nameChecks routingChecks idChecks textChecks sum packets rounded countersFit headOf split headerOctets fixedOctets frontOctets backOctets wide identification presence
+unfolding stepsOf place flagsIn firstOf bodyAt countAnswer countRefusal messageTests limitTest valueTests settingsTest partsTest unless unlessAll
+    headerChecks nameChecks routingChecks idChecks textChecks sum packets rounded countersFit headOf split headerOctets fixedOctets frontOctets backOctets wide identification presence
 is-eight = three-at 1 (omega arith) (seg 8 0 (4 ∷ 5 ∷ 6 ∷ [])) refl
 
 pub is-nine : (c : ℕ) → c < 16384 → eventOf settings cellSize (of-three 2 c) ≡ arrives (seg 9 2 (7 ∷ 8 ∷ []))
-unfolding place flagsIn firstOf bodyAt countAnswer countRefusal messageTests limitTest valueTests settingsTest partsTest unless unlessAll headerChecks nameChecks routingChecks idChecks textChecks sum packets rounded countersFit headOf split headerOctets fixedOctets frontOctets backOctets wide identification presence
+unfolding stepsOf place flagsIn firstOf bodyAt countAnswer countRefusal messageTests limitTest valueTests settingsTest partsTest unless unlessAll
+    headerChecks nameChecks routingChecks idChecks textChecks sum packets rounded countersFit headOf split headerOctets fixedOctets frontOctets backOctets wide identification presence
 is-nine = three-at 2 (omega arith) (seg 9 2 (7 ∷ 8 ∷ [])) refl
 
 pub is-ten : (c : ℕ) → c < 16384 → eventOf settings cellSize (of-two 0 c) ≡ arrives (seg 10 1 (21 ∷ 22 ∷ 23 ∷ []))
-unfolding flagsIn headOf split identification headerOctets fixedOctets presence frontOctets backOctets wide
+unfolding stepsOf flagsIn headOf split identification headerOctets fixedOctets presence frontOctets backOctets wide
 is-ten = two-at 0 (omega arith) (seg 10 1 (21 ∷ 22 ∷ 23 ∷ [])) refl
 
 pub is-eleven : (c : ℕ) → c < 16384 → eventOf settings cellSize (of-two 1 c) ≡ arrives (seg 11 2 (24 ∷ 25 ∷ 26 ∷ 27 ∷ 28 ∷ 29 ∷ 30 ∷ []))
-unfolding flagsIn headOf split identification headerOctets fixedOctets presence frontOctets backOctets wide
+unfolding stepsOf flagsIn headOf split identification headerOctets fixedOctets presence frontOctets backOctets wide
 is-eleven = two-at 1 (omega arith) (seg 11 2 (24 ∷ 25 ∷ 26 ∷ 27 ∷ 28 ∷ 29 ∷ 30 ∷ [])) refl
 
 abbrev pub stray : Seg
 stray = record { key = 0x18 ∷ 6 ∷ header; counter = 8; flags = 0; body = 4 ∷ [] }
 
 pub is-single : eventOf settings cellSize single ≡ passes
-unfolding mayHold readPacket refusedHeader acceptedHeader primaryTests begun check octets numberAt primaryOf octetField wideField sduField afterSdu afterArea afterService afterOperation afterVersion afterSession afterSecondary afterQualifier afterTransaction afterPresence fixedOf flagsOf presentOf idsOf textsOf bodyTest
+unfolding mayHold readPacket refusedHeader acceptedHeader primaryTests begun check octets numberAt primaryOf octetField wideField sduField afterSdu
+    afterArea afterService afterOperation afterVersion afterSession afterSecondary afterQualifier afterTransaction afterPresence fixedOf flagsOf presentOf idsOf textsOf bodyTest
 is-single = refl
 
 pub is-stub : eventOf settings cellSize stub ≡ passes
-unfolding mayHold readPacket refusedHeader acceptedHeader primaryTests begun check octets numberAt primaryOf octetField wideField sduField afterSdu afterArea afterService afterOperation afterVersion afterSession afterSecondary afterQualifier afterTransaction afterPresence fixedOf flagsOf presentOf idsOf textsOf bodyTest
+unfolding mayHold readPacket refusedHeader acceptedHeader primaryTests begun check octets numberAt primaryOf octetField wideField sduField afterSdu
+    afterArea afterService afterOperation afterVersion afterSession afterSecondary afterQualifier afterTransaction afterPresence fixedOf flagsOf presentOf idsOf textsOf bodyTest
 is-stub = refl
 
 pub is-huge : eventOf settings cellSize huge ≡ passes
-unfolding mayHold readPacket refusedHeader acceptedHeader primaryTests begun check octets numberAt primaryOf octetField wideField sduField afterSdu afterArea afterService afterOperation afterVersion afterSession afterSecondary afterQualifier afterTransaction afterPresence fixedOf flagsOf presentOf idsOf textsOf bodyTest
+unfolding mayHold readPacket refusedHeader acceptedHeader primaryTests begun check octets numberAt primaryOf octetField wideField sduField afterSdu
+    afterArea afterService afterOperation afterVersion afterSession afterSecondary afterQualifier afterTransaction afterPresence fixedOf flagsOf presentOf idsOf textsOf bodyTest
 is-huge = refl
 
 pub is-other : eventOf settings cellSize other ≡ arrives stray
-unfolding segOf keyOf counterPlace mayHold readPacket refusedHeader acceptedHeader primaryTests begun check octets numberAt primaryOf octetField wideField sduField afterSdu afterArea afterService afterOperation afterVersion afterSession afterSecondary afterQualifier afterTransaction afterPresence fixedOf flagsOf presentOf idsOf textsOf bodyTest
+unfolding segOf keyOf counterPlace mayHold readPacket refusedHeader acceptedHeader primaryTests begun check octets numberAt primaryOf octetField
+    wideField sduField afterSdu afterArea afterService afterOperation afterVersion afterSession afterSecondary afterQualifier afterTransaction
+    afterPresence fixedOf flagsOf presentOf idsOf textsOf bodyTest
 is-other = refl
 
 -- it would be read, but for its length
 pub huge-read : readPacket settings huge .refusal .number ≡ 0
-unfolding readPacket refusedHeader acceptedHeader primaryTests begun check octets numberAt primaryOf octetField wideField sduField afterSdu afterArea afterService afterOperation afterVersion afterSession afterSecondary afterQualifier afterTransaction afterPresence fixedOf flagsOf presentOf idsOf textsOf bodyTest
+unfolding readPacket refusedHeader acceptedHeader primaryTests begun check octets numberAt primaryOf octetField wideField sduField afterSdu afterArea
+    afterService afterOperation afterVersion afterSession afterSecondary afterQualifier afterTransaction afterPresence fixedOf flagsOf presentOf idsOf textsOf bodyTest
 huge-read = refl

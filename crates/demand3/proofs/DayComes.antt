@@ -1,6 +1,6 @@
 -- The run of `Day`: each of its packets may come, and its two messages share no counter.
 -- Assumes nothing.
-use Prim.Native.Nat.{ℕ, _+_, _<_}
+use Prim.Native.Nat.{ℕ, _<_}
 use mathlib.Core.Path.{_≡_, refl, ap, sym, _∙_}
 use mathlib.Core.Logic.{_≢_, _⊎_, inl, inr}
 use mathlib.Core.List.{List, [], _∷_, List·Memᴰ, List·Memᴰ·head, List·Memᴰ·tail, List·Memᴰ·cases-cons, List·Memᴰ·not-nil}
@@ -10,7 +10,8 @@ use Rattle.octets.specs.Octets.{Octets, wide, number as numberAt}
 use Rattle.walk.specs.Walk.{begun, check, octets}
 use Rattle.fields.specs.Form.{split}
 use Rattle.packet.specs.Format.{presence, identification, fixedOctets, frontOctets, backOctets, headerOctets}
-use Rattle.packet.specs.FixedPart.{octetField, wideField, sduField, afterSdu, afterArea, afterService, afterOperation, afterVersion, afterSession, afterSecondary, afterQualifier, afterTransaction, afterPresence, fixedOf, flagsOf, presentOf}
+use Rattle.packet.specs.FixedPart.{octetField, wideField, sduField, afterSdu, afterArea, afterService, afterOperation, afterVersion, afterSession}
+use Rattle.packet.specs.FixedPart.{afterSecondary, afterQualifier, afterTransaction, afterPresence, fixedOf, flagsOf, presentOf}
 use Rattle.packet.specs.Reading.{primaryTests, primaryOf, idsOf, textsOf, bodyTest, refusedHeader, acceptedHeader, readPacket}
 use Rattle.packet.specs.Key.{counterPlace, keyOf}
 use Rattle.write.specs.Given.{headOf}
@@ -19,7 +20,9 @@ use Rattle.cells.specs.Order.{cellSize}
 use Rattle.demand3.specs.Sendings.{Sending, manyOf, segmentAt, keyIn, startOf}
 use Rattle.demand3.specs.Presupposed.{MayCome, own, unsegmented, malformed, over-long, other-keyed}
 use Rattle.demand3.proofs.ReadAs.{repeat-reads, repeat-octets}
-use Rattle.demand3.proofs.Day.{settings, three, two, messages, of-three, of-two, header, theKey, single, stub, huge, other, single-octets, stub-octets, huge-octets, other-octets, three-many, two-many, three-cut, two-cut}
+use Rattle.demand3.proofs.Day.{settings, three, two, messages, of-three, of-two, header, theKey, single, stub, huge, other, single-octets}
+use Rattle.demand3.proofs.Day.{stub-octets, huge-octets, other-octets, three-many, two-many, three-cut, two-cut}
+use Rattle.sender.proofs.Stepping.{steps-suc}
 
 pub one-of : (m : Sending) → List·Memᴰ m messages → (m ≡ three) ⊎ (m ≡ two)
 one-of m h = go (List·Memᴰ·cases-cons h)
@@ -57,7 +60,8 @@ pub single-fine : Fine single
 single-fine = (single-octets, unsegmented refl)
 
 stub-refused : readPacket settings stub .refusal .number ≡ 1
-unfolding readPacket refusedHeader acceptedHeader primaryTests begun check octets numberAt primaryOf octetField wideField sduField afterSdu afterArea afterService afterOperation afterVersion afterSession afterSecondary afterQualifier afterTransaction afterPresence fixedOf flagsOf presentOf idsOf textsOf bodyTest
+unfolding readPacket refusedHeader acceptedHeader primaryTests begun check octets numberAt primaryOf octetField wideField sduField afterSdu afterArea
+    afterService afterOperation afterVersion afterSession afterSecondary afterQualifier afterTransaction afterPresence fixedOf flagsOf presentOf idsOf textsOf bodyTest
 stub-refused = refl
 
 pub stub-fine : Fine stub
@@ -75,7 +79,8 @@ unfolding headOf split identification headerOctets fixedOctets presence frontOct
 two-key = refl
 
 other-key : keyOf other (readPacket settings other) ≡ 0x18 ∷ 6 ∷ header
-unfolding keyOf counterPlace readPacket refusedHeader acceptedHeader primaryTests begun check octets numberAt primaryOf octetField wideField sduField afterSdu afterArea afterService afterOperation afterVersion afterSession afterSecondary afterQualifier afterTransaction afterPresence fixedOf flagsOf presentOf idsOf textsOf bodyTest
+unfolding keyOf counterPlace readPacket refusedHeader acceptedHeader primaryTests begun check octets numberAt primaryOf octetField wideField sduField
+    afterSdu afterArea afterService afterOperation afterVersion afterSession afterSecondary afterQualifier afterTransaction afterPresence fixedOf flagsOf presentOf idsOf textsOf bodyTest
 other-key = refl
 
 pub other-fine : Fine other
@@ -96,5 +101,4 @@ three-start = refl
 
 pub no-counter : (i j : ℕ) → i < manyOf settings three → j < manyOf settings two → segmentAt settings three i .counter ≢ segmentAt settings two j .counter
 no-counter i j l k e =
-    let f : startOf settings three + i ≡ startOf settings two + j = e in
-    omega (arith, three-start, three-many)
+    omega (arith, e, steps-suc i (startOf settings three), steps-suc j (startOf settings two), three-start, three-many)

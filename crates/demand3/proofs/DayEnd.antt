@@ -17,9 +17,9 @@ use Rattle.fewest.specs.Runs.{place}
 use Rattle.cells.specs.Segments.{carries, sameRest}
 use Rattle.cells.specs.Rows.{Cell, free, held}
 use Rattle.cells.specs.Order.{cellSize}
-use Rattle.messages.specs.Messages.{Run, look, roleOf, bodies, chain, runFrom, pickIn, among, top}
+use Rattle.cells.specs.Messages.{Run, look, roleOf, bodies, restFrom, runFrom, pickIn, among, top}
 use Rattle.taking.specs.Taking.{message, unable}
-use Rattle.keeping.specs.Cells.{put, hasFree}
+use Rattle.demand3.specs.Cells.{put, hasFree}
 use Rattle.demand3.specs.Traffic.{Event, empty, takenFrom, stepped, after}
 use Rattle.demand3.specs.Promise.{Untaken as CellUntaken}
 use Rattle.demand3.specs.Calls.{arrival, taking, Brings, Handed, tookBy, outBy}
@@ -36,7 +36,10 @@ use Rattle.demand3.proofs.Cutter.{cutter-hands-out}
 use Rattle.demand3.proofs.Acts.{comes, lands, actEvents, acts-are, untaken-told}
 use Rattle.demand3.proofs.Day.{settings, cutting, three, succeeds, messages, of-three, header, three-many, three-cut, seg, stray, is-eight, is-nine}
 use Rattle.demand3.proofs.DayComes.{Fine, three-fine}
-use Rattle.demand3.proofs.DayRun.{lentOut, dawn, early, morning, atNoon, noon, evening, eight, nine, dawnActs, morningActs, noonActs, eveningActs, dawn-acts, morning-acts, noon-acts, evening-acts, day-acts, in-use, one, cells-are, joined-takes, taking-takes, traffic, given}
+use Rattle.demand3.proofs.DayRun.{lentOut, dawn, early, morning, atNoon, noon, evening, eight, nine, dawnActs, morningActs, noonActs}
+use Rattle.demand3.proofs.DayRun.{eveningActs, dawn-acts, morning-acts, noon-acts, evening-acts, day-acts, in-use, one, cells-are}
+use Rattle.demand3.proofs.DayRun.{joined-takes, taking-takes, traffic, given}
+use Rattle.sender.proofs.Stepping.{steps-suc}
 
 abbrev Z : ℕ
 Z = cellSize
@@ -57,7 +60,7 @@ cellTen = held (seg 10 1 (21 ∷ 22 ∷ 23 ∷ []))
 
 -- three segments, and a free cell
 three-held : after suc top (empty 4) (actEvents (empty 4) dawnActs) ≡ cellNine ∷ cellTen ∷ cellSeven ∷ free ∷ []
-unfolding actEvents after stepped takenFrom look carries sameRest alike put hasFree pickIn runFrom chain roleOf bodies among
+unfolding actEvents after stepped takenFrom look carries sameRest alike put hasFree pickIn runFrom restFrom roleOf bodies among
 three-held = refl
 
 one-held : after suc top (empty 4) (actEvents (empty 4) (comes nine ∷ [])) ≡ cellNine ∷ free ∷ free ∷ free ∷ []
@@ -66,12 +69,12 @@ one-held = refl
 
 -- the store is full before noon
 full : after suc top (empty 4) (actEvents (empty 4) morningActs) ≡ cellNine ∷ cellTen ∷ cellSeven ∷ cellEight ∷ []
-unfolding actEvents after stepped takenFrom look carries sameRest alike put hasFree pickIn runFrom chain roleOf bodies among
+unfolding actEvents after stepped takenFrom look carries sameRest alike put hasFree pickIn runFrom restFrom roleOf bodies among
 full = refl
 
 -- at noon the first message's cells are freed, and no others
 freed : after suc top (empty 4) (actEvents (empty 4) noonActs) ≡ free ∷ cellTen ∷ free ∷ free ∷ []
-unfolding actEvents after stepped takenFrom look carries sameRest alike put hasFree pickIn runFrom chain roleOf bodies among
+unfolding actEvents after stepped takenFrom look carries sameRest alike put hasFree pickIn runFrom restFrom roleOf bodies among
 freed = refl
 
 pub noon-cells : cellsIn settings Z 4 (storeBehind settings Z 4 noon) ≡ free ∷ cellTen ∷ free ∷ free ∷ []
@@ -82,7 +85,7 @@ abbrev pub cellsAtEnd : List Cell
 cellsAtEnd = held stray ∷ cellEight ∷ cellNine ∷ cellSeven ∷ []
 
 used-again : after suc top (empty 4) (actEvents (empty 4) (noonActs ++ eveningActs)) ≡ cellsAtEnd
-unfolding actEvents after stepped takenFrom look carries sameRest alike put hasFree pickIn runFrom chain roleOf bodies among
+unfolding actEvents after stepped takenFrom look carries sameRest alike put hasFree pickIn runFrom restFrom roleOf bodies among
 used-again = refl
 
 pub end-cells : cellsIn settings Z 4 (storeBehind settings Z 4 (noon ++ evening)) ≡ cellsAtEnd
@@ -91,7 +94,7 @@ end-cells = cells-are (noon ++ evening) (noonActs ++ eveningActs) day-acts ∙ u
 -- ---- the takings
 
 takes-nothing : takenFrom suc top (cellNine ∷ free ∷ free ∷ free ∷ []) 100 ≡ unable 20
-unfolding takenFrom pickIn runFrom chain roleOf look carries alike
+unfolding takenFrom pickIn runFrom restFrom roleOf look carries alike
 takes-nothing = refl
 
 -- the run's first take finds nothing complete
@@ -102,7 +105,7 @@ none-yet =
     ∙ ap some takes-nothing
 
 takes-short : takenFrom suc top (after suc top (cellNine ∷ cellTen ∷ cellSeven ∷ free ∷ []) (eight ∷ [])) 30 ≡ unable 21
-unfolding after stepped takenFrom look carries sameRest alike put hasFree pickIn runFrom chain roleOf bodies among
+unfolding after stepped takenFrom look carries sameRest alike put hasFree pickIn runFrom restFrom roleOf bodies among
 takes-short = refl
 
 lands-new : lands (cellNine ∷ cellTen ∷ cellSeven ∷ free ∷ []) eight ≡ true
@@ -121,7 +124,7 @@ theRun =
     record { head = seg 7 1 (1 ∷ 2 ∷ 3 ∷ []); rest = seg 8 0 (4 ∷ 5 ∷ 6 ∷ []) ∷ seg 9 2 (7 ∷ 8 ∷ []) ∷ [] }
 
 takes-three : takenFrom suc top (after suc top (cellNine ∷ cellTen ∷ cellSeven ∷ cellEight ∷ []) (eight ∷ [])) 35 ≡ message theRun
-unfolding after stepped takenFrom look carries sameRest alike put hasFree pickIn runFrom chain roleOf bodies among
+unfolding after stepped takenFrom look carries sameRest alike put hasFree pickIn runFrom restFrom roleOf bodies among
 takes-three = refl
 
 lands-again : lands (cellNine ∷ cellTen ∷ cellSeven ∷ cellEight ∷ []) eight ≡ true
@@ -172,7 +175,7 @@ handed =
         subst Fine (sym f) (three-fine 1 (omega arith) 79 (omega arith))
 
     first-counter : 7 ≡ segmentAt settings three 0 .counter
-    first-counter = omega (arith, the-start)
+    first-counter = omega (arith, the-start, steps-suc 0 (startOf settings three))
 
 -- identification, header and body, and behind them the output as it was
 pub written : outBy settings Z (storeBehind settings Z 4 morning) atNoon ≡ 0x18 ∷ 5 ∷ header ++ (1 ∷ 2 ∷ 3 ∷ 4 ∷ 5 ∷ 6 ∷ 7 ∷ 8 ∷ lentOut 4)
@@ -182,7 +185,8 @@ written = cutter-hands-out settings Z cutting succeeds 4 (storeBehind settings Z
 -- ---- and anew
 
 left : leftIn suc top (sentOf settings three) (free ∷ cellTen ∷ free ∷ free ∷ []) (actEvents (free ∷ cellTen ∷ free ∷ free ∷ []) eveningActs) ≡ true
-unfolding leftIn actEvents after stepped takenFrom look carries sameRest alike put hasFree pickIn runFrom chain roleOf bodies among place headOf split identification headerOctets fixedOctets presence frontOctets backOctets wide
+unfolding leftIn actEvents after stepped takenFrom look carries sameRest alike put hasFree pickIn runFrom restFrom roleOf bodies among place headOf
+    split identification headerOctets fixedOctets presence frontOctets backOctets wide
 left = refl
 
 pub untaken : Untaken settings Z three (storeBehind settings Z 4 noon) evening

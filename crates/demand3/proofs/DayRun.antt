@@ -14,9 +14,9 @@ use Rattle.octets.specs.Octets.{alike}
 use Rattle.cells.specs.Segments.{carries, sameRest}
 use Rattle.cells.specs.Rows.{Cell}
 use Rattle.cells.specs.Order.{cellSize}
-use Rattle.messages.specs.Messages.{look, roleOf, bodies, chain, runFrom, pickIn, among, top}
-use Rattle.keeping.specs.Cells.{put, hasFree}
-use Rattle.messages.proofs.Empty.{empty-cells}
+use Rattle.cells.specs.Messages.{look, roleOf, bodies, restFrom, runFrom, pickIn, among, top}
+use Rattle.demand3.specs.Cells.{put, hasFree}
+use Rattle.cells.proofs.Empty.{empty-cells}
 use Rattle.demand3.specs.Traffic.{Event, arrives, passes, empty, takenFrom, stepped, after, Room as CellRoom}
 use Rattle.demand3.specs.Calls.{Call, arrival, taking, joining, draws, tookBy}
 use Rattle.demand3.specs.Sendings.{Sending, manyOf, segmentAt, keyIn, IsCut}
@@ -27,7 +27,8 @@ use Rattle.demand3.proofs.Events.{eventsIn}
 use Rattle.demand3.proofs.Simulates.{took-by}
 use Rattle.demand3.proofs.Carried.{begins, behind-cells, behind-keeps}
 use Rattle.demand3.proofs.Acts.{EachPacket, each-packet, Act, comes, draw, meets, actOf, lands, actEvents, draws-by, acts-are, room-told}
-use Rattle.demand3.proofs.Day.{settings, three, two, messages, of-three, of-two, single, stub, huge, other, three-cut, two-cut, seg, stray, is-seven, is-eight, is-nine, is-ten, is-eleven, is-single, is-stub, is-huge, is-other}
+use Rattle.demand3.proofs.Day.{settings, three, two, messages, of-three, of-two, single, stub, huge, other, three-cut, two-cut, seg, stray}
+use Rattle.demand3.proofs.Day.{is-seven, is-eight, is-nine, is-ten, is-eleven, is-single, is-stub, is-huge, is-other}
 use Rattle.demand3.proofs.DayComes.{one-of, Fine, three-fine, two-fine, single-fine, stub-fine, huge-fine, other-fine, no-counter}
 
 -- ---- the calls
@@ -251,10 +252,10 @@ traffic =
     apart′ m w (inr e) (inr f) = inl (e ∙ sym f)
 
 has-room : roomIn suc top (empty 4) (actEvents (empty 4) (noonActs ++ eveningActs)) ≡ true
-unfolding actEvents roomIn after stepped takenFrom look carries sameRest alike put hasFree pickIn runFrom chain roleOf bodies among
+unfolding actEvents roomIn after stepped takenFrom look carries sameRest alike put hasFree pickIn runFrom restFrom roleOf bodies among
 has-room = refl
 
--- J-8: "whenever a new segment of any key arrives, a cell is free", with fewer cells than segments
+-- J-8: a free cell before each new segment (DEMANDS 3.5), with fewer cells than segments
 pub given : Given settings Z 4 messages (noon ++ evening)
 given =
     record {

@@ -7,7 +7,6 @@ use mathlib.Core.Bool.{Bool, true}
 use mathlib.Core.Option.{none, some, Option·map}
 use mathlib.Core.List.{List, [], _∷_, _++_, map, List·Memᴰ}
 use native.Mathlib.Omega.{arith}
-use native.Mathlib.Nat.{add-zero}
 use lib.ListN.{length, drop, length-append, length-map}
 use lib.Seq.{sets-eq}
 use Rattle.octets.specs.Octets.{pick}
@@ -15,14 +14,14 @@ use Rattle.walk.specs.declared.Settings.{Settings}
 use Rattle.cells.specs.Rows.{Cell, held, rowAt, zeroRow}
 use Rattle.cells.specs.Order.{countIn, cellAt}
 use Rattle.taking.specs.declared.Taken.{Taken}
-use Rattle.messages.specs.Messages.{Run, bodyOf, segments, picked, top}
+use Rattle.cells.specs.Messages.{Run, bodyOf, segments, picked, top}
 use Rattle.taking.specs.Taking.{Took, message, unable, writing, took, outWith, storeLess}
 use Rattle.walk.specs.Walk.{refusal}
 use Rattle.taking.specs.Told.{takenOf}
-use Rattle.messages.proofs.Picking.{pick-yes}
+use Rattle.cells.proofs.Picking.{pick-yes}
 use Rattle.taking.proofs.Tells.{taken-tells, segment-held}
-use Rattle.keeping.proofs.Zeroed.{zeroed-row, other-row}
-use Rattle.keeping.proofs.Untouched.{unable-same, unable-output}
+use Rattle.demand3.proofs.Zeroed.{zeroed-row, other-row}
+use Rattle.demand3.proofs.Untouched.{unable-same, unable-output}
 use Rattle.demand3.specs.Traffic.{bodyIn, takes, takenFrom, after}
 use Rattle.demand3.specs.Promise.{Original, Gives, Output, LongEnough as CellLongEnough, Handed}
 use Rattle.join.specs.Joining.{lessTaken}
@@ -35,6 +34,7 @@ use Rattle.demand3.proofs.Sents.{sentOf, own-in, in-own, body-is, key-l
 use Rattle.demand3.proofs.Steps.{Kept, took-is}
 use Rattle.demand3.proofs.Events.{events-takings}
 use Rattle.demand3.proofs.Simulates.{by-took, run-keeps, run-cells}
+use Rattle.sender.specs.Sending.{stepsOf}
 
 module _ {A B : Type 0} (f : A → B) where
   map-split : (l : List A) (x : List B) (e : B) (y : List B) → map f l ≡ x ++ e ∷ y →
@@ -131,7 +131,7 @@ module _ (s : Settings) (Z n : ℕ) (m : Sending) (k : IsCut s Z m) where
 
     -- a taking at the cells is a taking at the octets
     pub takes-of : Gives suc top (sentOf s m) (cellsIn s Z n at) → Output suc top (sentOf s m) (cellsIn s Z n at) → Takes s Z n m st c
-    unfolding tookBy
+    unfolding tookBy stepsOf
     takes-of g u = record { gives = given; enough = plenty; short = brief }
       where
         size : length (keyIn s m) + length (bodyIn (sentOf s m)) ≡ 2 + headerSize s m + bodySize s m
@@ -155,7 +155,7 @@ module _ (s : Settings) (Z n : ℕ) (m : Sending) (k : IsCut s Z m) where
             let v = u .enough r (p .1 .1) i long (omega (arith, size)) in
             let z : 0 < manyOf s m = omega (arith, k .many) in
             hit (p .0) r (took-is s Z n at kept long ∙ v .0) (i .0) 0 z
-            (i .1 ∙ sym (add-zero (startOf s m)))
+            (i .1)
 
         brief : Picks s Z n m st c → length (outOf c) < 2 + headerSize s m + bodySize s m →
             (tookBy s Z st c ≡ some (unable 21)) × (storeBy s Z st c ≡ at) × (outBy s Z st c ≡ outOf c)

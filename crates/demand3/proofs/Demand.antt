@@ -9,9 +9,9 @@ use native.Mathlib.Omega.{arith}
 use lib.ListN.{length, length-append}
 use Rattle.cells.specs.Segments.{Seg}
 use Rattle.cells.specs.Rows.{Cell}
-use Rattle.messages.specs.Messages.{Run, bodyOf, segments, look, picked}
+use Rattle.cells.specs.Messages.{Run, bodyOf, segments, look, picked}
 use Rattle.taking.specs.Taking.{message, unable, writing}
-use Rattle.keeping.specs.Cells.{clear}
+use Rattle.demand3.specs.Cells.{clear}
 use Rattle.demand3.specs.Complete.{Held}
 use Rattle.demand3.specs.Traffic.{Sent, bodyIn, stepsIn, runOf, segmentsOf, Event, arrives, takes, empty, takenFrom, stepped, after, OneOf, Stray, Traffic}
 use Rattle.demand3.specs.Promise.{Original, Its, Done, Untaken, Anew, fresh, retaken, AllCame, Gives, Output, Handed, Delivery, Demand3, Soundness}

@@ -4,20 +4,20 @@ use Prim.Native.Nat.{ℕ, zero, suc, _+_, _≤_, _<_}
 use mathlib.Core.Path.{_≡_, refl, sym, _∙_, ap}
 use mathlib.Core.Logic.{_⊎_, inl, inr}
 use mathlib.Core.Bool.{true, false, not, true≢false}
-use mathlib.Core.Option.{some}
+use mathlib.Core.Option.{some, Option}
 use mathlib.Core.List.{List, [], _∷_, List·Memᴰ, List·Memᴰ·cases-cons, List·Memᴰ·not-nil}
 use native.Mathlib.Omega.{arith}
 use Rattle.octets.proofs.Lists.{bool}
 use Rattle.walk.specs.declared.Settings.{Settings}
 use Rattle.cells.specs.Segments.{Seg, carries}
-use Rattle.cells.specs.Rows.{Cell, free, held, broken}
+use Rattle.cells.specs.Rows.{Cell, held}
 use Rattle.cells.specs.Order.{carriesIn, cellAt, allTo, newTo, newAt, distinct}
 use Rattle.cells.proofs.Apart.{all-at}
 use Rattle.cells.proofs.Lowest.{not-is}
-use Rattle.messages.specs.Messages.{listed, cellsOf, look}
-use Rattle.messages.proofs.Distinct.{carries-yes, carries-true}
+use Rattle.cells.specs.Messages.{listed, cellsOf, look, orElse, heldAs}
+use Rattle.cells.proofs.Distinct.{carries-yes, carries-held}
+use Rattle.cells.proofs.Looking.{held-yes, held-none}
 use Rattle.demand3.specs.Complete.{Held, Distinct, Single}
-use Rattle.demand3.proofs.Looks.{look-hit, look-miss}
 
 -- ---- lists of cells
 
@@ -27,31 +27,19 @@ distinct-tail x cs d p q t u e = d (x ∷ p) q t u (ap (λ (y : List Cell). x �
 pub distinct-single : (cs : List Cell) → Distinct cs → Single cs
 unfolding look
 distinct-single [] d t m = absurd (List·Memᴰ·not-nil m)
-distinct-single (free ∷ cs) d t m = go (distinct-single cs (distinct-tail free cs d) t) (List·Memᴰ·cases-cons m)
+distinct-single (x ∷ cs) d t m =
+    go (distinct-single cs (distinct-tail x cs d) t) (List·Memᴰ·cases-cons m) (bool (carriesIn (t .key) (t .counter) x))
   where
-    go : (Held t cs → look cs (t .key) (t .counter) ≡ some t) → (held t ≡ free) ⊎ Held t cs → look cs (t .key) (t .counter) ≡ some t
-    go ih (inl e) = absurd (let z : _≡_ {A = ℕ} 0 1 = cc in omega arith)
-    go ih (inr h) = ih h
-distinct-single (broken ∷ cs) d t m = go (distinct-single cs (distinct-tail broken cs d) t) (List·Memᴰ·cases-cons m)
-  where
-    go : (Held t cs → look cs (t .key) (t .counter) ≡ some t) → (held t ≡ broken) ⊎ Held t cs → look cs (t .key) (t .counter) ≡ some t
-    go ih (inl e) = absurd (let z : _≡_ {A = ℕ} 0 1 = cc in omega arith)
-    go ih (inr h) = ih h
-distinct-single (held u ∷ cs) d t m =
-    go (distinct-single cs (distinct-tail (held u) cs d) t) (List·Memᴰ·cases-cons m) (bool (carries (t .key) (t .counter) u))
-  where
-    go : (Held t cs → look cs (t .key) (t .counter) ≡ some t) → (held t ≡ held u) ⊎ Held t cs →
-        (carries (t .key) (t .counter) u ≡ true) ⊎ (carries (t .key) (t .counter) u ≡ false) →
-        look (held u ∷ cs) (t .key) (t .counter) ≡ some t
+    go : (Held t cs → look cs (t .key) (t .counter) ≡ some t) → (held t ≡ x) ⊎ Held t cs →
+        (carriesIn (t .key) (t .counter) x ≡ true) ⊎ (carriesIn (t .key) (t .counter) x ≡ false) →
+        orElse (heldAs (t .key) (t .counter) x) (look cs (t .key) (t .counter)) ≡ some t
     go ih (inl e) b =
-        let p : t ≡ u = cc e in
-        look-hit u cs (t .key) (t .counter)
-        (carries-yes (t .key) (t .counter) u (ap (λ (x : Seg). x .key) p) (ap (λ (x : Seg). x .counter) p))
-        ∙ ap some (sym p)
+        ap (λ (o : Option Seg). orElse o (look cs (t .key) (t .counter)))
+        (held-yes (t .key) (t .counter) x t (sym e) (carries-yes (t .key) (t .counter) t refl refl))
     go ih (inr h) (inl b) =
-        let q = carries-true (t .key) (t .counter) u b in
-        absurd (d [] cs u t refl h (sym (q .0)) (sym (q .1)))
-    go ih (inr h) (inr b) = look-miss u cs (t .key) (t .counter) b ∙ ih h
+        let q = carries-held (t .key) (t .counter) x b in
+        absurd (d [] cs (q .0) t (ap (λ (y : Cell). y ∷ cs) (q .1)) h (sym (q .2)) (sym (q .3)))
+    go ih (inr h) (inr b) = ap (λ (o : Option Seg). orElse o (look cs (t .key) (t .counter))) (held-none (t .key) (t .counter) x b) ∙ ih h
 
 -- ---- a store's octets
 

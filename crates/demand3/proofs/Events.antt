@@ -38,7 +38,7 @@ module _ {A : Type 0} where
   one-split x e (y ∷ []) v h = let z : _≡_ {A = ℕ} 0 1 = cc in absurd (omega arith)
   one-split x e (y ∷ w ∷ u) v h = let z : _≡_ {A = ℕ} 0 1 = cc in absurd (omega arith)
 
-  none-split : (e : A) (u v : List A) → [] ≡ u ++ e ∷ v → ⊥
+  pub none-split : (e : A) (u v : List A) → [] ≡ u ++ e ∷ v → ⊥
   none-split e [] v h = let z : _≡_ {A = ℕ} 0 1 = cc in omega arith
   none-split e (y ∷ u) v h = let z : _≡_ {A = ℕ} 0 1 = cc in omega arith
 

@@ -1,4 +1,4 @@
--- What taking picks is a complete message, in document 01's words, and the one whose first lies in the lowest cell; and where one is
+-- What taking picks is a complete message, in SPEC's words, and the one whose first lies in the lowest cell; and where one is
 -- complete, taking picks one.
 -- Assumes nothing.
 use Prim.Native.Nat.{ℕ, zero, suc, _+_, _≤_, _<_, suc-le-suc, zero-le}
@@ -10,11 +10,12 @@ use native.Mathlib.Omega.{arith}
 use lib.ListN.{length}
 use Rattle.cells.specs.Segments.{Seg}
 use Rattle.cells.specs.Rows.{Cell, held}
-use Rattle.messages.specs.Messages.{Role, first, middle, last, Run, segments, look, chain, runFrom, picked}
-use Rattle.demand3.specs.Complete.{Held, Single, Has, steps, Complete}
+use Rattle.cells.specs.Messages.{Role, first, middle, last, Run, segments, look, restFrom, runFrom, picked}
+use Rattle.demand3.specs.Complete.{Held, Single, Has, Complete}
 use Rattle.demand3.proofs.Looks.{look-held, look-at}
 use Rattle.demand3.proofs.Links.{Mem, roleIn, Linked, Opened, opened-key, linked-at, linked-last, linked-middle}
 use Rattle.demand3.proofs.Finds.{There, Joint, link-inv, Found, found-opened, found-there, found-from, Lowest, picked-lowest, picked-held, picked-some}
+use Rattle.sender.specs.Sending.{stepsOf}
 
 pub below-suc : (j n : ℕ) → j < suc n → (j ≡ n) ⊎ (j < n)
 below-suc zero zero h = inl refl
@@ -37,7 +38,7 @@ module _ (next : ℕ → ℕ) (span : ℕ) where
   pub there-complete :
       (cs : List Cell) (r : Run) → Opened next r → length (r .rest) ≤ span → There cs (segments r) →
       Complete next span cs (r .head .key) (r .head .counter) (length (r .rest))
-  unfolding steps
+  unfolding stepsOf
   there-complete cs r o l f = by (length (r .rest)) refl (some-rest (r .rest) (o .follows))
     where
       k : List ℕ
@@ -53,8 +54,8 @@ module _ (next : ℕ → ℕ) (span : ℕ) where
       in-cells : (t : Seg) → Mem t (segments r) → Held t cs
       in-cells t m = look-held cs (t .key) (t .counter) t (f t m) .0
 
-      has : (j : ℕ) (f′ : Role) → (t : Seg) × Mem t (r .rest) × (t .key ≡ k) × (t .counter ≡ steps next j (next c)) × (roleIn t ≡ f′) →
-          Has cs k (steps next j (next c)) f′
+      has : (j : ℕ) (f′ : Role) → (t : Seg) × Mem t (r .rest) × (t .key ≡ k) × (t .counter ≡ stepsOf next j (next c)) × (roleIn t ≡ f′) →
+          Has cs k (stepsOf next j (next c)) f′
       has j f′ z = (z .0, in-cells (z .0) (List·Memᴰ·tail (z .1)), z .2, z .3, z .4)
 
       by : (n : ℕ) → length (r .rest) ≡ n → 1 ≤ n → Complete next span cs k c n
@@ -64,10 +65,10 @@ module _ (next : ℕ → ℕ) (span : ℕ) where
           op : Has cs k c first
           op = (r .head, in-cells (r .head) (List·Memᴰ·head refl), refl, refl, o .opens)
 
-          cl : Has cs k (steps next (suc n) c) last
+          cl : Has cs k (stepsOf next (suc n) c) last
           cl = has n last (linked-last next k (next c) (r .rest) (o .follows) n e)
 
-          mid : (j : ℕ) → 0 < j → j < suc n → Has cs k (steps next j c) middle
+          mid : (j : ℕ) → 0 < j → j < suc n → Has cs k (stepsOf next j c) middle
           mid zero p q = absurd (omega arith)
           mid (suc j) p q = has j middle (linked-middle next k (next c) (r .rest) (o .follows) j (omega arith))
 
@@ -76,7 +77,7 @@ module _ (next : ℕ → ℕ) (span : ℕ) where
       (cs : List Cell) (r : Run) → Single cs → Opened next r →
       Complete next span cs (r .head .key) (r .head .counter) (length (r .rest)) →
       (t : Seg) → Mem t (segments r) → (u : Seg) × (look cs (t .key) (t .counter) ≡ some u)
-  unfolding steps
+  unfolding stepsOf
   complete-some cs r s o d t m = go (List·Memᴰ·cases-cons m)
     where
       found : (f : Role) → Has cs (r .head .key) (t .counter) f → (u : Seg) × (look cs (t .key) (t .counter) ≡ some u)
@@ -86,7 +87,7 @@ module _ (next : ℕ → ℕ) (span : ℕ) where
       go (inl e) = found first (rw (ap (λ (x : Seg). x .counter) e) (d .opens))
       go (inr h) = on (linked-at next (r .head .key) (next (r .head .counter)) (r .rest) (o .follows) t h)
         where
-          on : (j : ℕ) × (j < length (r .rest)) × (t .counter ≡ steps next j (next (r .head .counter))) →
+          on : (j : ℕ) × (j < length (r .rest)) × (t .counter ≡ stepsOf next j (next (r .head .counter))) →
               (u : Seg) × (look cs (t .key) (t .counter) ≡ some u)
           on z = ends (below-suc (suc (z .0)) (length (r .rest)) (suc-le-suc (z .1)))
             where
@@ -97,28 +98,28 @@ module _ (next : ℕ → ℕ) (span : ℕ) where
 
   -- ---- complete exactly if picked
 
-  chain-complete :
-      (cs : List Cell) → Single cs → (n fuel : ℕ) (k : List ℕ) (c : ℕ) → n < fuel → Has cs k (steps next n c) last →
-      ((j : ℕ) → j < n → Has cs k (steps next j c) middle) →
-      (r : List Seg) × (chain next span fuel cs k c ≡ some r) × (length r ≡ suc n)
-  unfolding chain steps
-  chain-complete cs s n zero k c h l m = absurd (omega arith)
-  chain-complete cs s zero (suc fuel) k c h l m = let v = has-look cs s k c last l in (v .0 ∷ [], rw (v .1) (rw (v .2)), refl)
-  chain-complete cs s (suc n) (suc fuel) k c h l m =
+  rest-complete :
+      (cs : List Cell) → Single cs → (n fuel : ℕ) (k : List ℕ) (c : ℕ) → n < fuel → Has cs k (stepsOf next n c) last →
+      ((j : ℕ) → j < n → Has cs k (stepsOf next j c) middle) →
+      (r : List Seg) × (restFrom next span fuel cs k c ≡ some r) × (length r ≡ suc n)
+  unfolding restFrom stepsOf
+  rest-complete cs s n zero k c h l m = absurd (omega arith)
+  rest-complete cs s zero (suc fuel) k c h l m = let v = has-look cs s k c last l in (v .0 ∷ [], rw (v .1) (rw (v .2)), refl)
+  rest-complete cs s (suc n) (suc fuel) k c h l m =
       let v = has-look cs s k c middle (m 0 (suc-le-suc zero-le)) in
-      let r = chain-complete cs s n fuel k (next c) (omega arith) l (λ j g. m (suc j) (suc-le-suc g)) in
+      let r = rest-complete cs s n fuel k (next c) (omega arith) l (λ j g. m (suc j) (suc-le-suc g)) in
       (v .0 ∷ r .0, rw (v .1, r .1) (rw (v .2)), ap suc (r .2))
 
   -- a complete message is a run that the search finds from its first
   pub complete-found :
       (cs : List Cell) → Single cs → (k : List ℕ) (c n : ℕ) → Complete next span cs k c n →
       (r : Run) × Held (r .head) cs × Found next span cs r × (r .head .key ≡ k) × (r .head .counter ≡ c) × (length (r .rest) ≡ n)
-  unfolding steps
+  unfolding stepsOf
   complete-found cs s k c zero d = absurd (let h = d .onward in omega arith)
   complete-found cs s k c (suc n) d =
       let o = d .opens in
       let r =
-      chain-complete cs s n span k (next c) (let h = d .within in omega arith) (d .closes)
+      rest-complete cs s n span k (next c) (let h = d .within in omega arith) (d .closes)
       (λ j g. d .between (suc j) (suc-le-suc zero-le) (suc-le-suc g)) in
       (record { head = o .0; rest = r .0 }, o .1, record { opens = o .4; finds = rw (o .2, o .3) (r .1) }, o .2, o .3, r .2)
 
@@ -127,16 +128,16 @@ module _ (next : ℕ → ℕ) (span : ℕ) where
       (r : Run) × (picked next span cs ≡ some r)
   complete-picks cs s k c n d = let z = complete-found cs s k c n d in picked-some next span cs (z .0) (z .1) (z .2)
 
-  pub chain-short : (n : ℕ) (cs : List Cell) (k : List ℕ) (c : ℕ) (r : List Seg) → chain next span n cs k c ≡ some r → length r ≤ n
-  unfolding chain
-  chain-short zero cs k c r e = absurd (Option·none-ne-some r e)
-  chain-short (suc n) cs k c r e = go (chain-short n cs k (next c)) (link-inv (look cs k c) (chain next span n cs k (next c)) r e)
+  pub rest-short : (n : ℕ) (cs : List Cell) (k : List ℕ) (c : ℕ) (r : List Seg) → restFrom next span n cs k c ≡ some r → length r ≤ n
+  unfolding restFrom
+  rest-short zero cs k c r e = absurd (Option·none-ne-some r e)
+  rest-short (suc n) cs k c r e = go (rest-short n cs k (next c)) (link-inv (look cs k c) (restFrom next span n cs k (next c)) r e)
     where
-      go : ((r′ : List Seg) → chain next span n cs k (next c) ≡ some r′ → length r′ ≤ n) →
-          (t : Seg) × (look cs k c ≡ some t) × Joint (chain next span n cs k (next c)) r t → length r ≤ suc n
+      go : ((r′ : List Seg) → restFrom next span n cs k (next c) ≡ some r′ → length r′ ≤ n) →
+          (t : Seg) × (look cs k c ≡ some t) × Joint (restFrom next span n cs k (next c)) r t → length r ≤ suc n
       go ih w = on (w .2)
         where
-          on : Joint (chain next span n cs k (next c)) r (w .0) → length r ≤ suc n
+          on : Joint (restFrom next span n cs k (next c)) r (w .0) → length r ≤ suc n
           on (inl q) = rw (q .1) (suc-le-suc zero-le)
           on (inr q) = rw (q .1 .2) (suc-le-suc (ih (q .1 .0) (q .1 .1)))
 
@@ -146,7 +147,7 @@ module _ (next : ℕ → ℕ) (span : ℕ) where
       Complete next span cs (r .head .key) (r .head .counter) (length (r .rest))
   found-complete cs r s h f =
       there-complete cs r (found-opened next span cs r f)
-      (chain-short span cs (r .head .key) (next (r .head .counter)) (r .rest) (f .finds)) (found-there next span cs r s h f)
+      (rest-short span cs (r .head .key) (next (r .head .counter)) (r .rest) (f .finds)) (found-there next span cs r s h f)
 
   -- what taking picks
   pub record Picks (cs : List Cell) (r : Run) : Type 0 where

@@ -10,16 +10,17 @@ use native.Mathlib.Omega.{arith}
 use Rattle.octets.specs.Octets.{alike}
 use Rattle.cells.specs.Segments.{Seg, carries}
 use Rattle.cells.specs.Rows.{free, held}
-use Rattle.messages.specs.Messages.{Run, bodies, look, roleOf, chain, runFrom, pickIn, among, top}
+use Rattle.cells.specs.Messages.{Run, bodies, look, roleOf, restFrom, runFrom, pickIn, among, top}
 use Rattle.taking.specs.Taking.{message, unable}
-use Rattle.keeping.specs.Cells.{put, hasFree}
-use Rattle.demand3.specs.Traffic.{Sent, later, runOf, segmentsOf, arrives, takes, empty, takenFrom, stepped, after, OneOf}
+use Rattle.demand3.specs.Cells.{put, hasFree}
+use Rattle.demand3.specs.Traffic.{Sent, later, runOf, segmentsOf, arrives, takes, empty, takenFrom, stepped, after, OneOf, stepsIn}
 use Rattle.demand3.specs.Promise.{AllCame, Untaken, Anew, retaken, Promise}
 use Rattle.demand3.specs.Base.{final, Done01, Given01}
 use Rattle.demand3.specs.Example.{theKey, three, two, morning, noon, evening, takings}
 use Rattle.demand3.proofs.Links.{Mem, linked-at, sent-opened, sent-key, sent-start, sent-length}
-use Rattle.demand3.proofs.Base.{steps-suc, demand3·01}
+use Rattle.demand3.proofs.Base.{demand3·01}
 use Rattle.demand3.proofs.Checks.{Each, each-arrives, roomIn, room-by, leftIn, untaken-by}
+use Rattle.sender.proofs.Stepping.{steps-suc}
 
 -- ---- the messages
 
@@ -33,11 +34,11 @@ counters-in m t h = go (List·Memᴰ·cases-cons h)
     go : (t ≡ r .head) ⊎ Mem t (r .rest) → (m .start ≤ t .counter) × (t .counter ≤ final m)
     go (inl e) =
         let a : t .counter ≡ m .start = ap (λ (x : Seg). x .counter) e ∙ sent-start suc m in
-        (omega arith, omega arith)
+        (omega arith, omega (arith, steps-suc (stepsIn m) (m .start)))
     go (inr k) =
         let z = linked-at suc (r .head .key) (suc (r .head .counter)) (r .rest) (sent-opened suc m .follows) t k in (
           omega (arith, z .1, z .2, steps-suc (z .0) (suc (r .head .counter)), sent-start suc m),
-          omega (arith, z .1, z .2, steps-suc (z .0) (suc (r .head .counter)), sent-start suc m, sent-length suc m),
+          omega (arith, z .1, z .2, steps-suc (z .0) (suc (r .head .counter)), sent-start suc m, sent-length suc m, steps-suc (stepsIn m) (m .start)),
         )
 
 -- two messages whose counters lie one behind the other
@@ -67,16 +68,16 @@ apart m w h g = go (one-of m h) (one-of w g)
   where
     go : (m ≡ three) ⊎ (m ≡ two) → (w ≡ three) ⊎ (w ≡ two) → Apart m w
     go (inl e) (inl f) = inl (e ∙ sym f)
-    go (inl e) (inr f) = rw (e, f) (inr (inr (behind three two (omega arith))))
-    go (inr e) (inl f) = rw (e, f) (inr (inr (λ t u k l d. behind three two (omega arith) u t l k (sym d))))
+    go (inl e) (inr f) = rw (e, f) (inr (inr (behind three two (omega (arith, steps-suc (stepsIn three) (three .start))))))
+    go (inr e) (inl f) = rw (e, f) (inr (inr (λ t u k l d. behind three two (omega (arith, steps-suc (stepsIn three) (three .start))) u t l k (sym d))))
     go (inr e) (inr f) = inl (e ∙ sym f)
 
 no-wrap : (m : Sent) → List·Memᴰ m messages → final m ≤ top
 no-wrap m h = go (one-of m h)
   where
     go : (m ≡ three) ⊎ (m ≡ two) → final m ≤ top
-    go (inl e) = rw e (omega arith)
-    go (inr e) = rw e (omega arith)
+    go (inl e) = rw e (omega (arith, steps-suc (stepsIn three) (three .start)))
+    go (inr e) = rw e (omega (arith, steps-suc (stepsIn two) (two .start)))
 
 -- ---- the arrivals
 
@@ -125,19 +126,19 @@ sources = (ninth, (tenth, (seventh, (ninth, (eighth, (eighth, (stray, (eleventh,
 -- ---- the run
 
 has-room : roomIn suc top (empty 4) (noon ++ evening) ≡ true
-unfolding roomIn stepped takenFrom look carries alike put hasFree pickIn runFrom chain roleOf bodies among
+unfolding roomIn stepped takenFrom look carries alike put hasFree pickIn runFrom restFrom roleOf bodies among
 has-room = refl
 
 -- nothing complete; one octet too few; the first message; the second; and the first again
 pub its-takings :
     takings (empty 4) (noon ++ evening ++ takes 8 ∷ []) ≡
     unable 20 ∷ unable 21 ∷ message (runOf suc three) ∷ message (runOf suc two) ∷ message (runOf suc three) ∷ []
-unfolding takings stepped takenFrom look carries alike put hasFree pickIn runFrom chain roleOf bodies among runOf later
+unfolding takings stepped takenFrom look carries alike put hasFree pickIn runFrom restFrom roleOf bodies among runOf later
 its-takings = refl
 
 -- once it is taken, its cells are free, for others and for itself
 pub in-use : after suc top (empty 4) noon ≡ free ∷ held (seg 10 1 (6 ∷ [])) ∷ free ∷ free ∷ []
-unfolding after stepped takenFrom look carries alike put hasFree pickIn runFrom chain roleOf bodies among
+unfolding after stepped takenFrom look carries alike put hasFree pickIn runFrom restFrom roleOf bodies among
 in-use = refl
 
 pub given : Given01 4 messages (noon ++ evening)
@@ -148,7 +149,7 @@ given =
     }
 
 at-noon : takenFrom suc top (after suc top (empty 4) morning) 8 ≡ message (runOf suc three)
-unfolding after stepped takenFrom look carries alike put hasFree pickIn runFrom chain roleOf bodies among runOf later
+unfolding after stepped takenFrom look carries alike put hasFree pickIn runFrom restFrom roleOf bodies among runOf later
 at-noon = refl
 
 -- the first message was taken at noon
@@ -156,7 +157,7 @@ pub anew : Anew suc top 4 three noon
 anew = retaken morning 8 (runOf suc three) at-noon (sent-key suc three, sent-start suc three)
 
 left : leftIn suc top three (after suc top (empty 4) noon) evening ≡ true
-unfolding leftIn after stepped takenFrom look carries alike put hasFree pickIn runFrom chain roleOf bodies among
+unfolding leftIn after stepped takenFrom look carries alike put hasFree pickIn runFrom restFrom roleOf bodies among
 left = refl
 
 -- and not since

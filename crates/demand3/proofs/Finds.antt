@@ -8,9 +8,10 @@ use mathlib.Core.List.{List, [], _∷_, _++_, List·Memᴰ·head, List·Memᴰ·
 use native.Mathlib.Omega.{arith}
 use lib.ListN.{length}
 use Rattle.cells.specs.Segments.{Seg}
-use Rattle.cells.specs.Rows.{Cell, free, held, broken}
-use Rattle.messages.specs.Messages.{Role, first, middle, last, Run, segments, orElse, look, linkBy, link, opensBy, chain, runFrom, runIn, pickIn, picked}
-use Rattle.messages.proofs.Distinct.{carries-true}
+use Rattle.cells.specs.Rows.{Cell, held, segmentIn, bySegment}
+use Rattle.cells.proofs.CellSegments.{segment-or}
+use Rattle.cells.specs.Messages.{Role, first, middle, last, Run, segments, orElse, look, linkBy, link, opensBy, restFrom, runFrom, runIn, pickIn, picked}
+use Rattle.cells.proofs.Distinct.{carries-true}
 use Rattle.demand3.specs.Complete.{Held, Single}
 use Rattle.demand3.proofs.Looks.{look-held, look-at}
 use Rattle.demand3.proofs.Links.{Mem, roleIn, middle-last, Linked, Opened}
@@ -55,14 +56,14 @@ look-own cs k c t e =
     (sym (h .0), sym (h .1), look-at cs (sym (h .0)) (sym (h .1)) ∙ e)
 
 module _ (next : ℕ → ℕ) (span : ℕ) where
-  -- ---- the chain
+  -- ---- the rest of a run
 
   -- what it finds is linked, and is there
-  pub chain-linked : (n : ℕ) (cs : List Cell) (k : List ℕ) (c : ℕ) (r : List Seg) → chain next span n cs k c ≡ some r →
+  pub rest-linked : (n : ℕ) (cs : List Cell) (k : List ℕ) (c : ℕ) (r : List Seg) → restFrom next span n cs k c ≡ some r →
       Linked next k c r × There cs r
-  unfolding chain
-  chain-linked zero cs k c r e = absurd (Option·none-ne-some r e)
-  chain-linked (suc n) cs k c r e = go (chain-linked n cs k (next c)) (link-inv (look cs k c) (chain next span n cs k (next c)) r e)
+  unfolding restFrom
+  rest-linked zero cs k c r e = absurd (Option·none-ne-some r e)
+  rest-linked (suc n) cs k c r e = go (rest-linked n cs k (next c)) (link-inv (look cs k c) (restFrom next span n cs k (next c)) r e)
     where
       there : (t : Seg) (ts : List Seg) → look cs (t .key) (t .counter) ≡ some t → There cs ts → There cs (t ∷ ts)
       there t ts h f u m = at (List·Memᴰ·cases-cons m)
@@ -71,53 +72,53 @@ module _ (next : ℕ → ℕ) (span : ℕ) where
           at (inl e′) = rw e′ h
           at (inr m′) = f u m′
 
-      go : ((r′ : List Seg) → chain next span n cs k (next c) ≡ some r′ → Linked next k (next c) r′ × There cs r′) →
-          (t : Seg) × (look cs k c ≡ some t) × Joint (chain next span n cs k (next c)) r t → Linked next k c r × There cs r
+      go : ((r′ : List Seg) → restFrom next span n cs k (next c) ≡ some r′ → Linked next k (next c) r′ × There cs r′) →
+          (t : Seg) × (look cs k c ≡ some t) × Joint (restFrom next span n cs k (next c)) r t → Linked next k c r × There cs r
       go ih w = on (look-own cs k c (w .0) (w .1)) (w .2)
         where
           on : (w .0 .key ≡ k) × (w .0 .counter ≡ c) × (look cs (w .0 .key) (w .0 .counter) ≡ some (w .0)) →
-              Joint (chain next span n cs k (next c)) r (w .0) → Linked next k c r × There cs r
+              Joint (restFrom next span n cs k (next c)) r (w .0) → Linked next k c r × There cs r
           on h (inl q) = rw (q .1) ((h .0, h .1, inl (q .0, refl)), there (w .0) [] (h .2) (λ u m. absurd (List·Memᴰ·not-nil m)))
           on h (inr q) =
               let z = ih (q .1 .0) (q .1 .1) in
               rw (q .1 .2) ((h .0, h .1, inr (q .0, z .0)), there (w .0) (q .1 .0) (h .2) (z .1))
 
   -- linked segments that are all there are found
-  pub chain-all :
+  pub rest-all :
       (n : ℕ) (cs : List Cell) (k : List ℕ) (c : ℕ) (ts : List Seg) → Linked next k c ts → length ts ≤ n → There cs ts →
-      chain next span n cs k c ≡ some ts
-  unfolding chain
-  chain-all n cs k c [] l h f = absurd l
-  chain-all zero cs k c (t ∷ ts) l h f = absurd (omega arith)
-  chain-all (suc n) cs k c (t ∷ ts) l h f = go (chain-all n cs k (next c) ts) (l .2)
+      restFrom next span n cs k c ≡ some ts
+  unfolding restFrom
+  rest-all n cs k c [] l h f = absurd l
+  rest-all zero cs k c (t ∷ ts) l h f = absurd (omega arith)
+  rest-all (suc n) cs k c (t ∷ ts) l h f = go (rest-all n cs k (next c) ts) (l .2)
     where
       here : look cs k c ≡ some t
       here = look-at cs (sym (l .0)) (sym (l .1)) ∙ f t (List·Memᴰ·head refl)
 
-      go : (Linked next k (next c) ts → length ts ≤ n → There cs ts → chain next span n cs k (next c) ≡ some ts) →
+      go : (Linked next k (next c) ts → length ts ≤ n → There cs ts → restFrom next span n cs k (next c) ≡ some ts) →
           ((roleIn t ≡ last) × (ts ≡ [])) ⊎ ((roleIn t ≡ middle) × Linked next k (next c) ts) →
-          link (look cs k c) (chain next span n cs k (next c)) ≡ some (t ∷ ts)
+          link (look cs k c) (restFrom next span n cs k (next c)) ≡ some (t ∷ ts)
       go ih (inl d) = rw (here, d .0, d .1) refl
       go ih (inr d) = rw (here, d .0, ih (d .1) (omega arith) (λ u m. f u (List·Memᴰ·tail m))) refl
 
-  -- where linked segments are the only ones under their counters, a chain is just those
-  pub chain-only :
+  -- where linked segments are the only ones under their counters, the rest is just those
+  pub rest-only :
       (n : ℕ) (cs : List Cell) (k : List ℕ) (c : ℕ) (ts r : List Seg) → Linked next k c ts → Only cs ts →
-      chain next span n cs k c ≡ some r → r ≡ ts
-  unfolding chain
-  chain-only n cs k c [] r l o e = absurd l
-  chain-only zero cs k c (t ∷ ts) r l o e = absurd (Option·none-ne-some r e)
-  chain-only (suc n) cs k c (t ∷ ts) r l o e =
-      go (chain-only n cs k (next c) ts) (link-inv (look cs k c) (chain next span n cs k (next c)) r e)
+      restFrom next span n cs k c ≡ some r → r ≡ ts
+  unfolding restFrom
+  rest-only n cs k c [] r l o e = absurd l
+  rest-only zero cs k c (t ∷ ts) r l o e = absurd (Option·none-ne-some r e)
+  rest-only (suc n) cs k c (t ∷ ts) r l o e =
+      go (rest-only n cs k (next c) ts) (link-inv (look cs k c) (restFrom next span n cs k (next c)) r e)
     where
-      go : ((r′ : List Seg) → Linked next k (next c) ts → Only cs ts → chain next span n cs k (next c) ≡ some r′ → r′ ≡ ts) →
-          (u : Seg) × (look cs k c ≡ some u) × Joint (chain next span n cs k (next c)) r u → r ≡ t ∷ ts
+      go : ((r′ : List Seg) → Linked next k (next c) ts → Only cs ts → restFrom next span n cs k (next c) ≡ some r′ → r′ ≡ ts) →
+          (u : Seg) × (look cs k c ≡ some u) × Joint (restFrom next span n cs k (next c)) r u → r ≡ t ∷ ts
       go ih w = on (w .2) (l .2)
         where
           mine : w .0 ≡ t
           mine = o t (w .0) (List·Memᴰ·head refl) (look-at cs (l .0) (l .1) ∙ w .1)
 
-          on : Joint (chain next span n cs k (next c)) r (w .0) →
+          on : Joint (restFrom next span n cs k (next c)) r (w .0) →
               ((roleIn t ≡ last) × (ts ≡ [])) ⊎ ((roleIn t ≡ middle) × Linked next k (next c) ts) → r ≡ t ∷ ts
           on (inl q) (inl d) = q .1 ∙ ap (λ (x : Seg). x ∷ []) mine ∙ ap (λ (x : List Seg). t ∷ x) (sym (d .1))
           on (inl q) (inr d) = middle-last (d .0) (ap roleIn (sym mine) ∙ q .0)
@@ -131,27 +132,27 @@ module _ (next : ℕ → ℕ) (span : ℕ) where
   -- the run is what the search finds from its first
   pub record Found (cs : List Cell) (r : Run) : Type 0 where
     pub opens : roleIn (r .head) ≡ first
-    pub finds : chain next span span cs (r .head .key) (next (r .head .counter)) ≡ some (r .rest)
+    pub finds : restFrom next span span cs (r .head .key) (next (r .head .counter)) ≡ some (r .rest)
 
   pub found-opened : (cs : List Cell) (r : Run) → Found cs r → Opened next r
   found-opened cs r f =
-      record { opens = f .opens; follows = chain-linked span cs (r .head .key) (next (r .head .counter)) (r .rest) (f .finds) .0 }
+      record { opens = f .opens; follows = rest-linked span cs (r .head .key) (next (r .head .counter)) (r .rest) (f .finds) .0 }
 
   pub found-there : (cs : List Cell) (r : Run) → Single cs → Held (r .head) cs → Found cs r → There cs (segments r)
   found-there cs r s h f t m = go (List·Memᴰ·cases-cons m)
     where
       go : (t ≡ r .head) ⊎ Mem t (r .rest) → look cs (t .key) (t .counter) ≡ some t
       go (inl e) = rw e (s (r .head) h)
-      go (inr k) = chain-linked span cs (r .head .key) (next (r .head .counter)) (r .rest) (f .finds) .1 t k
+      go (inr k) = rest-linked span cs (r .head .key) (next (r .head .counter)) (r .rest) (f .finds) .1 t k
 
   from-found : (cs : List Cell) (t : Seg) (r : Run) → runFrom next span cs t ≡ some r → (r .head ≡ t) × Found cs r
   unfolding runFrom
   from-found cs t r e =
-      let w = opens-inv (roleIn t) t (chain next span span cs (t .key) (next (t .counter))) r e in (
+      let w = opens-inv (roleIn t) t (restFrom next span span cs (t .key) (next (t .counter))) r e in (
         w .1,
         record {
           opens = ap roleIn (w .1) ∙ w .0;
-          finds = ap (λ (x : Seg). chain next span span cs (x .key) (next (x .counter))) (w .1) ∙ w .2;
+          finds = ap (λ (x : Seg). restFrom next span span cs (x .key) (next (x .counter))) (w .1) ∙ w .2;
         },
       )
 
@@ -175,16 +176,18 @@ module _ (next : ℕ → ℕ) (span : ℕ) where
   pickIn-inv : (cs xs : List Cell) (r : Run) → pickIn next span cs xs ≡ some r → Lowest cs xs r × Found cs r
   unfolding pickIn
   pickIn-inv cs [] r e = absurd (Option·none-ne-some r e)
-  pickIn-inv cs (free ∷ xs) r e = let w = pickIn-inv cs xs r e in (in-lowest cs free xs r refl (w .0), w .1)
-  pickIn-inv cs (broken ∷ xs) r e = let w = pickIn-inv cs xs r e in (in-lowest cs broken xs r refl (w .0), w .1)
-  pickIn-inv cs (held t ∷ xs) r e = go (pickIn-inv cs xs r) (runFrom next span cs t) refl e
+  pickIn-inv cs (x ∷ xs) r e = go (pickIn-inv cs xs r) (runIn next span cs x) refl e
     where
-      go : (pickIn next span cs xs ≡ some r → Lowest cs xs r × Found cs r) → (o : Option Run) → runFrom next span cs t ≡ o →
-          orElse o (pickIn next span cs xs) ≡ some r → Lowest cs (held t ∷ xs) r × Found cs r
-      go ih none d e′ = let w = ih e′ in (in-lowest cs (held t) xs r d (w .0), w .1)
-      go ih (some y) d e′ =
-          let w = from-found cs t r (d ∙ e′) in
-          (([], xs, ap (λ (z : Seg). held z ∷ xs) (sym (w .0)), λ u m. absurd (List·Memᴰ·not-nil m)), w .1)
+      here : ((t : Seg) × (x ≡ held t)) ⊎ (segmentIn x ≡ none) → runIn next span cs x ≡ some r → Lowest cs (x ∷ xs) r × Found cs r
+      here (inl k) d =
+          let w = from-found cs (k .0) r (sym (ap (runIn next span cs) (k .1)) ∙ d) in
+          (([], xs, ap (λ (y : Cell). y ∷ xs) (k .1 ∙ ap held (sym (w .0))), λ u m. absurd (List·Memᴰ·not-nil m)), w .1)
+      here (inr n) d = absurd (Option·none-ne-some r (sym (ap (bySegment none (runFrom next span cs)) n) ∙ d))
+
+      go : (pickIn next span cs xs ≡ some r → Lowest cs xs r × Found cs r) → (o : Option Run) → runIn next span cs x ≡ o →
+          orElse o (pickIn next span cs xs) ≡ some r → Lowest cs (x ∷ xs) r × Found cs r
+      go ih none d e′ = let w = ih e′ in (in-lowest cs x xs r d (w .0), w .1)
+      go ih (some y) d e′ = here (segment-or x) (d ∙ e′)
 
   pub picked-lowest : (cs : List Cell) (r : Run) → picked next span cs ≡ some r → Lowest cs cs r × Found cs r
   picked-lowest cs r e = pickIn-inv cs cs r e

@@ -9,15 +9,15 @@ use mathlib.Core.List.{List, [], _∷_, _++_}
 use lib.ListN.{length}
 use Rattle.cells.specs.Segments.{Seg}
 use Rattle.cells.specs.Rows.{Cell}
-use Rattle.messages.specs.Messages.{Run, segments, look}
+use Rattle.cells.specs.Messages.{Run, segments, look}
 use Rattle.taking.specs.Taking.{message}
-use Rattle.keeping.specs.Cells.{put, clear}
+use Rattle.demand3.specs.Cells.{put, clear}
 use Rattle.demand3.specs.Complete.{Held, Single, Complete}
 use Rattle.demand3.specs.Traffic.{Event, takes, takenFrom, stepped, after}
 use Rattle.demand3.proofs.Looks.{carries-no, look-same, put-other, clear-kept}
 use Rattle.demand3.proofs.Links.{Opened}
 use Rattle.demand3.proofs.Finds.{There, Found, found-opened, found-there}
-use Rattle.demand3.proofs.Exactly.{there-complete, complete-found, chain-short}
+use Rattle.demand3.proofs.Exactly.{there-complete, complete-found, rest-short}
 use Rattle.demand3.proofs.Beside.{among-none, among-carried, put-single, clear-single, Beside, Off}
 use Rattle.demand3.proofs.Takings.{step-keeps, taken-apart}
 use Rattle.demand3.proofs.Keeps.{Keeps, Left, left-tail, left-first}
@@ -98,4 +98,4 @@ module _ (next : ℕ → ℕ) (span : ℕ) (inj : (x y : ℕ) → next x ≡ nex
       o = found-opened next span cs own f
 
       short : length (own .rest) ≤ span
-      short = chain-short next span span cs (own .head .key) (next (own .head .counter)) (own .rest) (f .finds)
+      short = rest-short next span span cs (own .head .key) (next (own .head .counter)) (own .rest) (f .finds)

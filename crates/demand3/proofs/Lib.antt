@@ -1,3 +1,9 @@
+pub mod Putting
+pub mod After
+pub mod Zeroed
+pub mod Untouched
+pub mod Repeats
+pub mod Lookups
 pub mod Looks
 pub mod Links
 pub mod Finds
@@ -9,6 +15,7 @@ pub mod Keeps
 pub mod Lasts
 pub mod Progress
 pub mod Rooms
+pub mod Lone
 pub mod Runs
 pub mod Demand
 pub mod Base
@@ -26,6 +33,9 @@ pub mod Carried
 pub mod Delivers
 pub mod Now
 pub mod Whole
+pub mod JoinsAt
+pub mod Holds
+pub mod Joins
 pub mod Cutter
 pub mod Bridges
 pub mod Acts
@@ -33,6 +43,7 @@ pub mod Roomy
 pub mod Day
 pub mod DayComes
 pub mod DayRun
+pub mod DayJoins
 pub mod DayEnd
 pub mod Ways
 pub mod Refuted

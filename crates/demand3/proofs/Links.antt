@@ -9,10 +9,10 @@ use native.Mathlib.Omega.{arith}
 use lib.ListN.{length}
 use Rattle.octets.specs.Laying.{together}
 use Rattle.cells.specs.Segments.{Seg}
-use Rattle.messages.specs.Messages.{Role, first, middle, last, roleOf, Run, bodies, bodyOf, segments}
-use Rattle.demand3.specs.Complete.{steps}
+use Rattle.cells.specs.Messages.{Role, first, middle, last, roleOf, Run, bodies, bodyOf, segments}
 use Rattle.demand3.specs.Traffic.{Sent, bodyIn, stepsIn, later, runOf}
 use Rattle.demand3.specs.Promise.{Original}
+use Rattle.sender.specs.Sending.{stepsOf}
 
 abbrev pub Mem : Seg → List Seg → Type 0
 Mem t ts = List·Memᴰ t ts
@@ -104,22 +104,22 @@ module _ (next : ℕ → ℕ) where
   -- ---- where a linked list's counters are
 
   pub linked-at : (k : List ℕ) (c : ℕ) (ts : List Seg) → Linked k c ts → (t : Seg) → Mem t ts →
-      (j : ℕ) × (j < length ts) × (t .counter ≡ steps next j c)
-  unfolding steps
+      (j : ℕ) × (j < length ts) × (t .counter ≡ stepsOf next j c)
+  unfolding stepsOf
   linked-at k c [] l t m = absurd l
   linked-at k c (u ∷ ts) l t m = go (linked-at k (next c) ts) (List·Memᴰ·cases-cons m) (l .2)
     where
-      go : (Linked k (next c) ts → (v : Seg) → Mem v ts → (j : ℕ) × (j < length ts) × (v .counter ≡ steps next j (next c))) →
+      go : (Linked k (next c) ts → (v : Seg) → Mem v ts → (j : ℕ) × (j < length ts) × (v .counter ≡ stepsOf next j (next c))) →
           (t ≡ u) ⊎ Mem t ts → ((roleIn u ≡ last) × (ts ≡ [])) ⊎ ((roleIn u ≡ middle) × Linked k (next c) ts) →
-          (j : ℕ) × (j < suc (length ts)) × (t .counter ≡ steps next j c)
+          (j : ℕ) × (j < suc (length ts)) × (t .counter ≡ stepsOf next j c)
       go ih (inl e) d = (0, suc-le-suc zero-le, ap (λ (x : Seg). x .counter) e ∙ l .1)
       go ih (inr h) (inl d) = absurd (List·Memᴰ·not-nil (rw (d .1) at h))
       go ih (inr h) (inr d) = let z = ih (d .1) t h in (suc (z .0), suc-le-suc (z .1), z .2)
 
   pub linked-last :
       (k : List ℕ) (c : ℕ) (ts : List Seg) → Linked k c ts → (n : ℕ) → length ts ≡ suc n →
-      (t : Seg) × Mem t ts × (t .key ≡ k) × (t .counter ≡ steps next n c) × (roleIn t ≡ last)
-  unfolding steps
+      (t : Seg) × Mem t ts × (t .key ≡ k) × (t .counter ≡ stepsOf next n c) × (roleIn t ≡ last)
+  unfolding stepsOf
   linked-last k c [] l n e = absurd l
   linked-last k c (u ∷ ts) l zero e = go (l .2)
     where
@@ -134,16 +134,16 @@ module _ (next : ℕ → ℕ) where
   linked-last k c (u ∷ ts) l (suc n) e = go (linked-last k (next c) ts) (l .2)
     where
       go : (Linked k (next c) ts → (i : ℕ) → length ts ≡ suc i →
-          (t : Seg) × Mem t ts × (t .key ≡ k) × (t .counter ≡ steps next i (next c)) × (roleIn t ≡ last)) →
+          (t : Seg) × Mem t ts × (t .key ≡ k) × (t .counter ≡ stepsOf next i (next c)) × (roleIn t ≡ last)) →
           ((roleIn u ≡ last) × (ts ≡ [])) ⊎ ((roleIn u ≡ middle) × Linked k (next c) ts) →
-          (t : Seg) × Mem t (u ∷ ts) × (t .key ≡ k) × (t .counter ≡ steps next n (next c)) × (roleIn t ≡ last)
+          (t : Seg) × Mem t (u ∷ ts) × (t .key ≡ k) × (t .counter ≡ stepsOf next n (next c)) × (roleIn t ≡ last)
       go ih (inl d) = absurd (let z : length ts ≡ 0 = ap length (d .1) in omega arith)
       go ih (inr d) = let z = ih (d .1) n (omega arith) in (z .0, List·Memᴰ·tail (z .1), z .2, z .3, z .4)
 
   pub linked-middle :
       (k : List ℕ) (c : ℕ) (ts : List Seg) → Linked k c ts → (j : ℕ) → suc j < length ts →
-      (t : Seg) × Mem t ts × (t .key ≡ k) × (t .counter ≡ steps next j c) × (roleIn t ≡ middle)
-  unfolding steps
+      (t : Seg) × Mem t ts × (t .key ≡ k) × (t .counter ≡ stepsOf next j c) × (roleIn t ≡ middle)
+  unfolding stepsOf
   linked-middle k c [] l j e = absurd l
   linked-middle k c (u ∷ ts) l zero e = go (l .2)
     where
@@ -154,9 +154,9 @@ module _ (next : ℕ → ℕ) where
   linked-middle k c (u ∷ ts) l (suc j) e = go (linked-middle k (next c) ts) (l .2)
     where
       go : (Linked k (next c) ts → (i : ℕ) → suc i < length ts →
-          (t : Seg) × Mem t ts × (t .key ≡ k) × (t .counter ≡ steps next i (next c)) × (roleIn t ≡ middle)) →
+          (t : Seg) × Mem t ts × (t .key ≡ k) × (t .counter ≡ stepsOf next i (next c)) × (roleIn t ≡ middle)) →
           ((roleIn u ≡ last) × (ts ≡ [])) ⊎ ((roleIn u ≡ middle) × Linked k (next c) ts) →
-          (t : Seg) × Mem t (u ∷ ts) × (t .key ≡ k) × (t .counter ≡ steps next j (next c)) × (roleIn t ≡ middle)
+          (t : Seg) × Mem t (u ∷ ts) × (t .key ≡ k) × (t .counter ≡ stepsOf next j (next c)) × (roleIn t ≡ middle)
       go ih (inl d) = absurd (let z : length ts ≡ 0 = ap length (d .1) in omega arith)
       go ih (inr d) = let z = ih (d .1) j (omega arith) in (z .0, List·Memᴰ·tail (z .1), z .2, z .3, z .4)
 

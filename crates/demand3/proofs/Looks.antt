@@ -1,20 +1,24 @@
 -- What cells hold under a key and a counter, after a segment is put in and after cells are freed.
 -- Assumes nothing.
 use Prim.Native.Nat.{ℕ}
-use mathlib.Core.Path.{_≡_, refl, sym, _∙_, ap}
+use mathlib.Core.Path.{_≡_, refl, sym, _∙_, ap, subst}
 use mathlib.Core.Logic.{_⊎_, inl, inr}
-use mathlib.Core.Bool.{true, false, true≢false, false≢true}
-use mathlib.Core.Option.{none, some, Option·none-ne-some, Option·some-ne-none, Option·some-injective}
+use mathlib.Core.Bool.{true, false, true≢false, false≢true, Bool}
+use mathlib.Core.Option.{none, some, Option·none-ne-some, Option·some-ne-none, Option}
 use mathlib.Core.List.{List, [], _∷_, List·Memᴰ·head, List·Memᴰ·tail, List·Memᴰ·cases-cons, List·Memᴰ·not-nil}
 use native.Mathlib.Omega.{arith}
 use borrow.Author.Tests.{eq-eqb}
 use Rattle.octets.specs.Octets.{pick}
 use Rattle.octets.proofs.Lists.{bool, alike-self}
 use Rattle.cells.specs.Segments.{Seg, carries}
-use Rattle.cells.specs.Rows.{Cell, free, held, broken}
-use Rattle.messages.specs.Messages.{orElse, heldAs, look, among}
-use Rattle.messages.proofs.Distinct.{carries-true}
-use Rattle.keeping.specs.Cells.{put, hasFree, freed, clear}
+use Rattle.cells.specs.Rows.{Cell, free, held, segmentIn, bySegment}
+use Rattle.cells.specs.Order.{isFree}
+use Rattle.cells.proofs.CellSegments.{free-none, segment-freed}
+use Rattle.cells.specs.Messages.{orElse, heldAs, look, among, amongIn}
+use Rattle.cells.proofs.Distinct.{carries-true}
+use Rattle.cells.proofs.Looking.{held-some, or-some, or-none}
+use Rattle.demand3.specs.Cells.{put, hasFree, freed, clear}
+use Rattle.demand3.proofs.Putting.{put-free, put-on}
 use Rattle.demand3.specs.Complete.{Held}
 
 -- ---- the test on a segment
@@ -43,16 +47,16 @@ look-miss t cs k c e = rw e
 pub look-held : (cs : List Cell) (k : List ℕ) (c : ℕ) (t : Seg) → look cs k c ≡ some t → Held t cs × (carries k c t ≡ true)
 unfolding look
 look-held [] k c t e = absurd (Option·none-ne-some t e)
-look-held (free ∷ cs) k c t e = let h = look-held cs k c t e in (List·Memᴰ·tail (h .0), h .1)
-look-held (broken ∷ cs) k c t e = let h = look-held cs k c t e in (List·Memᴰ·tail (h .0), h .1)
-look-held (held u ∷ cs) k c t e = go (look-held cs k c t) (bool (carries k c u))
+look-held (x ∷ cs) k c t e = go (look-held cs k c t) (or-some (heldAs k c x) (look cs k c) t e)
   where
-    go : (look cs k c ≡ some t → Held t cs × (carries k c t ≡ true)) → (carries k c u ≡ true) ⊎ (carries k c u ≡ false) →
-        Held t (held u ∷ cs) × (carries k c t ≡ true)
-    go ih (inl h) =
-        let p : u ≡ t = Option·some-injective u t (sym (look-hit u cs k c h) ∙ e) in
-        (List·Memᴰ·head (ap held (sym p)), rw (← p) h)
-    go ih (inr h) = let r = ih (sym (look-miss u cs k c h) ∙ e) in (List·Memᴰ·tail (r .0), r .1)
+    go : (look cs k c ≡ some t → Held t cs × (carries k c t ≡ true)) → (heldAs k c x ≡ some t) ⊎ (look cs k c ≡ some t) →
+        Held t (x ∷ cs) × (carries k c t ≡ true)
+    go ih (inl h) = let a = held-some k c x t h in (List·Memᴰ·head (sym (a .0)), a .1)
+    go ih (inr h) = let r = ih h in (List·Memᴰ·tail (r .0), r .1)
+
+-- a free cell gives nothing
+free-holds : (k : List ℕ) (c : ℕ) (x : Cell) → isFree x ≡ true → heldAs k c x ≡ none
+free-holds k c x f = ap (bySegment none (λ u. pick (carries k c u) (some u) none)) (free-none x f)
 
 -- it goes by key and counter
 pub look-at : (cs : List Cell) {k l : List ℕ} {c d : ℕ} → k ≡ l → c ≡ d → look cs k c ≡ look cs l d
@@ -69,86 +73,98 @@ pub put-same :
     look (put cs t) (t .key) (t .counter) ≡ some t
 unfolding put hasFree look
 put-same [] t f e = absurd (false≢true f)
-put-same (free ∷ cs) t f e = look-hit t cs (t .key) (t .counter) (carries-self t)
-put-same (broken ∷ cs) t f e = put-same cs t f e
-put-same (held u ∷ cs) t f e = go (put-same cs t f) (bool (carries (t .key) (t .counter) u))
+put-same (x ∷ cs) t f e = go (put-same cs t) (bool (isFree x))
   where
-    go : (look cs (t .key) (t .counter) ≡ none → look (put cs t) (t .key) (t .counter) ≡ some t) →
-        (carries (t .key) (t .counter) u ≡ true) ⊎ (carries (t .key) (t .counter) u ≡ false) →
-        look (held u ∷ put cs t) (t .key) (t .counter) ≡ some t
-    go ih (inl h) = absurd (Option·some-ne-none u (sym (look-hit u cs (t .key) (t .counter) h) ∙ e))
-    go ih (inr h) = look-miss u (put cs t) (t .key) (t .counter) h ∙ ih (sym (look-miss u cs (t .key) (t .counter) h) ∙ e)
+    none-here : (heldAs (t .key) (t .counter) x ≡ none) × (look cs (t .key) (t .counter) ≡ none)
+    none-here = or-none (heldAs (t .key) (t .counter) x) (look cs (t .key) (t .counter)) e
+
+    go : (hasFree cs ≡ true → look cs (t .key) (t .counter) ≡ none → look (put cs t) (t .key) (t .counter) ≡ some t) →
+        (isFree x ≡ true) ⊎ (isFree x ≡ false) → look (pick (isFree x) (held t ∷ cs) (x ∷ put cs t)) (t .key) (t .counter) ≡ some t
+    go ih (inl h) = rw h (look-hit t cs (t .key) (t .counter) (carries-self t))
+    go ih (inr h) = rw (h, none-here .0) (ih (rw h at f) (none-here .1))
 
 pub put-other : (cs : List Cell) (t : Seg) (k : List ℕ) (c : ℕ) → carries k c t ≡ false → look (put cs t) k c ≡ look cs k c
 unfolding put look
 put-other [] t k c h = refl
-put-other (free ∷ cs) t k c h = look-miss t cs k c h
-put-other (broken ∷ cs) t k c h = put-other cs t k c h
-put-other (held u ∷ cs) t k c h = ap (orElse (heldAs k c (held u))) (put-other cs t k c h)
+put-other (x ∷ cs) t k c h = go (put-other cs t k c h) (bool (isFree x))
+  where
+    go : look (put cs t) k c ≡ look cs k c → (isFree x ≡ true) ⊎ (isFree x ≡ false) →
+        look (pick (isFree x) (held t ∷ cs) (x ∷ put cs t)) k c ≡ orElse (heldAs k c x) (look cs k c)
+    go ih (inl f) =
+        ap (λ (b : Bool). look (pick b (held t ∷ cs) (x ∷ put cs t)) k c) f
+        ∙ look-miss t cs k c h
+        ∙ sym (ap (λ (o : Option Seg). orElse o (look cs k c)) (free-holds k c x f))
+    go ih (inr f) = ap (λ (b : Bool). look (pick b (held t ∷ cs) (x ∷ put cs t)) k c) f ∙ ap (orElse (heldAs k c x)) ih
 
 -- a full store stays
 pub put-full : (cs : List Cell) (t : Seg) → hasFree cs ≡ false → put cs t ≡ cs
 unfolding put hasFree
 put-full [] t f = refl
-put-full (free ∷ cs) t f = absurd (true≢false f)
-put-full (broken ∷ cs) t f = ap (λ (x : List Cell). broken ∷ x) (put-full cs t f)
-put-full (held u ∷ cs) t f = ap (λ (x : List Cell). held u ∷ x) (put-full cs t f)
+put-full (x ∷ cs) t f = go (put-full cs t) (bool (isFree x))
+  where
+    go : (hasFree cs ≡ false → put cs t ≡ cs) → (isFree x ≡ true) ⊎ (isFree x ≡ false) → pick (isFree x) (held t ∷ cs) (x ∷ put cs t) ≡ x ∷ cs
+    go ih (inl h) = absurd (true≢false (rw h at f))
+    go ih (inr h) = rw h (ap (λ (y : List Cell). x ∷ y) (ih (rw h at f)))
 
 pub put-held : (cs : List Cell) (t u : Seg) → Held u (put cs t) → (u ≡ t) ⊎ Held u cs
 unfolding put
 put-held [] t u m = inr m
-put-held (free ∷ cs) t u m = go (List·Memᴰ·cases-cons m)
+put-held (x ∷ cs) t u m = by (put-held cs t u) (bool (isFree x))
   where
-    go : (held u ≡ held t) ⊎ Held u cs → (u ≡ t) ⊎ Held u (free ∷ cs)
-    go (inl e) = inl (cc)
-    go (inr h) = inr (List·Memᴰ·tail h)
-put-held (broken ∷ cs) t u m = go (put-held cs t u) (List·Memᴰ·cases-cons m)
-  where
-    on : (u ≡ t) ⊎ Held u cs → (u ≡ t) ⊎ Held u (broken ∷ cs)
+    on : (u ≡ t) ⊎ Held u cs → (u ≡ t) ⊎ Held u (x ∷ cs)
     on (inl e) = inl e
     on (inr h) = inr (List·Memᴰ·tail h)
 
-    go : (Held u (put cs t) → (u ≡ t) ⊎ Held u cs) → (held u ≡ broken) ⊎ Held u (put cs t) → (u ≡ t) ⊎ Held u (broken ∷ cs)
-    go ih (inl e) = absurd (let z : _≡_ {A = ℕ} 0 1 = cc in omega arith)
-    go ih (inr h) = on (ih h)
-put-held (held v ∷ cs) t u m = go (put-held cs t u) (List·Memᴰ·cases-cons m)
-  where
-    on : (u ≡ t) ⊎ Held u cs → (u ≡ t) ⊎ Held u (held v ∷ cs)
-    on (inl e) = inl e
-    on (inr h) = inr (List·Memᴰ·tail h)
+    new : (held u ≡ held t) ⊎ Held u cs → (u ≡ t) ⊎ Held u (x ∷ cs)
+    new (inl e) = inl (cc e)
+    new (inr h) = inr (List·Memᴰ·tail h)
 
-    go : (Held u (put cs t) → (u ≡ t) ⊎ Held u cs) → (held u ≡ held v) ⊎ Held u (put cs t) → (u ≡ t) ⊎ Held u (held v ∷ cs)
-    go ih (inl e) = inr (List·Memᴰ·head e)
-    go ih (inr h) = on (ih h)
+    old : (Held u (put cs t) → (u ≡ t) ⊎ Held u cs) → (held u ≡ x) ⊎ Held u (put cs t) → (u ≡ t) ⊎ Held u (x ∷ cs)
+    old ih (inl e) = inr (List·Memᴰ·head e)
+    old ih (inr h) = on (ih h)
+
+    by : (Held u (put cs t) → (u ≡ t) ⊎ Held u cs) → (isFree x ≡ true) ⊎ (isFree x ≡ false) → (u ≡ t) ⊎ Held u (x ∷ cs)
+    by ih (inl f) = new (List·Memᴰ·cases-cons (subst (Held u) (put-free x cs t f) m))
+    by ih (inr f) = old ih (List·Memᴰ·cases-cons (subst (Held u) (put-on x cs t f) m))
 
 -- ---- cells are freed
+
+-- what is held under a key and a counter in a cell from which some segments are freed, by its segment
+by-freed : (us : List Seg) (x : Cell) (k : List ℕ) (c : ℕ) →
+    heldAs k c (freed us x) ≡ bySegment none (λ u. pick (carries k c u) (some u) none) (pick (amongIn us x) none (segmentIn x))
+by-freed us x k c = ap (bySegment none (λ u. pick (carries k c u) (some u) none)) (segment-freed (amongIn us x) x)
 
 -- what a cell holds once it is freed, where all that is looked for is among the freed
 freed-gone :
     (us : List Seg) (x : Cell) (k : List ℕ) (c : ℕ) → ((t : Seg) → carries k c t ≡ true → among us t ≡ true) →
     heldAs k c (freed us x) ≡ none
-freed-gone us free k c h = refl
-freed-gone us broken k c h = refl
-freed-gone us (held t) k c h = go (bool (among us t)) (bool (carries k c t))
+freed-gone us x k c h = by-freed us x k c ∙ of (segmentIn x)
   where
-    go : (among us t ≡ true) ⊎ (among us t ≡ false) → (carries k c t ≡ true) ⊎ (carries k c t ≡ false) →
-        heldAs k c (pick (among us t) free (held t)) ≡ none
-    go (inl a) b = rw a
-    go (inr a) (inl b) = absurd (true≢false (sym (h t b) ∙ a))
-    go (inr a) (inr b) = rw (a, b)
+    go : (t : Seg) → (among us t ≡ true) ⊎ (among us t ≡ false) → (carries k c t ≡ true) ⊎ (carries k c t ≡ false) →
+        bySegment none (λ u. pick (carries k c u) (some u) none) (pick (among us t) none (some t)) ≡ none
+    go t (inl a) b = rw a
+    go t (inr a) (inl b) = absurd (true≢false (sym (h t b) ∙ a))
+    go t (inr a) (inr b) = rw (a, b)
+
+    of : (o : Option Seg) → bySegment none (λ u. pick (carries k c u) (some u) none) (pick (bySegment false (among us) o) none o) ≡ none
+    of none = refl
+    of (some t) = go t (bool (among us t)) (bool (carries k c t))
 
 freed-kept :
     (us : List Seg) (x : Cell) (k : List ℕ) (c : ℕ) → ((t : Seg) → carries k c t ≡ true → among us t ≡ false) →
     heldAs k c (freed us x) ≡ heldAs k c x
-freed-kept us free k c h = refl
-freed-kept us broken k c h = refl
-freed-kept us (held t) k c h = go (bool (among us t)) (bool (carries k c t))
+freed-kept us x k c h = by-freed us x k c ∙ of (segmentIn x)
   where
-    go : (among us t ≡ true) ⊎ (among us t ≡ false) → (carries k c t ≡ true) ⊎ (carries k c t ≡ false) →
-        heldAs k c (pick (among us t) free (held t)) ≡ pick (carries k c t) (some t) none
-    go (inl a) (inl b) = absurd (true≢false (sym a ∙ h t b))
-    go (inl a) (inr b) = rw (a, b)
-    go (inr a) b = rw a
+    go : (t : Seg) → (among us t ≡ true) ⊎ (among us t ≡ false) → (carries k c t ≡ true) ⊎ (carries k c t ≡ false) →
+        bySegment none (λ u. pick (carries k c u) (some u) none) (pick (among us t) none (some t)) ≡ pick (carries k c t) (some t) none
+    go t (inl a) (inl b) = absurd (true≢false (sym a ∙ h t b))
+    go t (inl a) (inr b) = rw (a, b)
+    go t (inr a) b = rw a
+
+    of : (o : Option Seg) → bySegment none (λ u. pick (carries k c u) (some u) none) (pick (bySegment false (among us) o) none o) ≡
+        bySegment none (λ u. pick (carries k c u) (some u) none) o
+    of none = refl
+    of (some t) = go t (bool (among us t)) (bool (carries k c t))
 
 pub clear-gone :
     (us : List Seg) (cs : List Cell) (k : List ℕ) (c : ℕ) → ((t : Seg) → carries k c t ≡ true → among us t ≡ true) →
@@ -165,16 +181,11 @@ clear-kept us [] k c h = refl
 clear-kept us (x ∷ cs) k c h = rw (freed-kept us x k c h, clear-kept us cs k c h)
 
 freed-held : (us : List Seg) (x : Cell) (t : Seg) → held t ≡ freed us x → (held t ≡ x) × (among us t ≡ false)
-freed-held us free t e = absurd (let z : _≡_ {A = ℕ} 0 1 = cc in omega arith)
-freed-held us broken t e = absurd (let z : _≡_ {A = ℕ} 0 1 = cc in omega arith)
-freed-held us (held u) t e = go (bool (among us u))
+freed-held us x t e = go (bool (amongIn us x))
   where
-    go : (among us u ≡ true) ⊎ (among us u ≡ false) → (held t ≡ held u) × (among us t ≡ false)
-    go (inl a) = absurd (let f : held t ≡ free = rw a at e in let z : _≡_ {A = ℕ} 0 1 = cc f in omega arith)
-    go (inr a) =
-        let f : held t ≡ held u = rw a at e in
-        let p : t ≡ u = cc f in
-        (f, rw p a)
+    go : (amongIn us x ≡ true) ⊎ (amongIn us x ≡ false) → (held t ≡ x) × (among us t ≡ false)
+    go (inl a) = absurd (Option·some-ne-none t (ap segmentIn (e ∙ ap (λ (b : Bool). pick b free x) a)))
+    go (inr a) = let f : held t ≡ x = e ∙ ap (λ (b : Bool). pick b free x) a in (f, ap (amongIn us) f ∙ a)
 
 pub clear-held : (us : List Seg) (cs : List Cell) (t : Seg) → Held t (clear us cs) → Held t cs × (among us t ≡ false)
 clear-held us [] t m = absurd (List·Memᴰ·not-nil m)

@@ -9,7 +9,7 @@ use native.Mathlib.Omega.{arith}
 use Rattle.octets.specs.Octets.{Octets}
 use Rattle.walk.specs.declared.Settings.{Settings}
 use Rattle.cells.specs.Rows.{Cell}
-use Rattle.messages.specs.Messages.{top}
+use Rattle.cells.specs.Messages.{top}
 use Rattle.taking.specs.Taking.{message}
 use Rattle.demand3.specs.Traffic.{Event, arrives, empty, after, Room as CellRoom}
 use Rattle.demand3.specs.Promise.{Gives, Output, Handed as CellHanded, AllCame as CellAllCame, Untaken as CellUntaken, Delivery as CellDelivery, Promise as CellPromise}
@@ -27,7 +27,7 @@ use Rattle.demand3.proofs.Carried.{traffic-of, untaken-of, behind-cells
 use Rattle.demand3.proofs.Delivers.{takes-of, hands-of}
 
 -- a packet handed over by some calls or by one more
-handed-more : (l : List Call) (p q : List ℕ) → Handed q (l ++ arrival p ∷ []) → Handed q l ⊎ (q ≡ p)
+pub handed-more : (l : List Call) (p q : List ℕ) → Handed q (l ++ arrival p ∷ []) → Handed q l ⊎ (q ≡ p)
 handed-more l p q h = go (List·Memᴰ·append-cases l (h .1))
   where
     same : arrival p ≡ h .0 → Brings q (h .0) → q ≡ p
@@ -46,13 +46,13 @@ handed-more l p q h = go (List·Memᴰ·append-cases l (h .1))
     go (inr k) = inr (only (List·Memᴰ·cases-cons k))
 
 -- the store behind one arrival more
-arrived-more : (s : Settings) (Z : ℕ) (st : List ℕ) (l : List Call) (p : List ℕ) →
+pub arrived-more : (s : Settings) (Z : ℕ) (st : List ℕ) (l : List Call) (p : List ℕ) →
     storeAfter s Z st (l ++ arrival p ∷ []) ≡ arrivedStore s Z (storeAfter s Z st l) p
 unfolding storeAfter storeBy
 arrived-more s Z st l p = store-append s Z l (arrival p ∷ []) st
 
 -- which takes nothing
-untaken-more : (s : Settings) (Z : ℕ) (m : Sending) (st : List ℕ) (l : List Call) (p : List ℕ) → Untaken s Z m st l →
+pub untaken-more : (s : Settings) (Z : ℕ) (m : Sending) (st : List ℕ) (l : List Call) (p : List ℕ) → Untaken s Z m st l →
     Untaken s Z m st (l ++ arrival p ∷ [])
 unfolding tookBy
 untaken-more s Z m st l p u x y c e t = go (append-split l (arrival p ∷ []) x c y e)
@@ -127,7 +127,7 @@ module _ (Z : ℕ) (one : 1 ≤ Z) (s : Settings) (n : ℕ) (u : InUse s n) wher
             (untaken-of s Z n m (storeBehind s Z n first) since (behind-keeps s Z n one u first) w)))
 
     -- one packet more
-    traffic-more : (since : List Call) → Traffic s Z ms (first ++ since) → (p : List ℕ) → Octets p → MayCome s Z ms p →
+    pub traffic-more : (since : List Call) → Traffic s Z ms (first ++ since) → (p : List ℕ) → Octets p → MayCome s Z ms p →
         Traffic s Z ms (first ++ (since ++ arrival p ∷ []))
     traffic-more since g p o c =
         subst (Traffic s Z ms) (append-assoc first since (arrival p ∷ []))
@@ -146,7 +146,7 @@ module _ (Z : ℕ) (one : 1 ≤ Z) (s : Settings) (n : ℕ) (u : InUse s n) wher
         packets′ q (inl k) = g .packets q k
         packets′ q (inr e) = subst (MayCome s Z ms) (sym e) c
 
-    store-more : (since : List Call) (p : List ℕ) →
+    pub store-more : (since : List Call) (p : List ℕ) →
         storeBehind s Z n (first ++ (since ++ arrival p ∷ [])) ≡ arrivedStore s Z (storeBehind s Z n (first ++ since)) p
     store-more since p =
         ap (storeBehind s Z n) (sym (append-assoc first since (arrival p ∷ []))) ∙ arrived-more s Z zeros (first ++ since) p

@@ -18,13 +18,13 @@ use Rattle.demand3.specs.Sendings.{Sending, ReadsAs, manyOf, valuesAt, p
 use Rattle.demand3.proofs.ReadAs.{repeat-reads}
 
 same-values : {h g : Head} {f e c d : ℕ} {b a : List ℕ} (n : ℕ) → h ≡ g → f ≡ e → c ≡ d → b ≡ a →
-    _≡_ {A = Values} (record { head = h; flags = f; count = n; counter = c; body = b }) (record { head = g; flags = e; count = n; counter = d; body = a })
-same-values n p q r t = λ i. record { head = p i; flags = q i; count = n; counter = r i; body = t i }
+    _≡_ {A = Values} (record { head = h; flags = f; sequence-count = n; counter = c; body = b }) (record { head = g; flags = e; sequence-count = n; counter = d; body = a })
+same-values n p q r t = λ i. record { head = p i; flags = q i; sequence-count = n; counter = r i; body = t i }
 
 module _ (s : Settings) (Z : ℕ) (m : Sending) (k : IsCut s Z m) (i : ℕ) (l : i < manyOf s m) where
   -- the values that such a packet tells
   told-given : (p : List ℕ) → Octets p → (r : ReadsAs s p (segmentAt s m i)) →
-      valuesOf p (readPacket s p) ≡ valuesAt s m i (valuesOf p (readPacket s p) .count)
+      valuesOf p (readPacket s p) ≡ valuesAt s m i (valuesOf p (readPacket s p) .sequence-count)
   unfolding segOf valuesOf
   told-given p o r =
       let a = accepted s p o (r .accepted) in
@@ -34,7 +34,7 @@ module _ (s : Settings) (Z : ℕ) (m : Sending) (k : IsCut s Z m) (i : ℕ) (l :
       let h : valuesOf p (readPacket s p) .head ≡ m .head =
       one-head s (valuesOf p (readPacket s p) .head) (m .head) (u .settings) (u .head) (w .head) (omega (arith, a .h-is, a .h-top))
       (sym (a .key) ∙ ap (λ (t : Seg). t .key) e) in
-      same-values (valuesOf p (readPacket s p) .count) h (ap (λ (t : Seg). t .flags) e) (ap (λ (t : Seg). t .counter) e)
+      same-values (valuesOf p (readPacket s p) .sequence-count) h (ap (λ (t : Seg). t .flags) e) (ap (λ (t : Seg). t .counter) e)
       (ap (λ (t : Seg). t .body) e)
 
   pub own-packets : (p : List ℕ) → Octets p → ReadsAs s p (segmentAt s m i) ↔ ((c : ℕ) × (c < 16384) × (p ≡ packetWith s m i c))
@@ -43,4 +43,4 @@ module _ (s : Settings) (Z : ℕ) (m : Sending) (k : IsCut s Z m) (i : ℕ) (l :
       to : ReadsAs s p (segmentAt s m i) → (c : ℕ) × (c < 16384) × (p ≡ packetWith s m i c)
       to r =
           let u = only-writing s p o (r .accepted) in
-          (valuesOf p (readPacket s p) .count, u .0 .count, sym (u .1) ∙ ap (octetsOf s) (told-given p o r))
+          (valuesOf p (readPacket s p) .sequence-count, u .0 .sequence-count, sym (u .1) ∙ ap (octetsOf s) (told-given p o r))

@@ -3,27 +3,26 @@
 -- Assumes nothing.
 use Prim.Native.Nat.{ℕ, suc, _+_, _≤_, _<_, suc-le-suc, zero-le}
 use mathlib.Core.Path.{_≡_, refl, sym, _∙_, ap}
-use mathlib.Core.Logic.{_≢_, _⊎_, inl, inr}
-use mathlib.Core.Bool.{true, false, true≢false}
+use mathlib.Core.Logic.{_⊎_, inl, inr}
+use mathlib.Core.Bool.{true, false, Bool}
 use mathlib.Core.Option.{some, Option·some-injective}
 use mathlib.Core.List.{List, [], _∷_, _++_, map, List·Memᴰ·head, List·Memᴰ·tail, List·Memᴰ·cases-cons, List·Memᴰ·not-nil}
 use native.Mathlib.Omega.{arith}
 use lib.ListN.{length}
 use Rattle.octets.specs.Octets.{pick}
-use Rattle.octets.proofs.Lists.{bool}
 use Rattle.cells.specs.Segments.{Seg}
-use Rattle.cells.specs.Rows.{Cell, free, held, broken}
+use Rattle.cells.specs.Rows.{Cell, free, held}
 use Rattle.cells.specs.Order.{isFree}
-use Rattle.messages.specs.Messages.{Run, segments, picked, among}
+use Rattle.cells.specs.Messages.{Run, segments, picked, among, amongIn}
 use Rattle.taking.specs.Taking.{message, writing}
-use Rattle.keeping.specs.Cells.{clear}
+use Rattle.demand3.specs.Cells.{clear, freed}
 use Rattle.demand3.specs.Complete.{Held, Single, Complete}
 use Rattle.demand3.specs.Traffic.{takes, takenFrom, stepped, after}
 use Rattle.demand3.specs.Promise.{LongEnough, HandsOut}
 use Rattle.demand3.proofs.Looks.{look-held}
 use Rattle.demand3.proofs.Links.{Mem, Opened}
-use Rattle.demand3.proofs.Finds.{There, Found, found-opened, found-there, chain-all, picked-lowest, picked-held, picked-some}
-use Rattle.demand3.proofs.Exactly.{complete-found, chain-short}
+use Rattle.demand3.proofs.Finds.{There, Found, found-opened, found-there, rest-all, picked-lowest, picked-held, picked-some}
+use Rattle.demand3.proofs.Exactly.{complete-found, rest-short}
 use Rattle.demand3.proofs.Beside.{among-mem, Off, found-apart}
 use Rattle.demand3.proofs.Takings.{picked-taken, taken-cells}
 use Rattle.demand3.proofs.Keeps.{Keeps, clear-off}
@@ -37,67 +36,67 @@ used (x ∷ xs) = pick (isFree x) (used xs) (suc (used xs))
 pub used-most : (cs : List Cell) → used cs ≤ length cs
 unfolding used
 used-most [] = zero-le
-used-most (free ∷ cs) = let h = used-most cs in omega arith
-used-most (held t ∷ cs) = suc-le-suc (used-most cs)
-used-most (broken ∷ cs) = suc-le-suc (used-most cs)
+used-most (x ∷ cs) = go (used-most cs) (isFree x)
+  where
+    go : used cs ≤ length cs → (b : Bool) → pick b (used cs) (suc (used cs)) ≤ suc (length cs)
+    go ih true = omega arith
+    go ih false = suc-le-suc ih
 
 used-held : (cs : List Cell) (t : Seg) → Held t cs → 0 < used cs
 unfolding used
 used-held [] t h = absurd (List·Memᴰ·not-nil h)
-used-held (free ∷ cs) t h = go (used-held cs t) (List·Memᴰ·cases-cons h)
+used-held (x ∷ cs) t h = go (used-held cs t) (List·Memᴰ·cases-cons h)
   where
-    go : (Held t cs → 0 < used cs) → (held t ≡ free) ⊎ Held t cs → 0 < used cs
-    go ih (inl e) = absurd (let z : _≡_ {A = ℕ} 0 1 = cc in omega arith)
-    go ih (inr k) = ih k
-used-held (held u ∷ cs) t h = suc-le-suc zero-le
-used-held (broken ∷ cs) t h = suc-le-suc zero-le
+    some-used : (b : Bool) → 0 < used cs → 0 < pick b (used cs) (suc (used cs))
+    some-used true k = k
+    some-used false k = suc-le-suc zero-le
+
+    go : (Held t cs → 0 < used cs) → (held t ≡ x) ⊎ Held t cs → 0 < pick (isFree x) (used cs) (suc (used cs))
+    go ih (inl e) = rw (← e) (suc-le-suc zero-le)
+    go ih (inr k) = some-used (isFree x) (ih k)
 
 pub used-clear : (us : List Seg) (cs : List Cell) → used (clear us cs) ≤ used cs
 unfolding used
 used-clear us [] = zero-le
-used-clear us (free ∷ cs) = used-clear us cs
-used-clear us (broken ∷ cs) = suc-le-suc (used-clear us cs)
-used-clear us (held t ∷ cs) = go (used-clear us cs) (bool (among us t))
+used-clear us (x ∷ cs) = go (used-clear us cs) (amongIn us x) (isFree x) refl
   where
-    go : used (clear us cs) ≤ used cs → (among us t ≡ true) ⊎ (among us t ≡ false) →
-        pick (isFree (pick (among us t) free (held t))) (used (clear us cs)) (suc (used (clear us cs))) ≤ suc (used cs)
-    go ih (inl e) = rw e (omega arith)
-    go ih (inr e) = rw e (omega arith)
+    go : used (clear us cs) ≤ used cs → (a b : Bool) → isFree x ≡ b →
+        pick (isFree (pick a free x)) (used (clear us cs)) (suc (used (clear us cs))) ≤ pick b (used cs) (suc (used cs))
+    go ih true true e = ih
+    go ih true false e = omega arith
+    go ih false true e = rw e ih
+    go ih false false e = rw e (suc-le-suc ih)
 
 -- a cell that is freed
 used-fewer : (us : List Seg) (cs : List Cell) (t : Seg) → Held t cs → among us t ≡ true → used (clear us cs) < used cs
 unfolding used
 used-fewer us [] t h a = absurd (List·Memᴰ·not-nil h)
-used-fewer us (free ∷ cs) t h a = go (λ k. used-fewer us cs t k a) (List·Memᴰ·cases-cons h)
+used-fewer us (x ∷ cs) t h a = go (λ k. used-fewer us cs t k a) (List·Memᴰ·cases-cons h)
   where
-    go : (Held t cs → used (clear us cs) < used cs) → (held t ≡ free) ⊎ Held t cs → used (clear us cs) < used cs
-    go ih (inl e) = absurd (let z : _≡_ {A = ℕ} 0 1 = cc in omega arith)
-    go ih (inr k) = ih k
-used-fewer us (broken ∷ cs) t h a = go (λ k. used-fewer us cs t k a) (List·Memᴰ·cases-cons h)
-  where
-    go : (Held t cs → used (clear us cs) < used cs) → (held t ≡ broken) ⊎ Held t cs → suc (used (clear us cs)) < suc (used cs)
-    go ih (inl e) = absurd (let z : _≡_ {A = ℕ} 0 1 = cc in omega arith)
-    go ih (inr k) = suc-le-suc (ih k)
-used-fewer us (held u ∷ cs) t h a = go (λ k. used-fewer us cs t k a) (List·Memᴰ·cases-cons h) (bool (among us u))
-  where
-    go : (Held t cs → used (clear us cs) < used cs) → (held t ≡ held u) ⊎ Held t cs → (among us u ≡ true) ⊎ (among us u ≡ false) →
-        pick (isFree (pick (among us u) free (held u))) (used (clear us cs)) (suc (used (clear us cs))) < suc (used cs)
-    go ih k (inl e) = let l = used-clear us cs in rw e (omega arith)
-    go ih (inl p) (inr e) = absurd (let q : t ≡ u = cc p in true≢false (sym (rw q at a) ∙ e))
-    go ih (inr k) (inr e) = let l = ih k in rw e (omega arith)
+    by : used (clear us cs) < used cs → (f b : Bool) → isFree x ≡ b →
+        pick (isFree (pick f free x)) (used (clear us cs)) (suc (used (clear us cs))) < pick b (used cs) (suc (used cs))
+    by k true true e = k
+    by k true false e = omega arith
+    by k false true e = rw e k
+    by k false false e = rw e (suc-le-suc k)
+
+    go : (Held t cs → used (clear us cs) < used cs) → (held t ≡ x) ⊎ Held t cs →
+        pick (isFree (freed us x)) (used (clear us cs)) (suc (used (clear us cs))) < pick (isFree x) (used cs) (suc (used cs))
+    go ih (inl p) = let l = used-clear us cs in rw (← p, a) (omega arith)
+    go ih (inr k) = by (ih k) (amongIn us x) (isFree x) refl
 
 -- ---- takes, one after the other
 
 module _ (next : ℕ → ℕ) (span : ℕ) (inj : (x y : ℕ) → next x ≡ next y → x ≡ y) where
   module _ (own : Run) (o : Opened next own) (fits : length (own .rest) ≤ span) where
     -- the message is found where all of it is there
-    own-found : (cs : List Cell) → There cs (segments own) → Held (own .head) cs × Found next span cs own
+    pub own-found : (cs : List Cell) → There cs (segments own) → Held (own .head) cs × Found next span cs own
     own-found cs f = (
       look-held cs (own .head .key) (own .head .counter) (own .head) (f (own .head) (List·Memᴰ·head refl)) .0,
       record {
         opens = o .opens;
         finds =
-            chain-all next span span cs (own .head .key) (next (own .head .counter)) (own .rest) (o .follows) fits
+            rest-all next span span cs (own .head .key) (next (own .head .counter)) (own .rest) (o .follows) fits
             (λ t m. f t (List·Memᴰ·tail m));
       },
     )
@@ -170,7 +169,7 @@ module _ (next : ℕ → ℕ) (span : ℕ) (inj : (x y : ℕ) → next x ≡ nex
       f = z .2
 
       short : length (own .rest) ≤ span
-      short = chain-short next span span cs (own .head .key) (next (own .head .counter)) (own .rest) (f .finds)
+      short = rest-short next span span cs (own .head .key) (next (own .head .counter)) (own .rest) (f .finds)
 
       all : There cs (segments own)
       all = found-there next span cs own s (z .1) f

@@ -1,5 +1,5 @@
 -- A message's packets as an arrival reads them: packet i, whatever its sequence count, reads as segment i, with the message's key, the
--- counter start + i, the flags and body i. A packet that reads as a segment is as long as that segment's own packet.
+-- counter i steps from the first, the flags and body i. A packet that reads as a segment is as long as that segment's own packet.
 -- Assumes nothing.
 use Prim.Native.Nat.{ℕ, suc, _+_, _-_, _≤_, _<_}
 use mathlib.Core.Path.{_≡_, refl, ap, sym, _∙_, subst}
@@ -18,7 +18,8 @@ use Rattle.format.proofs.TwoWay.{writes-octets, reads-back}
 use Rattle.format.proofs.Frame.{identification-long, packet-long}
 use Rattle.format.proofs.Accepting.{accepted, written}
 use Rattle.cells.specs.Segments.{Seg, segOf}
-use Rattle.demand3.specs.Sendings.{Sending, flagsIn, ReadsAs, manyOf, startOf, valuesAt, packetWith, segmentAt, IsCut}
+use Rattle.demand3.specs.Sendings.{Sending, flagsIn, ReadsAs, manyOf, startOf, valuesAt, packetWith, segmentAt, IsCut, counterIn}
+use Rattle.sender.proofs.Stepping.{steps-suc}
 
 -- ---- what reading tells of written values
 
@@ -47,7 +48,7 @@ module _ (s : Settings) (v : Values) (r : InRange s v) where
 
 -- the values of a packet with another sequence count
 abbrev recounted : Values → ℕ → Values
-recounted v c = record { head = v .head; flags = v .flags; count = c; counter = v .counter; body = v .body }
+recounted v c = record { head = v .head; flags = v .flags; sequence-count = c; counter = v .counter; body = v .body }
 
 -- it changes neither header nor data field
 module _ (s : Settings) (v : Values) (c : ℕ) where
@@ -69,7 +70,7 @@ module _ (s : Settings) (v : Values) (c : ℕ) where
         settings = r .settings;
         head = r .head;
         flags = r .flags;
-        count = h;
+        sequence-count = h;
         counter = r .counter;
         body = r .body;
         packet = omega (arith, recounted-long, r .packet);
@@ -91,9 +92,9 @@ flags-segment n i = go (eqb i 0) (eqb (suc i) n)
 
 module _ (s : Settings) (Z : ℕ) (m : Sending) (k : IsCut s Z m) (i : ℕ) (l : i < manyOf s m) where
   -- no counter is above 4,294,967,295
-  pub counter-fits : startOf s m + i < 4294967296
+  pub counter-fits : counterIn s m i < 4294967296
   counter-fits =
-      subst (λ (b : Bool). Opt b (λ x. x < 4294967296) 0 (startOf s m + i)) (flags-segment (manyOf s m) i) (k .range i l .counter)
+      subst (λ (b : Bool). Opt b (λ x. x < 4294967296) 0 (counterIn s m i)) (flags-segment (manyOf s m) i) (k .range i l .counter)
 
   module _ (c : ℕ) (h : c < 16384) where
     pub with-range : InRange s (valuesAt s m i c)
@@ -106,11 +107,11 @@ module _ (s : Settings) (Z : ℕ) (m : Sending) (k : IsCut s Z m) (i : ℕ) (l :
     pub repeat-octets : Octets (packetWith s m i c)
     repeat-octets = writes-octets s (valuesAt s m i c) with-range
 
--- "none wrapping"
+-- no counter past the last (DEMANDS 3.2)
 pub counters-fit : (s : Settings) (Z : ℕ) (m : Sending) → IsCut s Z m → startOf s m + manyOf s m ≤ 4294967296
 counters-fit s Z m k =
     let l : manyOf s m - 1 < manyOf s m = omega (arith, k .many) in
-    omega (arith, counter-fits s Z m k (manyOf s m - 1) l, k .many)
+    omega (arith, counter-fits s Z m k (manyOf s m - 1) l, steps-suc (manyOf s m - 1) (startOf s m), k .many)
 
 -- ---- lengths
 

@@ -3,16 +3,18 @@
 use Prim.Native.Nat.{ℕ, zero, suc, _+_, _≤_, _<_, suc-le-suc, zero-le}
 use mathlib.Core.Path.{_≡_, refl, _∙_, ap}
 use mathlib.Core.Logic.{_⊎_, inl, inr}
-use mathlib.Core.Bool.{true, false, true≢false}
+use mathlib.Core.Bool.{true, false, true≢false, Bool}
 use mathlib.Core.Option.{none}
 use mathlib.Core.List.{List, [], _∷_, _++_}
 use native.Mathlib.Omega.{arith}
 use lib.ListN.{length, length-replicate, length-map}
 use Rattle.octets.proofs.Lists.{bool}
+use Rattle.octets.specs.Octets.{pick}
 use Rattle.cells.specs.Segments.{Seg}
-use Rattle.cells.specs.Rows.{Cell, free, held, broken}
-use Rattle.messages.specs.Messages.{segments, look}
-use Rattle.keeping.specs.Cells.{put, hasFree, freed}
+use Rattle.cells.specs.Rows.{Cell, free, held}
+use Rattle.cells.specs.Order.{isFree}
+use Rattle.cells.specs.Messages.{segments, look, or}
+use Rattle.demand3.specs.Cells.{put, hasFree, freed}
 use Rattle.demand3.specs.Traffic.{Event, arrives, passes, takes, empty, stepped, after, Room}
 use Rattle.demand3.proofs.Takings.{step-keeps}
 use Rattle.demand3.proofs.Progress.{used, used-clear}
@@ -29,9 +31,11 @@ arrivals (takes n ∷ es) = arrivals es
 put-length : (cs : List Cell) (t : Seg) → length (put cs t) ≡ length cs
 unfolding put
 put-length [] t = refl
-put-length (free ∷ cs) t = refl
-put-length (held u ∷ cs) t = ap suc (put-length cs t)
-put-length (broken ∷ cs) t = ap suc (put-length cs t)
+put-length (x ∷ cs) t = go (put-length cs t) (isFree x)
+  where
+    go : length (put cs t) ≡ length cs → (b : Bool) → length (pick b (held t ∷ cs) (x ∷ put cs t)) ≡ suc (length cs)
+    go ih true = refl
+    go ih false = ap suc ih
 
 module _ (next : ℕ → ℕ) (span : ℕ) where
   step-length : (cs : List Cell) (e : Event) → length (stepped next span cs e) ≡ length cs
@@ -52,16 +56,21 @@ module _ (next : ℕ → ℕ) (span : ℕ) where
 full-used : (cs : List Cell) → hasFree cs ≡ false → used cs ≡ length cs
 unfolding hasFree used
 full-used [] e = refl
-full-used (free ∷ cs) e = absurd (true≢false e)
-full-used (held t ∷ cs) e = ap suc (full-used cs e)
-full-used (broken ∷ cs) e = ap suc (full-used cs e)
+full-used (x ∷ cs) e = go (full-used cs) (isFree x) e
+  where
+    go : (hasFree cs ≡ false → used cs ≡ length cs) → (b : Bool) → or b (hasFree cs) ≡ false → pick b (used cs) (suc (used cs)) ≡ suc (length cs)
+    go ih true d = absurd (true≢false d)
+    go ih false d = ap suc (ih d)
 
 put-used : (cs : List Cell) (t : Seg) → used (put cs t) ≤ suc (used cs)
 unfolding put used
 put-used [] t = zero-le
-put-used (free ∷ cs) t = let h : suc (used cs) ≤ suc (used cs) = omega arith in h
-put-used (held u ∷ cs) t = suc-le-suc (put-used cs t)
-put-used (broken ∷ cs) t = suc-le-suc (put-used cs t)
+put-used (x ∷ cs) t = go (put-used cs t) (bool (isFree x))
+  where
+    go : used (put cs t) ≤ suc (used cs) → (isFree x ≡ true) ⊎ (isFree x ≡ false) →
+        used (pick (isFree x) (held t ∷ cs) (x ∷ put cs t)) ≤ suc (pick (isFree x) (used cs) (suc (used cs)))
+    go ih (inl h) = rw h (omega arith)
+    go ih (inr h) = rw (h, h) (suc-le-suc ih)
 
 empty-used : (n : ℕ) → used (empty n) ≡ 0
 unfolding used

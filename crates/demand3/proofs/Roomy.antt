@@ -7,7 +7,7 @@ use mathlib.Core.Bool.{Bool, true, false}
 use mathlib.Core.List.{List, [], _∷_, _++_}
 use native.Mathlib.Omega.{arith}
 use Rattle.walk.specs.declared.Settings.{Settings}
-use Rattle.messages.specs.Messages.{top}
+use Rattle.cells.specs.Messages.{top}
 use Rattle.cells.specs.Order.{cellSize}
 use Rattle.demand3.specs.Traffic.{Event, arrives, passes, takes}
 use Rattle.demand3.specs.Calls.{Call, arrival, taking, joining, packetsIn, draws, storeBy}

@@ -9,7 +9,7 @@ use mathlib.Core.Option.{some}
 use mathlib.Core.List.{List, _∷_, _++_}
 use lib.ListN.{length}
 use Rattle.cells.specs.Rows.{Cell}
-use Rattle.messages.specs.Messages.{Run, picked}
+use Rattle.cells.specs.Messages.{Run, picked}
 use Rattle.taking.specs.Taking.{message}
 use Rattle.demand3.specs.Complete.{Single, Complete}
 use Rattle.demand3.specs.Traffic.{Event, takes, empty, takenFrom, after}

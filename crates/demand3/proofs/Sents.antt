@@ -5,7 +5,6 @@ use mathlib.Core.Path.{_≡_, refl, ap, ap₂, sym, _∙_, subst}
 use mathlib.Core.Logic.{_⊎_, inl, inr}
 use mathlib.Core.List.{List, [], _∷_, List·Memᴰ, List·Memᴰ·head, List·Memᴰ·tail, List·Memᴰ·cases-cons, List·Memᴰ·not-nil}
 use native.Mathlib.Omega.{arith}
-use native.Mathlib.Nat.{add-zero}
 use lib.ListN.{length, getD, length-append}
 use borrow.Author.Tests.{eq-eqb, ne-eqb}
 use Rattle.octets.proofs.Lists.{below-or}
@@ -13,17 +12,19 @@ use Rattle.octets.specs.Laying.{together}
 use Rattle.walk.specs.declared.Settings.{Settings}
 use Rattle.format.proofs.Frame.{identification-long}
 use Rattle.cells.specs.Segments.{Seg}
-use Rattle.messages.specs.Messages.{listed, top}
-use Rattle.demand3.specs.Traffic.{Sent, bodyIn, flagsBefore, later, runOf, segmentsOf}
+use Rattle.cells.specs.Messages.{listed, top}
+use Rattle.demand3.specs.Traffic.{Sent, bodyIn, flagsBefore, later, runOf, segmentsOf, stepsIn}
 use Rattle.demand3.specs.Base.{final}
 use Rattle.demand3.specs.Sendings.{Sending, wholeBody, flagsIn, manyOf, segmentAt, identificationOf, headerOf, keyIn, headerSize, startOf, endOf, IsCut}
 use Rattle.demand3.proofs.ReadAs.{same-seg, counters-fit}
 use Rattle.demand3.proofs.AnyCut.{partOf}
+use Rattle.sender.specs.Sending.{stepsOf}
+use Rattle.sender.proofs.Stepping.{steps-suc, steps-last}
 
 -- ---- rows of things
 
 module _ {A : Type 0} (f : ℕ → A) where
-  listed-in : (n i x : ℕ) → i ≤ x → x < i + n → List·Memᴰ (f x) (listed f n i)
+  pub listed-in : (n i x : ℕ) → i ≤ x → x < i + n → List·Memᴰ (f x) (listed f n i)
   unfolding listed
   listed-in zero i x a b = absurd (omega arith)
   listed-in (suc n) i x a b = go (listed-in n (suc i) x) (below-or i x)
@@ -63,19 +64,19 @@ listed-all d (x ∷ l) = ap (λ (y : List _). x ∷ y) (listed-on (λ (i : ℕ).
 module _ (k : List ℕ) (a n : ℕ) (f : ℕ → List ℕ) (g : ℕ → ℕ) (final : (i : ℕ) → 1 ≤ i → suc i ≡ n → g i ≡ 2)
     (inner : (i : ℕ) → 1 ≤ i → suc i < n → g i ≡ 0) where
   abbrev rowOf : ℕ → Seg
-  rowOf i = record { key = k; counter = a + i; flags = g i; body = f i }
+  rowOf i = record { key = k; counter = stepsOf suc i a; flags = g i; body = f i }
 
   flags-before : (j i : ℕ) → 1 ≤ i → suc i + j ≡ n → flagsBefore (listed f j (suc i)) ≡ g i
   unfolding listed
   flags-before zero i l e = sym (final i l (omega arith))
   flags-before (suc j) i l e = sym (inner i l (omega arith))
 
-  later-listed : (j i c : ℕ) → 1 ≤ i → i + j ≡ n → c ≡ a + i → later suc k c (listed f j i) ≡ listed rowOf j i
+  later-listed : (j i c : ℕ) → 1 ≤ i → i + j ≡ n → c ≡ stepsOf suc i a → later suc k c (listed f j i) ≡ listed rowOf j i
   unfolding listed later
   later-listed zero i c l e h = refl
   later-listed (suc j) i c l e h =
       ap₂ _∷_ (same-seg refl h (flags-before j i l (omega arith)) refl)
-      (later-listed j (suc i) (suc c) (omega arith) (omega arith) (omega arith))
+      (later-listed j (suc i) (suc c) (omega arith) (omega arith) (ap suc h ∙ sym (steps-last suc i a)))
 
 -- ---- a message
 
@@ -98,13 +99,13 @@ module _ (s : Settings) (Z : ℕ) (m : Sending) (k : IsCut s Z m) where
   twice = omega (arith, k .many)
 
   segments-are : segmentsOf suc (sentOf s m) ≡ listed (segmentAt s m) (manyOf s m) 0
-  unfolding runOf listed flagsIn
+  unfolding runOf listed flagsIn stepsOf
   segments-are =
-      ap₂ _∷_ (same-seg refl (sym (add-zero (startOf s m))) refl refl)
+      ap₂ _∷_ (same-seg refl refl refl refl)
       (later-listed (keyIn s m) (startOf s m) (manyOf s m) (partOf s m) (flagsIn (manyOf s m))
       (λ i l e. rw (ne-eqb i 0 (λ z. omega arith), eq-eqb (suc i) (manyOf s m) e))
       (λ i l e. rw (ne-eqb i 0 (λ z. omega arith), ne-eqb (suc i) (manyOf s m) (λ z. omega arith)))
-      (suc q) 1 (suc (startOf s m)) (omega arith) (omega (arith, twice)) (omega arith))
+      (suc q) 1 (suc (startOf s m)) (omega arith) (omega (arith, twice)) refl)
       ∙ ap (λ (n : ℕ). listed (segmentAt s m) n 0) twice
 
   -- segment i is one of its segments
@@ -124,11 +125,13 @@ module _ (s : Settings) (Z : ℕ) (m : Sending) (k : IsCut s Z m) where
   body-is = ap (λ (n : ℕ). together (listed (partOf s m) n 0)) twice ∙ ap together (listed-all [] (m .bodies))
 
   pub end-is : final (sentOf s m) ≡ endOf s m
-  end-is = omega (arith, twice, listed-long (partOf s m) q 2)
+  end-is =
+      let e : stepsIn (sentOf s m) ≡ manyOf s m - 1 = omega (arith, twice, listed-long (partOf s m) q 2) in
+      ap (λ (n : ℕ). stepsOf suc n (startOf s m)) e
 
-  -- "none wrapping"
+  -- no counter past the last (DEMANDS 3.2)
   pub no-wrap : final (sentOf s m) ≤ top
-  no-wrap = omega (arith, end-is, counters-fit s Z m k, k .many)
+  no-wrap = omega (arith, end-is, steps-suc (manyOf s m - 1) (startOf s m), counters-fit s Z m k, k .many)
 
   -- identification and H octets
   pub key-long : length (keyIn s m) ≡ 2 + headerSize s m

@@ -21,16 +21,19 @@ use Rattle.cells.specs.Segments.{Seg, both, sameRest}
 use Rattle.cells.specs.Rows.{Cell, mayHold}
 use Rattle.cells.specs.Order.{inOrder, countIn}
 use Rattle.cells.proofs.Held.{both-true}
-use Rattle.messages.specs.Messages.{cellsOf, look, top}
+use Rattle.cells.specs.Messages.{cellsOf, look, top}
 use Rattle.arrival.specs.Arriving.{Arrived, whole, stored, again, refused, placed, beside, lowestFree, segmentArrived, arrivedIn, arrived, storeWith}
 use Rattle.taking.specs.Taking.{Took, message, unable, tookIn, took, storeLess}
-use Rattle.keeping.specs.Cells.{put}
-use Rattle.messages.proofs.Picking.{pick-yes}
-use Rattle.messages.proofs.Order.{cells-inside}
+use Rattle.demand3.specs.Cells.{put}
+use Rattle.cells.proofs.Picking.{pick-yes}
+use Rattle.cells.proofs.StoreOrder.{cells-inside}
+use Rattle.cells.proofs.Gate.{gate-by}
+use Rattle.arrival.proofs.Checked.{arrived-open}
 use Rattle.arrival.proofs.After.{segment}
 use Rattle.arrival.proofs.Keeps.{arrive-long, arrive-keeps}
+use Rattle.taking.proofs.Checked.{took-open}
 use Rattle.taking.proofs.Keeps.{take-long, take-keeps}
-use Rattle.keeping.proofs.After.{cells-stored, has-free, cells-taken}
+use Rattle.demand3.proofs.After.{cells-stored, has-free, cells-taken}
 use Rattle.demand3.specs.Traffic.{Event, arrives, passes, takes, stowed, lessened, takenFrom, stepped}
 use Rattle.join.specs.Joining.{lessTaken}
 use Rattle.demand3.specs.Calls.{goesOn, arrivedStore}
@@ -112,9 +115,8 @@ module _ (s : Settings) (Z n : ℕ) (st : List ℕ) (k : Kept s Z n st) where
     low = lowestFree s Z st n
 
     pub arrived-is : arrived s Z st p ≡ arrivedIn s Z st n p
-    unfolding arrived
     arrived-is =
-        pick-yes (eqb (begun s .refusal .number) 0) _ _ (k .settings) ∙ pick-yes (inOrder s Z st) _ _ (k .order)
+        sym (arrived-open s Z st p (gate-by s Z st (k .settings) (k .order)))
         ∙ ap (λ (x : ℕ). arrivedIn s Z st x p) (k .count)
 
     -- a packet that may not be held changes nothing
@@ -211,9 +213,9 @@ module _ (s : Settings) (Z n : ℕ) (st : List ℕ) (k : Kept s Z n st) where
   module _ (long : ℕ) where
     -- what it comes to, by the cells
     pub took-is : took s Z st long ≡ takenFrom suc top cs long
-    unfolding took tookIn takenFrom
+    unfolding tookIn takenFrom
     took-is =
-        pick-yes (eqb (begun s .refusal .number) 0) _ _ (k .settings) ∙ pick-yes (inOrder s Z st) _ _ (k .order)
+        sym (took-open s Z st long (gate-by s Z st (k .settings) (k .order)))
         ∙ ap (λ (x : ℕ). tookIn s Z st x long) (k .count)
 
     -- the cells behind it

@@ -15,9 +15,9 @@ use Rattle.octets.specs.Octets.{pick}
 use Rattle.octets.proofs.Lists.{bool}
 use Rattle.cells.specs.Segments.{Seg}
 use Rattle.cells.specs.Rows.{Cell, free, held}
-use Rattle.messages.specs.Messages.{Run, segments, look, picked}
+use Rattle.cells.specs.Messages.{Run, segments, look, picked}
 use Rattle.taking.specs.Taking.{Took, message, unable, writing, drawn}
-use Rattle.keeping.specs.Cells.{put, clear}
+use Rattle.demand3.specs.Cells.{put, clear}
 use Rattle.demand3.specs.Complete.{Held, Single}
 use Rattle.demand3.specs.Traffic.{Sent, runOf, Event, arrives, passes, takes, stowed, lessened, empty, takenFrom, stepped, after}
 use Rattle.demand3.specs.Promise.{Gives}

@@ -1,6 +1,6 @@
 -- Programs that store and take like the store but for two things that they are given: how they find a segment under a key and a
--- counter, and which message they pick. Of document 01's faults there are two: one that calls a message complete by the number of its
--- segments, and one that matches by transaction id alone. The store's own way comes to what its calls promise.
+-- counter, and which message they pick. Of the faults that were met there are two: one that calls a message complete by the number of
+-- its segments, and one that matches by transaction id alone. The store's own way comes to what its calls promise.
 -- Assumes nothing.
 use Prim.Native.Nat.{ℕ, zero, suc, _-_, _≤_}
 use mathlib.Core.Path.{_≡_, refl, ap, ap₂, sym, _∙_}
@@ -14,11 +14,11 @@ use Rattle.octets.specs.Octets.{pick, part, alike}
 use Rattle.octets.proofs.Lists.{bool}
 use Rattle.walk.specs.declared.Settings.{Settings}
 use Rattle.cells.specs.Segments.{Seg, both}
-use Rattle.cells.specs.Rows.{Cell, free, held, broken}
-use Rattle.messages.specs.Messages.{Run, Role, first, middle, last, roleOf, cellsOf, orElse, look, link, opensBy, chain, runFrom, pickIn, picked, top}
+use Rattle.cells.specs.Rows.{Cell, segmentIn, bySegment}
+use Rattle.cells.specs.Messages.{Run, Role, first, middle, last, roleOf, cellsOf, orElse, look, link, opensBy, restFrom, runFrom, pickIn, picked, top}
 use Rattle.taking.specs.Taking.{Took, drawn, took}
-use Rattle.messages.proofs.Picking.{pick-yes}
-use Rattle.messages.proofs.Empty.{empty-cells}
+use Rattle.cells.proofs.Picking.{pick-yes}
+use Rattle.cells.proofs.Empty.{empty-cells}
 use Rattle.demand3.specs.Traffic.{Event, arrives, passes, takes, stowed, lessened, empty, takenFrom, stepped, after}
 use Rattle.demand3.specs.Calls.{Call, arrival, taking, joining, draws, storeAt, tookBy, storeBy, storeAfter}
 use Rattle.demand3.specs.Presupposed.{InUse, emptyStore, storeBehind}
@@ -151,9 +151,7 @@ module _ (s : Settings) (Z n : ℕ) where
 -- the segments of a key
 unfoldable pub ofKey : List ℕ → List Cell → List Seg
 ofKey k [] = []
-ofKey k (free ∷ cs) = ofKey k cs
-ofKey k (held t ∷ cs) = pick (alike k (t .key)) (t ∷ ofKey k cs) (ofKey k cs)
-ofKey k (broken ∷ cs) = ofKey k cs
+ofKey k (x ∷ cs) = let r = ofKey k cs in bySegment r (λ t. pick (alike k (t .key)) (t ∷ r) r) (segmentIn x)
 
 -- a last among some segments
 abbrev lastOr : Role → Seg → Option Seg → Option Seg
@@ -182,9 +180,8 @@ enough cs ts t (some u) =
     (some (heldFrom (u .counter - t .counter) cs (t .key) (suc (t .counter)))) none
 
 abbrev numberedFrom : List Cell → Cell → Option Run
-numberedFrom cs free = none
-numberedFrom cs (held t) = opensBy (roleOf (t .flags)) t (enough cs (ofKey (t .key) cs) t (lastOf (ofKey (t .key) cs)))
-numberedFrom cs broken = none
+numberedFrom cs x =
+    bySegment none (λ t. opensBy (roleOf (t .flags)) t (enough cs (ofKey (t .key) cs) t (lastOf (ofKey (t .key) cs)))) (segmentIn x)
 
 unfoldable pub numbered : List Cell → List Cell → Option Run
 numbered cs [] = none
@@ -200,9 +197,10 @@ abbrev pub transactionOf : List ℕ → List ℕ
 transactionOf k = part k 14 8
 
 abbrev matched : List ℕ → ℕ → Cell → Option Seg
-matched k c free = none
-matched k c (held t) = pick (both (eqb c (t .counter)) (alike (transactionOf k) (transactionOf (t .key)))) (some t) none
-matched k c broken = none
+matched k c x =
+    bySegment none
+    (λ t. pick (both (eqb c (t .counter)) (alike (transactionOf k) (transactionOf (t .key)))) (some t) none)
+    (segmentIn x)
 
 unfoldable pub match : List Cell → List ℕ → ℕ → Option Seg
 match [] k c = none
@@ -210,17 +208,15 @@ match (x ∷ xs) k c = orElse (matched k c x) (match xs k c)
 
 -- the message that is found so: as the store finds its own, but with another finding of a segment
 module _ (find : List Cell → List ℕ → ℕ → Option Seg) where
-  unfoldable pub chainBy : ℕ → List Cell → List ℕ → ℕ → Option (List Seg)
-  chainBy zero cs k c = none
-  chainBy (suc n) cs k c = let r = chainBy n cs k (suc c) in link (find cs k c) r
+  unfoldable pub restBy : ℕ → List Cell → List ℕ → ℕ → Option (List Seg)
+  restBy zero cs k c = none
+  restBy (suc n) cs k c = let r = restBy n cs k (suc c) in link (find cs k c) r
 
   unfoldable pub opened : List Cell → Seg → Option Run
-  opened cs t = let r = chainBy top cs (t .key) (suc (t .counter)) in opensBy (roleOf (t .flags)) t r
+  opened cs t = let r = restBy top cs (t .key) (suc (t .counter)) in opensBy (roleOf (t .flags)) t r
 
   abbrev openedIn : List Cell → Cell → Option Run
-  openedIn cs free = none
-  openedIn cs (held t) = opened cs t
-  openedIn cs broken = none
+  openedIn cs x = bySegment none (opened cs) (segmentIn x)
 
   unfoldable pub chosen : List Cell → List Cell → Option Run
   chosen cs [] = none
@@ -233,18 +229,20 @@ abbrev pub transactionWay : Way
 transactionWay = wayBy match
 
 -- with the store's finding it is the store's way
-chain-same : (n : ℕ) (cs : List Cell) (k : List ℕ) (c : ℕ) → chainBy look n cs k c ≡ chain suc top n cs k c
-unfolding chainBy chain
-chain-same zero cs k c = refl
-chain-same (suc n) cs k c = ap (link (look cs k c)) (chain-same n cs k (suc c))
+rest-same : (n : ℕ) (cs : List Cell) (k : List ℕ) (c : ℕ) → restBy look n cs k c ≡ restFrom suc top n cs k c
+unfolding restBy restFrom
+rest-same zero cs k c = refl
+rest-same (suc n) cs k c = ap (link (look cs k c)) (rest-same n cs k (suc c))
 
 opened-same : (cs : List Cell) (t : Seg) → opened look cs t ≡ runFrom suc top cs t
 unfolding opened runFrom
-opened-same cs t = ap (opensBy (roleOf (t .flags)) t) (chain-same top cs (t .key) (suc (t .counter)))
+opened-same cs t = ap (opensBy (roleOf (t .flags)) t) (rest-same top cs (t .key) (suc (t .counter)))
 
 pub chosen-same : (cs xs : List Cell) → chosen look cs xs ≡ pickIn suc top cs xs
 unfolding chosen pickIn
 chosen-same cs [] = refl
-chosen-same cs (free ∷ xs) = chosen-same cs xs
-chosen-same cs (held t ∷ xs) = ap₂ orElse (opened-same cs t) (chosen-same cs xs)
-chosen-same cs (broken ∷ xs) = chosen-same cs xs
+chosen-same cs (x ∷ xs) = ap₂ orElse (go (segmentIn x)) (chosen-same cs xs)
+  where
+    go : (o : Option Seg) → bySegment none (opened look cs) o ≡ bySegment none (runFrom suc top cs) o
+    go none = refl
+    go (some t) = opened-same cs t

@@ -10,7 +10,7 @@ use lib.ListN.{length}
 use Rattle.cells.specs.Segments.{Seg}
 use Rattle.cells.specs.Rows.{Cell}
 use Rattle.cells.specs.Order.{cellSize}
-use Rattle.messages.specs.Messages.{top}
+use Rattle.cells.specs.Messages.{top}
 use Rattle.taking.specs.Taking.{message, took}
 use Rattle.demand3.specs.Traffic.{Sent, Event, arrives, empty, takenFrom, after}
 use Rattle.demand3.specs.Promise.{Original, Promise as CellPromise}

@@ -1,6 +1,6 @@
 -- Calls on a store's octets, one after the other, by the very definitions that the calls promise: an arrival of a packet, a taking with
--- a lent output, a joining of a packet with a lent output. Demand 3 speaks of lists of them: "Begin with an empty store that only these
--- calls touch", "with takes between".
+-- a lent output, a joining of a packet with a lent output. Demand 3 speaks of lists of them: nobody else touches the store
+-- (DEMANDS 3.1).
 -- Assumes nothing: these are definitions.
 use Prim.Native.Nat.{ℕ, suc}
 use mathlib.Core.Path.{_≡_}

@@ -1,15 +1,15 @@
 -- When a message is complete in a store's cells.
--- Document 01, "The store": "A message is complete when, for one key, there is a first at counter c, a last at d, c < d, and
--- continuations at each number between."
+-- SPEC S-8: under one key a first at some counter, a last at a higher one, a continuation at every counter in between.
 -- Assumes nothing: these are definitions.
-use Prim.Native.Nat.{ℕ, zero, suc, _≤_, _<_}
+use Prim.Native.Nat.{ℕ, _≤_, _<_}
 use mathlib.Core.Path.{_≡_}
 use mathlib.Core.Logic.{_≢_}
 use mathlib.Core.Option.{some}
 use mathlib.Core.List.{List, _∷_, _++_, List·Memᴰ}
 use Rattle.cells.specs.Segments.{Seg}
 use Rattle.cells.specs.Rows.{Cell, held}
-use Rattle.messages.specs.Messages.{Role, first, middle, last, roleOf, look}
+use Rattle.cells.specs.Messages.{Role, first, middle, last, roleOf, look}
+use Rattle.sender.specs.Sending.{stepsOf}
 
 -- a cell holds the segment
 abbrev pub Held : Seg → List Cell → Type 0
@@ -27,20 +27,14 @@ Single cs = (t : Seg) → Held t cs → look cs (t .key) (t .counter) ≡ some t
 abbrev pub Has : List Cell → List ℕ → ℕ → Role → Type 0
 Has cs k c f = (t : Seg) × Held t cs × (t .key ≡ k) × (t .counter ≡ c) × (roleOf (t .flags) ≡ f)
 
-module _ (next : ℕ → ℕ) where
-  -- the counter n steps on
-  unfoldable pub steps : ℕ → ℕ → ℕ
-  steps zero c = c
-  steps (suc n) c = steps n (next c)
-
 module _ (next : ℕ → ℕ) (span : ℕ) where
   -- for the key k
   pub record Complete (cs : List Cell) (k : List ℕ) (c n : ℕ) : Type 0 where
     -- there is a first at counter c
     pub opens : Has cs k c first
     -- a last n steps on, at least one and at the most the span
-    pub closes : Has cs k (steps next n c) last
+    pub closes : Has cs k (stepsOf next n c) last
     pub onward : 1 ≤ n
     pub within : n ≤ span
     -- and continuations at each counter between
-    pub between : (j : ℕ) → 0 < j → j < n → Has cs k (steps next j c) middle
+    pub between : (j : ℕ) → 0 < j → j < n → Has cs k (stepsOf next j c) middle

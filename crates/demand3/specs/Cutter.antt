@@ -5,14 +5,14 @@ use Prim.Native.Nat.{ℕ, _+_, _≤_, _<_}
 use mathlib.Core.Path.{_≡_}
 use mathlib.Core.List.{List}
 use lib.ListN.{length}
-use Rattle.octets.specs.Octets.{Octets}
 use Rattle.walk.specs.declared.Settings.{Settings}
 use Rattle.sender.specs.declared.Sender.{Sender}
 use Rattle.write.specs.declared.HeaderValues.{HeaderValues}
 use Rattle.write.specs.Given.{Lent, headOf}
+use Rattle.write.specs.Lending.{Lends}
 use Rattle.cut.specs.declared.Counted.{Counted}
 use Rattle.cut.specs.Cutting.{headerLength, countAnswer, bodyAt}
-use Rattle.fewest.specs.Cutting.{Lends, octetsAt}
+use Rattle.fewest.specs.Cutting.{octetsAt}
 use Rattle.fewest.specs.Carrying.{firstOf}
 use Rattle.fewest.specs.Runs.{place}
 use Rattle.demand3.specs.Sendings.{Sending}
@@ -47,11 +47,10 @@ module _ (s : Settings) where
   -- the cutter succeeds, for cells of Z octets
   pub record Succeeds (Z : ℕ) (m : Cutting) : Type 0 where
     -- texts and body are octets, and a transaction id has 64 bits: what their types say
-    pub texts : Lends (m .values) (m .texts)
-    pub body : Octets (m .body)
-    -- the count succeeds, so that no counter passes 4,294,967,295: "none wrapping"
+    pub lends : Lends (m .values) (m .texts) (m .body)
+    -- the count succeeds, so that no counter passes 4,294,967,295 (DEMANDS 3.2)
     pub counts : countOf m .refusal .number ≡ 0
-    -- "messages cut into two or more segments"
+    -- two segments or more (DEMANDS 3.2)
     pub many : 2 ≤ countOf m .count
-    -- "each fitting a cell", behind its mark
+    -- each has room in a cell, after its mark
     pub fits : (i : ℕ) → i < countOf m .count → 2 + length (packetOf m i) ≤ Z

@@ -3,7 +3,7 @@
 use Prim.Native.Nat.{ℕ, suc}
 use mathlib.Core.List.{List, [], _∷_, _++_}
 use Rattle.cells.specs.Rows.{Cell}
-use Rattle.messages.specs.Messages.{top}
+use Rattle.cells.specs.Messages.{top}
 use Rattle.taking.specs.Taking.{Took}
 use Rattle.demand3.specs.Traffic.{Sent, Event, arrives, passes, takes, takenFrom, stepped}
 

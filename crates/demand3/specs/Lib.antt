@@ -1,3 +1,4 @@
+pub mod Cells
 pub mod Complete
 pub mod Traffic
 pub mod Promise
@@ -8,3 +9,4 @@ pub mod Sendings
 pub mod Cutter
 pub mod Presupposed
 pub mod Whole
+pub mod Joins

@@ -1,10 +1,6 @@
--- What demand 3 presupposes of the calls on a store's octets: n cells of Z octets. Its words, and where each of them stands:
--- "Begin with an empty store" `emptyStore`, "that only these calls touch" `storeBehind`, "one timestamp length" the one s, `InUse`;
--- "messages cut into two or more segments, each fitting a cell", "none wrapping" `cut`, which is `IsCut`;
--- "any two differ in header key or share no segment counter" `apart`;
--- "Their segments arrive in any order, with repeats, among unsegmented, malformed or other-keyed packets" `packets`, which is `MayCome`;
--- "with takes between" `Call`; "whenever a new segment of any key arrives, a cell is free" `Room`;
--- "Until a message is taken" `Untaken`, and from where on `Anew`.
+-- What demand 3 presupposes of the calls on a store's octets: n cells of Z octets. Its parts, by their numbers in docs/DEMANDS.md:
+-- 3.1 `emptyStore`, `storeBehind`, and one T, `InUse`; 3.2 `cut`, which is `IsCut`; 3.3 `apart`; 3.4 `packets`, which is `MayCome`,
+-- and takings, `Call`; 3.5 `Room`. For how long it is told: `Untaken`, and from where on `Anew`.
 -- Assumes nothing: these are definitions.
 use Prim.Native.Nat.{ℕ, _+_, _*_, _≤_, _<_}
 use mathlib.Core.Path.{_≡_}
@@ -21,9 +17,9 @@ use Rattle.packet.specs.Key.{keyOf}
 use Rattle.cells.specs.Segments.{Seg, segOf}
 use Rattle.cells.specs.Rows.{Cell}
 use Rattle.cells.specs.Order.{cellsMost}
-use Rattle.messages.specs.Messages.{Run, cellsOf, look}
+use Rattle.cells.specs.Messages.{Run, cellsOf, look}
 use Rattle.taking.specs.Taking.{message}
-use Rattle.keeping.specs.Cells.{hasFree}
+use Rattle.demand3.specs.Cells.{hasFree}
 use Rattle.demand3.specs.Calls.{Call, Brings, Handed, tookBy, storeAfter}
 use Rattle.demand3.specs.Sendings.{Sending, ReadsAs, manyOf, segmentAt, keyIn, startOf, IsCut}
 
@@ -34,7 +30,7 @@ module _ (s : Settings) where
   abbrev pub Came : Seg → List Call → Type 0
   Came t cs = (p : List ℕ) × Handed p cs × ReadsAs s p t
 
-  -- "all its segments have arrived"
+  -- all its segments have come
   abbrev pub AllCame : Sending → List Call → Type 0
   AllCame m cs = (i : ℕ) → i < manyOf s m → Came (segmentAt s m i) cs
 
@@ -55,15 +51,15 @@ module _ (s : Settings) (Z : ℕ) where
     other-keyed : ((m : Sending) → List·Memᴰ m ms → keyOf p (readPacket s p) ≢ keyIn s m) → MayCome ms p
 
   pub record Traffic (ms : List Sending) (cs : List Call) : Type 0 where
-    -- "messages cut into two or more segments, each fitting a cell", "none wrapping"
+    -- two segments or more, each with room in a cell, no counter past the last (DEMANDS 3.2)
     pub cut : (m : Sending) → List·Memᴰ m ms → IsCut s Z m
-    -- "any two differ in header key or share no segment counter"
+    -- two have different keys, or no counter in common (DEMANDS 3.3)
     pub apart : (m w : Sending) → List·Memᴰ m ms → List·Memᴰ w ms →
         (m ≡ w) ⊎ (keyIn s m ≢ keyIn s w) ⊎
         ((i j : ℕ) → i < manyOf s m → j < manyOf s w → segmentAt s m i .counter ≢ segmentAt s w j .counter)
     -- packets are octets: what their type says
     pub octets : (p : List ℕ) → Handed p cs → Octets p
-    -- "Their segments arrive in any order, with repeats, among unsegmented, malformed or other-keyed packets, with takes between"
+    -- what may come, in whatever order and how often (DEMANDS 3.4)
     pub packets : (p : List ℕ) → Handed p cs → MayCome ms p
 
   -- ---- takings
@@ -72,24 +68,24 @@ module _ (s : Settings) (Z : ℕ) where
   abbrev pub TakesIt : Sending → List ℕ → Call → Type 0
   TakesIt m st c = (r : Run) × (tookBy s Z st c ≡ some (message r)) × Its s m r
 
-  -- "Until a message is taken": none of the calls takes it
+  -- up to its taking: none of the calls takes it
   abbrev pub Untaken : Sending → List ℕ → List Call → Type 0
   Untaken m st cs = (x y : List Call) (c : Call) → cs ≡ x ++ c ∷ y → TakesIt m (storeAfter s Z st x) c → ⊥
 
 -- ---- the store
 
--- "one timestamp length", 1 to 16; "1 to 4,096" cells
+-- one T, 1 to 16 (DEMANDS 3.1); 1 to 4,096 cells (SPEC N-11)
 pub record InUse (s : Settings) (n : ℕ) : Type 0 where
   pub settings : SettingsInRange s
   pub some : 1 ≤ n
   pub most : n ≤ cellsMost
 
--- "Begin with an empty store"
+-- a store that is empty at first (DEMANDS 3.1)
 abbrev pub emptyStore : ℕ → ℕ → List ℕ
 emptyStore Z n = replicate (n * Z) 0
 
 module _ (s : Settings) (Z n : ℕ) where
-  -- the store behind these calls, "that only these calls touch"
+  -- the store after these calls, which nobody else touches (DEMANDS 3.1)
   abbrev pub storeBehind : List Call → List ℕ
   storeBehind cs = storeAfter s Z (emptyStore Z n) cs
 
@@ -97,13 +93,13 @@ module _ (s : Settings) (Z n : ℕ) where
   abbrev pub cellsIn : List ℕ → List Cell
   cellsIn st = cellsOf s Z st n
 
-  -- from where on it is told "until a message is taken": the store's beginning, and anew after each taking of it, so that a message
+  -- from where on it is told, up to the next taking: the store's beginning, and anew after each taking of it, so that a message
   -- that is sent once more comes out once more
   pub data Anew (m : Sending) : List Call → Type 0 where
     fresh : Anew m []
     retaken : (x : List Call) (c : Call) → TakesIt s Z m (storeBehind x) c → Anew m (x ++ c ∷ [])
 
-  -- "whenever a new segment of any key arrives, a cell is free", by an arrival or a joining: a packet that reading accepts, segmented,
+  -- a free cell just before each new segment (DEMANDS 3.5), by an arrival or a joining: a packet that reading accepts, segmented,
   -- that fits a cell, and whose key and counter no cell has just before; where `run` tells the store behind some calls
   abbrev pub RoomIn : (List Call → List ℕ) → List Call → Type 0
   RoomIn run cs = (x y : List Call) (c : Call) (p : List ℕ) → cs ≡ x ++ c ∷ y → Brings p c →

@@ -8,13 +8,13 @@ use mathlib.Core.List.{List, [], _∷_, _++_, map, List·Memᴰ}
 use lib.ListN.{length}
 use Rattle.cells.specs.Segments.{Seg}
 use Rattle.cells.specs.Rows.{Cell}
-use Rattle.messages.specs.Messages.{Run, bodyOf, segments, picked}
+use Rattle.cells.specs.Messages.{Run, bodyOf, segments, picked}
 use Rattle.taking.specs.Taking.{message, unable, writing}
-use Rattle.keeping.specs.Cells.{clear}
+use Rattle.demand3.specs.Cells.{clear}
 use Rattle.demand3.specs.Complete.{Complete}
 use Rattle.demand3.specs.Traffic.{Sent, bodyIn, stepsIn, segmentsOf, Event, arrives, takes, empty, takenFrom, stepped, after, Traffic, Room}
 
--- what was taken is the message: "the original identification, header and body", its first counter, and just its cells
+-- what was taken is the message: identification, header and body as they were sent, its first counter, and just its cells
 pub record Original (next : ℕ → ℕ) (m : Sent) (r : Run) : Type 0 where
   pub key : r .head .key ≡ m .key
   pub body : bodyOf r ≡ bodyIn m
@@ -79,7 +79,7 @@ module _ (next : ℕ → ℕ) (span : ℕ) where
     pub traffic : Traffic next span ms es
     pub room : Room next span (empty cells) es
 
-  -- "its taking, with output long enough, gives the original identification, header and body, and no later arrival alters that";
+  -- its taking gives what was sent, and nothing that comes later changes that (DEMANDS 3.7, 3.8);
   -- D says of cells that the message is complete
   pub record Delivery (D : List Cell → Type 0) (cells : ℕ) (m : Sent) (cs : List Cell) : Type 0 where
     pub gives : Gives m cs
@@ -92,11 +92,11 @@ module _ (next : ℕ → ℕ) (span : ℕ) where
 
   -- what is promised of a message, told of the events since the store's beginning or its last taking, and of the cells now
   pub record Promise (D : List Cell → Type 0) (cells : ℕ) (m : Sent) (since : List Event) (cs : List Cell) : Type 0 where
-    -- "it is complete exactly when all its segments have arrived"
+    -- complete if all its segments have come, and only then (DEMANDS 3.6)
     pub complete : D cs ↔ AllCame next m since
     pub delivery : Delivery D cells m cs
 
-  -- demand 3: "Begin with an empty store", "Until a message is taken", and anew after each taking of it
+  -- demand 3: from an empty store on, up to a taking of the message, and anew after each
   abbrev pub Demand3 : Type 0
   Demand3 = (cells : ℕ) (ms : List Sent) (before since : List Event) → Given cells ms (before ++ since) → (m : Sent) → List·Memᴰ m ms →
       Anew cells m before → Untaken m (after next span (empty cells) before) since →

@@ -1,6 +1,6 @@
--- The messages of demand 3, "messages cut into two or more segments, each fitting a cell", cut in any way: header values, a first
--- counter, and the bodies of the segments, of any lengths. Segment i is the format's octets of these values with the counter start + i,
--- flags 01, 00 .., 10, body i, and any sequence count.
+-- The messages of demand 3 (DEMANDS 3.2), cut in any way: header values, a first
+-- counter, and the bodies of the segments, of any lengths. Segment i is the format's octets of these values with the counter i steps
+-- from the first, flags 01, 00 .., 10, body i, and any sequence count.
 -- Assumes nothing: these are definitions.
 use Prim.Native.Nat.{ℕ, suc, _+_, _-_, _≤_, _<_}
 use mathlib.Core.Path.{_≡_}
@@ -14,6 +14,7 @@ use Rattle.walk.specs.declared.Settings.{Settings}
 use Rattle.packet.specs.Format.{Head, Values, identification, headerOctets, octetsOf, InRange}
 use Rattle.packet.specs.Reading.{readPacket, segmented}
 use Rattle.cells.specs.Segments.{Seg, segOf}
+use Rattle.sender.specs.Sending.{stepsOf}
 
 -- a message as it was cut: what all its packets share, its first counter, and the bodies of its segments
 pub record Sending : Type 0 where
@@ -40,12 +41,15 @@ module _ (s : Settings) where
   abbrev pub manyOf : Sending → ℕ
   manyOf m = length (m .bodies)
 
-  -- the counters of its first and of its last
+  -- the counters of its first, of segment i, and of its last
   abbrev pub startOf : Sending → ℕ
   startOf m = m .start
 
+  abbrev pub counterIn : Sending → ℕ → ℕ
+  counterIn m i = stepsOf suc i (startOf m)
+
   abbrev pub endOf : Sending → ℕ
-  endOf m = startOf m + (manyOf m - 1)
+  endOf m = counterIn m (manyOf m - 1)
 
   -- the values of segment i, with this sequence count
   abbrev pub valuesAt : Sending → ℕ → ℕ → Values
@@ -53,8 +57,8 @@ module _ (s : Settings) where
       record {
         head = m .head;
         flags = flagsIn (manyOf m) i;
-        count = c;
-        counter = startOf m + i;
+        sequence-count = c;
+        counter = counterIn m i;
         body = getD (m .bodies) i [];
       }
 
@@ -69,14 +73,14 @@ module _ (s : Settings) where
   abbrev pub headerOf : Sending → List ℕ
   headerOf m = headerOctets s (m .head)
 
-  -- the "header key"
+  -- the key
   abbrev pub keyIn : Sending → List ℕ
   keyIn m = identificationOf m ++ headerOf m
 
   -- segment i, whatever its sequence count
   abbrev pub segmentAt : Sending → ℕ → Seg
   segmentAt m i =
-      record { key = keyIn m; counter = startOf m + i; flags = flagsIn (manyOf m) i; body = getD (m .bodies) i [] }
+      record { key = keyIn m; counter = counterIn m i; flags = flagsIn (manyOf m) i; body = getD (m .bodies) i [] }
 
   -- H and B
   abbrev pub headerSize : Sending → ℕ
@@ -87,10 +91,10 @@ module _ (s : Settings) where
 
   -- a message that demand 3 speaks of, for cells of Z octets
   pub record IsCut (Z : ℕ) (m : Sending) : Type 0 where
-    -- "messages cut into two or more segments"
+    -- two segments or more (DEMANDS 3.2)
     pub many : 2 ≤ manyOf m
-    -- each a packet of the format: header values in range, a body of one octet or more, and no counter above 4,294,967,295, so "none
-    -- wrapping". The sequence count 0 stands for any
+    -- each a packet of the format: header values in range, a body of one octet or more, and no counter above 4,294,967,295, so none
+    -- is past the last. The sequence count 0 stands for any
     pub range : (i : ℕ) → i < manyOf m → InRange s (valuesAt m i 0)
-    -- "each fitting a cell", behind its mark; the length is the same with every sequence count
+    -- each has room in a cell, after its mark; the length is the same with every sequence count
     pub fits : (i : ℕ) → i < manyOf m → 2 + length (packetWith m i 0) ≤ Z

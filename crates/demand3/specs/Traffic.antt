@@ -11,9 +11,9 @@ use lib.ListN.{length, replicate}
 use Rattle.octets.specs.Laying.{together}
 use Rattle.cells.specs.Segments.{Seg}
 use Rattle.cells.specs.Rows.{Cell, free}
-use Rattle.messages.specs.Messages.{Run, segments, look, picked}
+use Rattle.cells.specs.Messages.{Run, segments, look, picked}
 use Rattle.taking.specs.Taking.{Took, message, unable, drawn}
-use Rattle.keeping.specs.Cells.{put, hasFree, clear}
+use Rattle.demand3.specs.Cells.{put, hasFree, clear}
 
 -- ---- messages
 
@@ -106,18 +106,18 @@ module _ (next : ℕ → ℕ) where
 
 module _ (next : ℕ → ℕ) (span : ℕ) where
   pub record Traffic (ms : List Sent) (es : List Event) : Type 0 where
-    -- "none wrapping": no message has more steps than the span, nor one counter twice
+    -- no counter comes round (DEMANDS 3.2): no message has more steps than the span, nor one counter twice
     pub short : (m : Sent) → List·Memᴰ m ms → stepsIn m ≤ span
     pub steady : (m : Sent) → List·Memᴰ m ms → (t u : Seg) → List·Memᴰ t (segmentsOf next m) → List·Memᴰ u (segmentsOf next m) →
         t .counter ≡ u .counter → t ≡ u
-    -- "any two differ in header key or share no segment counter"
+    -- two have different keys, or no counter in common (DEMANDS 3.3)
     pub apart : (m w : Sent) → List·Memᴰ m ms → List·Memᴰ w ms →
         (m ≡ w) ⊎ (m .key ≢ w .key) ⊎
         ((t u : Seg) → List·Memᴰ t (segmentsOf next m) → List·Memᴰ u (segmentsOf next w) → t .counter ≢ u .counter)
-    -- "Their segments arrive in any order, with repeats, among unsegmented, malformed or other-keyed packets, with takes between"
+    -- what may come, in whatever order and how often (DEMANDS 3.4)
     pub source : (t : Seg) → List·Memᴰ (arrives t) es → OneOf next ms t ⊎ Stray next ms t
 
-  -- "whenever a new segment of any key arrives, a cell is free"
+  -- a free cell just before each new segment (DEMANDS 3.5)
   abbrev pub Room : List Cell → List Event → Type 0
   Room cs es = (p q : List Event) (t : Seg) → es ≡ p ++ arrives t ∷ q →
       look (after next span cs p) (t .key) (t .counter) ≡ none → hasFree (after next span cs p) ≡ true

@@ -1,7 +1,6 @@
--- Demand 3 over the store's octets: what is promised of a message, and the whole. Its words, and where each of them stands:
--- "Until a message is taken, it is complete exactly when all its segments have arrived" `complete` of `Promise`, by `IsComplete`;
--- "its taking, with output long enough" `enough` of `Takes`, and that it comes to its taking `HandsOut`;
--- "gives the original identification, header and body" `Delivers`; "and no later arrival alters that" `lasts` and `stays`.
+-- Demand 3 over the store's octets: what is promised of a message, and the whole. Its parts, by their numbers in docs/DEMANDS.md: 3.6
+-- `complete` of `Promise`, by `IsComplete`; 3.7 `enough` of `Takes`, what is written then `Delivers`, and that takings come to it
+-- `HandsOut`; 3.8 `lasts` and `stays`.
 -- Assumes nothing: these are definitions.
 use Prim.Native.Nat.{ℕ, suc, _+_, _≤_, _<_}
 use mathlib.Core.Path.{_≡_}
@@ -14,7 +13,7 @@ use Rattle.octets.specs.Octets.{Octets}
 use Rattle.walk.specs.declared.Settings.{Settings}
 use Rattle.cells.specs.Rows.{held, rowAt, zeroRow}
 use Rattle.cells.specs.Order.{cellAt}
-use Rattle.messages.specs.Messages.{Run, picked, top}
+use Rattle.cells.specs.Messages.{Run, picked, top}
 use Rattle.taking.specs.Taking.{message, unable, writing}
 use Rattle.walk.specs.Walk.{refusal}
 use Rattle.taking.specs.Told.{takenOf}
@@ -24,7 +23,7 @@ use Rattle.demand3.specs.Sendings.{Sending, wholeBody, manyOf, segmentAt
 use Rattle.demand3.specs.Presupposed.{InUse, emptyStore, storeBehind, cellsIn, AllCame, MayCome, Traffic, Given, Its, Untaken, Anew, Room}
 
 module _ (s : Settings) (Z n : ℕ) where
-  -- "complete": "for one key, there is a first at counter c, a last at d, c < d, and continuations at each number between", here for
+  -- complete (SPEC S-8), here for
   -- the message's own key, first counter and last
   abbrev pub IsComplete : Sending → List ℕ → Type 0
   IsComplete m st = CompleteFrom (cellsIn s Z n st) (keyIn s m) (startOf s m) (endOf s m)
@@ -38,7 +37,7 @@ module _ (s : Settings) (Z n : ℕ) where
     -- it tells H, B and c
     pub told : Option·map takenOf (tookBy s Z st c) ≡
         some (record { refusal = refusal 0; header = headerSize s m; body = bodySize s m; counter = record { 0 = startOf s m } })
-    -- the output is "the original identification, header and body", and behind them as it was
+    -- the output is the identification, header and body that were sent, and after them as it was
     pub written : outBy s Z st c ≡
         identificationOf s m ++ headerOf s m ++ wholeBody m ++ drop (2 + headerSize s m + bodySize s m) (outOf c)
     -- each segment was in a cell
@@ -57,7 +56,7 @@ module _ (s : Settings) (Z n : ℕ) where
     -- whatever it hands out under the message's key and one of its counters is the message
     pub gives : (r : Run) → tookBy s Z st c ≡ some (message r) → r .head .key ≡ keyIn s m →
         (i : ℕ) → i < manyOf s m → r .head .counter ≡ segmentAt s m i .counter → Delivers m st c
-    -- "with output long enough": where it picks the message, 2 + H + B octets are enough
+    -- an output that is long enough: if it picks the message, 2 + H + B octets are enough
     pub enough : Picks m st c → 2 + headerSize s m + bodySize s m ≤ length (outOf c) → Delivers m st c
     -- and fewer are refused by 21, with no octet changed behind the arrival
     pub short : Picks m st c → length (outOf c) < 2 + headerSize s m + bodySize s m →
@@ -74,23 +73,24 @@ module _ (s : Settings) (Z n : ℕ) where
       (x : List (List ℕ)) × (out : List ℕ) × (y : List (List ℕ)) × (outs ≡ x ++ out ∷ y) ×
       Delivers m (storeAfter s Z st (map taking x)) (taking out)
 
-  -- "its taking, with output long enough, gives the original identification, header and body, and no later arrival alters that"
+  -- its taking gives what was sent, and nothing that comes later changes that (DEMANDS 3.7, 3.8)
   pub record Delivery (ms : List Sending) (m : Sending) (st : List ℕ) : Type 0 where
-    -- "its taking": by any call, the packet of which, if it has one, may come
+    -- its taking: by any call, the packet of which, if it has one, may come
     pub takes : (c : Call) → ((p : List ℕ) → Brings p c → Octets p × MayCome s Z ms p) → Takes m st c
     -- and once it is complete, takings come to it
     pub handed : IsComplete m st → HandsOut m st
-    -- "no later arrival alters that": whatever is called then, with room or without, until it is taken
+    -- nothing later changes that (DEMANDS 3.8): whatever is called, with room or without, until it is taken
     pub lasts : IsComplete m st → (more : List Call) → Untaken s Z m st more →
         IsComplete m (storeAfter s Z st more) × ((c : Call) → Takes m (storeAfter s Z st more) c) × HandsOut m (storeAfter s Z st more)
 
   -- what is promised of a message, told of the calls since the store's beginning or its last taking, and of the store now
   pub record Promise (ms : List Sending) (m : Sending) (before since : List Call) : Type 0 where
-    -- "it is complete exactly when all its segments have arrived"
+    -- complete if all its segments have come, and only then (DEMANDS 3.6)
     pub complete : IsComplete m (storeBehind s Z n (before ++ since)) ↔ AllCame s m since
-    -- "its taking, with output long enough, gives the original", by the store as it is now
+    -- its taking gives what was sent (DEMANDS 3.7), by the store as it is now
     pub delivery : Delivery ms m (storeBehind s Z n (before ++ since))
-    -- "no later arrival alters that": each call has an output of its own, and what it wrote there stays, whatever is called then
+    -- each call has an output of its own, and what it wrote there stays, whatever is called later (DEMANDS 3.8); so it is of any
+    -- program
     pub stays : (more : List Call) → outsAfter s Z (emptyStore Z n) (before ++ since ++ more) ≡
         outsAfter s Z (emptyStore Z n) (before ++ since) ++ outsAfter s Z (storeBehind s Z n (before ++ since)) more
 
@@ -100,7 +100,7 @@ WholeDemand3 Z = (s : Settings) (n : ℕ) → InUse s n → (ms : List Sending) 
     (m : Sending) → List·Memᴰ m ms → Anew s Z n m before → Untaken s Z m (storeBehind s Z n before) since →
     Promise s Z n ms m before since
 
--- "whenever a new segment of any key arrives, a cell is free": as many cells as packets are handed over always suffice
+-- room enough (DEMANDS 3.5): as many cells as packets are handed over always suffice
 abbrev pub WholeRoom : ℕ → Type 0
 WholeRoom Z = (s : Settings) (n : ℕ) → InUse s n → (cs : List Call) → packetsIn cs ≤ n → Room s Z n cs
 

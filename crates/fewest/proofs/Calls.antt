@@ -1,6 +1,7 @@
--- The same over the generated contracts of the public calls of `cut`: where the count succeeds, no list of packets that carries the
--- message is shorter than its answer; where a packet is written, its octets are packet number i, below the count, they read back
--- as that, and the sender is as it was. And two outcomes that a contract allows for the same arguments have the same answer, and the same octets in the output (M-7).
+-- The same over the generated contracts of the public calls of `cut`: if the count succeeds, no list of packets that carries the
+-- message is shorter than its answer; if a packet is written, its octets are packet number i, below the count, they read back as that,
+-- and the sender is as it was. What is known of the lent texts, the body and the transaction id is the contract's own. And two outcomes
+-- that a contract allows for the same arguments have the same answer, and the same octets in the output (M-7).
 -- Assumes nothing.
 use Prim.Native.Nat.{ℕ, _≤_}
 use mathlib.Core.Path.{_≡_, refl, ap, ap₂, sym, _∙_, subst}
@@ -8,16 +9,16 @@ use mathlib.Core.Bool.{Bool, true}
 use mathlib.Core.List.{List, _++_}
 use native.Mathlib.Omega.{arith}
 use contract.Lifetimes as L
-use denote.Ref.{now}
 use lib.ListN.{length, take, drop}
 use lib.Seq.{take-at, drop-at}
 use lib.Dec.{ltb, leb}
 use borrow.Author.Tests.{eq-eqb, eqb-true, ltb-true}
-use Rattle.octets.specs.Octets.{pick, Octets}
+use Rattle.octets.specs.Octets.{pick}
 use Rattle.walk.specs.declared.Settings.{Settings}
 use Rattle.sender.specs.declared.Sender.{Sender}
 use Rattle.write.specs.declared.HeaderValues.{HeaderValues}
-use Rattle.write.specs.Given.{Lent, lent, headOf}
+use Rattle.write.specs.Given.{Lent, headOf}
+use Rattle.write.specs.Lending.{Lends}
 use Rattle.write.specs.Writing.{fine}
 use Rattle.write.proofs.Tests.{unless-fine}
 use Rattle.cut.specs.declared.Counted.{Counted}
@@ -25,15 +26,16 @@ use Rattle.cut.specs.declared.Cut.{Cut}
 use Rattle.cut.specs.Cutting.{packets, headerLength, countRefusal, senderAfter, countAnswer, packetRefusal, packetAnswer, packetOutput}
 use Rattle.cut.proofs.count.Reads as counts
 use Rattle.cut.proofs.packet.Reads as cuts
+use Rattle.cut.proofs.Arguments.{count-call, cut-call, cut-output}
 use Rattle.fewest.specs.Carrying.{Carries}
 use Rattle.fewest.specs.Answers.{Counts, Wrote}
-use Rattle.fewest.specs.Cutting.{Lends, number, octetsAt, Back}
+use Rattle.fewest.specs.Cutting.{number, octetsAt, Back}
 use Rattle.fewest.proofs.Fewest.{fewest}
 use Rattle.fewest.proofs.ReadBack.{packets-read-back}
 
 -- ---- over plain values
 
-plain-counts :
+pub plain-counts :
     (s : Settings) (P : ℕ) (v : HeaderValues) (t : Lent) (B : ℕ) (d : Sender) (r : Counted) → r ≡ countAnswer s P v t B d →
     r .refusal .number ≡ 0 → Counts s P v t B d r
 unfolding countAnswer
@@ -75,7 +77,7 @@ module _ (s : Settings) (P : ℕ) (v : HeaderValues) (t : Lent) (body : List ℕ
   unfolding packetOutput
   output-is = f ∙ ap (λ (b : Bool). pick b (packet ++ drop (length packet) out) out) all-fine
 
-  plain-wrote : Wrote s P v t body d i r out after
+  pub plain-wrote : Wrote s P v t body d i r out after
   unfolding packetRefusal packetAnswer
   plain-wrote =
       let a = unless-fine (leb (length packet) (length out)) 20 _ all-fine in
@@ -88,58 +90,44 @@ module _ (s : Settings) (P : ℕ) (v : HeaderValues) (t : Lent) (body : List ℕ
         sender = ap (λ (x : Cut). x .sender) e;
       }
 
-  plain-back : Lends v t → Octets body → Back s P v t body d i (take (r .length) after)
-  plain-back w o =
+  plain-back : Lends v t body → Back s P v t body d i (take (r .length) after)
+  plain-back w =
       let k = plain-wrote in
       subst (λ (p : List ℕ). Back s P v t body d i p) (sym (k .octets))
-      (packets-read-back s P v t body d w o (k .no-refusal) .each i (k .below))
+      (packets-read-back s P v t body d w (k .no-refusal) .each i (k .below))
 
 -- ---- `cut::count`
 
 pub count-counts :
     (κs : L.Lfts 6) (a : _) (r : _) (x : _) → counts.Post κs a r x → r .refusal .number ≡ 0 →
-    Counts (a .0) (a .1 .0) (a .1 .1 .0)
-    (lent (now (a .1 .1 .1 .0)) (now (a .1 .1 .1 .1 .0)) (now (a .1 .1 .1 .1 .1 .0)) (now (a .1 .1 .1 .1 .1 .1 .0))
-    (now (a .1 .1 .1 .1 .1 .1 .1 .0)) (now (a .1 .1 .1 .1 .1 .1 .1 .1 .0)))
-    (a .1 .1 .1 .1 .1 .1 .1 .1 .1 .0) (a .1 .1 .1 .1 .1 .1 .1 .1 .1 .1 .0) r
+    Counts (count-call κs a .settings) (count-call κs a .limit) (count-call κs a .header) (count-call κs a .texts) (count-call κs a .long)
+    (count-call κs a .sender) r
 count-counts κs a r x k z = plain-counts _ _ _ _ _ _ r k z
 
 pub count-fewest :
     (κs : L.Lfts 6) (a : _) (r : _) (x : _) → counts.Post κs a r x → r .refusal .number ≡ 0 → (body : List ℕ) →
-    length body ≡ a .1 .1 .1 .1 .1 .1 .1 .1 .1 .0 → (ps : List (List ℕ)) →
-    Carries (a .0)
-    (headOf (a .1 .1 .0)
-    (lent (now (a .1 .1 .1 .0)) (now (a .1 .1 .1 .1 .0)) (now (a .1 .1 .1 .1 .1 .0)) (now (a .1 .1 .1 .1 .1 .1 .0))
-    (now (a .1 .1 .1 .1 .1 .1 .1 .0)) (now (a .1 .1 .1 .1 .1 .1 .1 .1 .0))))
-    body (a .1 .0) ps →
+    length body ≡ count-call κs a .long → (ps : List (List ℕ)) →
+    Carries (count-call κs a .settings) (headOf (count-call κs a .header) (count-call κs a .texts)) body (count-call κs a .limit) ps →
     r .count ≤ length ps
-count-fewest κs a r x k z body n ps c = plain-fewest (a .0) (a .1 .0) (a .1 .1 .0) _ _ _ r k z body n ps c
+count-fewest κs a r x k z body n ps c =
+    plain-fewest (count-call κs a .settings) (count-call κs a .limit) (count-call κs a .header) _ _ _ r k z body n ps c
 
 -- ---- `cut::packet`
 
 pub packet-wrote :
     (κs : L.Lfts 8) (a : _) (r : _) (x : _) → cuts.Post κs a r x → r .refusal .number ≡ 0 →
-    Wrote (a .0) (a .1 .0) (a .1 .1 .0)
-    (lent (now (a .1 .1 .1 .0)) (now (a .1 .1 .1 .1 .0)) (now (a .1 .1 .1 .1 .1 .0)) (now (a .1 .1 .1 .1 .1 .1 .0))
-    (now (a .1 .1 .1 .1 .1 .1 .1 .0)) (now (a .1 .1 .1 .1 .1 .1 .1 .1 .0)))
-    (now (a .1 .1 .1 .1 .1 .1 .1 .1 .1 .0)) (a .1 .1 .1 .1 .1 .1 .1 .1 .1 .1 .0) (a .1 .1 .1 .1 .1 .1 .1 .1 .1 .1 .1 .0) r
-    (now (a .1 .1 .1 .1 .1 .1 .1 .1 .1 .1 .1 .1 .0)) (now (x .1 .1 .1 .1 .1 .1 .1 .1 .1 .1 .1 .1 .0))
-packet-wrote κs a r x k z = plain-wrote _ _ _ _ _ _ _ r _ _ (k .0) (k .1) z
+    Wrote (cut-call κs a .settings) (cut-call κs a .limit) (cut-call κs a .header) (cut-call κs a .texts) (cut-call κs a .body)
+    (cut-call κs a .sender) (cut-call κs a .index) r (cut-call κs a .output) (cut-output κs x)
+packet-wrote κs a r x k z = plain-wrote _ _ _ _ _ _ _ r _ _ (k .0) (k .1 .0) z
 
--- what it wrote reads back as packet number i; that lent texts and the body are octets, and a transaction id one of 64 bits, is what
--- their types say
+-- what it wrote reads back as packet number i
 pub packet-back :
     (κs : L.Lfts 8) (a : _) (r : _) (x : _) → cuts.Post κs a r x → r .refusal .number ≡ 0 →
-    Lends (a .1 .1 .0)
-    (lent (now (a .1 .1 .1 .0)) (now (a .1 .1 .1 .1 .0)) (now (a .1 .1 .1 .1 .1 .0)) (now (a .1 .1 .1 .1 .1 .1 .0))
-    (now (a .1 .1 .1 .1 .1 .1 .1 .0)) (now (a .1 .1 .1 .1 .1 .1 .1 .1 .0))) →
-    Octets (now (a .1 .1 .1 .1 .1 .1 .1 .1 .1 .0)) →
-    Back (a .0) (a .1 .0) (a .1 .1 .0)
-    (lent (now (a .1 .1 .1 .0)) (now (a .1 .1 .1 .1 .0)) (now (a .1 .1 .1 .1 .1 .0)) (now (a .1 .1 .1 .1 .1 .1 .0))
-    (now (a .1 .1 .1 .1 .1 .1 .1 .0)) (now (a .1 .1 .1 .1 .1 .1 .1 .1 .0)))
-    (now (a .1 .1 .1 .1 .1 .1 .1 .1 .1 .0)) (a .1 .1 .1 .1 .1 .1 .1 .1 .1 .1 .0) (a .1 .1 .1 .1 .1 .1 .1 .1 .1 .1 .1 .0)
-    (take (r .length) (now (x .1 .1 .1 .1 .1 .1 .1 .1 .1 .1 .1 .1 .0)))
-packet-back κs a r x k z w o = plain-back (a .0) (a .1 .0) (a .1 .1 .0) _ _ _ _ r _ _ (k .0) (k .1) z w o
+    Back (cut-call κs a .settings) (cut-call κs a .limit) (cut-call κs a .header) (cut-call κs a .texts) (cut-call κs a .body)
+    (cut-call κs a .sender) (cut-call κs a .index) (take (r .length) (cut-output κs x))
+packet-back κs a r x k z =
+    let b = cut-call κs a in
+    plain-back (b .settings) (b .limit) (b .header) _ _ _ _ r _ _ (k .0) (k .1 .0) z (k .1 .1)
 
 -- ---- the same arguments, the same answer and the same output
 
@@ -150,6 +138,5 @@ pub packet-same-answer : (κs : L.Lfts 8) (a : _) (r q : _) (s t : _) → cuts.P
 packet-same-answer κs a r q s t k j = k .0 ∙ sym (j .0)
 
 pub packet-same-lent :
-    (κs : L.Lfts 8) (a : _) (r q : _) (s t : _) → cuts.Post κs a r s → cuts.Post κs a q t →
-    now (s .1 .1 .1 .1 .1 .1 .1 .1 .1 .1 .1 .1 .0) ≡ now (t .1 .1 .1 .1 .1 .1 .1 .1 .1 .1 .1 .1 .0)
-packet-same-lent κs a r q s t k j = k .1 ∙ sym (j .1)
+    (κs : L.Lfts 8) (a : _) (r q : _) (s t : _) → cuts.Post κs a r s → cuts.Post κs a q t → cut-output κs s ≡ cut-output κs t
+packet-same-lent κs a r q s t k j = k .1 .0 ∙ sym (j .1 .0)

@@ -12,24 +12,25 @@ use Rattle.octets.specs.Octets.{pick, part, Octets, most32}
 use Rattle.octets.proofs.Has.{octets-part}
 use Rattle.walk.specs.declared.Settings.{Settings}
 use Rattle.walk.specs.Walk.{noRefusal, unless, timestampLeast, timestampMost}
+use Rattle.packet.proofs.Counts.{count-mod}
 use Rattle.packet.specs.declared.SegmentCounter.{SegmentCounter}
 use Rattle.packet.specs.Format.{Opt, segment, SettingsInRange, InRange}
 use Rattle.sender.specs.declared.Sender.{Sender}
 use Rattle.sender.specs.declared.Next.{Next}
 use Rattle.sender.specs.declared.Next.the-variants.{At, NoneLeft}
+use Rattle.sender.specs.Sending.{stepsOf}
+use Rattle.sender.proofs.Stepping.{steps-suc}
 use Rattle.write.specs.declared.HeaderValues.{HeaderValues}
 use Rattle.write.specs.Given.{Lent}
+use Rattle.write.specs.Lending.{Lends}
 use Rattle.write.specs.Writing.{settingsTest, fine}
 use Rattle.write.proofs.Tests.{unless-fine}
 use Rattle.write.proofs.Answers.{secondary-length}
 use Rattle.cut.specs.Cutting.{countersFit, counterAt, single, chunk, packets, headerLength, countRefusal, flagsAt, bodyAt, packetAt, givenAt}
-use Rattle.cut.proofs.Counting.{count-is}
 use Rattle.cut.proofs.Plans.{before, Good, good, Cuts, cuts}
 use Rattle.cut.proofs.Packets.{counter-flag, packet-most}
-use Rattle.two_way.specs.Writable.{LentOctets}
 use Rattle.two_way.proofs.Headers.{checks-range}
 use Rattle.two_way.proofs.Texts.{lent-texts}
-use Rattle.fewest.specs.Cutting.{Lends}
 use Rattle.fewest.proofs.Parts.{piece-some}
 
 -- ---- the flags
@@ -85,7 +86,7 @@ unfolding countersFit
 fit-starts (At c) n g = record { start = c; starts = refl; fit = leb-true (c .0 + n) (suc most32) g }
 fit-starts NoneLeft n g = let z : _≡_ {A = ℕ} 0 1 = cc in absurd (omega arith)
 
-pub counter-of : (d : Next) (c : SegmentCounter) (i : ℕ) → d ≡ At c → counterAt d i ≡ c .0 + i
+pub counter-of : (d : Next) (c : SegmentCounter) (i : ℕ) → d ≡ At c → counterAt d i ≡ stepsOf suc i (c .0)
 unfolding counterAt
 counter-of d c i e = rw (e, counterAt)
 
@@ -131,7 +132,7 @@ module _ (s : Settings) (P : ℕ) (v : HeaderValues) (t : Lent) (body : List ℕ
   counter-range i l true e = refl
   counter-range i l false e =
       let k = counters e in
-      let c = counter-of (d .next) (k .start) i (k .starts) in
+      let c = counter-of (d .next) (k .start) i (k .starts) ∙ steps-suc i (k .start .0) in
       omega (arith, k .fit)
 
   body-octets : Octets body → (i : ℕ) (b : Bool) → Octets (pick b body (part body (i * chunk P H) (chunk P H)))
@@ -144,38 +145,27 @@ module _ (s : Settings) (P : ℕ) (v : HeaderValues) (t : Lent) (body : List ℕ
   body-some i l true e n = let y : _≡_ {A = ℕ} 0 1 = cc in absurd (omega arith)
   body-some i l false e n = piece-some P H B e (room e) i body refl l
 
-  pub packet-range : Lends v t → Octets body → (i : ℕ) → i < packets P H B → InRange s (givenAt s P v t body d i)
+  pub packet-range : Lends v t body → (i : ℕ) → i < packets P H B → InRange s (givenAt s P v t body d i)
   unfolding packetAt bodyAt
-  packet-range w o i l =
+  packet-range w i l =
       let k = good-values in
       let g = segment-is P H B i in
-      let c = count-is (d .count .0) i (k .count) in
+      let c = count-mod (d .«sequence_count» .0) i (k .sequence-count) in
       record {
         settings = settings-range;
-        head = checks-range s v t (k .checks) (k .parts) (w .transaction) (lent-texts v t body lends);
+        head = checks-range s v t (k .checks) (k .parts) (w .transaction) (lent-texts v t body (w .octets));
         flags = flags-top P H B i;
-        count = omega arith;
+        sequence-count = omega arith;
         counter =
             subst (λ (b : Bool). Opt b (λ x. x < 4294967296) 0 (pick (single P H B) 0 (counterAt (d .next) i))) (sym g)
             (counter-range i l (single P H B) refl);
-        body = body-octets o i (single P H B);
+        body = body-octets (w .octets .body) i (single P H B);
         packet = omega (arith, packet-most s P v t body d i (cuts-well .some), k .top);
         header =
             omega (arith, secondary-length s (givenAt s P v t body d i), counter-flag P H B i, cuts-well .header, four (single P H B));
         some = λ e. body-some i l (single P H B) refl (sym g ∙ e);
       }
     where
-      lends : LentOctets t body
-      lends =
-          record {
-            timestamp = w .timestamp;
-            zone = w .zone;
-            name = w .name;
-            domain = w .domain;
-            authentication = w .authentication;
-            body = o;
-          }
-
       four : (b : Bool) → H + pick b 0 4 ≡ pick b H (H + 4)
       four true = omega arith
       four false = refl

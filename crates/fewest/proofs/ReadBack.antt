@@ -2,31 +2,34 @@
 -- another, the flags, lengths at most P, and bodies that joined are the message's. So they are a list of packets that carries it, and
 -- the fewest (M-5): the bound is reached.
 -- Assumes nothing.
-use Prim.Native.Nat.{ℕ, suc, _+_, _*_, _≤_, _<_}
+use Prim.Native.Nat.{ℕ, suc, _*_, _≤_, _<_}
 use mathlib.Core.Path.{_≡_, refl, ap, sym, _∙_}
 use mathlib.Core.Logic.{inl, inr, ⊎-elim}
 use mathlib.Core.Bool.{Bool, true, false, not}
 use mathlib.Core.List.{List}
 use native.Mathlib.Omega.{arith}
 use lib.ListN.{length}
-use Rattle.octets.specs.Octets.{pick, part, Octets}
+use Rattle.octets.specs.Octets.{pick, part}
 use Rattle.octets.proofs.Lists.{bool}
 use Rattle.walk.specs.declared.Settings.{Settings}
 use Rattle.fields.specs.Form.{joined}
 use Rattle.packet.specs.Format.{Values, segment, octetsOf}
-use Rattle.packet.specs.Numbers.{nextCount}
+use Rattle.packet.specs.Numbers.{nextCount, countAt}
+use Rattle.packet.proofs.Counts.{count-mod}
 use Rattle.packet.specs.Reading.{segmented}
 use Rattle.sender.specs.declared.Sender.{Sender}
+use Rattle.sender.specs.Sending.{stepsOf}
+use Rattle.sender.proofs.Stepping.{steps-suc, steps-last}
 use Rattle.write.specs.declared.HeaderValues.{HeaderValues}
 use Rattle.write.specs.Given.{Lent, headOf}
+use Rattle.write.specs.Lending.{Lends}
 use Rattle.format.specs.Told.{valuesOf}
 use Rattle.format.proofs.TwoWay.{writes-octets, reads-back}
 use Rattle.format.proofs.Accepting.{written}
-use Rattle.cut.specs.Cutting.{counterAt, countAt, single, chunk, packets, headerLength, countRefusal, flagsAt, bodyAt, packetAt, givenAt}
+use Rattle.cut.specs.Cutting.{counterAt, single, chunk, packets, headerLength, countRefusal, flagsAt, bodyAt, packetAt, givenAt}
 use Rattle.cut.proofs.Packets.{packet-most}
-use Rattle.cut.proofs.Counting.{count-mod}
 use Rattle.fewest.specs.Carrying.{bodyOf, Carried, Carries}
-use Rattle.fewest.specs.Cutting.{Lends, told, number, octetsAt, allPackets, Segment, Back, AllBack}
+use Rattle.fewest.specs.Cutting.{told, number, octetsAt, allPackets, Segment, Back, AllBack}
 use Rattle.fewest.proofs.Lists.{first-length, first-each, first-same, joined-first}
 use Rattle.fewest.proofs.Parts.{packets-one, two-at-least, piece-full, piece-some, piece-most, parts-joined}
 use Rattle.fewest.proofs.Numbers.{segment-is, flags-whole, flags-first, flags-last, flags-between, counter-of, cuts-well, good-values, room, counters, packet-range}
@@ -37,7 +40,7 @@ body-told : (s : Settings) (p : List ℕ) {u : Values} → told s p ≡ u → bo
 unfolding valuesOf
 body-told s p x = ap (λ (y : Values). y .body) x
 
-module _ (s : Settings) (P : ℕ) (v : HeaderValues) (t : Lent) (body : List ℕ) (d : Sender) (w : Lends v t) (o : Octets body)
+module _ (s : Settings) (P : ℕ) (v : HeaderValues) (t : Lent) (body : List ℕ) (d : Sender) (w : Lends v t body)
     (z : countRefusal s P v t (length body) d .number ≡ 0) where
   abbrev H : ℕ
   H = headerLength s v t
@@ -54,7 +57,7 @@ module _ (s : Settings) (P : ℕ) (v : HeaderValues) (t : Lent) (body : List ℕ
       let f : told s p .flags ≡ flagsAt P H B i = ap (λ (u : Values). u .flags) x in
       let k = counters s P v t body d z e in
       let h = room s P v t body d z e in
-      let c : told s p .counter ≡ k .start .0 + i =
+      let c : told s p .counter ≡ stepsOf suc i (k .start .0) =
       ap (λ (u : Values). u .counter) x ∙ ap (λ (b : Bool). pick b 0 (counterAt (d .next) i)) e ∙ counter-of (d .next) (k .start) i (k .starts) in
       let y : bodyOf s p ≡ part body (i * chunk P H) (chunk P H) =
       body-told s p x ∙ ap (λ (b : Bool). pick b body (part body (i * chunk P H) (chunk P H))) e in
@@ -67,7 +70,7 @@ module _ (s : Settings) (P : ℕ) (v : HeaderValues) (t : Lent) (body : List ℕ
         start = k .start;
         starts = k .starts;
         counter = c;
-        counter-top = omega (arith, k .fit);
+        counter-top = omega (arith, k .fit, c ∙ steps-suc i (k .start .0));
         full-body = λ u. n ∙ piece-full P H B e h i body refl u;
         body-some = omega (arith, piece-some P H B e h i body refl l);
         body-top = omega (arith, piece-most P H B e h i body refl);
@@ -77,11 +80,11 @@ module _ (s : Settings) (P : ℕ) (v : HeaderValues) (t : Lent) (body : List ℕ
   unfolding packetAt
   back i l =
       let u = givenAt s P v t body d i in
-      let r = packet-range s P v t body d z w o i l in
+      let r = packet-range s P v t body d z w i l in
       let b = reads-back s u r in
       let k = written s u r in
       let q : segmented (octetsOf s u) ≡ not (single P H B) = k .segments ∙ segment-is P H B i in
-      let c : told s (octetsOf s u) .count ≡ countAt (d .count .0) i = ap (λ (y : Values). y .count) (b .1) in
+      let c : told s (octetsOf s u) .sequence-count ≡ countAt (d .«sequence_count» .0) i = ap (λ (y : Values). y .sequence-count) (b .1) in
       record {
         range = r;
         octets = writes-octets s u r;
@@ -90,7 +93,7 @@ module _ (s : Settings) (P : ℕ) (v : HeaderValues) (t : Lent) (body : List ℕ
         head = ap (λ (y : Values). y .head) (b .1);
         key = k .key;
         count = c;
-        count-wraps = c ∙ count-mod (d .count .0) i (good-values s P v t body d z .count);
+        count-wraps = c ∙ count-mod (d .«sequence_count» .0) i (good-values s P v t body d z .sequence-count);
         limit = packet-most s P v t body d i (cuts-well s P v t body d z .some);
         whole = λ e. (q ∙ ap not e, ap (λ (y : Values). y .flags) (b .1) ∙ flags-whole P H B i e);
         segment = λ e. segment-back i (octetsOf s u) l (b .1) (q ∙ ap not e) e;
@@ -116,7 +119,7 @@ module _ (s : Settings) (P : ℕ) (v : HeaderValues) (t : Lent) (body : List ℕ
 
   counts-on :
       (i : ℕ) → suc i < packets P H B →
-      told s (octetsAt s P v t body d (suc i)) .count ≡ nextCount (told s (octetsAt s P v t body d i) .count)
+      told s (octetsAt s P v t body d (suc i)) .sequence-count ≡ nextCount (told s (octetsAt s P v t body d i) .sequence-count)
   unfolding countAt
   counts-on i l = back (suc i) l .count ∙ ap nextCount (sym (back i (omega arith) .count))
 
@@ -133,7 +136,7 @@ module _ (s : Settings) (P : ℕ) (v : HeaderValues) (t : Lent) (body : List ℕ
       let k = counters s P v t body d z e in
       let a = counter-told e i (omega arith) ∙ counter-of (d .next) (k .start) i (k .starts) in
       let b = counter-told e (suc i) l ∙ counter-of (d .next) (k .start) (suc i) (k .starts) in
-      omega arith
+      b ∙ steps-last suc i (k .start .0) ∙ ap suc (sym a)
 
   -- C-7
   pub packets-read-back : AllBack s P v t body d

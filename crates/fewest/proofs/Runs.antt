@@ -15,15 +15,15 @@ use Rattle.octets.proofs.Lists.{bool, below-or}
 use Rattle.fields.specs.Form.{joined}
 use Rattle.packet.specs.declared.SegmentCounter.{SegmentCounter}
 use Rattle.packet.specs.Format.{Values, segment, when}
-use Rattle.packet.specs.Numbers.{nextCount}
+use Rattle.packet.specs.Numbers.{nextCount, countAt}
 use Rattle.sender.specs.declared.Sender.{Sender}
 use Rattle.sender.specs.declared.Next.{Next}
 use Rattle.sender.specs.declared.Next.the-variants.{At, NoneLeft}
-use Rattle.sender.specs.Sending.{afterPacket}
+use Rattle.sender.specs.Sending.{counterAfter, afterPacket, afterSegments, stepsOf}
+use Rattle.sender.proofs.Stepping.{steps-suc, steps-more}
+use Rattle.sender.proofs.Moving.{after-fits, after-past, after-both}
 use Rattle.write.specs.Writing.{fine}
-use Rattle.cut.specs.Cutting.{afterSegments, counterAt, countAt, single, packets, headerLength, countRefusal, senderAfter, countAnswer, packetAt, givenAt}
-use Rattle.cut.specs.Inner.{counterAfter}
-use Rattle.cut.proofs.Counting.{after-fits, after-past, after-both}
+use Rattle.cut.specs.Cutting.{counterAt, single, packets, headerLength, countRefusal, senderAfter, countAnswer, packetAt, givenAt}
 use Rattle.fewest.specs.Carrying.{firstOf}
 use Rattle.fewest.specs.Runs.{Message, counted, packetsOf, countsOf, counterIn, countersOf, place, Bits32, Goes}
 use Rattle.fewest.proofs.Lists.{joined-append, joined-none, joined-suc, first-length, first-same, first-more}
@@ -34,13 +34,13 @@ use Rattle.fewest.proofs.Numbers.{segment-is, counter-of, counters}
 
 counts-append : (l m : List Values) → countsOf (l ++ m) ≡ countsOf l ++ countsOf m
 counts-append [] m = refl
-counts-append (v ∷ l) m = ap (λ (x : List ℕ). v .count ∷ x) (counts-append l m)
+counts-append (v ∷ l) m = ap (λ (x : List ℕ). v .sequence-count ∷ x) (counts-append l m)
 
-counts-first : (f : ℕ → Values) (n : ℕ) → countsOf (firstOf f n) ≡ firstOf (λ (i : ℕ). f i .count) n
+counts-first : (f : ℕ → Values) (n : ℕ) → countsOf (firstOf f n) ≡ firstOf (λ (i : ℕ). f i .sequence-count) n
 unfolding firstOf
 counts-first f zero = refl
 counts-first f (suc n) =
-    counts-append (firstOf f n) (f n ∷ []) ∙ ap (λ (x : List ℕ). x ++ (f n .count ∷ [])) (counts-first f n)
+    counts-append (firstOf f n) (f n ∷ []) ∙ ap (λ (x : List ℕ). x ++ (f n .sequence-count ∷ [])) (counts-first f n)
 
 -- of unsegmented packets there are no counters
 counters-whole : (f : ℕ → Values) (n : ℕ) → ((i : ℕ) → segment (f i .flags) ≡ false) → countersOf (firstOf f n) ≡ []
@@ -71,13 +71,13 @@ place-top (At c) h = omega arith
 place-top NoneLeft h = omega arith
 
 pub goes-none : (d : Sender) → Bits32 (d .next) → Goes d [] d
-unfolding firstOf joined countAt
+unfolding firstOf joined countAt stepsOf
 goes-none d h =
     record {
       counts = refl;
       count = refl;
       counters = refl;
-      next = sym (add-zero (place (d .next)));
+      next = refl;
       bits = h;
       top = place-top (d .next) h;
     }
@@ -91,25 +91,28 @@ goes-on {d} {e} {f} l m a b =
     record {
       counts =
           counts-append l m ∙ ap₂ _++_ (a .counts) (b .counts)
-          ∙ ap (λ (x : List ℕ). firstOf (countAt (d .count .0)) (length l) ++ x)
-          (first-same (countAt (e .count .0)) (λ (i : ℕ). countAt (d .count .0) (length l + i)) (length m)
-          (λ i h. ap (λ (x : ℕ). countAt x i) (a .count) ∙ count-more (d .count .0) (length l) i))
-          ∙ sym (first-more (countAt (d .count .0)) (length l) (length m))
-          ∙ ap (firstOf (countAt (d .count .0))) (sym n);
+          ∙ ap (λ (x : List ℕ). firstOf (countAt (d .«sequence_count» .0)) (length l) ++ x)
+          (first-same (countAt (e .«sequence_count» .0)) (λ (i : ℕ). countAt (d .«sequence_count» .0) (length l + i)) (length m)
+          (λ i h. ap (λ (x : ℕ). countAt x i) (a .count) ∙ count-more (d .«sequence_count» .0) (length l) i))
+          ∙ sym (first-more (countAt (d .«sequence_count» .0)) (length l) (length m))
+          ∙ ap (firstOf (countAt (d .«sequence_count» .0))) (sym n);
       count =
-          b .count ∙ ap (λ (x : ℕ). countAt x (length m)) (a .count) ∙ count-more (d .count .0) (length l) (length m)
-          ∙ ap (countAt (d .count .0)) (sym n);
+          b .count ∙ ap (λ (x : ℕ). countAt x (length m)) (a .count) ∙ count-more (d .«sequence_count» .0) (length l) (length m)
+          ∙ ap (countAt (d .«sequence_count» .0)) (sym n);
       counters =
           c ∙ ap₂ _++_ (a .counters) (b .counters)
-          ∙ ap (λ (x : List ℕ). firstOf (λ (i : ℕ). place (d .next) + i) (length (countersOf l)) ++ x)
-          (first-same (λ (i : ℕ). place (e .next) + i) (λ (i : ℕ). place (d .next) + (length (countersOf l) + i)) (length (countersOf m))
-          (λ i h. omega (arith, a .next)))
-          ∙ sym (first-more (λ (i : ℕ). place (d .next) + i) (length (countersOf l)) (length (countersOf m)))
-          ∙ ap (firstOf (λ (i : ℕ). place (d .next) + i)) (sym k);
-      next = omega (arith, a .next, b .next);
+          ∙ ap (λ (x : List ℕ). firstOf (λ (i : ℕ). stepsOf suc i (place (d .next))) (length (countersOf l)) ++ x)
+          (first-same (λ (i : ℕ). stepsOf suc i (place (e .next))) (λ (i : ℕ). stepsOf suc (length (countersOf l) + i) (place (d .next)))
+          (length (countersOf m)) (λ i h. steps-on i))
+          ∙ sym (first-more (λ (i : ℕ). stepsOf suc i (place (d .next))) (length (countersOf l)) (length (countersOf m)))
+          ∙ ap (firstOf (λ (i : ℕ). stepsOf suc i (place (d .next)))) (sym k);
+      next = b .next ∙ steps-on (length (countersOf m)) ∙ ap (λ (x : ℕ). stepsOf suc x (place (d .next))) (sym k);
       bits = b .bits;
       top = b .top;
     }
+  where
+    steps-on : (i : ℕ) → stepsOf suc i (place (e .next)) ≡ stepsOf suc (length (countersOf l) + i) (place (d .next))
+    steps-on i = ap (stepsOf suc i) (a .next) ∙ steps-more suc (length (countersOf l)) i (place (d .next))
 
 -- ---- one message
 
@@ -143,32 +146,32 @@ module _ (d : Sender) (m : Message) (h : Bits32 (d .next)) where
   abbrev given : ℕ → Values
   given = givenAt (m .settings) (m .limit) (m .values) (m .texts) (m .body) d
 
-  counts-given : (n : ℕ) → countsOf (firstOf given n) ≡ firstOf (countAt (d .count .0)) (length (firstOf given n))
+  counts-given : (n : ℕ) → countsOf (firstOf given n) ≡ firstOf (countAt (d .«sequence_count» .0)) (length (firstOf given n))
   unfolding packetAt
-  counts-given n = counts-first given n ∙ ap (firstOf (countAt (d .count .0))) (sym (first-length given n))
+  counts-given n = counts-first given n ∙ ap (firstOf (countAt (d .«sequence_count» .0))) (sym (first-length given n))
 
   segment-given : (i : ℕ) → segment (given i .flags) ≡ not (single (m .limit) H B)
   unfolding packetAt
   segment-given i = segment-is (m .limit) H B i
 
   whole-goes : single (m .limit) H B ≡ true → Goes d (firstOf given 1) (afterPacket d)
-  unfolding afterPacket countAt firstOf
+  unfolding afterPacket countAt firstOf stepsOf
   whole-goes e =
       let c = counters-whole given 1 (λ i. segment-given i ∙ ap not e) in
       record {
         counts = counts-given 1;
         count = refl;
-        counters = c ∙ ap (firstOf (λ (i : ℕ). place (d .next) + i)) (sym (ap length c));
-        next = omega (arith, ap length c);
+        counters = c ∙ ap (firstOf (λ (i : ℕ). stepsOf suc i (place (d .next)))) (sym (ap length c));
+        next = ap (λ (x : ℕ). stepsOf suc x (place (d .next))) (sym (ap length c));
         bits = h;
         top = place-top (d .next) h;
       }
 
-  counter-given : single (m .limit) H B ≡ false → (c : SegmentCounter) → d .next ≡ At c → (i : ℕ) → given i .counter ≡ place (d .next) + i
+  counter-given : single (m .limit) H B ≡ false → (c : SegmentCounter) → d .next ≡ At c → (i : ℕ) → given i .counter ≡ stepsOf suc i (place (d .next))
   unfolding packetAt
   counter-given e c x i =
       ap (λ (b : Bool). pick b 0 (counterAt (d .next) i)) e ∙ counter-of (d .next) c i x
-      ∙ ap (λ (n : ℕ). n + i) (sym (place-at (d .next) c x))
+      ∙ ap (stepsOf suc i) (sym (place-at (d .next) c x))
 
   cut-goes :
       countRefusal (m .settings) (m .limit) (m .values) (m .texts) B d .number ≡ 0 → single (m .limit) H B ≡ false →
@@ -177,19 +180,19 @@ module _ (d : Sender) (m : Message) (h : Bits32 (d .next)) where
       let n = packets (m .limit) H B in
       let k = counters (m .settings) (m .limit) (m .values) (m .texts) (m .body) d z e in
       let t : k .start .0 ≤ most32 = subst Bits32 (k .starts) h in
-      let c : countersOf (firstOf given n) ≡ firstOf (λ (i : ℕ). place (d .next) + i) n =
+      let c : countersOf (firstOf given n) ≡ firstOf (λ (i : ℕ). stepsOf suc i (place (d .next))) n =
       counters-segments given n (λ i. segment-given i ∙ ap not e)
-      ∙ first-same (λ (i : ℕ). given i .counter) (λ (i : ℕ). place (d .next) + i) n (λ i l. counter-given e (k .start) (k .starts) i) in
-      let y : length (countersOf (firstOf given n)) ≡ n = ap length c ∙ first-length (λ (i : ℕ). place (d .next) + i) n in
+      ∙ first-same (λ (i : ℕ). given i .counter) (λ (i : ℕ). stepsOf suc i (place (d .next))) n (λ i l. counter-given e (k .start) (k .starts) i) in
+      let y : length (countersOf (firstOf given n)) ≡ n = ap length c ∙ first-length (λ (i : ℕ). stepsOf suc i (place (d .next))) n in
       let p = place-at (d .next) (k .start) (k .starts) in
       let q : place (counterAfter n (d .next)) ≡ k .start .0 + n =
       ap (λ (x : Next). place (counterAfter n x)) (k .starts) ∙ place-after (k .start) n t (k .fit) in
       subst (λ (x : Sender). Goes d (firstOf given n) x) (sym (after-both n d))
       (record {
         counts = counts-given n;
-        count = ap (countAt (d .count .0)) (sym (first-length given n));
-        counters = c ∙ ap (firstOf (λ (i : ℕ). place (d .next) + i)) (sym y);
-        next = omega arith;
+        count = ap (countAt (d .«sequence_count» .0)) (sym (first-length given n));
+        counters = c ∙ ap (firstOf (λ (i : ℕ). stepsOf suc i (place (d .next)))) (sym y);
+        next = omega (arith, steps-suc (length (countersOf (firstOf given n))) (place (d .next)));
         bits = subst (λ (x : Next). Bits32 (counterAfter n x)) (sym (k .starts)) (bits-after (k .start) n t);
         top = omega (arith, k .fit);
       })

@@ -1,4 +1,4 @@
--- What a message's packets have once they are read back (C-7), and what the types of a call's arguments say of them.
+-- What a message's packets have once they are read back (C-7).
 -- Assumes nothing: these are definitions.
 use Prim.Native.Nat.{ℕ, suc, _+_, _%_, _≤_, _<_}
 use mathlib.Core.Path.{_≡_}
@@ -10,25 +10,17 @@ use Rattle.walk.specs.declared.Settings.{Settings}
 use Rattle.fields.specs.Form.{joined}
 use Rattle.packet.specs.declared.SegmentCounter.{SegmentCounter}
 use Rattle.packet.specs.Format.{Values, identification, headerOctets, octetsOf, InRange}
-use Rattle.packet.specs.Numbers.{nextCount}
+use Rattle.packet.specs.Numbers.{nextCount, countAt, countMost}
 use Rattle.packet.specs.Reading.{segmented, readPacket}
 use Rattle.packet.specs.Key.{keyOf}
 use Rattle.sender.specs.declared.Sender.{Sender}
 use Rattle.sender.specs.declared.Next.the-variants.{At}
+use Rattle.sender.specs.Sending.{stepsOf}
 use Rattle.write.specs.declared.HeaderValues.{HeaderValues}
 use Rattle.write.specs.Given.{Lent, headOf}
 use Rattle.format.specs.Told.{valuesOf}
-use Rattle.cut.specs.Cutting.{countAt, single, chunk, packets, headerLength, givenAt}
+use Rattle.cut.specs.Cutting.{single, chunk, packets, headerLength, givenAt}
 use Rattle.fewest.specs.Carrying.{bodyOf, firstOf}
-
--- lent texts are octets, and a transaction id has 64 bits
-pub record Lends (v : HeaderValues) (t : Lent) : Type 0 where
-  pub timestamp : Octets (t .timestamp)
-  pub zone : Octets (t .zone)
-  pub name : Octets (t .name)
-  pub domain : Octets (t .domain)
-  pub authentication : Octets (t .authentication)
-  pub transaction : v .transaction < 18446744073709551616
 
 -- the values that reading tells of a packet
 abbrev pub told : Settings → List ℕ → Values
@@ -68,8 +60,8 @@ module _ (s : Settings) (P : ℕ) (v : HeaderValues) (t : Lent) (body : List ℕ
     -- the sender had a counter to start from
     pub start : SegmentCounter
     pub starts : d .next ≡ At start
-    -- the counter told is that and i
-    pub counter : told s p .counter ≡ start .0 + i
+    -- the counter told is i steps from that
+    pub counter : told s p .counter ≡ stepsOf suc i (start .0)
     -- and there is such a counter
     pub counter-top : told s p .counter ≤ most32
     -- each body but the last has C octets
@@ -94,9 +86,9 @@ module _ (s : Settings) (P : ℕ) (v : HeaderValues) (t : Lent) (body : List ℕ
     -- its key is the message's
     pub key : keyOf p (readPacket s p) ≡ identification (headOf v t) ++ headerOctets s (headOf v t)
     -- the sequence count is the sender's, moved on by one for each packet before
-    pub count : told s p .count ≡ countAt (d .count .0) i
+    pub count : told s p .sequence-count ≡ countAt (d .«sequence_count» .0) i
     -- with the wrap: 0 follows 16,383
-    pub count-wraps : told s p .count ≡ (d .count .0 + i) % 16384
+    pub count-wraps : told s p .sequence-count ≡ (d .«sequence_count» .0 + i) % suc countMost
     -- it has at most P octets
     pub limit : length p ≤ P
     -- where one packet is enough: unsegmented, flags 11
@@ -113,7 +105,7 @@ module _ (s : Settings) (P : ℕ) (v : HeaderValues) (t : Lent) (body : List ℕ
     -- and where cutting is needed at least two, so that the first is not the last
     pub two : oneEnough ≡ false → 2 ≤ number
     -- from one to the next the sequence count goes up by one, and 0 follows 16,383
-    pub counts : (i : ℕ) → suc i < number → told s (octetsAt (suc i)) .count ≡ nextCount (told s (octetsAt i) .count)
+    pub counts : (i : ℕ) → suc i < number → told s (octetsAt (suc i)) .sequence-count ≡ nextCount (told s (octetsAt i) .sequence-count)
     -- and where cutting is needed the counter goes up by one
     pub counters : oneEnough ≡ false → (i : ℕ) → suc i < number → told s (octetsAt (suc i)) .counter ≡ suc (told s (octetsAt i) .counter)
     -- their bodies joined are the message's

@@ -1,6 +1,6 @@
 -- A run of messages of one sender, each counted by the numbers as the one before left them; refused ones may be among them.
 -- Assumes nothing: these are definitions.
-use Prim.Native.Nat.{ℕ, _+_, _≤_}
+use Prim.Native.Nat.{ℕ, _+_, _≤_, suc}
 use mathlib.Core.Path.{_≡_}
 use mathlib.Core.List.{List, [], _∷_, _++_, map}
 use lib.ListN.{length}
@@ -8,13 +8,15 @@ use Rattle.octets.specs.Octets.{most32}
 use Rattle.walk.specs.declared.Settings.{Settings}
 use Rattle.fields.specs.Form.{joined}
 use Rattle.packet.specs.Format.{Values, segment, when}
+use Rattle.packet.specs.Numbers.{countAt}
 use Rattle.sender.specs.declared.Sender.{Sender}
 use Rattle.sender.specs.declared.Next.{Next}
 use Rattle.sender.specs.declared.Next.the-variants.{At, NoneLeft}
+use Rattle.sender.specs.Sending.{stepsOf}
 use Rattle.write.specs.declared.HeaderValues.{HeaderValues}
 use Rattle.write.specs.Given.{Lent}
 use Rattle.cut.specs.declared.Counted.{Counted}
-use Rattle.cut.specs.Cutting.{countAt, countAnswer, givenAt}
+use Rattle.cut.specs.Cutting.{countAnswer, givenAt}
 use Rattle.fewest.specs.Carrying.{firstOf}
 
 -- what a sender is asked to send, with its own settings and limit
@@ -46,7 +48,7 @@ sent d (m ∷ ms) = packetsOf d m ++ sent (counted d m .sender) ms
 
 -- the sequence counts of packets
 abbrev pub countsOf : List Values → List ℕ
-countsOf l = map (λ (v : Values). v .count) l
+countsOf l = map (λ (v : Values). v .sequence-count) l
 
 -- the counters of the segments among them
 abbrev pub counterIn : Values → List ℕ
@@ -58,7 +60,7 @@ countersOf l = joined counterIn l
 -- the counter that the next segment gets; one past the last if none is left
 unfoldable pub place : Next → ℕ
 place (At c) = c .0
-place NoneLeft = 4294967296
+place NoneLeft = suc most32
 
 -- a counter of 32 bits, as its type has it
 abbrev pub Bits32 : Next → Type 0
@@ -68,13 +70,13 @@ Bits32 NoneLeft = Unit {0}
 -- what a list of packets, sent between a sender and the one behind them, has
 pub record Goes (d : Sender) (l : List Values) (e : Sender) : Type 0 where
   -- the sequence counts go on by one for each packet, from the sender's, with the wrap
-  pub counts : countsOf l ≡ firstOf (countAt (d .count .0)) (length l)
+  pub counts : countsOf l ≡ firstOf (countAt (d .«sequence_count» .0)) (length l)
   -- and the sender behind has the next
-  pub count : e .count .0 ≡ countAt (d .count .0) (length l)
+  pub count : e .«sequence_count» .0 ≡ countAt (d .«sequence_count» .0) (length l)
   -- the counters of the segments go on by one for each segment, from the sender's
-  pub counters : countersOf l ≡ firstOf (λ (i : ℕ). place (d .next) + i) (length (countersOf l))
+  pub counters : countersOf l ≡ firstOf (λ (i : ℕ). stepsOf suc i (place (d .next))) (length (countersOf l))
   -- the sender behind has the next, or none is left
-  pub next : place (e .next) ≡ place (d .next) + length (countersOf l)
+  pub next : place (e .next) ≡ stepsOf suc (length (countersOf l)) (place (d .next))
   pub bits : Bits32 (e .next)
   -- none passes 4,294,967,295
-  pub top : place (e .next) ≤ 4294967296
+  pub top : place (e .next) ≤ suc most32

@@ -9,19 +9,19 @@ use lib.ListN.{length, getD, take, drop, length-append, drop-of-length-le}
 use Rattle.octets.specs.Octets.{roomOf}
 use Rattle.octets.proofs.Has.{part-length}
 use Rattle.walk.specs.declared.Settings.{Settings}
-use Rattle.fields.specs.Form.{numberOctets, blobOctets, textOctets, partOctets, joined, domainOctets, split}
+use Rattle.fields.specs.Form.{uintegerOctets, blobOctets, textOctets, partOctets, joined, domainOctets, split}
 use Rattle.fields.specs.Inner.{capped}
 use Rattle.fields.proofs.Written.{length-split, split-more}
 
-pub text-long : (s : Settings) (x : List ℕ) → length (textOctets s x) ≡ length (numberOctets s (length x)) + length x
+pub text-long : (s : Settings) (x : List ℕ) → length (textOctets s x) ≡ length (uintegerOctets s (length x)) + length x
 unfolding textOctets blobOctets
-text-long s x = length-append (numberOctets s (length x)) x
+text-long s x = length-append (uintegerOctets s (length x)) x
 
-pub blob-long : (s : Settings) (x : List ℕ) → length (blobOctets s x) ≡ length (numberOctets s (length x)) + length x
+pub blob-long : (s : Settings) (x : List ℕ) → length (blobOctets s x) ≡ length (uintegerOctets s (length x)) + length x
 unfolding blobOctets
-blob-long s x = length-append (numberOctets s (length x)) x
+blob-long s x = length-append (uintegerOctets s (length x)) x
 
-part-long : (s : Settings) (x : List ℕ) → length (partOctets s x) ≡ 1 + (length (numberOctets s (length x)) + length x)
+part-long : (s : Settings) (x : List ℕ) → length (partOctets s x) ≡ 1 + (length (uintegerOctets s (length x)) + length x)
 unfolding partOctets
 part-long s x = omega (arith, length-append (1 ∷ []) (textOctets s x), text-long s x)
 
@@ -40,7 +40,7 @@ pub record Sizing (s : Settings) (x ns : List ℕ) (size from k : ℕ) : Type 0 
   pub told : size ≡ capped done
   pub all : length (domainOctets s (split ns x)) ≡ done + length (joined (partOctets s) (split (drop k ns) (drop from x)))
 
-pub sizing-first : (s : Settings) (x ns : List ℕ) {n size : ℕ} → n ≡ length (numberOctets s (length ns)) → size ≡ capped (0 + n) → Sizing s x ns size 0 0
+pub sizing-first : (s : Settings) (x ns : List ℕ) {n size : ℕ} → n ≡ length (uintegerOctets s (length ns)) → size ≡ capped (0 + n) → Sizing s x ns size 0 0
 unfolding domainOctets
 sizing-first s x ns {n} {size} e h =
     record {
@@ -49,8 +49,8 @@ sizing-first s x ns {n} {size} e h =
       done = n;
       told = omega arith;
       all =
-          length-append (numberOctets s (length (split ns x))) (joined (partOctets s) (split ns x))
-          ∙ ap (λ (j : ℕ). length (numberOctets s j) + length (joined (partOctets s) (split ns x))) (length-split ns x)
+          length-append (uintegerOctets s (length (split ns x))) (joined (partOctets s) (split ns x))
+          ∙ ap (λ (j : ℕ). length (uintegerOctets s j) + length (joined (partOctets s) (split ns x))) (length-split ns x)
           ∙ ap (λ (j : ℕ). j + length (joined (partOctets s) (split ns x))) (sym e);
     }
 
@@ -66,7 +66,7 @@ module _ {s : Settings} {x ns : List ℕ} {size from k : ℕ} (p : Sizing s x ns
 
   pub sizing-turn :
       k < length ns → {end t o size′ : ℕ} → end ≡ from + roomOf (length x) from (getD ns k 0) →
-      t ≡ capped (length (numberOctets s (end - from)) + (end - from)) → o ≡ capped (1 + t) → size′ ≡ capped (size + o) →
+      t ≡ capped (length (uintegerOctets s (end - from)) + (end - from)) → o ≡ capped (1 + t) → size′ ≡ capped (size + o) →
       Sizing s x ns size′ end (k + 1)
   unfolding joined
   sizing-turn h {end} {t} {o} {size′} e et eo es =
@@ -75,8 +75,8 @@ module _ {s : Settings} {x ns : List ℕ} {size from k : ℕ} (p : Sizing s x ns
       let j : from + (end - from) ≡ end = omega arith in
       let pl : length (take (end - from) (drop from x)) ≡ end - from = part-length x from (end - from) (omega arith) in
       let sp = split-more x ns from k (p .inside) h e in
-      let w : length (partOctets s (take (end - from) (drop from x))) ≡ 1 + (length (numberOctets s (end - from)) + (end - from)) =
-      part-long s (take (end - from) (drop from x)) ∙ ap (λ (n : ℕ). 1 + (length (numberOctets s n) + n)) pl in
+      let w : length (partOctets s (take (end - from) (drop from x))) ≡ 1 + (length (uintegerOctets s (end - from)) + (end - from)) =
+      part-long s (take (end - from) (drop from x)) ∙ ap (λ (n : ℕ). 1 + (length (uintegerOctets s n) + n)) pl in
       let a =
       p .all
       ∙ ap (λ (y : List (List ℕ)). p .done + length (joined (partOctets s) y)) sp
@@ -85,8 +85,8 @@ module _ {s : Settings} {x ns : List ℕ} {size from k : ℕ} (p : Sizing s x ns
       record {
         inside = i;
         most = omega arith;
-        done = p .done + (1 + (length (numberOctets s (end - from)) + (end - from)));
-        told = told-more (length (numberOctets s (end - from)) + (end - from)) et eo es;
+        done = p .done + (1 + (length (uintegerOctets s (end - from)) + (end - from)));
+        told = told-more (length (uintegerOctets s (end - from)) + (end - from)) et eo es;
         all = rw (add-one k) (a ∙ more (p .done) _ w);
       }
 

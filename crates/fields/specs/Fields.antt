@@ -1,6 +1,6 @@
 -- The optional fields that have a length: texts, the authentication id, the domain; and fields that may be absent.
--- Document 01: "Zone, session name and authentication id are a Varint length and that many octets. The domain is a Varint count of
--- parts, each a presence octet of 1 and a length with octets. Text is taken as octets of any value."
+-- SPEC P-8 to P-10: a zone, a session name and an authentication id are a length, a Varint, and so many octets; a domain is the
+-- number of its parts, and of each part an octet of 1, a length and so many octets. What the octets say is not looked at.
 -- Assumes nothing: these are definitions.
 use Prim.Native.Nat.{ℕ, zero, suc}
 use mathlib.Core.List.{List}
@@ -9,7 +9,7 @@ use lib.ListN.{set, replicate}
 use lib.Dec.{leb, eqb}
 use Rattle.octets.specs.Octets.{pick, octetAt}
 use Rattle.walk.specs.declared.Settings.{Settings}
-use Rattle.walk.specs.Walk.{Reading, Step, octets, check, number}
+use Rattle.walk.specs.Walk.{Reading, Step, octets, check, uinteger}
 use Rattle.fields.specs.declared.Place.{Place}
 
 -- a place and a length; absent, both are 0
@@ -31,8 +31,8 @@ block n p w = record { walk = octets p n w; value = place (w .at) n }
 unfoldable pub blob : Settings → List ℕ → Reading → Step Place
 blob s p w =
     record {
-      walk = octets p (number s p w .value) (number s p w .walk);
-      value = place (number s p w .walk .at) (number s p w .value);
+      walk = octets p (uinteger s p w .value) (uinteger s p w .walk);
+      value = place (uinteger s p w .walk .at) (uinteger s p w .value);
     }
 
 -- a text: zone, session name, domain part. Its octets are not looked at
@@ -43,7 +43,7 @@ text s p w = blob s p w
 unfoldable pub part : Settings → List ℕ → Reading → Step Place
 part s p w = text s p (check (eqb (octetAt p (w .at)) 1) 11 (octets p 1 w))
 
--- a domain holds at most sixteen parts, each with its own place
+-- SPEC N-5: at most sixteen parts; each has a place of its own
 abbrev pub partsMost : ℕ
 partsMost = 16
 
@@ -71,6 +71,6 @@ partsTo s p (suc k) d = partAt s p k (partsTo s p k d)
 -- a count, above sixteen refused by 13, and as many parts
 unfoldable pub domain : Settings → List ℕ → Reading → Step Parts
 domain s p w =
-    pick (leb (number s p w .value) partsMost)
-    (partsTo s p (number s p w .value) (record { walk = number s p w .walk; value = noParts (number s p w .value) }))
-    (record { walk = check false 13 (number s p w .walk); value = noParts 0 })
+    pick (leb (uinteger s p w .value) partsMost)
+    (partsTo s p (uinteger s p w .value) (record { walk = uinteger s p w .walk; value = noParts (uinteger s p w .value) }))
+    (record { walk = check false 13 (uinteger s p w .walk); value = noParts 0 })

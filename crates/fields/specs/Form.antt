@@ -7,12 +7,12 @@ use Rattle.varint.specs.Varint.{write}
 use Rattle.walk.specs.declared.Settings.{Settings}
 
 -- an unsigned number under the settings: a Varint
-unfoldable pub numberOctets : Settings → ℕ → List ℕ
-numberOctets s n = write n
+unfoldable pub uintegerOctets : Settings → ℕ → List ℕ
+uintegerOctets s n = write n
 
 -- a length and as many octets
 unfoldable pub blobOctets : Settings → List ℕ → List ℕ
-blobOctets s x = numberOctets s (length x) ++ x
+blobOctets s x = uintegerOctets s (length x) ++ x
 
 -- a text: the same today
 unfoldable pub textOctets : Settings → List ℕ → List ℕ
@@ -28,7 +28,7 @@ joined W (t ∷ ts) = W t ++ joined W ts
 
 -- a count of parts, and the parts
 unfoldable pub domainOctets : Settings → List (List ℕ) → List ℕ
-domainOctets s ts = numberOctets s (length ts) ++ joined (partOctets s) ts
+domainOctets s ts = uintegerOctets s (length ts) ++ joined (partOctets s) ts
 
 -- a lent text cut into parts of the lengths given
 unfoldable pub split : List ℕ → List ℕ → List (List ℕ)

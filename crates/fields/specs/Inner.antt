@@ -11,7 +11,7 @@ use Rattle.fields.specs.declared.Place.{Place}
 use Rattle.fields.specs.declared.Text.{Text}
 use Rattle.fields.specs.declared.Domain.{Domain}
 use Rattle.fields.specs.Fields.{Parts}
-use Rattle.fields.specs.Form.{numberOctets}
+use Rattle.fields.specs.Form.{uintegerOctets}
 
 abbrev pub asText : Step Place → Text
 asText t = record { walk = asWalk (t .walk); place = t .value }
@@ -26,7 +26,7 @@ abbrev pub ofDomain : Domain → Step Parts
 ofDomain d = record { walk = ofWalk (d .walk); value = record { count = d .count; places = d .parts } }
 
 unfoldable pub blobPieces : Settings → List ℕ → List (List ℕ)
-blobPieces s x = numberOctets s (length x) ∷ x ∷ []
+blobPieces s x = uintegerOctets s (length x) ∷ x ∷ []
 
 unfoldable pub textPieces : Settings → List ℕ → List (List ℕ)
 textPieces s x = blobPieces s x
@@ -39,7 +39,7 @@ partsPieces s [] = []
 partsPieces s (t ∷ ts) = partPieces s t ++ partsPieces s ts
 
 unfoldable pub domainPieces : Settings → List (List ℕ) → List (List ℕ)
-domainPieces s ts = numberOctets s (length ts) ∷ partsPieces s ts
+domainPieces s ts = uintegerOctets s (length ts) ∷ partsPieces s ts
 
 -- a size as the code tells it: one above the largest packet stands for all that are larger
 abbrev pub sizeMost : ℕ

@@ -11,14 +11,16 @@ ghost use Prim.Native.Nat.{_+_, _<_, _≤_};
 ghost use lib.ListN.{length};
 ghost use mathlib.Core.List.{[], _∷_};
 ghost use Rattle.octets.specs.Laying.{laid, Lays};
-ghost use Rattle.walk.specs.Inner.{ofWalk, asNumber};
-ghost use Rattle.walk.specs.Walk.{number};
+ghost use Rattle.walk.specs.Inner.{ofWalk, asUInteger};
+ghost use Rattle.walk.specs.Walk.{uinteger};
 ghost use Rattle.fields.specs.Fields.{nowhere, opt, block, blob, text, part, noParts, partAt, partsTo, domain};
-ghost use Rattle.fields.specs.Form.{numberOctets, domainOctets, split};
+ghost use Rattle.fields.specs.Form.{uintegerOctets, domainOctets, split};
 ghost use Rattle.fields.specs.Inner.{asText, asDomain, ofDomain, blobPieces, textPieces, partPieces, partsPieces, domainPieces, capped};
 use varint::Wrote;
-use walk::Number;
+use walk::REFUSED_DOMAIN_PART;
+use walk::REFUSED_MANY_PARTS;
 use walk::Settings;
+use walk::UInteger;
 use walk::Walk;
 
 // The most parts that a domain holds.
@@ -45,13 +47,13 @@ pub struct Domain {
 }
 
 // A number if it is there, else 0.
-pub fn number_if(there: bool, s: Settings, p: &[u8], w: Walk) -> Number
-    ensures { λ r. ⌜ r ≡ asNumber (opt there 0 (number s (now (p .entry))) (ofWalk w)) ⌝ }
+pub fn number_if(there: bool, s: Settings, p: &[u8], w: Walk) -> UInteger
+    ensures { λ r. ⌜ r ≡ asUInteger (opt there 0 (uinteger s (now (p .entry))) (ofWalk w)) ⌝ }
 {
     if there {
-        return walk::read_number(s, p, w);
+        return walk::read_uinteger(s, p, w);
     }
-    Number { walk: w, value: 0 }
+    UInteger { walk: w, value: 0 }
 }
 
 // n octets if they are there.
@@ -79,7 +81,7 @@ pub fn block_if(there: bool, n: usize, p: &[u8], w: Walk) -> Text
 pub fn read_blob(s: Settings, p: &[u8], w: Walk) -> Text
     ensures { λ r. ⌜ r ≡ asText (blob s (now (p .entry)) (ofWalk w)) ⌝ }
 {
-    let n = walk::read_number(s, p, w);
+    let n = walk::read_uinteger(s, p, w);
     let v = n.walk;
     let length = n.value as usize;
     let end = v.octets(p, length);
@@ -132,7 +134,7 @@ fn read_part(s: Settings, p: &[u8], w: Walk) -> Text
     ensures { λ r. ⌜ r ≡ asText (part s (now (p .entry)) (ofWalk w)) ⌝ }
 {
     let b = octets::octet(p, w.at as usize);
-    read_text(s, p, w.octets(p, 1).check(b == 1, 11))
+    read_text(s, p, w.octets(p, 1).check(b == 1, REFUSED_DOMAIN_PART))
 }
 
 // One part more, as part number k: there are sixteen places.
@@ -181,13 +183,13 @@ fn no_parts(w: Walk, count: usize) -> Domain
 pub fn read_domain(s: Settings, p: &[u8], w: Walk) -> Domain
     ensures { λ r. ⌜ r ≡ asDomain (domain s (now (p .entry)) (ofWalk w)) ⌝ }
 {
-    let n = walk::read_number(s, p, w);
+    let n = walk::read_uinteger(s, p, w);
     let v = n.walk;
     let count = n.value as usize;
     if count <= PARTS {
         return parts_to(s, p, count, no_parts(v, count));
     }
-    no_parts(v.check(false, 13), 0)
+    no_parts(v.check(false, REFUSED_MANY_PARTS), 0)
 }
 
 // A domain if it is there.
@@ -203,7 +205,7 @@ pub fn domain_if(there: bool, s: Settings, p: &[u8], w: Walk) -> Domain
 // ---- writing: each field at a place of a lent buffer, and the place behind it
 
 pub fn put_number(s: Settings, out: &mut [u8], at: usize, n: u64) -> usize
-    ensures { λ r. ⌜ Lays (laid (now (out .entry)) at) (numberOctets s n ∷ []) (now (out .exit)) r ⌝ }
+    ensures { λ r. ⌜ Lays (laid (now (out .entry)) at) (uintegerOctets s n ∷ []) (now (out .exit)) r ⌝ }
 {
     match varint::put(out, at, n) {
         Wrote::Done(next) => next,
@@ -271,14 +273,14 @@ pub fn plus(a: usize, b: usize) -> usize
 }
 
 pub fn number_size(s: Settings, n: u64) -> usize
-    ensures { λ r. ⌜ r ≡ length (numberOctets s n) ⌝ }
+    ensures { λ r. ⌜ r ≡ length (uintegerOctets s n) ⌝ }
 {
     varint::size(n)
 }
 
 // The size of a text of n octets with its length.
 pub fn text_size(s: Settings, n: usize) -> usize
-    ensures { λ r. ⌜ r ≡ capped (length (numberOctets s n) + n) ⌝ }
+    ensures { λ r. ⌜ r ≡ capped (length (uintegerOctets s n) + n) ⌝ }
 {
     plus(number_size(s, n as u64), n)
 }

@@ -8,19 +8,20 @@ use native.Mathlib.Omega.{arith}
 use Rattle.octets.specs.Octets.{wide, alike, number as numberAt}
 use Rattle.walk.specs.Walk.{begun, check, octets, unless}
 use Rattle.fields.specs.Form.{split}
-use Rattle.packet.specs.Numbers.{nextCount}
+use Rattle.packet.specs.Numbers.{nextCount, countAt}
 use Rattle.packet.specs.Format.{presence, identification, fixedOctets, frontOctets, counterOctets, backOctets, headerOctets, secondaryOctets, dataOctets, octetsOf}
-use Rattle.packet.specs.FixedPart.{octetField, wideField, sduField, afterSdu, afterArea, afterService, afterOperation, afterVersion, afterSession, afterSecondary, afterQualifier, afterTransaction, afterPresence, fixedOf, flagsOf, presentOf}
+use Rattle.packet.specs.FixedPart.{octetField, wideField, sduField, afterSdu, afterArea, afterService, afterOperation, afterVersion, afterSession}
+use Rattle.packet.specs.FixedPart.{afterSecondary, afterQualifier, afterTransaction, afterPresence, fixedOf, flagsOf, presentOf}
 use Rattle.packet.specs.Reading.{primaryTests, primaryOf, idsOf, textsOf, bodyTest, refusedHeader, acceptedHeader, readPacket}
 use Rattle.packet.specs.Key.{counterPlace, keyOf}
 use Rattle.write.specs.Given.{headOf, sum, nameChecks, routingChecks, idChecks, textChecks, headerChecks, unlessAll}
 use Rattle.write.specs.Writing.{settingsTest, partsTest}
-use Rattle.cut.specs.Cutting.{countersFit, counterAt, countAt, packets, rounded, limitTest, valueTests, messageTests, countRefusal, flagsAt, bodyAt, packetAt, packetRefusal, packetOutput}
-use Rattle.fewest.proofs.Figures.{settings, zeros}
+use Rattle.cut.specs.Cutting.{countersFit, counterAt, packets, rounded, limitTest, valueTests, messageTests, countRefusal, flagsAt, bodyAt, packetAt, packetRefusal, packetOutput}
+use Rattle.packet.specs.Figure14.{settings, zeros}
 use Rattle.cells.specs.Segments.{Seg, segOf, carries}
 use Rattle.cells.specs.Rows.{Cell, held, mayHold}
-use Rattle.messages.specs.Messages.{cellsOf, look, roleOf, bodies, chain, runFrom, pickIn, top}
-use Rattle.keeping.specs.Cells.{put}
+use Rattle.cells.specs.Messages.{cellsOf, look, roleOf, bodies, restFrom, runFrom, pickIn, top}
+use Rattle.demand3.specs.Cells.{put}
 use Rattle.demand3.specs.Traffic.{Event, arrives, empty, takenFrom, stepped, after}
 use Rattle.demand3.specs.Calls.{Call, arrival, storeBy, storeAfter}
 use Rattle.demand3.specs.Presupposed.{InUse, emptyStore, storeBehind}
@@ -28,6 +29,7 @@ use Rattle.demand3.proofs.Steps.{eventOf, took-is}
 use Rattle.demand3.proofs.Events.{eventsIn}
 use Rattle.demand3.proofs.Carried.{behind-cells, behind-keeps}
 use Rattle.figures.specs.Table.{is, packet, written, taken, eight}
+use Rattle.sender.specs.Sending.{stepsOf}
 
 abbrev arrivals : List Call
 arrivals = arrival (packet 64 38 0 64) ∷ arrival (packet 64 38 1 36) ∷ []
@@ -43,11 +45,19 @@ abbrev closes : Seg
 closes = record { key = key; counter = 1; flags = 2; body = zeros 5 }
 
 first-comes : eventOf settings 1024 (packet 64 38 0 64) ≡ arrives opens
-unfolding nextCount wide alike numberAt begun check octets unless split presence identification fixedOctets frontOctets counterOctets backOctets headerOctets secondaryOctets dataOctets octetsOf primaryTests primaryOf octetField wideField sduField afterSdu afterArea afterService afterOperation afterVersion afterSession afterSecondary afterQualifier afterTransaction afterPresence fixedOf flagsOf presentOf idsOf textsOf bodyTest refusedHeader acceptedHeader readPacket counterPlace keyOf headOf sum nameChecks routingChecks idChecks textChecks headerChecks unlessAll settingsTest partsTest countersFit counterAt countAt packets rounded limitTest valueTests messageTests countRefusal flagsAt bodyAt packetAt packetRefusal packetOutput segOf mayHold
+unfolding nextCount wide alike numberAt begun check octets unless split presence identification fixedOctets frontOctets counterOctets backOctets
+    headerOctets secondaryOctets dataOctets octetsOf primaryTests primaryOf octetField wideField sduField afterSdu afterArea afterService
+    afterOperation afterVersion afterSession afterSecondary afterQualifier afterTransaction afterPresence fixedOf flagsOf presentOf idsOf textsOf
+    bodyTest refusedHeader acceptedHeader readPacket counterPlace keyOf headOf sum nameChecks routingChecks idChecks textChecks headerChecks unlessAll
+    settingsTest partsTest countersFit counterAt stepsOf countAt packets rounded limitTest valueTests messageTests countRefusal flagsAt bodyAt packetAt packetRefusal packetOutput segOf mayHold
 first-comes = refl
 
 last-comes : eventOf settings 1024 (packet 64 38 1 36) ≡ arrives closes
-unfolding nextCount wide alike numberAt begun check octets unless split presence identification fixedOctets frontOctets counterOctets backOctets headerOctets secondaryOctets dataOctets octetsOf primaryTests primaryOf octetField wideField sduField afterSdu afterArea afterService afterOperation afterVersion afterSession afterSecondary afterQualifier afterTransaction afterPresence fixedOf flagsOf presentOf idsOf textsOf bodyTest refusedHeader acceptedHeader readPacket counterPlace keyOf headOf sum nameChecks routingChecks idChecks textChecks headerChecks unlessAll settingsTest partsTest countersFit counterAt countAt packets rounded limitTest valueTests messageTests countRefusal flagsAt bodyAt packetAt packetRefusal packetOutput segOf mayHold
+unfolding nextCount wide alike numberAt begun check octets unless split presence identification fixedOctets frontOctets counterOctets backOctets
+    headerOctets secondaryOctets dataOctets octetsOf primaryTests primaryOf octetField wideField sduField afterSdu afterArea afterService
+    afterOperation afterVersion afterSession afterSecondary afterQualifier afterTransaction afterPresence fixedOf flagsOf presentOf idsOf textsOf
+    bodyTest refusedHeader acceptedHeader readPacket counterPlace keyOf headOf sum nameChecks routingChecks idChecks textChecks headerChecks unlessAll
+    settingsTest partsTest countersFit counterAt stepsOf countAt packets rounded limitTest valueTests messageTests countRefusal flagsAt bodyAt packetAt packetRefusal packetOutput segOf mayHold
 last-comes = refl
 
 events : eventsIn settings 1024 (emptyStore 1024 2) arrivals ≡ arrives opens ∷ arrives closes ∷ []
@@ -68,7 +78,7 @@ behind : cellsOf settings 1024 (storeBehind settings 1024 2 arrivals) 2 ≡ held
 behind = behind-cells settings 1024 2 one in-use arrivals ∙ ap (after suc top (empty 2)) events ∙ two-held
 
 sixty-one : written (takenFrom suc top (held opens ∷ held closes ∷ []) 61) ≡ is 61
-unfolding takenFrom look carries alike roleOf bodies chain runFrom pickIn
+unfolding takenFrom look carries alike roleOf bodies restFrom runFrom pickIn
 sixty-one = refl
 
 pub thirteen : taken eight 61 ≡ is 61

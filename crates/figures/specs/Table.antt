@@ -1,12 +1,12 @@
--- Document 01's "Figures to check by", 1 to 14, as one table: what the calls' definitions come to, and what document 01 says; last, what
--- it says of a recording of figure 14 alone. T is 8. Figures 7 to 13 are asked of figure 14's header and of a body of so many zeros.
+-- SPEC's figures, F-1 to F-14, as one table: what the calls' definitions come to, and what SPEC says; last, what it says of a
+-- recording of figure 14 alone. T is 8. Figures 7 to 13 are asked of figure 14's header and of a body of so many zeros.
 -- Assumes nothing: these are definitions.
 use Prim.Native.Nat.{ℕ, _*_}
 use mathlib.Core.List.{List, [], _∷_}
 use lib.ListN.{length}
 use Rattle.octets.specs.Octets.{pick, number as numberAt}
 use Rattle.varint.specs.Varint.{write}
-use Rattle.walk.specs.Walk.{Step, goes, number}
+use Rattle.walk.specs.Walk.{Step, goes, uinteger}
 use Rattle.packet.specs.declared.Header.{Header}
 use Rattle.packet.specs.Reading.{readPacket}
 use Rattle.write.specs.Writing.{fine, writeOutput}
@@ -14,9 +14,9 @@ use Rattle.cut.specs.declared.Counted.{Counted}
 use Rattle.cut.specs.Cutting.{headerLength, countAnswer, packetAnswer, packetOutput}
 use Rattle.arrival.specs.Arriving.{arrived, storeWith}
 use Rattle.taking.specs.Taking.{Took, message, unable, writing, took}
-use Rattle.format.proofs.Figure14.{packet as fourteen, header as told}
-use Rattle.two_way.proofs.Figures.{header as values, own, texts}
-use Rattle.fewest.proofs.Figures.{settings, sender, zeros}
+use Rattle.packet.specs.Figure14.{settings, zeros, packet as fourteen, header as told}
+use Rattle.write.specs.Figure14.{header as values, own, texts}
+use Rattle.fewest.specs.Figure14.{sender}
 use Rattle.recording.specs.Recording.{recorded}
 
 -- what is computed, and what is said: octets, a number, a refusal, or all that reading answers
@@ -26,7 +26,7 @@ pub data Said : Type 0 where
   gives : ℕ → Said
   header : Header → Said
 
--- a row: the figure's number, what the definitions come to, what document 01 says
+-- a row: the figure's number, what the definitions come to, what SPEC says
 pub record Row : Type 0 where
   pub figure : ℕ
   pub computed : Said
@@ -42,7 +42,7 @@ varintOf n = pick (fine (n .walk .refusal)) (is (n .value)) (gives (n .walk .ref
 
 -- a Varint read as a field of a header
 abbrev pub varint : List ℕ → Said
-varint l = varintOf (number settings l (goes 0))
+varint l = varintOf (uinteger settings l (goes 0))
 
 -- ---- cutting
 
@@ -119,7 +119,8 @@ table =
     ∷ row 13 (taken eight 61) (is 61)
     ∷ row 14 (header (readPacket settings fourteen)) (header told)
     ∷ row 14 (octets (writeOutput settings values own texts [] (zeros 27)))
-    (octets (0x18 ∷ 0x05 ∷ 0xC0 ∷ 0 ∷ 0 ∷ 0x14 ∷ 0 ∷ 0 ∷ 1 ∷ 0 ∷ 2 ∷ 0 ∷ 3 ∷ 1 ∷ 0x20 ∷ 6 ∷ 0 ∷ 7 ∷ 0 ∷ 0 ∷ 0 ∷ 0 ∷ 0 ∷ 0 ∷ 0 ∷ 9 ∷ 0 ∷ []))
+    (octets fourteen)
     ∷ row 14 (octets (recorded (0x4D ∷ 0x50 ∷ fourteen)))
-    (octets (0x4D ∷ 0x4D ∷ 0 ∷ 0 ∷ 0 ∷ 0x17 ∷ 0x18 ∷ 0x05 ∷ 0 ∷ 0 ∷ 1 ∷ 0 ∷ 2 ∷ 0 ∷ 3 ∷ 1 ∷ 0x20 ∷ 6 ∷ 0 ∷ 7 ∷ 0 ∷ 0 ∷ 0 ∷ 0 ∷ 0 ∷ 0 ∷ 0 ∷ 9 ∷ 0 ∷ []))
+    (octets (0x4D ∷ 0x4D ∷ 0 ∷ 0 ∷ 0 ∷ 0x17 ∷ 0x18 ∷ 0x05 ∷ 0 ∷ 0 ∷ 1 ∷ 0 ∷ 2 ∷ 0 ∷ 3 ∷ 1 ∷ 0x20 ∷ 6 ∷ 0 ∷ 7 ∷ 0 ∷ 0 ∷ 0 ∷ 0 ∷ 0 ∷ 0 ∷ 0 ∷ 9
+    ∷ 0 ∷ []))
     ∷ []

@@ -1,1 +1,1 @@
-// Laws: the figures of document 01 as one table. No code.
+// Laws: SPEC's figures as one table. No code.

@@ -21,7 +21,7 @@ sets-all l x e =
 module _ (t : Texts) (l m1 m2 m3 m4 m5 : List ℕ) where
   pub texts-laid :
       m1 ≡ sets l 28 (placeNumbers (t .timestamp)) → m2 ≡ sets m1 30 (placeNumbers (t .zone)) →
-      m3 ≡ sets m2 32 (placeNumbers (t .session)) → m4 ≡ sets (set m3 34 (t .count)) 35 (placesTo 16 (t .parts)) →
+      m3 ≡ sets m2 32 (placeNumbers (t .«session_name»)) → m4 ≡ sets (set m3 34 (t .count)) 35 (placesTo 16 (t .parts)) →
       m5 ≡ sets m4 67 (placeNumbers (t .authentication)) → m5 ≡ sets l 28 (textNumbers t)
   texts-laid e1 e2 e3 e4 e5 =
       let x = placesTo 16 (t .parts) in

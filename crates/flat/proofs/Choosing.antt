@@ -33,26 +33,26 @@ module _ (a b ok x y : Bool) (e : a ≡ x) (f : b ≡ y) (g : ok ≡ pick a b fa
 
 -- ---- writing
 
-module _ (t : ℕ) (h : List ℕ) (x : Lent) (flags seq counter : ℕ) (body : List ℕ) (ok : Bool) (e : ok ≡ writeFits h flags seq counter) where
+module _ (t : ℕ) (h : List ℕ) (x : Lent) (flags count counter : ℕ) (body : List ℕ) (ok : Bool) (e : ok ≡ writeFits h flags count counter) where
   module _ (f : ok ≡ false) where
     pub write-refused :
-        (room : ℕ) (r : List ℕ) → r ≡ writeRefused (settingsOf t) → r ≡ writeNumbers t h x flags seq counter body room
+        (room : ℕ) (r : List ℕ) → r ≡ writeRefused (settingsOf t) → r ≡ writeNumbers t h x flags count counter body room
     unfolding writeNumbers
     write-refused room r g = rw (sym e, f) g
 
-    pub write-kept : (out : List ℕ) → out ≡ writeOut t h x flags seq counter body out
+    pub write-kept : (out : List ℕ) → out ≡ writeOut t h x flags count counter body out
     unfolding writeOut
     write-kept out = rw (sym e, f)
 
-  module _ (f : ok ≡ true) (v : HeaderValues) (o : PacketValues) (g : v ≡ headerOf h) (k : o ≡ packetOf flags seq counter) where
+  module _ (f : ok ≡ true) (v : HeaderValues) (o : PacketValues) (g : v ≡ headerOf h) (k : o ≡ packetOf flags count counter) where
     pub write-told :
         (room : ℕ) (w : Written) (r : List ℕ) → w ≡ writeAnswer (settingsOf t) v o x body room → r ≡ writtenNumbers w →
-        r ≡ writeNumbers t h x flags seq counter body room
+        r ≡ writeNumbers t h x flags count counter body room
     unfolding writeNumbers
     write-told room w r m n = rw (sym e, f, sym g, sym k, sym m) n
 
     pub write-laid :
-        (out after : List ℕ) → after ≡ writeOutput (settingsOf t) v o x body out → after ≡ writeOut t h x flags seq counter body out
+        (out after : List ℕ) → after ≡ writeOutput (settingsOf t) v o x body out → after ≡ writeOut t h x flags count counter body out
     unfolding writeOut
     write-laid out after m = rw (sym e, f, sym g, sym k) m
 

@@ -23,27 +23,27 @@ tooWide r = unless false 22 r .number
 
 -- the refusal, and the next sequence count
 unfoldable pub nextNumbers : ℕ → List ℕ
-nextNumbers seq = pick (leb seq most16) (0 ∷ nextSequenceCount (record { 0 = seq }) .0 ∷ []) (22 ∷ 0 ∷ [])
+nextNumbers count = pick (leb count most16) (0 ∷ nextSequenceCount (record { 0 = count }) .0 ∷ []) (22 ∷ 0 ∷ [])
 
 -- ---- writing one packet
 
 abbrev pub writeFits : List ℕ → ℕ → ℕ → ℕ → Bool
-writeFits h flags seq counter = pick (headerFits h) (packetFits flags seq counter) false
+writeFits h flags count counter = pick (headerFits h) (packetFits flags count counter) false
 
 abbrev pub writeRefused : Settings → List ℕ
 writeRefused s = tooWide (settingsTest s noRefusal) ∷ 0 ∷ []
 
 -- the refusal, and the octets written
 unfoldable pub writeNumbers : ℕ → List ℕ → Lent → ℕ → ℕ → ℕ → List ℕ → ℕ → List ℕ
-writeNumbers t h x flags seq counter body room =
-    pick (writeFits h flags seq counter)
-    (writtenNumbers (writeAnswer (settingsOf t) (headerOf h) (packetOf flags seq counter) x body room))
+writeNumbers t h x flags count counter body room =
+    pick (writeFits h flags count counter)
+    (writtenNumbers (writeAnswer (settingsOf t) (headerOf h) (packetOf flags count counter) x body room))
     (writeRefused (settingsOf t))
 
 unfoldable pub writeOut : ℕ → List ℕ → Lent → ℕ → ℕ → ℕ → List ℕ → List ℕ → List ℕ
-writeOut t h x flags seq counter body out =
-    pick (writeFits h flags seq counter)
-    (writeOutput (settingsOf t) (headerOf h) (packetOf flags seq counter) x body out)
+writeOut t h x flags count counter body out =
+    pick (writeFits h flags count counter)
+    (writeOutput (settingsOf t) (headerOf h) (packetOf flags count counter) x body out)
     out
 
 -- ---- a sender's numbers

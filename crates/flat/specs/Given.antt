@@ -42,7 +42,7 @@ presentOf l =
       priority = eqb (numberAt l 15) 1;
       timestamp = eqb (numberAt l 16) 1;
       zone = eqb (numberAt l 17) 1;
-      session = eqb (numberAt l 18) 1;
+      «session_name» = eqb (numberAt l 18) 1;
       domain = eqb (numberAt l 19) 1;
       authentication = eqb (numberAt l 20) 1;
     }
@@ -50,7 +50,7 @@ presentOf l =
 unfoldable pub headerOf : List ℕ → HeaderValues
 headerOf l =
     record {
-      kind = numberAt l 0;
+      «packet_type» = numberAt l 0;
       apid = record { 0 = numberAt l 1 };
       sdu = numberAt l 2;
       area = numberAt l 3;
@@ -60,7 +60,7 @@ headerOf l =
       error = numberAt l 7;
       qos = numberAt l 8;
       session = numberAt l 9;
-      second = record { 0 = numberAt l 10 };
+      «secondary_apid» = record { 0 = numberAt l 10 };
       qualifier = numberAt l 11;
       transaction = numberAt l 12;
       has = presentOf l;
@@ -75,10 +75,10 @@ abbrev pub packetWidths : List ℕ
 packetWidths = most8 ∷ most16 ∷ most32 ∷ []
 
 abbrev pub packetFits : ℕ → ℕ → ℕ → Bool
-packetFits flags seq counter = fitsTo 3 (flags ∷ seq ∷ counter ∷ []) packetWidths
+packetFits flags count counter = fitsTo 3 (flags ∷ count ∷ counter ∷ []) packetWidths
 
 abbrev pub packetOf : ℕ → ℕ → ℕ → PacketValues
-packetOf flags seq counter = record { flags = flags; count = record { 0 = seq }; counter = record { 0 = counter } }
+packetOf flags count counter = record { flags = flags; «sequence_count» = record { 0 = count }; counter = record { 0 = counter } }
 
 -- ---- a sender: sequence count, whether a counter is left (1) or none (0), and the counter, 0 where none is left
 
@@ -91,6 +91,6 @@ senderFits l = pick (fitsTo 3 l senderWidths) (pick (eqb (numberAt l 1) 1) true 
 unfoldable pub senderOf : List ℕ → Sender
 senderOf l =
     record {
-      count = record { 0 = numberAt l 0 };
+      «sequence_count» = record { 0 = numberAt l 0 };
       next = pick (eqb (numberAt l 1) 1) (At (record { 0 = numberAt l 2 })) NoneLeft;
     }

@@ -1,5 +1,5 @@
 -- The answers of the calls as lists of numbers, for callers in other languages: the refusal first, then every other answer in the
--- order of document 01's fields. A truth value is 1 or 0, a place is two numbers.
+-- order of SPEC's fields. A truth value is 1 or 0, a place is two numbers.
 -- Assumes nothing: these are definitions.
 use Prim.Native.Nat.{ℕ, zero, suc}
 use mathlib.Core.List.{List, [], _∷_, _++_}
@@ -16,6 +16,7 @@ use Rattle.packet.specs.declared.Header.{Header}
 use Rattle.sender.specs.declared.Next.{Next}
 use Rattle.sender.specs.declared.Next.the-variants.{At, NoneLeft}
 use Rattle.sender.specs.declared.Sender.{Sender}
+use Rattle.sender.specs.Sending.{counterNumber}
 use Rattle.write.specs.declared.Written.{Written}
 use Rattle.cut.specs.declared.Counted.{Counted}
 use Rattle.cut.specs.declared.Cut.{Cut}
@@ -24,7 +25,7 @@ use Rattle.cut.specs.declared.Cut.{Cut}
 
 -- packet type, APID, sequence flags, sequence count
 abbrev pub primaryNumbers : Primary → List ℕ
-primaryNumbers p = p .kind ∷ p .apid .0 ∷ p .flags ∷ p .count .0 ∷ []
+primaryNumbers p = p .«packet_type» ∷ p .apid .0 ∷ p .flags ∷ p .«sequence_count» .0 ∷ []
 
 -- SDU type, area, service, operation, area version
 abbrev pub nameNumbers : Fixed → List ℕ
@@ -32,12 +33,12 @@ nameNumbers f = f .sdu ∷ f .area ∷ f .service ∷ f .operation ∷ f .versio
 
 -- error, QoS level, session, secondary APID, its qualifier, transaction id
 abbrev pub routingNumbers : Fixed → List ℕ
-routingNumbers f = f .error ∷ f .qos ∷ f .session ∷ f .apid .0 ∷ f .qualifier ∷ f .transaction ∷ []
+routingNumbers f = f .error ∷ f .qos ∷ f .session ∷ f .«secondary_apid» .0 ∷ f .qualifier ∷ f .transaction ∷ []
 
 -- the eight presence flags, in their order
 abbrev pub presentNumbers : Present → List ℕ
 presentNumbers h =
-    bit (h .source) ∷ bit (h .destination) ∷ bit (h .priority) ∷ bit (h .timestamp) ∷ bit (h .zone) ∷ bit (h .session)
+    bit (h .source) ∷ bit (h .destination) ∷ bit (h .priority) ∷ bit (h .timestamp) ∷ bit (h .zone) ∷ bit (h .«session_name»)
     ∷ bit (h .domain)
     ∷ bit (h .authentication)
     ∷ []
@@ -59,7 +60,7 @@ abbrev pub textNumbers : Texts → List ℕ
 textNumbers t =
     placeNumbers (t .timestamp)
     ++ (placeNumbers (t .zone)
-    ++ (placeNumbers (t .session) ++ ((t .count ∷ []) ++ (placesTo 16 (t .parts) ++ placeNumbers (t .authentication)))))
+    ++ (placeNumbers (t .«session_name») ++ ((t .count ∷ []) ++ (placesTo 16 (t .parts) ++ placeNumbers (t .authentication)))))
 
 -- what reading answers: 72 numbers
 unfoldable pub readNumbers : Header → List ℕ
@@ -77,18 +78,14 @@ readNumbers h =
 abbrev pub writtenNumbers : Written → List ℕ
 writtenNumbers w = w .refusal .number ∷ w .length ∷ []
 
--- whether a counter is left, and the counter, 0 where none is
+-- whether a counter is left
 unfoldable pub leftNumber : Next → ℕ
 leftNumber (At c) = 1
 leftNumber NoneLeft = 0
 
-unfoldable pub counterNumber : Next → ℕ
-counterNumber (At c) = c .0
-counterNumber NoneLeft = 0
-
--- a sender: its sequence count, and those two
+-- a sender: its sequence count, that, and the counter, 0 if none is left
 abbrev pub senderNumbers : Sender → List ℕ
-senderNumbers d = d .count .0 ∷ leftNumber (d .next) ∷ counterNumber (d .next) ∷ []
+senderNumbers d = d .«sequence_count» .0 ∷ leftNumber (d .next) ∷ counterNumber (d .next) ∷ []
 
 -- the refusal, the number of packets, the sender
 abbrev pub countedNumbers : Counted → List ℕ

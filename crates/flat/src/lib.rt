@@ -9,10 +9,13 @@ ghost use lib.ListN.{length};
 ghost use lib.Seq.{sets};
 ghost use Rattle.walk.specs.Walk.{settingsOf};
 ghost use Rattle.packet.specs.Reading.{readPacket};
+ghost use Rattle.sender.specs.Sending.{counterNumber};
 ghost use Rattle.write.specs.Given.{lent};
 ghost use Rattle.flat.specs.Given.{fitsTo, headerFits, presentOf, headerOf, packetFits, packetOf, senderFits, senderOf};
-ghost use Rattle.flat.specs.Answers.{tooWide, nextNumbers, writeRefused, writeNumbers, writeOut, afterPacketNumbers, afterSegmentNumbers, cutRefused, countNumbers, packetNumbers, packetOut};
-ghost use Rattle.flat.specs.Told.{primaryNumbers, nameNumbers, routingNumbers, presentNumbers, idsNumbers, placeNumbers, placesTo, textNumbers, readNumbers, writtenNumbers, leftNumber, counterNumber, senderNumbers, countedNumbers, cutNumbers};
+ghost use Rattle.flat.specs.Answers.{tooWide, nextNumbers, writeRefused, writeNumbers, writeOut, afterPacketNumbers};
+ghost use Rattle.flat.specs.Answers.{afterSegmentNumbers, cutRefused, countNumbers, packetNumbers, packetOut};
+ghost use Rattle.flat.specs.Told.{primaryNumbers, nameNumbers, routingNumbers, presentNumbers, idsNumbers, placeNumbers, placesTo};
+ghost use Rattle.flat.specs.Told.{textNumbers, readNumbers, writtenNumbers, leftNumber, senderNumbers, countedNumbers, cutNumbers};
 use cut::Counted;
 use cut::Cut;
 use fields::Place;
@@ -30,6 +33,7 @@ use sender::Next;
 use sender::Sender;
 use varint::MOST_16;
 use varint::MOST_32;
+use walk::REFUSED_VALUE;
 use walk::Refusal;
 use walk::Settings;
 use write::HeaderValues;
@@ -86,11 +90,11 @@ fn put_primary(answer: &mut [u64; READ], p: Primary)
     ensures { λ r. ⌜ now (answer .exit) ≡ sets (now (answer .entry)) 1 (primaryNumbers p) ⌝ }
 {
     let apid = p.apid;
-    let count = p.count;
-    answer[1] = p.kind as u64;
+    let sequence_count = p.sequence_count;
+    answer[1] = p.packet_type as u64;
     answer[2] = apid.0 as u64;
     answer[3] = p.flags as u64;
-    answer[4] = count.0 as u64;
+    answer[4] = sequence_count.0 as u64;
 }
 
 // SDU type to area version.
@@ -108,7 +112,7 @@ fn put_names(answer: &mut [u64; READ], f: Fixed)
 fn put_routing(answer: &mut [u64; READ], f: Fixed)
     ensures { λ r. ⌜ now (answer .exit) ≡ sets (now (answer .entry)) 10 (routingNumbers f) ⌝ }
 {
-    let apid = f.apid;
+    let apid = f.secondary_apid;
     answer[10] = f.error as u64;
     answer[11] = f.qos as u64;
     answer[12] = f.session as u64;
@@ -125,7 +129,7 @@ fn put_present(answer: &mut [u64; READ], has: Present)
     answer[18] = octets::bit_of(has.priority);
     answer[19] = octets::bit_of(has.timestamp);
     answer[20] = octets::bit_of(has.zone);
-    answer[21] = octets::bit_of(has.session);
+    answer[21] = octets::bit_of(has.session_name);
     answer[22] = octets::bit_of(has.domain);
     answer[23] = octets::bit_of(has.authentication);
 }
@@ -166,7 +170,7 @@ fn put_texts(answer: &mut [u64; READ], texts: Texts)
     let parts = texts.parts;
     put_place(answer, 28, texts.timestamp);
     put_place(answer, 30, texts.zone);
-    put_place(answer, 32, texts.session);
+    put_place(answer, 32, texts.session_name);
     answer[34] = texts.count as u64;
     put_domain(answer, parts);
     put_place(answer, 67, texts.authentication);
@@ -221,10 +225,10 @@ fn header_fits(h: &[u64; HEADER]) -> bool
     fits(h, &widths)
 }
 
-fn packet_fits(flags: u64, seq: u64, counter: u64) -> bool
-    ensures { λ r. ⌜ r ≡ packetFits flags seq counter ⌝ }
+fn packet_fits(flags: u64, sequence_count: u64, counter: u64) -> bool
+    ensures { λ r. ⌜ r ≡ packetFits flags «sequence_count» counter ⌝ }
 {
-    let list = [flags, seq, counter];
+    let list = [flags, sequence_count, counter];
     let widths = [255, MOST_16, MOST_32];
     fits(&list, &widths)
 }
@@ -238,7 +242,7 @@ fn present_of(h: &[u64; HEADER]) -> Present
         priority: h[15] == 1,
         timestamp: h[16] == 1,
         zone: h[17] == 1,
-        session: h[18] == 1,
+        session_name: h[18] == 1,
         domain: h[19] == 1,
         authentication: h[20] == 1,
     }
@@ -251,7 +255,7 @@ fn header_of(h: &[u64; HEADER]) -> HeaderValues
 {
     let has = present_of(h);
     HeaderValues {
-        kind: h[0] as u8,
+        packet_type: h[0] as u8,
         apid: Apid(h[1] as u16),
         sdu: h[2] as u8,
         area: h[3] as u32,
@@ -261,7 +265,7 @@ fn header_of(h: &[u64; HEADER]) -> HeaderValues
         error: h[7] as u8,
         qos: h[8] as u8,
         session: h[9] as u8,
-        second: SecondaryApid(h[10] as u16),
+        secondary_apid: SecondaryApid(h[10] as u16),
         qualifier: h[11] as u32,
         transaction: h[12],
         has: has,
@@ -272,13 +276,13 @@ fn header_of(h: &[u64; HEADER]) -> HeaderValues
 }
 
 // A packet's own values, which fit.
-fn packet_of(flags: u64, seq: u64, counter: u64) -> PacketValues
-    requires { ⌜ packetFits flags seq counter ≡ true ⌝ }
-    ensures { λ r. ⌜ r ≡ packetOf flags seq counter ⌝ }
+fn packet_of(flags: u64, sequence_count: u64, counter: u64) -> PacketValues
+    requires { ⌜ packetFits flags «sequence_count» counter ≡ true ⌝ }
+    ensures { λ r. ⌜ r ≡ packetOf flags «sequence_count» counter ⌝ }
 {
     PacketValues {
         flags: flags as u8,
-        count: SequenceCount(seq as u16),
+        sequence_count: SequenceCount(sequence_count as u16),
         counter: SegmentCounter(counter as u32),
     }
 }
@@ -296,15 +300,15 @@ fn sender_of(d: &[u64; SENDER]) -> Sender
     requires { ⌜ senderFits (now d) ≡ true ⌝ }
     ensures { λ r. ⌜ r ≡ senderOf (now (d .entry)) ⌝ }
 {
-    let count = SequenceCount(d[0] as u16);
+    let sequence_count = SequenceCount(d[0] as u16);
     if d[1] == 1 {
         return Sender {
-            count: count,
+            sequence_count: sequence_count,
             next: Next::At(SegmentCounter(d[2] as u32)),
         };
     }
     Sender {
-        count: count,
+        sequence_count: sequence_count,
         next: Next::NoneLeft,
     }
 }
@@ -334,11 +338,11 @@ fn counter_number(n: Next) -> u64
 fn sender_numbers(d: Sender) -> [u64; SENDER]
     ensures { λ r. ⌜ r ≡ senderNumbers d ⌝ }
 {
-    let count = d.count;
+    let sequence_count = d.sequence_count;
     let next = d.next;
     let left = left_number(next);
     let counter = counter_number(next);
-    [count.0 as u64, left, counter]
+    [sequence_count.0 as u64, left, counter]
 }
 
 fn counted_numbers(r: Counted) -> [u64; CUT]
@@ -360,13 +364,13 @@ fn cut_numbers(r: Cut) -> [u64; CUT]
 // ---- the calls
 
 // The next sequence count.
-pub fn next_sequence_count(seq: u64) -> [u64; 2]
-    ensures { λ r. ⌜ r ≡ nextNumbers seq ⌝ }
+pub fn next_sequence_count(sequence_count: u64) -> [u64; 2]
+    ensures { λ r. ⌜ r ≡ nextNumbers «sequence_count» ⌝ }
 {
-    if MOST_16 < seq {
+    if MOST_16 < sequence_count {
         return [TOO_WIDE, 0];
     }
-    let next = packet::next_sequence_count(SequenceCount(seq as u16));
+    let next = packet::next_sequence_count(SequenceCount(sequence_count as u16));
     [0, next.0 as u64]
 }
 
@@ -374,7 +378,7 @@ pub fn next_sequence_count(seq: u64) -> [u64; 2]
 fn too_wide(r: Refusal) -> u64
     ensures { λ q. ⌜ q ≡ tooWide r ⌝ }
 {
-    let q = walk::unless(r, false, 22);
+    let q = walk::unless(r, false, REFUSED_VALUE);
     q.number as u64
 }
 
@@ -404,23 +408,30 @@ pub fn write(
     lengths: &[u64],
     authentication: &[u8],
     flags: u64,
-    seq: u64,
+    sequence_count: u64,
     counter: u64,
     body: &[u8],
     out: &mut [u8],
 ) -> [u64; 2]
-    ensures answer { λ r. ⌜ r ≡ writeNumbers t (now (header .entry)) (lent (now (timestamp .entry)) (now (zone .entry)) (now (name .entry)) (now (domain .entry)) (now (lengths .entry)) (now (authentication .entry))) flags seq counter (now (body .entry)) (length (now (out .entry))) ⌝ }
-    ensures octets { λ r. ⌜ now (out .exit) ≡ writeOut t (now (header .entry)) (lent (now (timestamp .entry)) (now (zone .entry)) (now (name .entry)) (now (domain .entry)) (now (lengths .entry)) (now (authentication .entry))) flags seq counter (now (body .entry)) (now (out .entry)) ⌝ }
+    ensures answer { λ r. ⌜ r ≡ writeNumbers t (now (header .entry))
+        (lent (now (timestamp .entry)) (now (zone .entry)) (now (name .entry)) (now (domain .entry)) (now (lengths .entry))
+        (now (authentication .entry))) flags «sequence_count» counter (now (body .entry)) (length (now (out .entry))) ⌝ }
+    ensures octets { λ r. ⌜ now (out .exit) ≡ writeOut t (now (header .entry))
+        (lent (now (timestamp .entry)) (now (zone .entry)) (now (name .entry)) (now (domain .entry)) (now (lengths .entry))
+        (now (authentication .entry))) flags «sequence_count» counter (now (body .entry)) (now (out .entry)) ⌝ }
 {
     let s = Settings { t: t as usize };
-    let ok = octets::both(header_fits(header), packet_fits(flags, seq, counter));
+    let ok = octets::both(
+        header_fits(header),
+        packet_fits(flags, sequence_count, counter),
+    );
     if !ok {
         return write_too_wide(s);
     }
     written_numbers(write::write(
         s,
         header_of(header),
-        packet_of(flags, seq, counter),
+        packet_of(flags, sequence_count, counter),
         timestamp,
         zone,
         name,
@@ -477,7 +488,9 @@ pub fn cut_count(
     body: u64,
     sender: &[u64; SENDER],
 ) -> [u64; CUT]
-    ensures { λ r. ⌜ r ≡ countNumbers t p (now (header .entry)) (lent (now (timestamp .entry)) (now (zone .entry)) (now (name .entry)) (now (domain .entry)) (now (lengths .entry)) (now (authentication .entry))) body (now (sender .entry)) ⌝ }
+    ensures { λ r. ⌜ r ≡ countNumbers t p (now (header .entry))
+        (lent (now (timestamp .entry)) (now (zone .entry)) (now (name .entry)) (now (domain .entry)) (now (lengths .entry))
+        (now (authentication .entry))) body (now (sender .entry)) ⌝ }
 {
     let s = Settings { t: t as usize };
     let ok = octets::both(header_fits(header), sender_fits(sender));
@@ -515,8 +528,12 @@ pub fn cut_packet(
     i: u64,
     out: &mut [u8],
 ) -> [u64; CUT]
-    ensures answer { λ r. ⌜ r ≡ packetNumbers t p (now (header .entry)) (lent (now (timestamp .entry)) (now (zone .entry)) (now (name .entry)) (now (domain .entry)) (now (lengths .entry)) (now (authentication .entry))) (now (body .entry)) (now (sender .entry)) i (length (now (out .entry))) ⌝ }
-    ensures octets { λ r. ⌜ now (out .exit) ≡ packetOut t p (now (header .entry)) (lent (now (timestamp .entry)) (now (zone .entry)) (now (name .entry)) (now (domain .entry)) (now (lengths .entry)) (now (authentication .entry))) (now (body .entry)) (now (sender .entry)) i (now (out .entry)) ⌝ }
+    ensures answer { λ r. ⌜ r ≡ packetNumbers t p (now (header .entry))
+        (lent (now (timestamp .entry)) (now (zone .entry)) (now (name .entry)) (now (domain .entry)) (now (lengths .entry))
+        (now (authentication .entry))) (now (body .entry)) (now (sender .entry)) i (length (now (out .entry))) ⌝ }
+    ensures octets { λ r. ⌜ now (out .exit) ≡ packetOut t p (now (header .entry))
+        (lent (now (timestamp .entry)) (now (zone .entry)) (now (name .entry)) (now (domain .entry)) (now (lengths .entry))
+        (now (authentication .entry))) (now (body .entry)) (now (sender .entry)) i (now (out .entry)) ⌝ }
 {
     let s = Settings { t: t as usize };
     let ok = octets::both(header_fits(header), sender_fits(sender));

@@ -13,9 +13,8 @@ use Rattle.octets.specs.Octets.{pick}
 use Rattle.octets.proofs.Lists.{bool}
 use Rattle.walk.specs.declared.Settings.{Settings}
 use Rattle.walk.specs.Walk.{begun}
-use Rattle.cells.specs.Order.{inOrder, countIn}
-use Rattle.opening.specs.Inner.{gate}
-use Rattle.opening.proofs.Gate.{order-has}
+use Rattle.cells.specs.Order.{inOrder, countIn, gate, through}
+use Rattle.cells.proofs.Gate.{order-has, gate-by, gate-15}
 use Rattle.flat_store.specs.Numbers.{orderNumbers}
 use Rattle.flat_store.specs.Views.{insideNumbers, unnamed, viewNumbers}
 
@@ -59,23 +58,18 @@ module _ (w : ℕ) (p j : List ℕ) (place long : ℕ) {r : List ℕ} where
 -- ---- the order of a store
 
 module _ (s : Settings) (Z : ℕ) (st : List ℕ) where
-  by-gate : {k : ℕ} → gate s Z st ≡ k → pick (eqb k 0) (0 ∷ countIn Z st ∷ []) (k ∷ 0 ∷ []) ≡ orderNumbers s Z st
+  by-gate : {k : ℕ} → gate s Z st ≡ k → through k (0 ∷ countIn Z st ∷ []) (λ n. n ∷ 0 ∷ []) ≡ orderNumbers s Z st
   unfolding orderNumbers
-  by-gate e = ap (λ (g : ℕ). pick (eqb g 0) (0 ∷ countIn Z st ∷ []) (g ∷ 0 ∷ [])) (sym e)
-
-  gate-15 : (begun s .refusal .number ≡ 0 → ⊥) → gate s Z st ≡ 15
-  unfolding gate
-  gate-15 h = rw (ne-eqb (begun s .refusal .number) 0 h) refl
-
-  gate-by : {b : Bool} → begun s .refusal .number ≡ 0 → inOrder s Z st ≡ b → gate s Z st ≡ pick b 0 16
-  unfolding gate
-  gate-by e f = rw (eq-eqb (begun s .refusal .number) 0 e, f) refl
+  by-gate e = ap (λ (g : ℕ). through g (0 ∷ countIn Z st ∷ []) (λ n. n ∷ 0 ∷ [])) (sym e)
 
   -- T out of range
   pub order-15 : (begun s .refusal .number ≡ 0 → ⊥) → 15 ∷ 0 ∷ [] ≡ orderNumbers s Z st
-  order-15 h = by-gate (gate-15 h)
+  order-15 h = by-gate (gate-15 s Z st (ne-eqb (begun s .refusal .number) 0 h))
 
   module _ {n : ℕ} (e : n ≡ pick (inOrder s Z st) (countIn Z st) 0) (t : begun s .refusal .number ≡ 0) where
+    fine : eqb (begun s .refusal .number) 0 ≡ true
+    fine = eq-eqb (begun s .refusal .number) 0 t
+
     cells-some : inOrder s Z st ≡ true → (n ≡ countIn Z st) × (1 ≤ n)
     cells-some h =
         let k : n ≡ countIn Z st = e ∙ ap (λ (b : Bool). pick b (countIn Z st) 0) h in
@@ -86,10 +80,10 @@ module _ (s : Settings) (Z : ℕ) (st : List ℕ) where
 
     -- not in order
     pub order-16 : n ≡ 0 → 16 ∷ 0 ∷ [] ≡ orderNumbers s Z st
-    order-16 z = ⊎-elim (λ h. absurd (omega (arith, cells-some h .1))) (λ h. by-gate (gate-by t h)) (bool (inOrder s Z st))
+    order-16 z = ⊎-elim (λ h. absurd (omega (arith, cells-some h .1))) (λ h. by-gate (gate-by s Z st fine h)) (bool (inOrder s Z st))
 
     -- in order
     pub order-some : (n ≡ 0 → ⊥) → 0 ∷ n ∷ [] ≡ orderNumbers s Z st
     order-some z =
-        ⊎-elim (λ h. ap (λ (k : ℕ). 0 ∷ k ∷ []) (cells-some h .0) ∙ by-gate (gate-by t h)) (λ h. absurd (z (cells-none h)))
+        ⊎-elim (λ h. ap (λ (k : ℕ). 0 ∷ k ∷ []) (cells-some h .0) ∙ by-gate (gate-by s Z st fine h)) (λ h. absurd (z (cells-none h)))
         (bool (inOrder s Z st))

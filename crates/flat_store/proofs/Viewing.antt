@@ -10,8 +10,7 @@ use Rattle.octets.specs.Octets.{pick, part}
 use Rattle.join.specs.declared.Which.{Which}
 use Rattle.join.specs.declared.Which.the-variants.{Packet, Joined, Nothing}
 use Rattle.join.specs.Viewing.{inside, named, viewed}
-use Rattle.join.specs.Told.{wordOf}
-use Rattle.flat_store.specs.Numbers.{placeNumber}
+use Rattle.join.specs.Told.{bufferNumber}
 use Rattle.flat_store.specs.Views.{insideNumbers, viewNumbers}
 
 -- an answer is no refusal, and its place and length name this part of a buffer
@@ -27,7 +26,7 @@ inside-names b place long = go (leb (place + long) (length b))
     go false = (refl, refl)
 
 pub view-names :
-    (w : Which) (p j : List ℕ) (place long : ℕ) → Names (named w p j) (viewNumbers (placeNumber (wordOf w)) p j place long) (viewed w p j place long)
+    (w : Which) (p j : List ℕ) (place long : ℕ) → Names (named w p j) (viewNumbers (bufferNumber w) p j place long) (viewed w p j place long)
 unfolding viewNumbers viewed
 view-names Packet p j place long = inside-names p place long
 view-names Joined p j place long = inside-names j place long

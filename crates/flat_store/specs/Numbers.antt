@@ -1,37 +1,29 @@
--- The answers of the store's calls as plain numbers, the refusal first. Each is made from what the call answers in Rattle, or from
--- document 01's number and word for it, and from nothing else.
--- Document 01, "Refusal numbers": "A refusal answers its number, every other answer zero".
+-- The answers of the store's calls as plain numbers, the refusal first. Each is made from what the call answers in Rattle, and from
+-- nothing else.
+-- SPEC A-2: beside a refusal's number all else is 0.
 -- Assumes nothing: these are definitions.
 use Prim.Native.Nat.{ℕ}
 use mathlib.Core.List.{List, [], _∷_}
-use lib.Dec.{eqb}
-use Rattle.octets.specs.Octets.{pick}
 use Rattle.walk.specs.declared.Settings.{Settings}
-use Rattle.cells.specs.Order.{countIn}
+use Rattle.cells.specs.Order.{countIn, gate, through}
 use Rattle.taking.specs.declared.Taken.{Taken}
 use Rattle.arrival.specs.Arriving.{Arrived}
 use Rattle.taking.specs.Taking.{Took}
-use Rattle.arrival.specs.Told.{Word, silent, said-whole, said-stored, said-held, Said, saidOf}
+use Rattle.arrival.specs.declared.Arrival.{Arrival}
+use Rattle.arrival.specs.Told.{said, arrivalOf}
 use Rattle.taking.specs.Told.{takenOf}
-use Rattle.opening.specs.Inner.{gate}
 use Rattle.join.specs.Joining.{Joining}
-use Rattle.join.specs.Told.{Word as Place, silent as nowhere, said-packet, said-joined, Said as Says, said, joinedOf}
+use Rattle.join.specs.declared.Joined.{Joined}
+use Rattle.join.specs.Told.{bufferNumber, joinedOf}
 
 -- ---- arrival
 
--- document 01's "whole", "stored" and "held"
-abbrev pub wordNumber : Word → ℕ
-wordNumber silent = 0
-wordNumber said-whole = 1
-wordNumber said-stored = 2
-wordNumber said-held = 3
+abbrev pub arrivalNumbers : Arrival → List ℕ
+arrivalNumbers a = said a .number ∷ said a .word ∷ []
 
-abbrev pub saidNumbers : Said → List ℕ
-saidNumbers a = a .number ∷ wordNumber (a .word) ∷ []
-
--- refusal and kind
+-- refusal, and 1 whole, 2 stored or 3 held
 abbrev pub arriveNumbers : Arrived → List ℕ
-arriveNumbers b = saidNumbers (saidOf b)
+arriveNumbers b = arrivalNumbers (arrivalOf b)
 
 -- ---- taking
 
@@ -44,22 +36,23 @@ takeNumbers t = takenNumbers (takenOf t)
 
 -- ---- joining
 
--- which buffer holds the body: none, the packet, the joined one
-abbrev pub placeNumber : Place → ℕ
-placeNumber nowhere = 0
-placeNumber said-packet = 1
-placeNumber said-joined = 2
-
-abbrev pub saysNumbers : Says → List ℕ
-saysNumbers a =
-    a .number ∷ placeNumber (a .word) ∷ a .place ∷ a .length ∷ a .H ∷ a .B ∷ a .c ∷ []
+abbrev pub joinedNumbers : Joined → List ℕ
+joinedNumbers j =
+    j .refusal .number
+    ∷ bufferNumber (j .which)
+    ∷ j .place
+    ∷ j .length
+    ∷ j .header
+    ∷ j .body
+    ∷ j .counter .0
+    ∷ []
 
 -- refusal, buffer, place, length, H, B and c
 abbrev pub joinNumbers : Joining → List ℕ
-joinNumbers j = saysNumbers (said (joinedOf j))
+joinNumbers j = joinedNumbers (joinedOf j)
 
 -- ---- the order of a store
 
 -- refusal, 15 or 16, and the number of cells
 unfoldable pub orderNumbers : Settings → ℕ → List ℕ → List ℕ
-orderNumbers s Z st = pick (eqb (gate s Z st) 0) (0 ∷ countIn Z st ∷ []) (gate s Z st ∷ 0 ∷ [])
+orderNumbers s Z st = through (gate s Z st) (0 ∷ countIn Z st ∷ []) (λ k. k ∷ 0 ∷ [])

@@ -1,6 +1,5 @@
 -- The view of a body as a place and a length, for a language that gets no part of a slice.
--- Document 01, "The store": "a place and length not inside the named buffer give an empty part." And "Refusal numbers", 22: a number
--- above its range.
+-- SPEC J-6, X-5: what does not lie inside its buffer is an empty part. X-4: 22 for a number that names no buffer.
 -- Assumes nothing: these are definitions.
 use Prim.Native.Nat.{ℕ, _+_}
 use mathlib.Core.List.{List, [], _∷_}

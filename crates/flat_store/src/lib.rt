@@ -2,16 +2,18 @@
 //
 // Every number is one of 64 bits, and none is made narrower before it is tested. An answer is an array of numbers, the refusal first;
 // where the call is refused the others are 0.
+pub mod recordings;
+
 ghost use mathlib.Core.Path.{_≡_};
 ghost use lib.ListN.{length};
-ghost use Rattle.cells.specs.Order.{countIn};
+ghost use Rattle.cells.specs.Order.{countIn, cellSize};
 ghost use Rattle.arrival.specs.Arriving.{arrived, storeWith};
 ghost use Rattle.taking.specs.Taking.{took, outWith, storeLess};
-ghost use Rattle.arrival.specs.Told.{wordOf as kindOf, said as saidOf};
+ghost use Rattle.arrival.specs.Told.{wordOf};
 ghost use Rattle.join.specs.Joining.{joining, storeJoined, outJoined};
-ghost use Rattle.join.specs.Told.{wordOf as bufferOf, said as saysOf};
+ghost use Rattle.join.specs.Told.{bufferNumber};
 ghost use Rattle.walk.specs.Walk.{settingsOf};
-ghost use Rattle.flat_store.specs.Numbers.{wordNumber, saidNumbers, arriveNumbers, takenNumbers, takeNumbers, placeNumber, saysNumbers, joinNumbers, orderNumbers};
+ghost use Rattle.flat_store.specs.Numbers.{arrivalNumbers, arriveNumbers, takenNumbers, takeNumbers, joinedNumbers, joinNumbers, orderNumbers};
 ghost use Rattle.flat_store.specs.Views.{insideNumbers, viewNumbers};
 use arrival::Arrival;
 use arrival::Kind;
@@ -21,7 +23,7 @@ use taking::Taken;
 use walk::Settings;
 
 fn kind_number(k: Kind) -> u64
-    ensures { λ r. ⌜ r ≡ wordNumber (kindOf k) ⌝ }
+    ensures { λ r. ⌜ r ≡ wordOf k ⌝ }
 {
     match k {
         Kind::Whole => 1,
@@ -31,7 +33,7 @@ fn kind_number(k: Kind) -> u64
 }
 
 fn arrival_numbers(a: Arrival) -> [u64; 2]
-    ensures { λ r. ⌜ r ≡ saidNumbers (saidOf a) ⌝ }
+    ensures { λ r. ⌜ r ≡ arrivalNumbers a ⌝ }
 {
     match a {
         Arrival::Answer(k) => [0, kind_number(k)],
@@ -41,8 +43,9 @@ fn arrival_numbers(a: Arrival) -> [u64; 2]
 
 // A packet arrives: the refusal, and 1 whole, 2 stored or 3 held.
 pub fn arrive(t: u64, store: &mut [u8], packet: &[u8]) -> [u64; 2]
-    ensures { λ r. ⌜ r ≡ arriveNumbers (arrived (settingsOf t) 1024 (now (store .entry)) (now (packet .entry))) ⌝ }
-    ensures { λ r. ⌜ now (store .exit) ≡ storeWith 1024 (now (store .entry)) (now (packet .entry)) (arrived (settingsOf t) 1024 (now (store .entry)) (now (packet .entry))) ⌝ }
+    ensures { λ r. ⌜ r ≡ arriveNumbers (arrived (settingsOf t) cellSize (now (store .entry)) (now (packet .entry))) ⌝ }
+    ensures { λ r. ⌜ now (store .exit) ≡ storeWith cellSize (now (store .entry)) (now (packet .entry))
+        (arrived (settingsOf t) cellSize (now (store .entry)) (now (packet .entry))) ⌝ }
 {
     let s = Settings { t: t as usize };
     arrival_numbers(store::arrive(s, store, packet))
@@ -63,16 +66,17 @@ fn taken_numbers(t: Taken) -> [u64; 4]
 
 // A message is taken out: the refusal, H, B and c.
 pub fn take(t: u64, store: &mut [u8], out: &mut [u8]) -> [u64; 4]
-    ensures { λ r. ⌜ r ≡ takeNumbers (took (settingsOf t) 1024 (now (store .entry)) (length (now (out .entry)))) ⌝ }
-    ensures { λ r. ⌜ now (out .exit) ≡ outWith (now (out .entry)) (took (settingsOf t) 1024 (now (store .entry)) (length (now (out .entry)))) ⌝ }
-    ensures { λ r. ⌜ now (store .exit) ≡ storeLess (settingsOf t) 1024 (now (store .entry)) (countIn 1024 (now (store .entry))) (took (settingsOf t) 1024 (now (store .entry)) (length (now (out .entry)))) ⌝ }
+    ensures { λ r. ⌜ r ≡ takeNumbers (took (settingsOf t) cellSize (now (store .entry)) (length (now (out .entry)))) ⌝ }
+    ensures { λ r. ⌜ now (out .exit) ≡ outWith (now (out .entry)) (took (settingsOf t) cellSize (now (store .entry)) (length (now (out .entry)))) ⌝ }
+    ensures { λ r. ⌜ now (store .exit) ≡ storeLess (settingsOf t) cellSize (now (store .entry)) (countIn cellSize (now (store .entry)))
+        (took (settingsOf t) cellSize (now (store .entry)) (length (now (out .entry)))) ⌝ }
 {
     let s = Settings { t: t as usize };
     taken_numbers(store::take(s, store, out))
 }
 
 fn which_number(w: Which) -> u64
-    ensures { λ r. ⌜ r ≡ placeNumber (bufferOf w) ⌝ }
+    ensures { λ r. ⌜ r ≡ bufferNumber w ⌝ }
 {
     match w {
         Which::Nothing => 0,
@@ -82,7 +86,7 @@ fn which_number(w: Which) -> u64
 }
 
 fn joined_numbers(j: Joined) -> [u64; 7]
-    ensures { λ r. ⌜ r ≡ saysNumbers (saysOf j) ⌝ }
+    ensures { λ r. ⌜ r ≡ joinedNumbers j ⌝ }
 {
     let refusal = j.refusal;
     let which = j.which;
@@ -100,9 +104,9 @@ fn joined_numbers(j: Joined) -> [u64; 7]
 
 // A packet is joined: the refusal, 0 no buffer, 1 the packet or 2 the output, the body's place and length there, H, B and c.
 pub fn join(t: u64, store: &mut [u8], packet: &[u8], out: &mut [u8]) -> [u64; 7]
-    ensures { λ r. ⌜ r ≡ joinNumbers (joining (settingsOf t) 1024 (now (store .entry)) (now (packet .entry)) (length (now (out .entry)))) ⌝ }
-    ensures { λ r. ⌜ now (store .exit) ≡ storeJoined (settingsOf t) 1024 (now (store .entry)) (now (packet .entry)) (length (now (out .entry))) ⌝ }
-    ensures { λ r. ⌜ now (out .exit) ≡ outJoined (settingsOf t) 1024 (now (store .entry)) (now (packet .entry)) (now (out .entry)) ⌝ }
+    ensures { λ r. ⌜ r ≡ joinNumbers (joining (settingsOf t) cellSize (now (store .entry)) (now (packet .entry)) (length (now (out .entry)))) ⌝ }
+    ensures { λ r. ⌜ now (store .exit) ≡ storeJoined (settingsOf t) cellSize (now (store .entry)) (now (packet .entry)) (length (now (out .entry))) ⌝ }
+    ensures { λ r. ⌜ now (out .exit) ≡ outJoined (settingsOf t) cellSize (now (store .entry)) (now (packet .entry)) (now (out .entry)) ⌝ }
 {
     let s = Settings { t: t as usize };
     joined_numbers(join::join(s, store, packet, out))
@@ -140,7 +144,7 @@ pub fn view(packet: &[u8], joined: &[u8], which: u64, place: u64, long: u64) -> 
 
 // Whether a store is in order: 15, 16, or 0 and how many cells it has.
 pub fn in_order(t: u64, store: &[u8]) -> [u64; 2]
-    ensures { λ r. ⌜ r ≡ orderNumbers (settingsOf t) 1024 (now (store .entry)) ⌝ }
+    ensures { λ r. ⌜ r ≡ orderNumbers (settingsOf t) cellSize (now (store .entry)) ⌝ }
 {
     let s = Settings { t: t as usize };
     let w = walk::begin(s);

@@ -112,5 +112,5 @@ module _
   values-back =
       let f = front in
       let g = told-front s p in
-      same-values (told s p) v pairs (g .kind ∙ sym (f .kind)) (g .apid ∙ sym (f .apid)) (g .flags ∙ sym (f .flags))
-      (g .count ∙ sym (f .count)) body-is
+      same-values (told s p) v pairs (g .packet-type ∙ sym (f .packet-type)) (g .apid ∙ sym (f .apid)) (g .flags ∙ sym (f .flags))
+      (g .sequence-count ∙ sym (f .sequence-count)) body-is

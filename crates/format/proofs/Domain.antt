@@ -12,7 +12,7 @@ use lib.Dec.{leb}
 use borrow.Author.Tests.{leb-true, le-leb}
 use Rattle.octets.specs.Octets.{pick, Octets}
 use Rattle.walk.specs.declared.Settings.{Settings}
-use Rattle.walk.specs.Walk.{Reading, Step, headerEnd, check, number}
+use Rattle.walk.specs.Walk.{Reading, Step, headerEnd, check, uinteger}
 use Rattle.fields.specs.declared.Place.{Place}
 use Rattle.fields.specs.Fields.{nowhere, part, partsMost, Parts, noParts, partAt, partsTo, domain}
 use Rattle.fields.specs.Form.{domainOctets}
@@ -92,16 +92,16 @@ module _ (s : Settings) (p : List ℕ) where
 
   pub domain-step : (w : Reading) → domain s p w .walk ≡ counted .step w
   unfolding domain
-  domain-step w = which-walk (leb (number s p w .value) partsMost) (number s p w .value) (number s p w .walk)
+  domain-step w = which-walk (leb (uinteger s p w .value) partsMost) (uinteger s p w .value) (uinteger s p w .walk)
 
   pub domain-spots : (w : Reading) → placesOf (domain s p w .value) ≡ counted .spots w
   unfolding domain
-  domain-spots w = which-spots (leb (number s p w .value) partsMost) (number s p w .value) (number s p w .walk) refl
+  domain-spots w = which-spots (leb (uinteger s p w .value) partsMost) (uinteger s p w .value) (uinteger s p w .walk) refl
 
   pub domain-value : (w : Reading) → map (content p) (placesOf (domain s p w .value)) ≡ counted .value w
   domain-value w =
       ap (map (content p)) (domain-spots w)
-      ∙ which-values (leb (number s p w .value) partsMost) (number s p w .value) (number s p w .walk)
+      ∙ which-values (leb (uinteger s p w .value) partsMost) (uinteger s p w .value) (uinteger s p w .walk)
 
   which-count : (b : Bool) (n : ℕ) (w : Reading) → leb n partsMost ≡ b →
       pick b (partsTo s p n (before n w)) (before 0 (check false 13 w)) .value .count ≤ partsMost
@@ -116,11 +116,11 @@ module _ (s : Settings) (p : List ℕ) where
   -- there are at most sixteen parts, in a list of sixteen places
   pub domain-count : (w : Reading) → domain s p w .value .count ≤ partsMost
   unfolding domain
-  domain-count w = which-count (leb (number s p w .value) partsMost) (number s p w .value) (number s p w .walk) refl
+  domain-count w = which-count (leb (uinteger s p w .value) partsMost) (uinteger s p w .value) (uinteger s p w .walk) refl
 
   pub domain-all : (w : Reading) → length (domain s p w .value .places) ≡ partsMost
   unfolding domain
-  domain-all w = which-all (leb (number s p w .value) partsMost) (number s p w .value) (number s p w .walk)
+  domain-all w = which-all (leb (uinteger s p w .value) partsMost) (uinteger s p w .value) (uinteger s p w .walk)
 
   abbrev pub DomainFit : List (List ℕ) → Type 0
   DomainFit x = (length x ≤ partsMost) × Each Octets x

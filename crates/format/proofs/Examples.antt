@@ -11,14 +11,14 @@ use Rattle.octets.proofs.Has.{octets-nil, octets-one, octets-append}
 use Rattle.varint.specs.Varint.{octetsOf as varintOctets, write}
 use Rattle.walk.specs.declared.Settings.{Settings}
 use Rattle.packet.specs.declared.Header.{Header}
-use Rattle.fields.specs.Form.{numberOctets, blobOctets, textOctets, partOctets, joined, domainOctets}
+use Rattle.fields.specs.Form.{uintegerOctets, blobOctets, textOctets, partOctets, joined, domainOctets}
 use Rattle.packet.specs.Format.{Values, Each, presence, identification, fixedOctets, frontOctets, counterOctets, backOctets, secondaryOctets, dataOctets, octetsOf, InRange}
 use Rattle.packet.specs.Reading.{readPacket}
 use Rattle.format.specs.Told.{headOf, valuesOf}
 use Rattle.format.specs.Accepted.{Written}
 use Rattle.format.proofs.TwoWay.{reads-back}
 use Rattle.format.proofs.Accepting.{written}
-use Rattle.format.proofs.Figure14.{settings, values}
+use Rattle.packet.specs.Figure14.{settings, values}
 
 pub figure-in-range : InRange settings values
 unfolding octetsOf identification dataOctets secondaryOctets fixedOctets presence frontOctets counterOctets backOctets wide
@@ -27,7 +27,7 @@ figure-in-range =
       settings = record { t-low = omega arith; t-top = omega arith };
       head =
           record {
-            kind = omega arith;
+            packet-type = omega arith;
             apid = omega arith;
             sdu = omega arith;
             area = omega arith;
@@ -37,7 +37,7 @@ figure-in-range =
             error = omega arith;
             qos = omega arith;
             session = omega arith;
-            second = omega arith;
+            secondary-apid = omega arith;
             qualifier = omega arith;
             transaction = omega arith;
             source = refl;
@@ -45,12 +45,12 @@ figure-in-range =
             priority = refl;
             timestamp = refl;
             zone = refl;
-            name = refl;
+            session-name = refl;
             domain = refl;
             authentication = refl;
           };
       flags = omega arith;
-      count = omega arith;
+      sequence-count = omega arith;
       counter = refl;
       body = octets-nil;
       packet = omega arith;
@@ -67,7 +67,7 @@ full =
     record {
       head =
           record {
-            kind = 0;
+            packet-type = 0;
             apid = 2046;
             sdu = 21;
             area = 65535;
@@ -77,7 +77,7 @@ full =
             error = 1;
             qos = 3;
             session = 2;
-            second = 2047;
+            secondary-apid = 2047;
             qualifier = 1;
             transaction = 18446744073709551615;
             has-source = true;
@@ -85,7 +85,7 @@ full =
             has-priority = true;
             has-timestamp = true;
             has-zone = true;
-            has-name = true;
+            has-session-name = true;
             has-domain = true;
             has-authentication = true;
             source = 255;
@@ -93,31 +93,34 @@ full =
             priority = 300;
             timestamp = 1 ∷ 2 ∷ [];
             zone = 65 ∷ [];
-            name = [];
+            session-name = [];
             domain = (66 ∷ []) ∷ [] ∷ [];
             authentication = 255 ∷ 0 ∷ [];
           };
       flags = 1;
-      count = 16383;
+      sequence-count = 16383;
       counter = 4294967295;
       body = 7 ∷ [];
     }
 
 pub full-octets :
     octetsOf two full
-    ≡ 0x0F ∷ 0xFE ∷ 0x7F ∷ 0xFF ∷ 0 ∷ 43 ∷ 21 ∷ 255 ∷ 255 ∷ 0 ∷ 0 ∷ 1 ∷ 2 ∷ 255 ∷ 0xF7 ∷ 0xFF ∷ 0 ∷ 1 ∷ 255 ∷ 255 ∷ 255 ∷ 255 ∷ 255 ∷ 255 ∷ 255 ∷ 255 ∷ 255
+    ≡ 0x0F ∷ 0xFE ∷ 0x7F ∷ 0xFF ∷ 0 ∷ 43 ∷ 21 ∷ 255 ∷ 255 ∷ 0 ∷ 0 ∷ 1 ∷ 2 ∷ 255 ∷ 0xF7 ∷ 0xFF ∷ 0 ∷ 1 ∷ 255 ∷ 255 ∷ 255 ∷ 255 ∷ 255 ∷ 255 ∷ 255 ∷ 255
+    ∷ 255
     ∷ 255 ∷ 1 ∷ 255 ∷ 255 ∷ 255 ∷ 255 ∷ 0xAC ∷ 2 ∷ 1 ∷ 2 ∷ 1 ∷ 65 ∷ 0 ∷ 2 ∷ 1 ∷ 1 ∷ 66 ∷ 1 ∷ 0 ∷ 2 ∷ 255 ∷ 0 ∷ 7 ∷ []
-unfolding octetsOf identification dataOctets secondaryOctets fixedOctets presence frontOctets counterOctets backOctets wide numberOctets blobOctets textOctets partOctets joined domainOctets write varintOctets
+unfolding octetsOf identification dataOctets secondaryOctets fixedOctets presence frontOctets counterOctets backOctets wide uintegerOctets blobOctets
+    textOctets partOctets joined domainOctets write varintOctets
 full-octets = refl
 
 pub full-in-range : InRange two full
-unfolding octetsOf identification dataOctets secondaryOctets fixedOctets presence frontOctets counterOctets backOctets wide numberOctets blobOctets textOctets partOctets joined domainOctets write varintOctets Each
+unfolding octetsOf identification dataOctets secondaryOctets fixedOctets presence frontOctets counterOctets backOctets wide uintegerOctets blobOctets
+    textOctets partOctets joined domainOctets write varintOctets Each
 full-in-range =
     record {
       settings = record { t-low = omega arith; t-top = omega arith };
       head =
           record {
-            kind = omega arith;
+            packet-type = omega arith;
             apid = omega arith;
             sdu = omega arith;
             area = omega arith;
@@ -127,7 +130,7 @@ full-in-range =
             error = omega arith;
             qos = omega arith;
             session = omega arith;
-            second = omega arith;
+            secondary-apid = omega arith;
             qualifier = omega arith;
             transaction = omega arith;
             source = omega arith;
@@ -135,12 +138,12 @@ full-in-range =
             priority = omega arith;
             timestamp = (refl, octets-append (1 ∷ []) (2 ∷ []) (octets-one 1 (omega arith)) (octets-one 2 (omega arith)));
             zone = octets-one 65 (omega arith);
-            name = octets-nil;
+            session-name = octets-nil;
             domain = (omega arith, (octets-one 66 (omega arith), (octets-nil, tt)));
             authentication = octets-append (255 ∷ []) (0 ∷ []) (octets-one 255 (omega arith)) (octets-one 0 (omega arith));
           };
       flags = omega arith;
-      count = omega arith;
+      sequence-count = omega arith;
       counter = omega arith;
       body = octets-one 7 (omega arith);
       packet = omega arith;
@@ -159,6 +162,6 @@ full-written = written two full full-in-range
 pub no-constant : (h : Header) → ((s : Settings) (v : Values) → InRange s v → valuesOf (octetsOf s v) h ≡ v) → ⊥
 unfolding valuesOf headOf
 no-constant h f =
-    let a : h .primary .kind ≡ 1 = ap (λ (v : Values). v .head .kind) (f settings values figure-in-range) in
-    let b : h .primary .kind ≡ 0 = ap (λ (v : Values). v .head .kind) (f two full full-in-range) in
+    let a : h .primary .«packet_type» ≡ 1 = ap (λ (v : Values). v .head .packet-type) (f settings values figure-in-range) in
+    let b : h .primary .«packet_type» ≡ 0 = ap (λ (v : Values). v .head .packet-type) (f two full full-in-range) in
     omega arith

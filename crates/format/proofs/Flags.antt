@@ -14,7 +14,7 @@ use Rattle.packet.specs.FixedPart.{flagsOf}
 abbrev pub flagOctet : Present → ℕ
 flagOctet h =
     128 * bit (h .source) + 64 * bit (h .destination) + 32 * bit (h .priority) + 16 * bit (h .timestamp) + 8 * bit (h .zone)
-    + 4 * bit (h .session)
+    + 4 * bit (h .«session_name»)
     + 2 * bit (h .domain)
     + bit (h .authentication)
 
@@ -93,9 +93,9 @@ pub flags-octet : (h : Present) → flagsOf (flagOctet h) ≡ h
 unfolding flagsOf
 flags-octet h =
     let r =
-    bits (bit (h .source)) (bit (h .destination)) (bit (h .priority)) (bit (h .timestamp)) (bit (h .zone)) (bit (h .session))
+    bits (bit (h .source)) (bit (h .destination)) (bit (h .priority)) (bit (h .timestamp)) (bit (h .zone)) (bit (h .«session_name»))
     (bit (h .domain)) (bit (h .authentication)) (bit-top (h .source)) (bit-top (h .destination)) (bit-top (h .priority))
-    (bit-top (h .timestamp)) (bit-top (h .zone)) (bit-top (h .session)) (bit-top (h .domain)) (bit-top (h .authentication)) in
+    (bit-top (h .timestamp)) (bit-top (h .zone)) (bit-top (h .«session_name»)) (bit-top (h .domain)) (bit-top (h .authentication)) in
     λ i.
     record {
       source = said (h .source) (r .b7) i;
@@ -103,7 +103,7 @@ flags-octet h =
       priority = said (h .priority) (r .b5) i;
       timestamp = said (h .timestamp) (r .b4) i;
       zone = said (h .zone) (r .b3) i;
-      session = said (h .session) (r .b2) i;
+      «session_name» = said (h .«session_name») (r .b2) i;
       domain = said (h .domain) (r .b1) i;
       authentication = said (h .authentication) (r .b0) i;
     }
@@ -120,7 +120,7 @@ flag-top h =
       bit-top (h .priority),
       bit-top (h .timestamp),
       bit-top (h .zone),
-      bit-top (h .session),
+      bit-top (h .«session_name»),
       bit-top (h .domain),
       bit-top (h .authentication),
     )

@@ -18,10 +18,10 @@ use Rattle.format.proofs.Start.{Opens}
 
 -- the values of the primary header are those that p tells
 pub record Front (p : List ℕ) (v : Values) : Type 0 where
-  pub kind : v .head .kind ≡ octetAt p 0 / 16 % 2
+  pub packet-type : v .head .packet-type ≡ octetAt p 0 / 16 % 2
   pub apid : v .head .apid ≡ number 2 p 0 % 2048
   pub flags : v .flags ≡ octetAt p 2 / 64
-  pub count : v .count ≡ number 2 p 2 % 16384
+  pub sequence-count : v .sequence-count ≡ number 2 p 2 % 16384
 
 pub fixed-long : (h : Head) → length (fixedOctets h) ≡ fixedSize
 unfolding fixedOctets wide
@@ -43,11 +43,11 @@ word-is p i = let e : i + 0 ≡ i = omega arith in rw e (omega arith)
 -- ---- from octets to the format
 
 module _ (s : Settings) (p : List ℕ) (v : Values) (o : Octets p) (d : Opens s p) (f : Front p v) where
-  word0 : v .head .kind * 4096 + 2048 + v .head .apid ≡ number 2 p 0
-  word0 = omega (arith, word-is p 0, f .kind, f .apid, d .version, d .second, o 1)
+  word0 : v .head .packet-type * 4096 + 2048 + v .head .apid ≡ number 2 p 0
+  word0 = omega (arith, word-is p 0, f .packet-type, f .apid, d .version, d .second, o 1)
 
-  word2 : v .flags * 16384 + v .count ≡ number 2 p 2
-  word2 = omega (arith, word-is p 2, f .flags, f .count, o 2, o 3)
+  word2 : v .flags * 16384 + v .sequence-count ≡ number 2 p 2
+  word2 = omega (arith, word-is p 2, f .flags, f .sequence-count, o 2, o 3)
 
   -- as long as the packet's length says
   module _ (h : Has p 6 (dataOctets s v)) (l : 6 + length (dataOctets s v) ≡ length p) where
@@ -85,9 +85,9 @@ data-plain s v r = octets-append (secondaryOctets s v) (v .body) (secondary-plai
 pub packet-plain : (s : Settings) (v : Values) → InRange s v → Octets (octetsOf s v)
 unfolding octetsOf identification
 packet-plain s v r =
-    wide-before (v .head .kind * 4096 + 2048 + v .head .apid)
-    (wide 2 (v .flags * 16384 + v .count) ++ (wide 2 (length (dataOctets s v) - 1) ++ dataOctets s v))
-    (wide-before (v .flags * 16384 + v .count) (wide 2 (length (dataOctets s v) - 1) ++ dataOctets s v)
+    wide-before (v .head .packet-type * 4096 + 2048 + v .head .apid)
+    (wide 2 (v .flags * 16384 + v .sequence-count) ++ (wide 2 (length (dataOctets s v) - 1) ++ dataOctets s v))
+    (wide-before (v .flags * 16384 + v .sequence-count) (wide 2 (length (dataOctets s v) - 1) ++ dataOctets s v)
     (wide-before (length (dataOctets s v) - 1) (dataOctets s v) (data-plain s v r)))
 
 module _
@@ -100,8 +100,8 @@ module _
     (l : length p ≡ length (octetsOf s v)) where
   -- the three words and what is behind them
   record Words : Type 0 where
-    w0 : number 2 p 0 ≡ v .head .kind * 4096 + 2048 + v .head .apid
-    w2 : number 2 p 2 ≡ v .flags * 16384 + v .count
+    w0 : number 2 p 0 ≡ v .head .packet-type * 4096 + 2048 + v .head .apid
+    w2 : number 2 p 2 ≡ v .flags * 16384 + v .sequence-count
     w4 : number 2 p 4 ≡ length (dataOctets s v) - 1
     behind : Has p 6 (dataOctets s v)
 
@@ -110,11 +110,11 @@ module _
   words =
       let k = r .packet in
       let n = packet-long s v in
-      let h2 = has-second (wide 2 (v .head .kind * 4096 + 2048 + v .head .apid)) _ h in
-      let h4 = has-second (wide 2 (v .flags * 16384 + v .count)) _ h2 in
+      let h2 = has-second (wide 2 (v .head .packet-type * 4096 + 2048 + v .head .apid)) _ h in
+      let h4 = has-second (wide 2 (v .flags * 16384 + v .sequence-count)) _ h2 in
       record {
-        w0 = number-back 2 p 0 _ (omega (arith, r .head .kind, r .head .apid)) (has-first (wide 2 _) _ h);
-        w2 = number-back 2 p 2 _ (omega (arith, r .flags, r .count)) (has-first (wide 2 _) _ h2);
+        w0 = number-back 2 p 0 _ (omega (arith, r .head .packet-type, r .head .apid)) (has-first (wide 2 _) _ h);
+        w2 = number-back 2 p 2 _ (omega (arith, r .flags, r .sequence-count)) (has-first (wide 2 _) _ h2);
         w4 = number-back 2 p 4 _ (omega arith) (has-first (wide 2 (length (dataOctets s v) - 1)) _ h4);
         behind = has-second (wide 2 (length (dataOctets s v) - 1)) (dataOctets s v) h4;
       }
@@ -126,10 +126,10 @@ module _
   front-back =
       let w = words in
       record {
-        kind = omega (arith, w .w0, word-is p 0, r .head .kind, r .head .apid, o 1);
-        apid = omega (arith, w .w0, r .head .kind, r .head .apid);
-        flags = omega (arith, w .w2, word-is p 2, r .flags, r .count, o 3);
-        count = omega (arith, w .w2, r .flags, r .count);
+        packet-type = omega (arith, w .w0, word-is p 0, r .head .packet-type, r .head .apid, o 1);
+        apid = omega (arith, w .w0, r .head .packet-type, r .head .apid);
+        flags = omega (arith, w .w2, word-is p 2, r .flags, r .sequence-count, o 3);
+        sequence-count = omega (arith, w .w2, r .flags, r .sequence-count);
       }
 
   pub opens-back : 1 ≤ length (dataOctets s v) → Opens s p
@@ -140,8 +140,8 @@ module _
         t-low = r .settings .t-low;
         t-top = r .settings .t-top;
         six = omega arith;
-        version = omega (arith, w .w0, word-is p 0, r .head .kind, r .head .apid, o 1);
-        second = omega (arith, w .w0, word-is p 0, r .head .kind, r .head .apid, o 1);
-        idle = λ e. omega (arith, w .w0, r .head .kind, r .head .apid);
+        version = omega (arith, w .w0, word-is p 0, r .head .packet-type, r .head .apid, o 1);
+        second = omega (arith, w .w0, word-is p 0, r .head .packet-type, r .head .apid, o 1);
+        idle = λ e. omega (arith, w .w0, r .head .packet-type, r .head .apid);
         long = omega (arith, w .w4);
       }

@@ -24,7 +24,7 @@ use Rattle.format.proofs.Accepting.{accepted}
 
 -- a head as a whole packet with no body
 abbrev pub alone : Head → Values
-alone h = record { head = h; flags = 3; count = 0; counter = 0; body = [] }
+alone h = record { head = h; flags = 3; sequence-count = 0; counter = 0; body = [] }
 
 alone-header : (s : Settings) (h : Head) → secondaryOctets s (alone h) ≡ headerOctets s h
 unfolding secondaryOctets headerOctets counterOctets
@@ -50,7 +50,7 @@ alone-in-range s h z r l =
       settings = z;
       head = r;
       flags = omega arith;
-      count = omega arith;
+      sequence-count = omega arith;
       counter = refl;
       body = octets-nil;
       packet = omega (arith, packet-long s (alone h), data-long s (alone h));

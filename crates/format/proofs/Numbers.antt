@@ -18,10 +18,10 @@ use Rattle.octets.proofs.Numbers.{wide-length, wide-octets, number-top, number-
 use Rattle.varint.specs.Varint.{Got, value, ends, bad, readAt, write}
 use Rattle.varint.proofs.Laws.{reads-back, only-written, write-octets}
 use Rattle.walk.specs.declared.Settings.{Settings}
-use Rattle.walk.specs.Walk.{Reading, Step, goes, refused, going, headerEnd, octets, number, numberStep}
+use Rattle.walk.specs.Walk.{Reading, Step, goes, refused, going, headerEnd, octets, uinteger, uintegerStep}
 use Rattle.walk.proofs.Steps.{octets-goes, octets-there, number-found, number-refused, number-small}
 use Rattle.fields.specs.Fields.{place}
-use Rattle.fields.specs.Form.{numberOctets}
+use Rattle.fields.specs.Form.{uintegerOctets}
 use Rattle.format.proofs.Field.{Took, Field, took-order, order-one, told}
 
 -- ---- a list that stands inside what a list begins with
@@ -129,16 +129,16 @@ module _ (p : List ℕ) where
 
   module _ (s : Settings) where
     pub number-reads :
-        (i n : ℕ) → n < 4294967296 → Has p i (numberOctets s n) → i + length (numberOctets s n) ≤ headerEnd →
-        (number s p (goes i) .walk ≡ goes (i + length (numberOctets s n))) × (number s p (goes i) .value ≡ n)
-    unfolding numberOctets numberStep
+        (i n : ℕ) → n < 4294967296 → Has p i (uintegerOctets s n) → i + length (uintegerOctets s n) ≤ headerEnd →
+        (uinteger s p (goes i) .walk ≡ goes (i + length (uintegerOctets s n))) × (uinteger s p (goes i) .value ≡ n)
+    unfolding uintegerOctets uintegerStep
     number-reads i n b h l =
         let e = reads-back 32 (take headerEnd p) i n b (has-take headerEnd (write n) h l) in
         let q = number-found s p (goes i) refl e in
         (ap (λ (x : Step ℕ). x .walk) q, ap (λ (x : Step ℕ). x .value) q)
 
-    pub number-plain : (n : ℕ) → Octets (numberOctets s n)
-    unfolding numberOctets
+    pub number-plain : (n : ℕ) → Octets (uintegerOctets s n)
+    unfolding uintegerOctets
     number-plain n = write-octets n n (le-refl n)
 
     -- what a number's reading is, where it goes on
@@ -147,14 +147,14 @@ module _ (p : List ℕ) where
       what : ℕ
       next : ℕ
       found : readAt 32 (take headerEnd p) (w .at) ≡ value what next
-      step : number s p w ≡ record { walk = goes next; value = what }
+      step : uinteger s p w ≡ record { walk = goes next; value = what }
 
     no-going : (b : Bool) → going (refused (pick b 12 6)) ≡ true → _≡_ {A = ℕ} 0 1
     no-going true g = cc
     no-going false g = cc
 
-    read : (w : Reading) → going (number s p w .walk) ≡ true → Read w
-    unfolding numberStep
+    read : (w : Reading) → going (uinteger s p w .walk) ≡ true → Read w
+    unfolding uintegerStep
     read w g = ⊎-elim on off (bool (going w))
       where
         off : going w ≡ false → Read w
@@ -172,9 +172,9 @@ module _ (p : List ℕ) where
         on f = by f (readAt 32 (take headerEnd p) (w .at)) refl
 
     pub number-only :
-        Octets p → (w : Reading) → going (number s p w .walk) ≡ true →
-        Took p w (number s p w .walk) (numberOctets s (number s p w .value)) × (number s p w .value < 4294967296)
-    unfolding numberOctets
+        Octets p → (w : Reading) → going (uinteger s p w .walk) ≡ true →
+        Took p w (uinteger s p w .walk) (uintegerOctets s (uinteger s p w .value)) × (uinteger s p w .value < 4294967296)
+    unfolding uintegerOctets
     number-only o w g =
         let r = read w g in
         let c = only-written 32 (take headerEnd p) (w .at) (r .what) (r .next) (octets-take headerEnd p o) (r .found) in
@@ -192,9 +192,9 @@ module _ (p : List ℕ) where
     abbrev pub numberF : Field p ℕ
     numberF =
         record {
-          step = λ w. number s p w .walk;
-          value = λ w. number s p w .value;
-          form = numberOctets s;
+          step = λ w. uinteger s p w .walk;
+          value = λ w. uinteger s p w .value;
+          form = uintegerOctets s;
           Fit = λ n. n < 4294967296;
           spots = λ w. [];
           back = number-reads;

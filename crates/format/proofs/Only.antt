@@ -36,7 +36,8 @@ module _ (s : Settings) (p : List ℕ) where
   told = valuesOf p (acceptedHeader s p)
 
   pub told-pair : secondaryF s p (segmented p) .value (startAt s p) ≡ pairOf told
-  unfolding valuesOf headOf acceptedHeader primaryOf fixedOf presentOf idsOf textsOf afterSdu afterArea afterService afterOperation afterVersion afterSession afterSecondary afterQualifier afterTransaction afterPresence
+  unfolding valuesOf headOf acceptedHeader primaryOf fixedOf presentOf idsOf textsOf afterSdu afterArea afterService afterOperation afterVersion
+      afterSession afterSecondary afterQualifier afterTransaction afterPresence
   told-pair = refl
 
   pub told-step : secondaryF s p (segmented p) .step (startAt s p) ≡ textsAt s p .walk
@@ -45,20 +46,22 @@ module _ (s : Settings) (p : List ℕ) where
 
   pub told-front : Front p told
   unfolding valuesOf headOf acceptedHeader primaryOf
-  told-front = record { kind = refl; apid = refl; flags = refl; count = refl }
+  told-front = record { packet-type = refl; apid = refl; flags = refl; sequence-count = refl }
 
   pub told-segment : segment (told .flags) ≡ segmented p
   unfolding valuesOf headOf acceptedHeader primaryOf
   told-segment = refl
 
   told-form : secondaryOctets s told ≡ secondaryF s p (segmented p) .form (secondaryF s p (segmented p) .value (startAt s p))
-  unfolding valuesOf headOf acceptedHeader primaryOf fixedOf presentOf idsOf textsOf afterSdu afterArea afterService afterOperation afterVersion afterSession afterSecondary afterQualifier afterTransaction afterPresence
+  unfolding valuesOf headOf acceptedHeader primaryOf fixedOf presentOf idsOf textsOf afterSdu afterArea afterService afterOperation afterVersion
+      afterSession afterSecondary afterQualifier afterTransaction afterPresence
   told-form = pair-form s p told
 
   told-fit :
       secondaryF s p (segmented p) .Fit (secondaryF s p (segmented p) .value (startAt s p)) →
       secondaryF s p (segment (told .flags)) .Fit (pairOf told)
-  unfolding valuesOf headOf acceptedHeader primaryOf fixedOf presentOf idsOf textsOf afterSdu afterArea afterService afterOperation afterVersion afterSession afterSecondary afterQualifier afterTransaction afterPresence
+  unfolding valuesOf headOf acceptedHeader primaryOf fixedOf presentOf idsOf textsOf afterSdu afterArea afterService afterOperation afterVersion
+      afterSession afterSecondary afterQualifier afterTransaction afterPresence
   told-fit f = f
 
   pub start-sound : Sound p (startAt s p)
@@ -76,7 +79,8 @@ module _ (s : Settings) (p : List ℕ) where
   told-took :
       Octets p → going (textsAt s p .walk) ≡ true →
       Took p (startAt s p) (textsAt s p .walk) (secondaryOctets s told) × secondaryF s p (segment (told .flags)) .Fit (pairOf told)
-  unfolding valuesOf headOf acceptedHeader primaryOf fixedOf presentOf idsOf textsOf afterSdu afterArea afterService afterOperation afterVersion afterSession afterSecondary afterQualifier afterTransaction afterPresence
+  unfolding valuesOf headOf acceptedHeader primaryOf fixedOf presentOf idsOf textsOf afterSdu afterArea afterService afterOperation afterVersion
+      afterSession afterSecondary afterQualifier afterTransaction afterPresence
   told-took o g =
       let c = secondaryF s p (segmented p) .only o (startAt s p) start-sound g in
       (subst (λ (l : List ℕ). Took p (startAt s p) (textsAt s p .walk) l) (sym told-form) (c .0), told-fit (c .1))
@@ -132,9 +136,9 @@ module _ (s : Settings) (p : List ℕ) where
       let b = told-body k in
       record {
         settings = record { t-low = d .t-low; t-top = d .t-top };
-        head = fit-head s p told (k .fit) (omega (arith, f .kind)) (omega (arith, f .apid, d .idle));
+        head = fit-head s p told (k .fit) (omega (arith, f .packet-type)) (omega (arith, f .apid, d .idle));
         flags = omega (arith, f .flags, o 2);
-        count = omega (arith, f .count);
+        sequence-count = omega (arith, f .sequence-count);
         counter = fit-counter s p told (k .fit);
         body = told-octets o;
         packet = rw (told-written o k) (omega (arith, d .long, number-top 2 p 4 o));

@@ -67,7 +67,7 @@ module _ (h : Header) (o : InOrder optionalPlace (spotsOf h) (h .body .at)) wher
   spot2 = spot (h .has .zone) (h .texts .zone)
 
   abbrev spot3 : List Place
-  spot3 = spot (h .has .session) (h .texts .session)
+  spot3 = spot (h .has .«session_name») (h .texts .«session_name»)
 
   abbrev spots4 : List Place
   spots4 = pick (h .has .domain) (take (h .texts .count) (h .texts .parts)) []
@@ -97,7 +97,7 @@ module _ (h : Header) (o : InOrder optionalPlace (spotsOf h) (h .body .at)) wher
   pub zone-inside : h .has .zone ≡ true → Inside h (h .texts .zone)
   zone-inside = inside _ _ (order-first _ _ spot2 _ from2)
 
-  pub name-inside : h .has .session ≡ true → Inside h (h .texts .session)
+  pub name-inside : h .has .«session_name» ≡ true → Inside h (h .texts .«session_name»)
   name-inside = inside _ _ (order-first _ _ spot3 _ from3)
 
   pub authentication-inside : h .has .authentication ≡ true → Inside h (h .texts .authentication)

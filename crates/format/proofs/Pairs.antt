@@ -18,7 +18,7 @@ flagsOfHead h =
       priority = h .has-priority;
       timestamp = h .has-timestamp;
       zone = h .has-zone;
-      session = h .has-name;
+      «session_name» = h .has-session-name;
       domain = h .has-domain;
       authentication = h .has-authentication;
     }
@@ -34,7 +34,7 @@ fixedPair h = (
         h .operation,
         (
           h .version,
-          ((h .error, (h .qos, (h .session, h .second))), (h .qualifier, (h .transaction, flagsOfHead h))),
+          ((h .error, (h .qos, (h .session, h .secondary-apid))), (h .qualifier, (h .transaction, flagsOfHead h))),
         ),
       ),
     ),
@@ -43,7 +43,7 @@ fixedPair h = (
 
 abbrev pub optionalPair : Head → ℕ → Optional
 optionalPair h c =
-    (h .source, (h .destination, (c, (h .priority, (h .timestamp, (h .zone, (h .name, (h .domain, h .authentication))))))))
+    (h .source, (h .destination, (c, (h .priority, (h .timestamp, (h .zone, (h .session-name, (h .domain, h .authentication))))))))
 
 abbrev pub pairOf : Values → Fixed × Optional
 pairOf v = (fixedPair (v .head), optionalPair (v .head) (v .counter))
@@ -70,23 +70,23 @@ module _ (s : Settings) (p : List ℕ) (v : Values) where
             h .operation,
             (
               h .version,
-              ((h .error, (h .qos, (h .session, h .second))), (h .qualifier, (h .transaction, tt))),
+              ((h .error, (h .qos, (h .session, h .secondary-apid))), (h .qualifier, (h .transaction, tt))),
             ),
           ),
         ),
       ),
     ),
-    (h .source, (h .destination, (c, (h .priority, (h .timestamp, (h .zone, (h .name, (h .domain, h .authentication)))))))),
+    (h .source, (h .destination, (c, (h .priority, (h .timestamp, (h .zone, (h .session-name, (h .domain, h .authentication)))))))),
   )
 
   module _ (f : secondaryF s p (segment (v .flags)) .Fit (pairOf v)) where
     pub fit-counter : Opt (segment (v .flags)) (λ x. x < 4294967296) 0 (v .counter)
     fit-counter = f .1 .1 .1 .0
 
-    pub fit-head : v .head .kind < 2 → v .head .apid < 2047 → HeadInRange s (v .head)
+    pub fit-head : v .head .packet-type < 2 → v .head .apid < 2047 → HeadInRange s (v .head)
     fit-head k a =
         record {
-          kind = k;
+          packet-type = k;
           apid = a;
           sdu = f .0 .0;
           area = f .0 .1 .0;
@@ -96,7 +96,7 @@ module _ (s : Settings) (p : List ℕ) (v : Values) where
           error = f .0 .1 .1 .1 .1 .1 .0 .0;
           qos = f .0 .1 .1 .1 .1 .1 .0 .1 .0;
           session = f .0 .1 .1 .1 .1 .1 .0 .1 .1 .0;
-          second = f .0 .1 .1 .1 .1 .1 .0 .1 .1 .1;
+          secondary-apid = f .0 .1 .1 .1 .1 .1 .0 .1 .1 .1;
           qualifier = f .0 .1 .1 .1 .1 .1 .1 .0;
           transaction = f .0 .1 .1 .1 .1 .1 .1 .1 .0;
           source = f .1 .0;
@@ -104,21 +104,21 @@ module _ (s : Settings) (p : List ℕ) (v : Values) where
           priority = f .1 .1 .1 .1 .0;
           timestamp = f .1 .1 .1 .1 .1 .0;
           zone = f .1 .1 .1 .1 .1 .1 .0;
-          name = f .1 .1 .1 .1 .1 .1 .1 .0;
+          session-name = f .1 .1 .1 .1 .1 .1 .1 .0;
           domain = f .1 .1 .1 .1 .1 .1 .1 .1 .0;
           authentication = f .1 .1 .1 .1 .1 .1 .1 .1 .1;
         }
 
 -- the pair and the values of the primary header and the body tell all values
 pub same-values :
-    (u v : Values) → pairOf u ≡ pairOf v → u .head .kind ≡ v .head .kind → u .head .apid ≡ v .head .apid → u .flags ≡ v .flags →
-    u .count ≡ v .count → u .body ≡ v .body → u ≡ v
+    (u v : Values) → pairOf u ≡ pairOf v → u .head .packet-type ≡ v .head .packet-type → u .head .apid ≡ v .head .apid → u .flags ≡ v .flags →
+    u .sequence-count ≡ v .sequence-count → u .body ≡ v .body → u ≡ v
 same-values u v q k a f c b =
     λ i.
     record {
       head =
           record {
-            kind = k i;
+            packet-type = k i;
             apid = a i;
             sdu = q i .0 .0;
             area = q i .0 .1 .0;
@@ -128,7 +128,7 @@ same-values u v q k a f c b =
             error = q i .0 .1 .1 .1 .1 .1 .0 .0;
             qos = q i .0 .1 .1 .1 .1 .1 .0 .1 .0;
             session = q i .0 .1 .1 .1 .1 .1 .0 .1 .1 .0;
-            second = q i .0 .1 .1 .1 .1 .1 .0 .1 .1 .1;
+            secondary-apid = q i .0 .1 .1 .1 .1 .1 .0 .1 .1 .1;
             qualifier = q i .0 .1 .1 .1 .1 .1 .1 .0;
             transaction = q i .0 .1 .1 .1 .1 .1 .1 .1 .0;
             has-source = q i .0 .1 .1 .1 .1 .1 .1 .1 .1 .source;
@@ -136,7 +136,7 @@ same-values u v q k a f c b =
             has-priority = q i .0 .1 .1 .1 .1 .1 .1 .1 .1 .priority;
             has-timestamp = q i .0 .1 .1 .1 .1 .1 .1 .1 .1 .timestamp;
             has-zone = q i .0 .1 .1 .1 .1 .1 .1 .1 .1 .zone;
-            has-name = q i .0 .1 .1 .1 .1 .1 .1 .1 .1 .session;
+            has-session-name = q i .0 .1 .1 .1 .1 .1 .1 .1 .1 .«session_name»;
             has-domain = q i .0 .1 .1 .1 .1 .1 .1 .1 .1 .domain;
             has-authentication = q i .0 .1 .1 .1 .1 .1 .1 .1 .1 .authentication;
             source = q i .1 .0;
@@ -144,12 +144,12 @@ same-values u v q k a f c b =
             priority = q i .1 .1 .1 .1 .0;
             timestamp = q i .1 .1 .1 .1 .1 .0;
             zone = q i .1 .1 .1 .1 .1 .1 .0;
-            name = q i .1 .1 .1 .1 .1 .1 .1 .0;
+            session-name = q i .1 .1 .1 .1 .1 .1 .1 .0;
             domain = q i .1 .1 .1 .1 .1 .1 .1 .1 .0;
             authentication = q i .1 .1 .1 .1 .1 .1 .1 .1 .1;
           };
       flags = f i;
-      count = c i;
+      sequence-count = c i;
       counter = q i .1 .1 .1 .0;
       body = b i;
     }

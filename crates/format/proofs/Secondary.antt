@@ -7,7 +7,7 @@ use mathlib.Core.List.{List, [], _∷_, map}
 use mathlib.Core.Bool.{Bool, true, false}
 use Rattle.octets.specs.Octets.{pick}
 use Rattle.walk.specs.declared.Settings.{Settings}
-use Rattle.walk.specs.Walk.{Reading, Step, number}
+use Rattle.walk.specs.Walk.{Reading, Step, uinteger}
 use Rattle.fields.specs.declared.Place.{Place}
 use Rattle.fields.specs.Fields.{nowhere, opt, block, blob, text, domain, noParts}
 use Rattle.packet.specs.declared.Present.{Present}
@@ -89,7 +89,7 @@ module _ (s : Settings) (p : List ℕ) where
   counterF b = optNumber b (wideField 4 p) (wideF p 4) wide-step wide-value (λ w. refl)
 
   abbrev pub priorityF : Bool → Field p ℕ
-  priorityF b = optNumber b (number s p) (numberF p s) (λ w. refl) (λ w. refl) (λ w. refl)
+  priorityF b = optNumber b (uinteger s p) (numberF p s) (λ w. refl) (λ w. refl) (λ w. refl)
 
   pub block-step : (w : Reading) → block (s .t) p w .walk ≡ blockF p (s .t) .step w
   unfolding block
@@ -125,7 +125,7 @@ module _ (s : Settings) (p : List ℕ) where
       (seq p (priorityF (h .priority))
       (seq p (timestampF (h .timestamp))
       (seq p (nameF (h .zone))
-      (seq p (nameF (h .session)) (seq p (partsF (h .domain)) (authenticationF (h .authentication)))))))))
+      (seq p (nameF (h .«session_name»)) (seq p (partsF (h .domain)) (authenticationF (h .authentication)))))))))
 
   -- the flags decide the rest
   abbrev pub secondaryF : Bool → Field p (Fixed × Optional)

@@ -61,7 +61,7 @@ pub record Accepted (s : Settings) (p : List ℕ) (h : Header) : Type 0 where
   -- the network zone
   pub zone : h .has .zone ≡ true → Inside h (h .texts .zone)
   -- the session name
-  pub name : h .has .session ≡ true → Inside h (h .texts .session)
+  pub session-name : h .has .«session_name» ≡ true → Inside h (h .texts .«session_name»)
   -- at most sixteen domain parts
   pub parts-most : h .texts .count ≤ partsMost
   -- in sixteen places

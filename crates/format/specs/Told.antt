@@ -17,7 +17,7 @@ content p a = part p (a .at) (a .length)
 unfoldable pub headOf : List ℕ → Header → Head
 headOf p h =
     record {
-      kind = h .primary .kind;
+      packet-type = h .primary .«packet_type»;
       apid = h .primary .apid .0;
       sdu = h .fixed .sdu;
       area = h .fixed .area;
@@ -27,7 +27,7 @@ headOf p h =
       error = h .fixed .error;
       qos = h .fixed .qos;
       session = h .fixed .session;
-      second = h .fixed .apid .0;
+      secondary-apid = h .fixed .«secondary_apid» .0;
       qualifier = h .fixed .qualifier;
       transaction = h .fixed .transaction;
       has-source = h .has .source;
@@ -35,7 +35,7 @@ headOf p h =
       has-priority = h .has .priority;
       has-timestamp = h .has .timestamp;
       has-zone = h .has .zone;
-      has-name = h .has .session;
+      has-session-name = h .has .«session_name»;
       has-domain = h .has .domain;
       has-authentication = h .has .authentication;
       source = h .ids .source;
@@ -43,7 +43,7 @@ headOf p h =
       priority = h .ids .priority;
       timestamp = content p (h .texts .timestamp);
       zone = content p (h .texts .zone);
-      name = content p (h .texts .session);
+      session-name = content p (h .texts .«session_name»);
       domain = map (content p) (take (h .texts .count) (h .texts .parts));
       authentication = content p (h .texts .authentication);
     }
@@ -54,7 +54,7 @@ valuesOf p h =
     record {
       head = headOf p h;
       flags = h .primary .flags;
-      count = h .primary .count .0;
+      sequence-count = h .primary .«sequence_count» .0;
       counter = h .ids .counter .0;
       body = content p (h .body);
     }
@@ -68,7 +68,7 @@ unfoldable pub spotsOf : Header → List Place
 spotsOf h =
     spot (h .has .timestamp) (h .texts .timestamp)
     ++ (spot (h .has .zone) (h .texts .zone)
-    ++ (spot (h .has .session) (h .texts .session)
+    ++ (spot (h .has .«session_name») (h .texts .«session_name»)
     ++ (pick (h .has .domain) (take (h .texts .count) (h .texts .parts)) [] ++ spot (h .has .authentication) (h .texts .authentication))))
 
 -- places that stand one behind the other, from one place on and up to another

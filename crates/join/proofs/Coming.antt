@@ -14,12 +14,13 @@ use borrow.Author.Tests.{eqb-true, leb-true, eq-eqb, ne-eqb}
 use Rattle.octets.specs.Octets.{pick, Octets}
 use Rattle.octets.proofs.Lists.{bool}
 use Rattle.walk.specs.declared.Settings.{Settings}
-use Rattle.walk.specs.Walk.{begun, refusal}
+use Rattle.walk.specs.Walk.{refusal}
 use Rattle.packet.specs.Reading.{readPacket, segmented, counterSize}
 use Rattle.format.proofs.Accepting.{accepted}
 use Rattle.cells.specs.Segments.{Seg, segOf, sameRest}
-use Rattle.cells.specs.Order.{inOrder, countIn}
-use Rattle.messages.specs.Messages.{Run, bodyOf, cellsOf, look, picked, top}
+use Rattle.cells.specs.Order.{countIn, gate}
+use Rattle.cells.proofs.Gate.{through-tells}
+use Rattle.cells.specs.Messages.{Run, bodyOf, cellsOf, look, picked, top}
 use Rattle.arrival.specs.Arriving.{whole, stored, again, refused, placed, beside, lowestFree, segmentArrived, arrivedIn, arrived}
 use Rattle.taking.specs.Taking.{message, unable, writing, drawn, tookIn}
 use Rattle.taking.specs.declared.Taken.{Taken}
@@ -63,14 +64,10 @@ module _ (s : Settings) (Z : ℕ) (st p : List ℕ) where
 
   pub whole-tells : arrived s Z st p ≡ whole → (readPacket s p .refusal .number ≡ 0) × (segmented p ≡ false)
   unfolding arrived
-  whole-tells e = told (eqb (begun s .refusal .number) 0) (inOrder s Z st) e
+  whole-tells e = whole-in (countIn Z st) (through-tells (gate s Z st) (arrivedIn s Z st (countIn Z st) p) refused whole not-whole e .1)
     where
-      told :
-          (a b : Bool) → pick a (pick b (arrivedIn s Z st (countIn Z st) p) (refused 16)) (refused 15) ≡ whole →
-          (readPacket s p .refusal .number ≡ 0) × (segmented p ≡ false)
-      told true true d = whole-in (countIn Z st) d
-      told true false d = let z : _≡_ {A = ℕ} 0 1 = cc in absurd (omega arith)
-      told false b d = let z : _≡_ {A = ℕ} 0 1 = cc in absurd (omega arith)
+      not-whole : (k : ℕ) → refused k ≡ whole → ⊥
+      not-whole k d = let z : _≡_ {A = ℕ} 0 1 = cc in omega arith
 
 -- the body of an accepted unsegmented packet stands behind 6 + H octets and goes to the packet's end
 pub whole-place :

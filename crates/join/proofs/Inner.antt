@@ -6,11 +6,10 @@ use mathlib.Core.Path.{_≡_, refl, ap, ap₂, sym, _∙_}
 use mathlib.Core.List.{List}
 use lib.ListN.{length}
 use Rattle.walk.specs.declared.Settings.{Settings}
-use Rattle.cells.specs.Order.{countIn}
+use Rattle.cells.specs.Order.{countIn, gate}
 use Rattle.arrival.specs.Arriving.{Arrived, whole, stored, again, refused, arrivedIn, arrived, storeWith}
 use Rattle.taking.specs.Taking.{Took, tookIn, took, outWith, storeLess}
-use Rattle.opening.specs.Inner.{gate}
-use Rattle.opening.proofs.Gate.{opened-order, gate-again}
+use Rattle.cells.proofs.Gate.{opened-order, gate-again}
 use Rattle.arrival.proofs.Checked.{arrived-open}
 use Rattle.taking.proofs.Checked.{took-open}
 use Rattle.arrival.proofs.Keeps.{arrive-long, arrive-keeps}

@@ -22,7 +22,7 @@ use Rattle.arrival.specs.Arriving.{Arrived, whole, stored, again, refused, arri
 use Rattle.taking.specs.Taking.{tookIn, outWith}
 use Rattle.arrival.specs.Told.{arrivalOf}
 use Rattle.taking.specs.Told.{takenOf}
-use Rattle.opening.specs.Inner.{gate}
+use Rattle.cells.specs.Order.{gate}
 use Rattle.arrival.proofs.Checked.{arrived-shut}
 use Rattle.join.specs.declared.Joined.{Joined}
 use Rattle.join.specs.Joining.{inPacket, unjoined, bodyFrom, tookAs, joinedBy, storeBy, outBy, joining, storeJoined, outJoined}

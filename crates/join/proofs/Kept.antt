@@ -7,11 +7,10 @@ use mathlib.Core.List.{List}
 use lib.ListN.{length}
 use lib.Seq.{length-sets}
 use Rattle.walk.specs.declared.Settings.{Settings}
-use Rattle.cells.specs.Order.{countIn, inOrder}
+use Rattle.cells.specs.Order.{countIn, inOrder, gate}
 use Rattle.arrival.specs.Arriving.{Arrived, whole, stored, again, refused, arrived, storeWith}
 use Rattle.taking.specs.Taking.{Took, message, unable, writing, took, outWith}
-use Rattle.opening.specs.Inner.{gate}
-use Rattle.opening.proofs.Gate.{opened-order, gate-again}
+use Rattle.cells.proofs.Gate.{opened-order, gate-again}
 use Rattle.arrival.proofs.Keeps.{arrive-long, arrive-keeps}
 use Rattle.taking.proofs.Keeps.{take-long, take-keeps}
 use Rattle.join.specs.Joining.{lessTaken, storeBy, outBy, storeJoined, outJoined}

@@ -1,9 +1,9 @@
 mod Parts
 mod Coming
 mod Joins
-pub mod Beside
 pub mod Kept
 pub mod Inner
 mod Calls
 pub mod Views
 pub mod Untouched
+pub mod Arguments

@@ -44,14 +44,14 @@ module _ (s : Settings) (Z : ℕ) (st p out : List ℕ) where
   refused-by again k e = let x = storeWith Z st p again in took-leaves s Z x out (took s Z x (length out)) k e
   refused-by (refused j) k e = (refl, refl)
 
-  -- "For a packet that came whole the joining buffer isn't touched"
+  -- SPEC J-5: a packet that came whole leaves the output as it was
   pub whole-untouched :
       (m n : ℕ) → joining s Z st p (length out) ≡ inPacket m n →
       (storeJoined s Z st p (length out) ≡ st) × (outJoined s Z st p out ≡ out)
   unfolding joining storeJoined outJoined
   whole-untouched m n e = whole-by (arrived s Z st p) m n e
 
-  -- "if taking refuses, the arrived segment stays stored": a refusal leaves the store changed by the arrival alone
+  -- SPEC J-3: a refusal leaves the store changed by the arrival alone
   pub refusal-untouched :
       (k : ℕ) → joining s Z st p (length out) ≡ unjoined k →
       (storeJoined s Z st p (length out) ≡ storeWith Z st p (arrived s Z st p)) × (outJoined s Z st p out ≡ out)

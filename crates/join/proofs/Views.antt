@@ -20,10 +20,10 @@ use Rattle.cells.specs.Segments.{Seg, segOf}
 use Rattle.cells.specs.Rows.{free, held, rowAt, zeroRow, packetIn, cellOf}
 use Rattle.cells.specs.Order.{isSound}
 use Rattle.cells.proofs.Carries.{free-cell, holding}
-use Rattle.messages.specs.Messages.{bodyOf}
+use Rattle.cells.specs.Messages.{bodyOf}
 use Rattle.arrival.specs.Arriving.{Arrived, whole, stored, again, refused, arrived, storeWith}
 use Rattle.taking.specs.Taking.{Took, message, unable, took, outWith}
-use Rattle.messages.proofs.Opens.{opens}
+use Rattle.cells.proofs.Opens.{opens}
 use Rattle.taking.proofs.Tells.{taken-tells, segment-held}
 use Rattle.join.specs.declared.Which.the-variants.{Packet}
 use Rattle.join.specs.Viewing.{inside, viewed}
@@ -79,9 +79,9 @@ key-seg s p z = key-two s p z
 pub held-two : (s : Settings) (Z : ℕ) (r : List ℕ) (t : Seg) → cellOf s Z r ≡ held t → 2 ≤ length (t .key)
 held-two s Z r t e =
     let h = holding s Z r (ap isSound e) (⊎-elim free-it (λ x. x) (bool (alike r (zeroRow Z)))) in
-    let d : held (segOf (packetIn Z r) (readPacket s (packetIn Z r))) ≡ held t = sym (h .cell) ∙ e in
-    let f : segOf (packetIn Z r) (readPacket s (packetIn Z r)) ≡ t = cc d in
-    subst (λ (u : Seg). 2 ≤ length (u .key)) f (key-seg s (packetIn Z r) (h .accepted))
+    let d : held (segOf (packetIn r) (readPacket s (packetIn r))) ≡ held t = sym (h .cell) ∙ e in
+    let f : segOf (packetIn r) (readPacket s (packetIn r)) ≡ t = cc d in
+    subst (λ (u : Seg). 2 ≤ length (u .key)) f (key-seg s (packetIn r) (h .accepted))
   where
     free-it : alike r (zeroRow Z) ≡ true → alike r (zeroRow Z) ≡ false
     free-it a = let b : free ≡ held t = sym (free-cell s Z r a) ∙ e in let z : _≡_ {A = ℕ} 0 1 = cc in absurd (omega arith)

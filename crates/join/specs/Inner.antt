@@ -10,7 +10,7 @@ use Rattle.walk.specs.declared.Refusal.{Refusal}
 use Rattle.walk.specs.declared.Settings.{Settings}
 use Rattle.packet.specs.declared.Header.{Header}
 use Rattle.arrival.specs.declared.Arrival.{Arrival}
-use Rattle.arrival.specs.declared.Arrival.the-variants.{Answer, Refused}
+use Rattle.arrival.specs.Told.{said as saidBy}
 use Rattle.taking.specs.declared.Taken.{Taken}
 use Rattle.arrival.specs.Arriving.{Arrived, whole, stored, again, refused, arrivedIn, storeWith}
 use Rattle.taking.specs.Taking.{tookIn, storeLess, outWith}
@@ -19,10 +19,9 @@ use Rattle.join.specs.declared.Joined.{Joined}
 use Rattle.join.specs.Joining.{Joining, inPacket, unjoined, bodyFrom, tookAs}
 use Rattle.join.specs.Told.{taken, joinedOf}
 
--- the refusal of an arrival; 0 where it is answered
+-- the refusal of an arrival by its number; 0 if it is answered
 abbrev pub refusalIn : Arrival → Refusal
-refusalIn (Answer k) = refusal 0
-refusalIn (Refused r) = r
+refusalIn a = refusal (saidBy a .number)
 
 -- the body that reading tells of
 abbrev pub bodyIn : Header → Joined

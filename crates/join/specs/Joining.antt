@@ -1,8 +1,7 @@
 -- Joining.
--- Document 01, "Refusal numbers": "Joining is arrival, answering "whole" with the body's place, or else taking's answer. If arrival
--- refuses, so does joining; if taking refuses, the arrived segment stays stored, and this is the one call where a refusal (20 or 21)
--- leaves the store changed, by that arrival alone." And "The store": "For a packet that came whole the joining buffer isn't touched
--- and may be empty."
+-- SPEC J-1 to J-3, J-5: joining is arrival and then, unless that refuses or the packet came whole, taking. If taking refuses, by 20
+-- or 21, what arrived is kept; no other call changes a store beside a refusal. A packet that came whole leaves the output alone,
+-- however short it is.
 -- Assumes nothing: these are definitions.
 use Prim.Native.Nat.{ℕ, _+_, _-_}
 use mathlib.Core.List.{List}
@@ -10,7 +9,7 @@ use lib.ListN.{length}
 use Rattle.walk.specs.declared.Settings.{Settings}
 use Rattle.packet.specs.Reading.{readPacket}
 use Rattle.cells.specs.Order.{countIn}
-use Rattle.messages.specs.Messages.{Run}
+use Rattle.cells.specs.Messages.{Run}
 use Rattle.arrival.specs.Arriving.{Arrived, whole, stored, again, refused, arrived, storeWith}
 use Rattle.taking.specs.Taking.{Took, message, unable, took, storeLess, outWith}
 

@@ -2,4 +2,3 @@ pub mod Viewing
 pub mod Joining
 pub mod Told
 pub mod Inner
-pub mod Beside

@@ -1,6 +1,5 @@
--- What joining answers: document 01's number and values for each case of an answer, and the answer for what joining comes to.
--- Document 01, "The store": "Joining tells which buffer holds the body, its place and its length." And "Refusal numbers": "A refusal
--- answers its number, every other answer zero".
+-- What joining answers: SPEC's word for the buffer as a number, and the answer for what joining comes to.
+-- SPEC J-4: the buffer with the body, its place there and its length. A-2: beside a refusal's number all else is 0.
 -- Assumes nothing: these are definitions.
 use Prim.Native.Nat.{ℕ, _+_}
 use Rattle.packet.specs.declared.SegmentCounter.{SegmentCounter}
@@ -13,38 +12,11 @@ use Rattle.join.specs.declared.Which.the-variants.{Packet, Joined as InJ
 use Rattle.join.specs.declared.Joined.{Joined}
 use Rattle.join.specs.Joining.{Joining, inPacket, inOutput, unjoined}
 
--- document 01's words for the buffer that holds a body, and none where there is no body
-pub data Word : Type 0 where
-  silent : Word
-  said-packet : Word
-  said-joined : Word
-
-abbrev pub wordOf : Which → Word
-wordOf Packet = said-packet
-wordOf InJoined = said-joined
-wordOf Nothing = silent
-
--- the number and the values of an answer
-pub record Said : Type 0 where
-  pub number : ℕ
-  pub word : Word
-  pub place : ℕ
-  pub length : ℕ
-  pub H : ℕ
-  pub B : ℕ
-  pub c : ℕ
-
-abbrev pub said : Joined → Said
-said j =
-    record {
-      number = j .refusal .number;
-      word = wordOf (j .which);
-      place = j .place;
-      length = j .length;
-      H = j .header;
-      B = j .body;
-      c = j .counter .0;
-    }
+-- SPEC's words for the buffer that holds a body, as numbers, and 0 if there is no body
+abbrev pub bufferNumber : Which → ℕ
+bufferNumber Nothing = 0
+bufferNumber Packet = 1
+bufferNumber InJoined = 2
 
 abbrev pub noCounter : SegmentCounter
 noCounter = record { 0 = 0 }

@@ -1,7 +1,5 @@
 -- The view of a body.
--- Document 01, "The store": "A view call over both buffers, read only, takes these and hands back the body as a part of the arrived
--- packet where it came whole, and otherwise as a part of the buffer where it was joined; a place and length not inside the named
--- buffer give an empty part."
+-- SPEC J-6: a part of the packet or of the output, by what joining told; what does not lie inside its buffer is an empty part.
 -- Assumes nothing: these are definitions.
 use Prim.Native.Nat.{ℕ, _+_}
 use mathlib.Core.List.{List, []}

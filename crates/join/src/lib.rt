@@ -1,17 +1,18 @@
 // Joining: a packet arrives, and where it came whole its body is told, else what is complete is taken out; and the view of a body.
 //
-// Joining tells which buffer holds the body, its place and its length; the view hands that part out, read only. For a packet that
-// came whole neither the store nor the output is touched. If taking refuses, the arrived segment stays in the store. T and the store's
-// order are checked once; what follows is an inner function that takes any octets, for whoever keeps a store in order.
+// Joining tells where the body is: in which buffer, from which place on, how long; the view hands that part out, read only. For a
+// packet that came whole neither the store nor the output is touched. If taking refuses, the arrived segment stays in the store. T
+// and the store's order are checked once; what follows is an inner function that takes any octets, for whoever keeps a store in
+// order.
 ghost use mathlib.Core.Path.{_≡_};
 ghost use Prim.Native.Nat.{_<_};
 ghost use lib.ListN.{length};
 ghost use Rattle.packet.specs.Reading.{readPacket};
 ghost use Rattle.cells.specs.Rows.{zeroRow};
+ghost use Rattle.cells.specs.Order.{cellSize};
 ghost use Rattle.join.specs.Viewing.{inside, viewed};
 ghost use Rattle.join.specs.Joining.{unjoined, joining, storeJoined, outJoined};
 ghost use Rattle.join.specs.Told.{joinedOf};
-ghost use Rattle.join.specs.Beside.{joiningBeside, storeBeside, outBeside};
 ghost use Rattle.join.specs.Inner.{refusalIn, bodyIn, takenAs, joiningIn, storeJoinedIn, outJoinedIn};
 use arrival::Arrival;
 use arrival::Kind;
@@ -135,7 +136,7 @@ fn in_output(t: Taken) -> Joined
 }
 
 // Joining at the first n cells of any octets, beside a zero cell: neither settings nor order are tested.
-pub fn join_on(
+pub fn join_in(
     s: Settings,
     store: &mut [u8],
     n: usize,
@@ -148,43 +149,24 @@ pub fn join_on(
     ensures { λ r. ⌜ now (store .exit) ≡ storeJoinedIn s (length (now (zero .entry))) (now (store .entry)) n (now (p .entry)) (length (now (out .entry))) ⌝ }
     ensures { λ r. ⌜ now (out .exit) ≡ outJoinedIn s (length (now (zero .entry))) (now (store .entry)) n (now (p .entry)) (now (out .entry)) ⌝ }
 {
-    let got = arrival::arrive_on(s, store, n, zero, p);
+    let got = arrival::arrive_in(s, store, n, zero, p);
     let Arrival::Answer(kind) = got else {
         return refused(refusal_of(got));
     };
     if let Kind::Whole = kind {
         return in_packet(s, p);
     }
-    in_output(taking::take_on(s, store, n, zero, out))
+    in_output(taking::take_in(s, store, n, zero, out))
 }
 
-// The same beside any octets: where they are not all zeros, no store is in order beside them.
-pub fn join_in(
-    s: Settings,
-    store: &mut [u8],
-    n: usize,
-    zero: &[u8],
-    p: &[u8],
-    out: &mut [u8],
-) -> Joined
-    ensures { λ r. ⌜ r ≡ joinedOf (joiningBeside s (now (zero .entry)) (now (store .entry)) n (now (p .entry)) (length (now (out .entry)))) ⌝ }
-    ensures { λ r. ⌜ now (store .exit) ≡ storeBeside s (now (zero .entry)) (now (store .entry)) n (now (p .entry)) (length (now (out .entry))) ⌝ }
-    ensures { λ r. ⌜ now (out .exit) ≡ outBeside s (now (zero .entry)) (now (store .entry)) n (now (p .entry)) (now (out .entry)) ⌝ }
-{
-    if !octets::zeros(zero) {
-        return refused(Refusal { number: 16 });
-    }
-    join_on(s, store, n, zero, p, out)
-}
-
-// A packet arrives; its body is told where it came whole, else the complete message whose first lies in the lowest cell is taken out.
+// A packet arrives; its body is told where it came whole, else the complete message with its first in the lowest cell is taken out.
 pub fn join(s: Settings, store: &mut [u8], p: &[u8], out: &mut [u8]) -> Joined
-    ensures { λ r. ⌜ r ≡ joinedOf (joining s 1024 (now (store .entry)) (now (p .entry)) (length (now (out .entry)))) ⌝ }
-    ensures { λ r. ⌜ now (store .exit) ≡ storeJoined s 1024 (now (store .entry)) (now (p .entry)) (length (now (out .entry))) ⌝ }
-    ensures { λ r. ⌜ now (out .exit) ≡ outJoined s 1024 (now (store .entry)) (now (p .entry)) (now (out .entry)) ⌝ }
+    ensures { λ r. ⌜ r ≡ joinedOf (joining s cellSize (now (store .entry)) (now (p .entry)) (length (now (out .entry)))) ⌝ }
+    ensures { λ r. ⌜ now (store .exit) ≡ storeJoined s cellSize (now (store .entry)) (now (p .entry)) (length (now (out .entry))) ⌝ }
+    ensures { λ r. ⌜ now (out .exit) ≡ outJoined s cellSize (now (store .entry)) (now (p .entry)) (now (out .entry)) ⌝ }
 {
     let zero = [0u8; CELL];
-    let o = opening::check(s, store, &zero);
+    let o = cells::opening::check(s, store, &zero);
     let shut = o.refusal;
     if shut.number != 0 {
         return refused(shut);

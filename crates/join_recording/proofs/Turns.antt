@@ -1,5 +1,5 @@
 -- What holds from one step to the next: the store is in order and has its cells, the octets in hand lie in the window, the output has
--- room.
+-- room after what is gathered.
 -- Assumes nothing.
 use Prim.Native.Nat.{ℕ, _+_, _-_, _≤_}
 use mathlib.Core.Path.{_≡_, ap, ap₂, sym, _∙_}
@@ -8,8 +8,7 @@ use mathlib.Core.List.{List}
 use native.Mathlib.Omega.{arith}
 use lib.ListN.{length, take, drop, replicate, length-take, length-replicate}
 use Rattle.cells.specs.Rows.{zeroRow}
-use Rattle.cells.specs.Order.{countIn}
-use Rattle.opening.specs.Inner.{gate}
+use Rattle.cells.specs.Order.{countIn, gate}
 use Rattle.steps.specs.declared.Done.{Done}
 use Rattle.steps.specs.Stepping.{room, stepped, storeBehind}
 use Rattle.recording.specs.Recording.{settings, cellCount}
@@ -34,10 +33,31 @@ window-within Z st buf e from till h =
     let k = step-within settings Z st (take (till - from) (drop from buf)) e h in
     (omega (arith, k .0, length-take (till - from) (drop from buf)), k .1)
 
-pub record Going (zero st₀ buf₀ out₀ st buf out : List ℕ) (from till : ℕ) : Type 0 where
+-- all that a step over the octets in hand leaves
+pub record After (Z : ℕ) (st : List ℕ) (n used written : ℕ) : Type 0 where
+  pub order : gate settings Z st ≡ 0
+  pub cells : cellCount ≡ countIn Z st
+  pub used-few : used ≤ n
+  pub written-few : written ≤ 6 + room
+
+pub step-after :
+    (Z : ℕ) (st buf : List ℕ) (e : Bool) (from till : ℕ) {d : Done} {x : List ℕ} →
+    d ≡ doneOf (stepped settings Z st (take (till - from) (drop from buf)) e) →
+    x ≡ storeBehind settings Z st (stepped settings Z st (take (till - from) (drop from buf)) e) → gate settings Z st ≡ 0 →
+    cellCount ≡ countIn Z st → After Z x (till - from) (d .used) (d .written)
+step-after Z st buf e from till h k g c =
+    let w = window-within Z st buf e from till h in
+    record {
+      order = next-gate Z st (take (till - from) (drop from buf)) e k g;
+      cells = next-count Z st (take (till - from) (drop from buf)) e k c;
+      used-few = w .0;
+      written-few = w .1;
+    }
+
+pub record Going (zero st₀ buf₀ out₀ st buf out : List ℕ) (from till at : ℕ) : Type 0 where
   pub order : gate settings (length zero) st ≡ 0
   pub cells : cellCount ≡ countIn (length zero) st
-  pub room : 6 + room ≤ length out
+  pub spare : at + (6 + room) ≤ length out
   pub inside : from ≤ till
   pub window : till ≤ length buf
   pub store-long : length st ≡ length st₀
@@ -45,14 +65,15 @@ pub record Going (zero st₀ buf₀ out₀ st buf out : List ℕ) (from till : �
   pub output-long : length out ≡ length out₀
 
 pub going-next :
-    {zero st₀ buf₀ out₀ st buf out st′ buf′ out′ : List ℕ} {from till from′ till′ : ℕ} → Going zero st₀ buf₀ out₀ st buf out from till →
-    gate settings (length zero) st′ ≡ 0 → cellCount ≡ countIn (length zero) st′ → from′ ≤ till′ → till′ ≤ length buf → length st′ ≡ length st →
-    length buf′ ≡ length buf → length out′ ≡ length out → Going zero st₀ buf₀ out₀ st′ buf′ out′ from′ till′
-going-next g o c i w ls lb lo =
+    {zero st₀ buf₀ out₀ st buf out st′ buf′ out′ : List ℕ} {from till at from′ till′ at′ : ℕ} → Going zero st₀ buf₀ out₀ st buf out from till at →
+    gate settings (length zero) st′ ≡ 0 → cellCount ≡ countIn (length zero) st′ → from′ ≤ till′ → till′ ≤ length buf →
+    at′ + (6 + room) ≤ length out → length st′ ≡ length st → length buf′ ≡ length buf → length out′ ≡ length out →
+    Going zero st₀ buf₀ out₀ st′ buf′ out′ from′ till′ at′
+going-next g o c i w r ls lb lo =
     record {
       order = o;
       cells = c;
-      room = omega (arith, g .room);
+      spare = omega arith;
       inside = i;
       window = omega arith;
       store-long = ls ∙ g .store-long;
@@ -69,3 +90,7 @@ begins-cells ez es = begin-count ∙ sym (ap₂ (λ (n : ℕ) (x : List ℕ). co
 
 pub begins-zero : {zero : List ℕ} → zero ≡ replicate 1024 0 → zero ≡ zeroRow (length zero)
 begins-zero ez = ez ∙ sym (ap (λ (n : ℕ). replicate n 0) (ap length ez ∙ length-replicate {A = ℕ} 1024 0))
+
+-- and with an output that has room for the longest message
+pub begins-spare : {l : List ℕ} → l ≡ replicate 262144 0 → 6 + room ≤ length l
+begins-spare e = omega (arith, ap length e, length-replicate {A = ℕ} 262144 0)

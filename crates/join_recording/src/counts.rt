@@ -5,8 +5,9 @@ use steps::What;
 
 pub const COUNTS: usize = 38;
 
-// What the summary tells, in this order: packets seen; those that came whole, that completed a message, that were stored or held
-// already, that were too long; the segments left in the store and their keys; the octets written; the packets refused.
+// What the findings tell, in this order: packets seen; those that came whole, that completed a message, that were stored or held
+// already, that were too long; the segments left in the store and their keys; the octets written; the packets refused; the octets read,
+// and those of them that packets used up.
 pub const SEEN: usize = 27;
 
 pub const WHOLE: usize = 28;
@@ -25,12 +26,11 @@ pub const WRITTEN: usize = 34;
 
 pub const REFUSED: usize = 35;
 
-pub const TOLD: usize = 9;
-
-// The octets read, and those of them that packets used up.
 pub const READ: usize = 36;
 
 pub const USED: usize = 37;
+
+pub const TOLD: usize = 11;
 
 // The largest refusal number.
 pub const NUMBERS: usize = 26;

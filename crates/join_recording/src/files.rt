@@ -9,9 +9,11 @@ const INPUT: i32 = 0;
 
 const OUTPUT: i32 = 1;
 
+const ERROR: i32 = 2;
+
 const HYPHEN: u8 = 45;
 
-// The program's arguments: the recording, and the file that says that all went well.
+// The program's arguments: the recording, and the file for its findings.
 const RECORDING: usize = 1;
 
 const REPORT: usize = 2;
@@ -37,7 +39,7 @@ pub fn read(fd: i32, x: &mut [u8]) -> isize {
     -1
 }
 
-// How many octets a write took; 0 where it failed.
+// How many octets a write took; 0 if it failed.
 fn write_some(fd: i32, x: &[u8]) -> usize
     ensures { λ r. ⌜ r ≤ length (now (x .entry)) ⌝ }
 {
@@ -69,12 +71,12 @@ pub fn write(fd: i32, x: &[u8]) -> usize {
 // Tells a failed write.
 fn not_written(counts: &[u64; COUNTS]) {
     say::failed(
-        b"writing failed behind octet ",
+        b"writing failed after octet ",
         counts::at(counts, counts::WRITTEN),
     );
 }
 
-// Writes all of a slice to standard output, and counts the octets. Whether it was done; where not, that is told.
+// Writes all of a slice to standard output, and counts the octets. Whether it was done; if not, that is told.
 pub fn put(x: &[u8], counts: &mut [u64; COUNTS]) -> bool {
     let n = write(OUTPUT, x);
     counts::add(counts, counts::WRITTEN, n as u64);
@@ -85,7 +87,7 @@ pub fn put(x: &[u8], counts: &mut [u64; COUNTS]) -> bool {
     is_done
 }
 
-// Opens a file to be read; `-` is standard input. Negative where it can't be opened, which is told.
+// Opens a file to be read; `-` is standard input. Negative if it can't be opened, which is told.
 fn open(name: &[u8]) -> i32 {
     if octets::same(name, &[HYPHEN]) {
         return INPUT;
@@ -97,7 +99,7 @@ fn open(name: &[u8]) -> i32 {
     fd
 }
 
-// The recording: the file that the first argument names, or standard input. Negative where it can't be read.
+// The recording: the file that the first argument names, or standard input. Negative if it can't be read.
 pub fn input() -> i32 {
     if os::arg_count() <= RECORDING {
         return INPUT;
@@ -111,7 +113,7 @@ pub fn input() -> i32 {
     open(&name[..n])
 }
 
-// Closes standard output: a full disk may show only now. Whether it went well; where not, that is told.
+// Closes standard output: a full disk may show only now. Whether it went well; if not, that is told.
 pub fn close(counts: &[u64; COUNTS]) -> bool {
     let is_done = libc::close(OUTPUT) == 0;
     if !is_done {
@@ -120,27 +122,25 @@ pub fn close(counts: &[u64; COUNTS]) -> bool {
     is_done
 }
 
-// Makes a file with the word `done`.
-fn make(name: &[u8]) {
+// Makes a file for the findings. Negative if it can't be made, which is told.
+fn make(name: &[u8]) -> i32 {
     let fd = os::create(name);
     if fd < 0 {
         os::fail(name);
-        return;
     }
-    write(fd, b"done\n");
-    libc::close(fd);
+    fd
 }
 
-// All went well: so says the file that the second argument names, if there is one.
-pub fn report() {
+// Where the findings go: to a new file, which the second argument names, or else to standard error. Negative if it can't be made.
+pub fn report() -> i32 {
     if os::arg_count() <= REPORT {
-        return;
+        return ERROR;
     }
     let mut name = io::buffer();
     let n = os::arg(REPORT, &mut name);
     if os::errno() != 0 {
         os::fail(b"the name of the report");
-        return;
+        return -1;
     }
-    make(&name[..n]);
+    make(&name[..n])
 }

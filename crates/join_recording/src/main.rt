@@ -1,14 +1,15 @@
-// The small program of document 01: joins a recording and writes its messages to standard output.
+// The recording program, SPEC G-1 to G-7: joins a recording and writes its messages to standard output.
 //
 //   join_recording [RECORDING [REPORT]]
 //
-// The recording is a file, or standard input where it is `-` or not named. The octets in hand stand in a window; `steps::step`
-// says what to write and how many octets it used up, and where it wants more, what is left goes to the window's front and more is
-// read behind it. A failed read or write is told on standard error, and at the end a summary of what was seen. A program has no exit
-// status, so REPORT is a file that is made only where all was read and written.
+// The recording is a file, or standard input if it is `-` or not named. The octets in hand stand in a window; `steps::step` says what to
+// write and how many octets it used up, and if it wants more, what is left goes to the window's front and more is read after it. Messages
+// are gathered and written together: before each read, since it may wait, and if the next message might find no room. A failed read or
+// write is told on standard error. A program has no exit status, so at the end its findings go to the new file REPORT, or to standard
+// error if none is named.
 //
 // Proved here: the program is safe and ends, and each step meets what it asks: the store stays in order from the first step to the
-// last. Module files reads and writes, counts has the numbers of the summary, say writes it.
+// last. Module files reads and writes, counts has the numbers of the findings, say tells them.
 mod counts;
 mod files;
 mod say;
@@ -17,39 +18,55 @@ ghost use mathlib.Core.Path.{_≡_};
 ghost use Prim.Native.Nat.{_+_, _≤_};
 ghost use lib.ListN.{length};
 ghost use Rattle.cells.specs.Rows.{zeroRow};
-ghost use Rattle.cells.specs.Order.{countIn};
-ghost use Rattle.opening.specs.Inner.{gate};
-ghost use Rattle.steps.specs.Stepping.{room};
+ghost use Rattle.cells.specs.Order.{countIn, gate};
+ghost use Rattle.steps.specs.Stepping.{room, stepped, storeBehind};
+ghost use Rattle.steps.specs.Told.{doneOf};
 ghost use Rattle.recording.specs.Recording.{settings, cellCount};
 use cells::CELL;
 use counts::COUNTS;
 use recording::CELLS;
 use recording::STORE;
+use steps::Done;
 use steps::SPACE;
 use steps::What;
 use walk::Settings;
 
 // The window: more than a mark and the longest packet.
-const WINDOW: usize = 131072;
+const WINDOW: usize = 196608;
 
-// The octets in hand, from a place of the window up to another; whether the recording ends with them; why it stops, 0 where it goes on.
+// The messages that are gathered: what a window comes to, and room for the longest.
+const GATHERED: usize = 262144;
+
+// The octets in hand, from a place of the window up to another; how many octets are gathered; whether the recording ends with those in
+// hand; why it stops, 0 if it goes on.
 struct Hand {
     from: usize,
     till: usize,
+    at: usize,
     ends: bool,
     stop: u8,
 }
 
-fn in_hand(from: usize, till: usize, ends: bool, stop: u8) -> Hand
+fn in_hand(from: usize, till: usize, at: usize, ends: bool, stop: u8) -> Hand
     ensures { λ r. ⌜ r .from ≡ from ⌝ }
     ensures { λ r. ⌜ r .till ≡ till ⌝ }
+    ensures { λ r. ⌜ r .at ≡ at ⌝ }
 {
     Hand {
         from: from,
         till: till,
+        at: at,
         ends: ends,
         stop: stop,
     }
+}
+
+// Writes what is gathered. 0, or why it stops.
+fn flush(x: &[u8], counts: &mut [u64; COUNTS]) -> u8 {
+    if files::put(x, counts) {
+        return 0;
+    }
+    say::NOT_WRITTEN
 }
 
 // Counts the octets read, and tells a failure.
@@ -64,12 +81,13 @@ fn took(got: isize, n: usize, counts: &mut [u64; COUNTS]) -> u8 {
     0
 }
 
-// More octets behind those in hand. The recording ends where none come.
+// More octets after those in hand. The recording ends if none come.
 fn refill(fd: i32, buf: &mut [u8], from: usize, till: usize, counts: &mut [u64; COUNTS]) -> Hand
     requires { ⌜ from ≤ till ⌝ }
     requires { ⌜ till ≤ length (now buf) ⌝ }
     ensures { λ r. ⌜ r .from ≤ r .till ⌝ }
     ensures { λ r. ⌜ r .till ≤ length (now (buf .entry)) ⌝ }
+    ensures { λ r. ⌜ r .at ≡ 0 ⌝ }
 {
     steps::front(buf, from, till);
     let had = till - from;
@@ -81,6 +99,7 @@ fn refill(fd: i32, buf: &mut [u8], from: usize, till: usize, counts: &mut [u64; 
     Hand {
         from: 0,
         till: had + n,
+        at: 0,
         ends: n == 0,
         stop: stop,
     }
@@ -97,16 +116,74 @@ fn why(what: What) -> u8 {
     say::TORN
 }
 
-// Writes what a packet came to, and counts it where that was done.
-fn settle(x: &[u8], what: What, number: u8, used: usize, counts: &mut [u64; COUNTS]) -> u8 {
-    if files::put(x, counts) {
-        counts::note(counts, what, number, used);
-        return 0;
+// What is gathered is written if the longest message would find no room after it.
+fn gather(
+    from: usize,
+    till: usize,
+    at: usize,
+    ends: bool,
+    out: &[u8],
+    counts: &mut [u64; COUNTS],
+) -> Hand
+    requires { ⌜ at ≤ length (now out) ⌝ }
+    requires { ⌜ 6 + room ≤ length (now out) ⌝ }
+    ensures { λ r. ⌜ r .from ≡ from ⌝ }
+    ensures { λ r. ⌜ r .till ≡ till ⌝ }
+    ensures { λ r. ⌜ r .at + (6 + room) ≤ length (now (out .entry)) ⌝ }
+{
+    if out.len() - at < SPACE {
+        let stop = flush(&out[0..at], counts);
+        return in_hand(from, till, 0, ends, stop);
     }
-    say::NOT_WRITTEN
+    in_hand(from, till, at, ends, 0)
 }
 
-// One step, and what it says is written; where it wants more octets, they are read.
+// What is gathered is written, since a read may wait, and more octets are read.
+fn wait(
+    fd: i32,
+    buf: &mut [u8],
+    from: usize,
+    till: usize,
+    ends: bool,
+    gathered: &[u8],
+    counts: &mut [u64; COUNTS],
+) -> Hand
+    requires { ⌜ from ≤ till ⌝ }
+    requires { ⌜ till ≤ length (now buf) ⌝ }
+    ensures { λ r. ⌜ r .from ≤ r .till ⌝ }
+    ensures { λ r. ⌜ r .till ≤ length (now (buf .entry)) ⌝ }
+    ensures { λ r. ⌜ r .at ≡ 0 ⌝ }
+{
+    let stop = flush(gathered, counts);
+    if stop != 0 {
+        return in_hand(from, till, 0, ends, stop);
+    }
+    refill(fd, buf, from, till, counts)
+}
+
+// One step, with the output from a place on.
+fn step_into(
+    store: &mut [u8],
+    zero: &[u8],
+    window: &[u8],
+    ends: bool,
+    out: &mut [u8],
+    at: usize,
+) -> Done
+    requires { ⌜ now zero ≡ zeroRow (length (now zero)) ⌝ }
+    requires { ⌜ gate settings (length (now zero)) (now store) ≡ 0 ⌝ }
+    requires { ⌜ cellCount ≡ countIn (length (now zero)) (now store) ⌝ }
+    requires { ⌜ at + (6 + room) ≤ length (now out) ⌝ }
+    ensures { λ r. ⌜ r ≡ doneOf (stepped settings (length (now (zero .entry))) (now (store .entry)) (now (window .entry)) ends) ⌝ }
+    ensures { λ r. ⌜ now (store .exit) ≡ storeBehind settings (length (now (zero .entry))) (now (store .entry))
+        (stepped settings (length (now (zero .entry))) (now (store .entry)) (now (window .entry)) ends) ⌝ }
+{
+    let s = Settings { t: 8 };
+    let to = at + SPACE;
+    steps::step(s, store, CELLS, zero, window, ends, &mut out[at..to])
+}
+
+// One step, and what it says is gathered; if it wants more octets, they are read.
 fn turn(
     fd: i32,
     store: &mut [u8],
@@ -116,32 +193,42 @@ fn turn(
     till: usize,
     ends: bool,
     out: &mut [u8],
+    at: usize,
     counts: &mut [u64; COUNTS],
 ) -> Hand
     requires { ⌜ now zero ≡ zeroRow (length (now zero)) ⌝ }
     requires { ⌜ gate settings (length (now zero)) (now store) ≡ 0 ⌝ }
     requires { ⌜ cellCount ≡ countIn (length (now zero)) (now store) ⌝ }
-    requires { ⌜ 6 + room ≤ length (now out) ⌝ }
+    requires { ⌜ at + (6 + room) ≤ length (now out) ⌝ }
     requires { ⌜ from ≤ till ⌝ }
     requires { ⌜ till ≤ length (now buf) ⌝ }
     ensures { λ r. ⌜ gate settings (length (now (zero .entry))) (now (store .exit)) ≡ 0 ⌝ }
     ensures { λ r. ⌜ cellCount ≡ countIn (length (now (zero .entry))) (now (store .exit)) ⌝ }
     ensures { λ r. ⌜ r .from ≤ r .till ⌝ }
     ensures { λ r. ⌜ r .till ≤ length (now (buf .entry)) ⌝ }
+    ensures { λ r. ⌜ r .at + (6 + room) ≤ length (now (out .entry)) ⌝ }
 {
-    let s = Settings { t: 8 };
-    let d = steps::step(s, store, CELLS, zero, &buf[from..till], ends, out);
+    let d = step_into(store, zero, &buf[from..till], ends, out, at);
     let what = d.what;
     let used = d.used;
     let written = d.written;
     if let What::More = what {
-        return refill(fd, buf, from, till, counts);
+        return wait(fd, buf, from, till, ends, &out[0..at], counts);
     }
     if used == 0 {
-        return in_hand(from, till, ends, why(what));
+        return in_hand(from, till, at, ends, why(what));
     }
-    let stop = settle(&out[0..written], what, d.refusal.number, used, counts);
-    in_hand(from + used, till, ends, stop)
+    counts::note(counts, what, d.refusal.number, used);
+    gather(from + used, till, at + written, ends, out, counts)
+}
+
+// What is gathered at the end of a run is written too. Why it stopped.
+fn last(gathered: &[u8], stop: u8, counts: &mut [u64; COUNTS]) -> u8 {
+    let other = flush(gathered, counts);
+    if other != 0 {
+        return other;
+    }
+    stop
 }
 
 // Steps until one stops, and why. A proved loop has to end, so it counts down from a number that no run uses up.
@@ -160,30 +247,40 @@ fn run(
 {
     let mut from: usize = 0;
     let mut till: usize = 0;
+    let mut at: usize = 0;
     let mut ends = false;
     let mut turns = u64::MAX;
     while turns > 0 {
-        let h = turn(fd, store, zero, buf, from, till, ends, out, counts);
-        if h.stop != 0 {
-            return h.stop;
-        }
+        let h = turn(fd, store, zero, buf, from, till, ends, out, at, counts);
         from = h.from;
         till = h.till;
+        at = h.at;
         ends = h.ends;
+        if h.stop != 0 {
+            return last(&out[0..at], h.stop, counts);
+        }
         turns -= 1;
     }
     say::NOT_READ
 }
 
-// The end of a run: the summary, and the report where all was read and written.
+// Closes standard output. Why the run stopped.
+fn closed(stop: u8, counts: &[u64; COUNTS]) -> u8 {
+    if files::close(counts) {
+        return stop;
+    }
+    say::NOT_WRITTEN
+}
+
+// The end of a run: its findings.
 fn end(store: &[u8], counts: &mut [u64; COUNTS], stop: u8) {
     let left = tally::left(Settings { t: 8 }, store);
     counts::add(counts, counts::SEGMENTS, left.segments as u64);
     counts::add(counts, counts::KEYS, left.keys as u64);
-    say::summary(counts, stop);
-    let is_closed = files::close(counts);
-    if stop <= say::TORN && is_closed {
-        files::report();
+    let because = closed(stop, counts);
+    let to = files::report();
+    if to >= 0 {
+        say::findings(to, counts, store, because);
     }
 }
 
@@ -192,7 +289,7 @@ fn join(fd: i32) {
     let zero = [0u8; CELL];
     let mut store = [0u8; STORE];
     let mut buf = [0u8; WINDOW];
-    let mut out = [0u8; SPACE];
+    let mut out = [0u8; GATHERED];
     let mut counts = [0u64; COUNTS];
     let stop = run(fd, &mut store, &zero, &mut buf, &mut out, &mut counts);
     end(&store, &mut counts, stop);

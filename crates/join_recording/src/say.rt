@@ -1,9 +1,21 @@
-// What the program says on standard error: progress at a terminal, failures, and at the end what it saw.
+// What the program tells. On standard error: progress at a terminal, and failures. At the end its findings, for whoever started it: a
+// line each of words and numbers with one space between them, the last one `done`.
+//
+//   NAME N                                            a number of the run, by its name in `label`
+//   refusal NUMBER N                                  N packets were refused with this number
+//   segment KEY TYPE APID SDU TRANSACTION FLAGS COUNTER
+//                                                     a segment left in the store; KEY is the lowest cell with its key
+//   stop WHY                                          why it stopped: 1 the recording ends, 2 no mark, 3 a torn packet, 4 reading
+//                                                     failed, 5 writing failed
+//   done
 ghost use Prim.Native.Nat.{_≤_};
 ghost use lib.ListN.{length};
 use crate::counts;
 use crate::files;
 use counts::COUNTS;
+use recording::CELLS;
+use tally::Told;
+use walk::Settings;
 
 const ERROR: i32 = 2;
 
@@ -18,7 +30,7 @@ const NEWLINE: u8 = 10;
 
 const RETURN: u8 = 13;
 
-// Why a run stops: a line of `reasons`.
+// Why a run stops.
 pub const ENDED: u8 = 1;
 
 pub const UNMARKED: u8 = 2;
@@ -29,33 +41,36 @@ pub const NOT_READ: u8 = 4;
 
 pub const NOT_WRITTEN: u8 = 5;
 
-fn text(x: &[u8]) {
-    files::write(ERROR, x);
+fn text(to: i32, x: &[u8]) {
+    files::write(to, x);
 }
 
-fn number(n: u64) {
+fn number(to: i32, n: u64) {
     let mut digits = [0u8; 20];
     let k = io::decimal(n, &mut digits);
-    text(&digits[..k]);
+    text(to, &digits[..k]);
 }
 
-// Words, a number, the end of the line.
-fn line(x: &[u8], n: u64) {
-    text(x);
-    number(n);
-    text(&[NEWLINE]);
+// A space and a number.
+fn next(to: i32, n: u64) {
+    text(to, b" ");
+    number(to, n);
+}
+
+fn newline(to: i32) {
+    text(to, &[NEWLINE]);
 }
 
 // ---- progress
 
 // The cursor goes back to the beginning of the line, so that what is said next stands there.
 fn show(read: u64) {
-    number(read / MEBI);
-    text(b" MiB read");
-    text(&[RETURN]);
+    number(ERROR, read / MEBI);
+    text(ERROR, b" MiB read");
+    text(ERROR, &[RETURN]);
 }
 
-// Shows progress at a terminal, where the octets read have passed the next stride.
+// Shows progress at a terminal, if the octets read have passed the next stride.
 pub fn progress(before: u64, after: u64) {
     if before / STRIDE == after / STRIDE {
         return;
@@ -69,12 +84,12 @@ pub fn progress(before: u64, after: u64) {
 
 // Words, a number, then why the last call failed.
 pub fn failed(x: &[u8], n: u64) {
-    text(x);
-    number(n);
+    text(ERROR, x);
+    number(ERROR, n);
     os::fail(b"");
 }
 
-// ---- tables of words
+// ---- the names of the numbers
 
 // Where the line of a table that a place lies in ends.
 fn line_end(table: &[u8], from: usize) -> usize
@@ -91,8 +106,8 @@ fn line_end(table: &[u8], from: usize) -> usize
     at
 }
 
-// Where the line behind begins, or the end.
-fn behind(table: &[u8], at: usize) -> usize
+// Where the next line begins, or the end.
+fn after(table: &[u8], at: usize) -> usize
     ensures { λ r. ⌜ r ≤ length (now (table .entry)) ⌝ }
 {
     let whole = table.len();
@@ -109,125 +124,106 @@ fn begins(table: &[u8], k: usize) -> usize
     let mut from: usize = 0;
     let mut left = k;
     while 0 < left {
-        from = behind(table, line_end(table, from));
+        from = after(table, line_end(table, from));
         left -= 1;
     }
     from
 }
 
-fn entry(table: &[u8], k: usize) {
+fn entry(to: i32, table: &[u8], k: usize) {
     let from = begins(table, k);
-    let to = line_end(table, from);
-    text(&table[from..to]);
+    let end = line_end(table, from);
+    text(to, &table[from..end]);
 }
 
-// What document 01 says of each refusal number, from 1 on. Those behind 21 are the writer's.
-fn refusal(k: usize) {
+// In the order of their places.
+fn label(to: i32, k: usize) {
     entry(
-        b"
-fewer than 6 octets
-packet version not 000
-secondary header flag 0
-APID 2047
-length is not length field + 7
-data field ends inside the secondary header
-binding version not 000
-SDU type 22 to 31
-session 3
-Varint not shortest or above 32 bits
-domain presence octet not 1
-secondary header past 256 octets
-more than 16 domain parts
-segmented packet with empty body
-T outside its range
-store not in order
-segmented packet above 1,022 octets
-contradicts a held segment
-no free cell
-nothing complete
-output too short
-",
-        k,
-    );
-}
-
-fn reason(k: usize) {
-    entry(
-        b"
-the recording ends there
-no mark there
-a torn packet there
-reading failed
-writing failed
-",
-        k,
-    );
-}
-
-// The names of the numbers, in the order of their places.
-fn label(k: usize) {
-    entry(
-        b"packets seen
+        to,
+        b"packets
 whole
 joined
-stored or held
-passed over as too long
-segments left in the store
-different keys among them
-octets written
+kept
+long
+segments
+keys
+written
 refused
+read
+used
 ",
         k,
     );
 }
 
-// ---- the end
+// ---- the findings
+
+// The line of a number.
+fn told(to: i32, k: usize, n: u64) {
+    label(to, k);
+    next(to, n);
+    newline(to);
+}
+
+fn numbers(to: i32, counts: &[u64; COUNTS]) {
+    let mut k: usize = 0;
+    while k < counts::TOLD {
+        told(to, k, counts::at(counts, counts::SEEN + k));
+        k += 1;
+    }
+}
 
 // The line of a refusal number that occurred.
-fn refused(k: usize, n: u64) {
+fn refused(to: i32, k: usize, n: u64) {
     if n == 0 {
         return;
     }
-    text(b"  refused ");
-    number(k as u64);
-    text(b", ");
-    refusal(k);
-    line(b": ", n);
+    text(to, b"refusal");
+    next(to, k as u64);
+    next(to, n);
+    newline(to);
 }
 
-fn refusals(counts: &[u64; COUNTS]) {
+fn refusals(to: i32, counts: &[u64; COUNTS]) {
     let mut k: usize = 1;
     while k <= counts::NUMBERS {
-        refused(k, counts::at(counts, k));
+        refused(to, k, counts::at(counts, k));
         k += 1;
     }
 }
 
-// The line of a number.
-fn told(k: usize, n: u64) {
-    label(k);
-    line(b": ", n);
+// The line of a cell that is held.
+fn segment(to: i32, t: Told) {
+    if !t.held {
+        return;
+    }
+    text(to, b"segment");
+    next(to, t.key as u64);
+    next(to, t.packet_type as u64);
+    next(to, t.apid as u64);
+    next(to, t.sdu as u64);
+    next(to, t.transaction);
+    next(to, t.flags as u64);
+    next(to, t.counter as u64);
+    newline(to);
 }
 
-fn numbers(counts: &[u64; COUNTS]) {
-    let mut k: usize = 0;
-    while k < counts::TOLD {
-        told(k, counts::at(counts, counts::SEEN + k));
-        k += 1;
+fn segments(to: i32, store: &[u8]) {
+    let mut i: usize = 0;
+    while i < CELLS {
+        segment(to, tally::cell(Settings { t: 8 }, store, i));
+        i += 1;
     }
 }
 
-fn stopped(used: u64, stop: u8) {
-    text(b"stopped at octet ");
-    number(used);
-    text(b": ");
-    reason(stop as usize);
-    text(&[NEWLINE]);
-}
-
-// A line each: what was seen, what is left in the store, which refusals occurred, where and why it stopped.
-pub fn summary(counts: &[u64; COUNTS], stop: u8) {
-    numbers(counts);
-    refusals(counts);
-    stopped(counts::at(counts, counts::USED), stop);
+// All of them: the numbers, which refusals occurred, what is left in the store, and why it stopped.
+pub fn findings(to: i32, counts: &[u64; COUNTS], store: &[u8], stop: u8) {
+    numbers(to, counts);
+    refusals(to, counts);
+    segments(to, store);
+    text(to, b"stop");
+    next(to, stop as u64);
+    newline(to);
+    text(to, b"done");
+    newline(to);
 }

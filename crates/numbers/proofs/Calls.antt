@@ -1,9 +1,8 @@
--- Demand 1: "each public call ends with its answer or one numbered refusal from document 01". Over the generated contract of each public
+-- Demand 1: a refusal's number is one of SPEC's list for its call. Over the generated contract of each public
 -- call that can refuse: the number in its answer is 0 or one of the call's own list.
 -- Assumes nothing.
-use mathlib.Core.Path.{ap, sym, _∙_, subst}
+use mathlib.Core.Path.{sym, subst}
 use contract.Lifetimes as L
-use denote.Ref.{now}
 use Rattle.packet.specs.declared.Header.{Header}
 use Rattle.packet.proofs.read.Reads as reads
 use Rattle.write.specs.declared.Written.{Written}
@@ -15,17 +14,18 @@ use Rattle.cut.specs.Cutting.{countAnswer, packetAnswer}
 use Rattle.cut.proofs.count.Reads as counts
 use Rattle.cut.proofs.packet.Reads as cuts
 use Rattle.taking.specs.declared.Taken.{Taken}
-use Rattle.arrival.specs.Arriving.{arrived}
-use Rattle.arrival.specs.Told.{Said, said}
+use Rattle.arrival.specs.declared.Arrival.{Arrival}
+use Rattle.arrival.specs.Told.{said}
 use Rattle.store.proofs.arrive.Reads as arrives
 use Rattle.store.proofs.take.Reads as takes
-use Rattle.store.proofs.Saying.{said-is}
 use Rattle.join.specs.declared.Joined.{Joined}
 use Rattle.join.proofs.join.Reads as joins
-use Rattle.numbers.specs.Lists.{Numbered, ofReading, ofArrival, ofTaking, ofJoining, ofWriting, ofCount, ofCutting}
+use Rattle.recording.specs.declared.Recorded.{Recorded}
+use Rattle.recording.proofs.join_all.Reads as alls
+use Rattle.numbers.specs.Lists.{Numbered, ofReading, ofArrival, ofTaking, ofJoining, ofRecording, ofWriting, ofCount, ofCutting}
 use Rattle.numbers.proofs.Reading.{reading}
 use Rattle.numbers.proofs.Sending.{writing, count, cutting}
-use Rattle.numbers.proofs.Store.{arrival, taking, join}
+use Rattle.numbers.proofs.Store.{arrival, taking, join, all}
 
 pub read-numbered : (κs : L.Lfts 1) (a : _) (r : _) (x : _) → reads.Post κs a r x → Numbered ofReading (r .refusal .number)
 read-numbered κs a r x k = subst (λ (h : Header). Numbered ofReading (h .refusal .number)) (sym (k .0)) (reading _ _)
@@ -43,12 +43,13 @@ unfolding packetAnswer
 packet-numbered κs a r x k = subst (λ (h : Cut). Numbered ofCutting (h .refusal .number)) (sym (k .0)) (cutting _ _ _ _ _ _ _ _)
 
 pub arrive-numbered : (κs : L.Lfts 2) (a : _) (r : _) (x : _) → arrives.Post κs a r x → Numbered ofArrival (said r .number)
-arrive-numbered κs a r x k =
-    subst (λ (h : Said). Numbered ofArrival (h .number)) (sym (ap said (k .0) ∙ said-is (arrived (a .0) 1024 (now (a .1 .0)) (now (a .1 .1 .0)))))
-    (arrival (a .0) 1024 (now (a .1 .0)) (now (a .1 .1 .0)))
+arrive-numbered κs a r x k = subst (λ (h : Arrival). Numbered ofArrival (said h .number)) (sym (k .0)) (arrival _ _ _ _)
 
 pub take-numbered : (κs : L.Lfts 2) (a : _) (r : _) (x : _) → takes.Post κs a r x → Numbered ofTaking (r .refusal .number)
 take-numbered κs a r x k = subst (λ (h : Taken). Numbered ofTaking (h .refusal .number)) (sym (k .0)) (taking _ _ _ _)
 
 pub join-numbered : (κs : L.Lfts 3) (a : _) (r : _) (x : _) → joins.Post κs a r x → Numbered ofJoining (r .refusal .number)
 join-numbered κs a r x k = subst (λ (h : Joined). Numbered ofJoining (h .refusal .number)) (sym (k .0)) (join _ _ _ _ _)
+
+pub join-all-numbered : (κs : L.Lfts 2) (a : _) (r : _) (x : _) → alls.Post κs a r x → Numbered ofRecording (r .refusal .number)
+join-all-numbered κs a r x k = subst (λ (h : Recorded). Numbered ofRecording (h .refusal .number)) (sym (k .0)) (all _ _)

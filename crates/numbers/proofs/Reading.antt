@@ -9,11 +9,12 @@ use lib.Dec.{leb, eqb}
 use Rattle.octets.specs.Octets.{octetAt}
 use Rattle.varint.specs.Varint.{Got, value, ends, bad, readAt}
 use Rattle.walk.specs.declared.Settings.{Settings}
-use Rattle.walk.specs.Walk.{Reading, Step, goes, refused, going, headerEnd, octets, check, numberStep, number, begun}
+use Rattle.walk.specs.Walk.{Reading, Step, goes, refused, going, headerEnd, octets, check, uintegerStep, uinteger, begun}
 use Rattle.fields.specs.Fields.{opt, block, blob, text, part, Parts, partsMost, noParts, partAt, partsTo, domain}
 use Rattle.packet.specs.declared.Header.{Header}
 use Rattle.packet.specs.declared.Present.{Present}
-use Rattle.packet.specs.FixedPart.{octetField, wideField, afterSdu, afterArea, afterService, afterOperation, afterVersion, afterSession, afterSecondary, afterQualifier, afterTransaction, afterPresence, fixedEnd}
+use Rattle.packet.specs.FixedPart.{octetField, wideField, afterSdu, afterArea, afterService, afterOperation, afterVersion, afterSession}
+use Rattle.packet.specs.FixedPart.{afterSecondary, afterQualifier, afterTransaction, afterPresence, fixedEnd}
 use Rattle.packet.specs.Reading.{primaryTests, segmented, idsOf, textsOf, bodyTest, startAt, hasAt, textsAt, ended, refusedHeader, acceptedHeader, readPacket}
 use Rattle.numbers.specs.Lists.{Numbered, ofReading}
 use Rattle.numbers.proofs.Among.{has, among, picked}
@@ -42,12 +43,12 @@ check-ok : (b : Bool) (k : ℕ) (w : Reading) → has (0 ∷ ofReading) k ≡ tr
 unfolding check
 check-ok b k w e h = picked Ok (going w) _ w (picked Ok b w (refused k) h (known k e)) h
 
-number-ok : (s : Settings) (p : List ℕ) (w : Reading) → Ok w → Ok (number s p w .walk)
-unfolding number numberStep
+number-ok : (s : Settings) (p : List ℕ) (w : Reading) → Ok w → Ok (uinteger s p w .walk)
+unfolding uinteger uintegerStep
 number-ok s p w h =
     picked (λ (x : Step ℕ). Ok (x .walk)) (going w) _ (record { walk = w; value = 0 }) (go (readAt 32 (take headerEnd p) (w .at))) h
   where
-    go : (g : Got) → Ok (numberStep p g .walk)
+    go : (g : Got) → Ok (uintegerStep p g .walk)
     go (value v next) = known 0 refl
     go ends = picked Known (leb headerEnd (length p)) 12 6 (known 12 refl) (known 6 refl)
     go bad = known 10 refl
@@ -67,7 +68,7 @@ module _ (s : Settings) (p : List ℕ) where
 
   blob-ok : Keeps (blob s p)
   unfolding blob
-  blob-ok w h = octets-ok p (number s p w .value) (number s p w .walk) (number-ok s p w h)
+  blob-ok w h = octets-ok p (uinteger s p w .value) (uinteger s p w .walk) (number-ok s p w h)
 
   text-ok : Keeps (text s p)
   unfolding text
@@ -85,9 +86,9 @@ module _ (s : Settings) (p : List ℕ) where
   domain-ok : Keeps (domain s p)
   unfolding domain
   domain-ok w h =
-      picked (λ (x : Step Parts). Ok (x .walk)) (leb (number s p w .value) partsMost) _ _
-      (parts-ok (number s p w .value) (record { walk = number s p w .walk; value = noParts (number s p w .value) }) (number-ok s p w h))
-      (check-ok false 13 (number s p w .walk) refl (number-ok s p w h))
+      picked (λ (x : Step Parts). Ok (x .walk)) (leb (uinteger s p w .value) partsMost) _ _
+      (parts-ok (uinteger s p w .value) (record { walk = uinteger s p w .walk; value = noParts (uinteger s p w .value) }) (number-ok s p w h))
+      (check-ok false 13 (uinteger s p w .walk) refl (number-ok s p w h))
 
   octet-ok : Keeps (octetField p)
   unfolding octetField
@@ -124,7 +125,7 @@ module _ (s : Settings) (p : List ℕ) where
   ids-ok : (h : Present) → Keeps (idsOf s h p)
   unfolding idsOf
   ids-ok h w o =
-      opt-ok (h .priority) 0 (number s p) (number-ok s p) _
+      opt-ok (h .priority) 0 (uinteger s p) (number-ok s p) _
       (opt-ok (segmented p) 0 (wideField 4 p) (wide-ok 4) _
       (opt-ok (h .destination) 0 (octetField p) octet-ok _ (opt-ok (h .source) 0 (octetField p) octet-ok w o)))
 
@@ -133,7 +134,7 @@ module _ (s : Settings) (p : List ℕ) where
   texts-ok h w o =
       opt-ok (h .authentication) _ (blob s p) blob-ok _
       (opt-ok (h .domain) _ (domain s p) domain-ok _
-      (opt-ok (h .session) _ (text s p) text-ok _
+      (opt-ok (h .«session_name») _ (text s p) text-ok _
       (opt-ok (h .zone) _ (text s p) text-ok _ (opt-ok (h .timestamp) _ (block (s .t) p) (block-ok (s .t)) w o))))
 
   ended-ok : Ok (ended s p)

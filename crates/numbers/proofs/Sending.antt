@@ -2,7 +2,7 @@
 -- Assumes nothing.
 use Prim.Native.Nat.{ℕ}
 use mathlib.Core.Path.{_≡_, refl}
-use mathlib.Core.Bool.{Bool, true}
+use mathlib.Core.Bool.{Bool, true, false}
 use mathlib.Core.List.{List, [], _∷_, List·Memᴰ}
 use lib.ListN.{length}
 use lib.Dec.{eqb}
@@ -57,6 +57,10 @@ writing s v o t body room =
     (all-ok W (packetChecks o) 22 _ refl
     (all-ok W (headerChecks s v t) 22 _ refl (settings-ok W s noRefusal refl (among W 0 refl))))))))
 
+-- numbers too wide, given to be written
+pub write-wide : (s : Settings) → Numbered ofWriting (unless false 22 (settingsTest s noRefusal) .number)
+write-wide s = unless-ok W false 22 _ refl (settings-ok W s noRefusal refl (among W 0 refl))
+
 -- ---- cutting
 
 abbrev C : List ℕ
@@ -74,6 +78,13 @@ count s P v t B d =
     (all-ok C (headerChecks s v t) 22 _ refl
     (unless-ok C _ 15 _ refl (unless-ok C _ 15 _ refl (settings-ok C s noRefusal refl (among C 0 refl))))))))))
 
+-- numbers too wide, given to be cut
+pub count-wide : (s : Settings) (P : ℕ) → Numbered ofCount (unless false 22 (limitTest s P noRefusal) .number)
+unfolding limitTest
+count-wide s P =
+    unless-ok C false 22 _ refl
+    (unless-ok C _ 15 _ refl (unless-ok C _ 15 _ refl (settings-ok C s noRefusal refl (among C 0 refl))))
+
 abbrev D : List ℕ
 D = 0 ∷ ofCutting
 
@@ -83,3 +94,6 @@ pub cutting :
 unfolding packetRefusal
 cutting s P v t body d i room =
     unless-ok D _ 21 _ refl (unless-ok D _ 26 _ refl (among-all C D refl _ (count s P v t (length body) d)))
+
+pub cut-wide : (s : Settings) (P : ℕ) → Numbered ofCutting (unless false 22 (limitTest s P noRefusal) .number)
+cut-wide s P = among-all C D refl _ (count-wide s P)

@@ -1,4 +1,4 @@
--- Arrival, taking and joining are refused by a number of their own lists.
+-- Arrival, taking, joining, the order of a store and a whole recording are refused by a number of their own lists.
 -- Assumes nothing.
 use Prim.Native.Nat.{ℕ, suc, _+_}
 use mathlib.Core.Path.{_≡_, refl}
@@ -11,22 +11,32 @@ use Rattle.walk.specs.declared.Settings.{Settings}
 use Rattle.walk.specs.Walk.{begun}
 use Rattle.packet.specs.Reading.{readPacket, segmented}
 use Rattle.cells.specs.Segments.{Seg, segOf, sameRest}
-use Rattle.cells.specs.Order.{inOrder, countIn}
-use Rattle.messages.specs.Messages.{Run, cellsOf, look, picked as pickedFrom, top}
+use Rattle.cells.specs.Order.{inOrder, countIn, gate}
+use Rattle.cells.specs.Messages.{Run, cellsOf, look, picked as pickedFrom, top}
 use Rattle.arrival.specs.Arriving.{Arrived, whole, stored, again, refused, placed, beside, lowestFree, segmentArrived, arrivedIn, arrived, storeWith}
 use Rattle.taking.specs.Taking.{Took, message, unable, writing, drawn, tookIn, took}
-use Rattle.arrival.specs.Told.{saidOf}
+use Rattle.arrival.specs.Told.{said, arrivalOf}
 use Rattle.taking.specs.Told.{takenOf}
 use Rattle.join.specs.Joining.{tookAs, joinedBy, joining}
 use Rattle.join.specs.Told.{joinedOf}
-use Rattle.numbers.specs.Lists.{Numbered, ofReading, ofArrival, ofTaking, ofJoining}
+use Rattle.recording.specs.declared.Recorded.{Recorded}
+use Rattle.recording.specs.Ending.{recordedOf}
+use Rattle.numbers.specs.Lists.{Numbered, ofReading, ofArrival, ofTaking, ofJoining, ofOrder, ofRecording}
 use Rattle.numbers.proofs.Among.{has, among, among-all, picked}
 use Rattle.numbers.proofs.Reading.{reading}
+
+-- settings and order: 15 or 16
+gated : (l : List ℕ) → has (0 ∷ l) 15 ≡ true → has (0 ∷ l) 16 ≡ true → (s : Settings) (Z : ℕ) (st : List ℕ) → Numbered l (gate s Z st)
+unfolding gate
+gated l a b s Z st =
+    picked (Numbered l) (eqb (begun s .refusal .number) 0) _ 15
+    (picked (Numbered l) (inOrder s Z st) 0 16 (among (0 ∷ l) 0 refl) (among (0 ∷ l) 16 b))
+    (among (0 ∷ l) 15 a)
 
 -- ---- arrival
 
 abbrev Came : Arrived → Type 0
-Came a = Numbered ofArrival (saidOf a .number)
+Came a = Numbered ofArrival (said (arrivalOf a) .number)
 
 came : (n : ℕ) → has (0 ∷ ofArrival) n ≡ true → Numbered ofArrival n
 came n e = among (0 ∷ ofArrival) n e
@@ -39,18 +49,16 @@ segment-came s Z st n t = go (look (cellsOf s Z st n) (t .key) (t .counter))
     go none = picked Came (ltb (lowestFree s Z st n) n) (stored (lowestFree s Z st n)) (refused 19) (came 0 refl) (came 19 refl)
     go (some u) = picked Came (sameRest u t) again (refused 18) (came 0 refl) (came 18 refl)
 
-pub arrival : (s : Settings) (Z : ℕ) (st p : List ℕ) → Numbered ofArrival (saidOf (arrived s Z st p) .number)
+pub arrival : (s : Settings) (Z : ℕ) (st p : List ℕ) → Numbered ofArrival (said (arrivalOf (arrived s Z st p)) .number)
 unfolding arrived arrivedIn
 arrival s Z st p =
-    picked Came (eqb (begun s .refusal .number) 0) _ (refused 15)
-    (picked Came (inOrder s Z st) _ (refused 16)
+    picked Came (eqb (gate s Z st) 0) _ (refused (gate s Z st))
     (picked Came (eqb (readPacket s p .refusal .number) 0) _ (refused (readPacket s p .refusal .number))
     (picked Came (segmented p) _ whole
     (picked Came (leb (2 + length p) Z) _ (refused 17) (segment-came s Z st (countIn Z st) (segOf p (readPacket s p))) (came 17 refl))
     (came 0 refl))
     (among-all (0 ∷ ofReading) (0 ∷ ofArrival) refl _ (reading s p)))
-    (came 16 refl))
-    (came 15 refl)
+    (gated ofArrival refl refl s Z st)
 
 -- ---- taking
 
@@ -63,9 +71,8 @@ some-taken n e = among (0 ∷ ofTaking) n e
 pub taking : (s : Settings) (Z : ℕ) (st : List ℕ) (long : ℕ) → Numbered ofTaking (takenOf (took s Z st long) .refusal .number)
 unfolding took tookIn
 taking s Z st long =
-    picked Taken (eqb (begun s .refusal .number) 0) _ (unable 15)
-    (picked Taken (inOrder s Z st) _ (unable 16) (go (pickedFrom suc top (cellsOf s Z st (countIn Z st)))) (some-taken 16 refl))
-    (some-taken 15 refl)
+    picked Taken (eqb (gate s Z st) 0) _ (unable (gate s Z st)) (go (pickedFrom suc top (cellsOf s Z st (countIn Z st))))
+    (gated ofTaking refl refl s Z st)
   where
     go : (o : Option Run) → Taken (drawn o long)
     go none = some-taken 20 refl
@@ -87,3 +94,17 @@ join s Z st p long = go (arrived s Z st p) (arrival s Z st p)
     go (stored i) h = took-as (took s Z (storeWith Z st p (stored i)) long) (taking s Z (storeWith Z st p (stored i)) long)
     go again h = took-as (took s Z (storeWith Z st p again) long) (taking s Z (storeWith Z st p again) long)
     go (refused k) h = among-all (0 ∷ ofArrival) (0 ∷ ofJoining) refl k h
+
+-- ---- the order of a store, and a whole recording
+
+pub order : (s : Settings) (Z : ℕ) (st : List ℕ) → Numbered ofOrder (gate s Z st)
+unfolding gate
+order s Z st =
+    picked (Numbered ofOrder) (eqb (begun s .refusal .number) 0) _ 15
+    (picked (Numbered ofOrder) (inOrder s Z st) 0 16 (among (0 ∷ ofOrder) 0 refl) (among (0 ∷ ofOrder) 16 refl)) (among (0 ∷ ofOrder) 15 refl)
+
+pub all : (long : ℕ) (x : List ℕ) → Numbered ofRecording (recordedOf long x .refusal .number)
+unfolding recordedOf
+all long x =
+    picked (λ (r : Recorded). Numbered ofRecording (r .refusal .number)) (leb (length x) long) _ _ (among (0 ∷ ofRecording) 0 refl)
+    (among (0 ∷ ofRecording) 21 refl)

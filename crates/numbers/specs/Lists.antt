@@ -1,4 +1,4 @@
--- The refusals that a call may give, in the order in which document 01 has them tested.
+-- The refusals that a call may give, in the order in which SPEC has them tested.
 -- Assumes nothing: these are definitions.
 use Prim.Native.Nat.{ℕ}
 use mathlib.Core.List.{List, [], _∷_, _++_, List·Memᴰ}
@@ -26,6 +26,18 @@ ofJoining = ofArrival ++ (20 ∷ 21 ∷ [])
 
 abbrev pub ofWriting : List ℕ
 ofWriting = 15 ∷ 22 ∷ 13 ∷ 23 ∷ 12 ∷ 14 ∷ 21 ∷ []
+
+-- a whole recording joined: the output is too short
+abbrev pub ofRecording : List ℕ
+ofRecording = 21 ∷ []
+
+-- the order of a store alone
+abbrev pub ofOrder : List ℕ
+ofOrder = 15 ∷ 16 ∷ []
+
+-- a call over plain numbers that refuses nothing else: a number is too wide, or names nothing
+abbrev pub ofWidths : List ℕ
+ofWidths = 22 ∷ []
 
 -- the count leaves out the last two of cutting's
 abbrev pub ofCount : List ℕ

@@ -73,7 +73,7 @@ fixedOf p w =
       error = octetAt p (namesEnd p w .at) / 128;
       qos = octetAt p (namesEnd p w .at) / 32 % 4;
       session = octetAt p (namesEnd p w .at) / 8 % 4;
-      apid = record { 0 = octetAt p (namesEnd p w .at) % 8 * 256 + octetAt p (afterSession p (namesEnd p w) .at) };
+      «secondary_apid» = record { 0 = octetAt p (namesEnd p w .at) % 8 * 256 + octetAt p (afterSession p (namesEnd p w) .at) };
       qualifier = number 2 p (afterSecondary p (namesEnd p w) .at);
       transaction = number 8 p (routingEnd p w .at);
     }
@@ -87,7 +87,7 @@ flagsOf f =
       priority = eqb (f / 32 % 2) 1;
       timestamp = eqb (f / 16 % 2) 1;
       zone = eqb (f / 8 % 2) 1;
-      session = eqb (f / 4 % 2) 1;
+      «session_name» = eqb (f / 4 % 2) 1;
       domain = eqb (f / 2 % 2) 1;
       authentication = eqb (f % 2) 1;
     }

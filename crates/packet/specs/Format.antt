@@ -1,4 +1,4 @@
--- The format of document 01, "The packet": the octets of values, field by field. No reader and no walk in it.
+-- The format (SPEC P-1 to P-13): the octets of values, field by field. No reader and no walk in it.
 -- Assumes nothing: these are definitions.
 use Prim.Native.Nat.{ℕ, _+_, _-_, _*_, _≤_, _<_}
 use mathlib.Core.Path.{_≡_}
@@ -10,11 +10,11 @@ use Rattle.octets.specs.Octets.{pick, Octets, wide}
 use Rattle.walk.specs.declared.Settings.{Settings}
 use Rattle.walk.specs.Walk.{timestampLeast, timestampMost}
 use Rattle.fields.specs.Fields.{partsMost}
-use Rattle.fields.specs.Form.{numberOctets, blobOctets, textOctets, domainOctets}
+use Rattle.fields.specs.Form.{uintegerOctets, blobOctets, textOctets, domainOctets}
 
 -- what all packets of a message share. Absent fields are 0 or empty
 pub record Head : Type 0 where
-  pub kind : ℕ
+  pub packet-type : ℕ
   pub apid : ℕ
   pub sdu : ℕ
   pub area : ℕ
@@ -24,7 +24,7 @@ pub record Head : Type 0 where
   pub error : ℕ
   pub qos : ℕ
   pub session : ℕ
-  pub second : ℕ
+  pub secondary-apid : ℕ
   pub qualifier : ℕ
   pub transaction : ℕ
   pub has-source : Bool
@@ -32,7 +32,7 @@ pub record Head : Type 0 where
   pub has-priority : Bool
   pub has-timestamp : Bool
   pub has-zone : Bool
-  pub has-name : Bool
+  pub has-session-name : Bool
   pub has-domain : Bool
   pub has-authentication : Bool
   pub source : ℕ
@@ -40,7 +40,7 @@ pub record Head : Type 0 where
   pub priority : ℕ
   pub timestamp : List ℕ
   pub zone : List ℕ
-  pub name : List ℕ
+  pub session-name : List ℕ
   pub domain : List (List ℕ)
   pub authentication : List ℕ
 
@@ -48,7 +48,7 @@ pub record Head : Type 0 where
 pub record Values : Type 0 where
   pub head : Head
   pub flags : ℕ
-  pub count : ℕ
+  pub sequence-count : ℕ
   pub counter : ℕ
   pub body : List ℕ
 
@@ -63,16 +63,16 @@ when b l = pick b l []
 abbrev pub bit : Bool → ℕ
 bit b = pick b 1 0
 
--- version 3 bits (000), packet type 1, secondary header flag 1 (always 1), APID 11
+-- SPEC P-3, the first two octets: bits 000, the packet type, a 1 for the secondary header, eleven bits of APID
 unfoldable pub identification : Head → List ℕ
-identification h = wide 2 (h .kind * 4096 + 2048 + h .apid)
+identification h = wide 2 (h .packet-type * 4096 + 2048 + h .apid)
 
 -- eight presence flags from the high bit down
 unfoldable pub presence : Head → ℕ
 presence h =
     128 * bit (h .has-source) + 64 * bit (h .has-destination) + 32 * bit (h .has-priority) + 16 * bit (h .has-timestamp)
     + 8 * bit (h .has-zone)
-    + 4 * bit (h .has-name)
+    + 4 * bit (h .has-session-name)
     + 2 * bit (h .has-domain)
     + bit (h .has-authentication)
 
@@ -85,7 +85,7 @@ fixedOctets h =
     ++ (wide 2 (h .service)
     ++ (wide 2 (h .operation)
     ++ (wide 1 (h .version)
-    ++ (wide 2 (h .error * 32768 + h .qos * 8192 + h .session * 2048 + h .second)
+    ++ (wide 2 (h .error * 32768 + h .qos * 8192 + h .session * 2048 + h .secondary-apid)
     ++ (wide 2 (h .qualifier)
     ++ (wide 8 (h .transaction)
     ++ wide 1 (presence h))))))))
@@ -101,10 +101,10 @@ counterOctets v = when (segment (v .flags)) (wide 4 (v .counter))
 -- and those behind it: priority, timestamp, network zone, session name, domain, authentication id
 unfoldable pub backOctets : Settings → Head → List ℕ
 backOctets s h =
-    when (h .has-priority) (numberOctets s (h .priority))
+    when (h .has-priority) (uintegerOctets s (h .priority))
     ++ (when (h .has-timestamp) (h .timestamp)
     ++ (when (h .has-zone) (textOctets s (h .zone))
-    ++ (when (h .has-name) (textOctets s (h .name))
+    ++ (when (h .has-session-name) (textOctets s (h .session-name))
     ++ (when (h .has-domain) (domainOctets s (h .domain)) ++ when (h .has-authentication) (blobOctets s (h .authentication))))))
 
 -- the secondary header without its counter: H octets
@@ -119,11 +119,12 @@ secondaryOctets s v = fixedOctets (v .head) ++ (frontOctets (v .head) ++ (counte
 unfoldable pub dataOctets : Settings → Values → List ℕ
 dataOctets s v = secondaryOctets s v ++ v .body
 
--- identification; sequence flags 2 bits, sequence count 14; length field 16, the octets of the data field less one; data field
+-- SPEC P-3: identification; sequence flags and sequence count, 2 and 14 bits; length field, one less than the data field has octets;
+-- data field
 unfoldable pub octetsOf : Settings → Values → List ℕ
 octetsOf s v =
     identification (v .head)
-    ++ (wide 2 (v .flags * 16384 + v .count) ++ (wide 2 (length (dataOctets s v) - 1) ++ dataOctets s v))
+    ++ (wide 2 (v .flags * 16384 + v .sequence-count) ++ (wide 2 (length (dataOctets s v) - 1) ++ dataOctets s v))
 
 -- present and P, or absent and none
 abbrev pub Opt : {A : Type 0} → Bool → (A → Type 0) → A → A → Type 0
@@ -151,7 +152,7 @@ pub record SettingsInRange (s : Settings) : Type 0 where
 
 -- a header's fields within their widths and ranges, absent ones without a value (22), at most sixteen parts (13)
 pub record HeadInRange (s : Settings) (h : Head) : Type 0 where
-  pub kind : h .kind < 2
+  pub packet-type : h .packet-type < 2
   pub apid : h .apid < 2047
   pub sdu : h .sdu ≤ 21
   pub area : h .area < 65536
@@ -161,7 +162,7 @@ pub record HeadInRange (s : Settings) (h : Head) : Type 0 where
   pub error : h .error < 2
   pub qos : h .qos < 4
   pub session : h .session ≤ 2
-  pub second : h .second < 2048
+  pub secondary-apid : h .secondary-apid < 2048
   pub qualifier : h .qualifier < 65536
   pub transaction : h .transaction < 18446744073709551616
   pub source : Opt (h .has-source) (λ x. x < 256) 0 (h .source)
@@ -169,7 +170,7 @@ pub record HeadInRange (s : Settings) (h : Head) : Type 0 where
   pub priority : Opt (h .has-priority) (λ x. x < 4294967296) 0 (h .priority)
   pub timestamp : Opt (h .has-timestamp) (λ x. (length x ≡ s .t) × Octets x) [] (h .timestamp)
   pub zone : Opt (h .has-zone) Octets [] (h .zone)
-  pub name : Opt (h .has-name) Octets [] (h .name)
+  pub session-name : Opt (h .has-session-name) Octets [] (h .session-name)
   pub domain : Opt (h .has-domain) (λ x. (length x ≤ partsMost) × Each Octets x) [] (h .domain)
   pub authentication : Opt (h .has-authentication) Octets [] (h .authentication)
 
@@ -178,7 +179,7 @@ pub record InRange (s : Settings) (v : Values) : Type 0 where
   pub settings : SettingsInRange s
   pub head : HeadInRange s (v .head)
   pub flags : v .flags < 4
-  pub count : v .count < 16384
+  pub sequence-count : v .sequence-count < 16384
   pub counter : Opt (segment (v .flags)) (λ x. x < 4294967296) 0 (v .counter)
   pub body : Octets (v .body)
   pub packet : length (octetsOf s v) ≤ packetMost

@@ -1,5 +1,5 @@
 -- The key of a packet, over its octets.
--- Document 01, "The store": "A key is the packet type, the APID and all octets of the secondary header except the counter."
+-- SPEC S-4: packet type, APID, and the secondary header's octets without those of the counter.
 -- Assumes nothing: these are definitions.
 use Prim.Native.Nat.{ℕ, _+_, _-_}
 use mathlib.Core.Bool.{Bool}

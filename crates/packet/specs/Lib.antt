@@ -4,3 +4,4 @@ pub mod FixedPart
 pub mod Reading
 pub mod Key
 pub mod Inner
+pub mod Figure14

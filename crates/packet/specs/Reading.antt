@@ -1,5 +1,5 @@
 -- What reading a packet answers, with its order of refusals.
--- Document 01: "Reading: 15, then 1 to 5, then fields left to right, then 14."
+-- SPEC R-1 to R-7: T, the primary header, the secondary header field by field, the empty body.
 -- Assumes nothing: these are definitions.
 use Prim.Native.Nat.{ℕ, _+_, _-_, _/_, _%_}
 use mathlib.Core.List.{List}
@@ -9,7 +9,7 @@ use lib.Dec.{ltb, leb, eqb}
 use Rattle.octets.specs.Octets.{pick, octetAt, number}
 use Rattle.walk.specs.declared.Settings.{Settings}
 use Rattle.walk.specs.declared.Refusal.{Refusal}
-use Rattle.walk.specs.Walk.{Reading, Step, noRefusal, going, check, begun, number as numberStep}
+use Rattle.walk.specs.Walk.{Reading, Step, noRefusal, going, check, begun, uinteger}
 use Rattle.fields.specs.Fields.{place, nowhere, opt, block, blob, text, domain, noParts}
 use Rattle.packet.specs.declared.Primary.{Primary}
 use Rattle.packet.specs.declared.Fixed.{Fixed}
@@ -21,7 +21,7 @@ use Rattle.packet.specs.FixedPart.{octetField, wideField, fixedEnd, fixe
 
 -- ---- the primary header, at its own places
 
--- 1 fewer than six octets; 2 version not 000; 3 secondary header flag 0; 4 APID 2047; 5 the slice's length is not length field + 7
+-- SPEC R-1: 1 too short; 2 the version; 3 the secondary header flag; 4 the idle APID; 5 another length than the length field says
 unfoldable pub primaryTests : List ℕ → Reading → Reading
 primaryTests p w =
     check (eqb (length p) (number 2 p 4 + 7)) 5
@@ -31,10 +31,10 @@ primaryTests p w =
 unfoldable pub primaryOf : List ℕ → Primary
 primaryOf p =
     record {
-      kind = octetAt p 0 / 16 % 2;
+      «packet_type» = octetAt p 0 / 16 % 2;
       apid = record { 0 = number 2 p 0 % 2048 };
       flags = octetAt p 2 / 64;
-      count = record { 0 = number 2 p 2 % 16384 };
+      «sequence_count» = record { 0 = number 2 p 2 % 16384 };
     }
 
 -- the sequence flags aren't 11
@@ -49,7 +49,7 @@ idsOf s has p w =
     let a = opt (has .source) 0 (octetField p) w in
     let b = opt (has .destination) 0 (octetField p) (a .walk) in
     let c = opt (segmented p) 0 (wideField 4 p) (b .walk) in
-    let d = opt (has .priority) 0 (numberStep s p) (c .walk) in
+    let d = opt (has .priority) 0 (uinteger s p) (c .walk) in
     record {
       walk = d .walk;
       value = record { source = a .value; destination = b .value; counter = record { 0 = c .value }; priority = d .value };
@@ -60,7 +60,7 @@ unfoldable pub textsOf : Settings → Present → List ℕ → Reading → Step 
 textsOf s has p w =
     let a = opt (has .timestamp) nowhere (block (s .t) p) w in
     let b = opt (has .zone) nowhere (text s p) (a .walk) in
-    let c = opt (has .session) nowhere (text s p) (b .walk) in
+    let c = opt (has .«session_name») nowhere (text s p) (b .walk) in
     let d = opt (has .domain) (noParts 0) (domain s p) (c .walk) in
     let e = opt (has .authentication) nowhere (blob s p) (d .walk) in
     record {
@@ -69,7 +69,7 @@ textsOf s has p w =
           record {
             timestamp = a .value;
             zone = b .value;
-            session = c .value;
+            «session_name» = c .value;
             count = d .value .count;
             parts = d .value .places;
             authentication = e .value;
@@ -110,7 +110,7 @@ noFixed =
       error = 0;
       qos = 0;
       session = 0;
-      apid = record { 0 = 0 };
+      «secondary_apid» = record { 0 = 0 };
       qualifier = 0;
       transaction = 0;
     }
@@ -123,7 +123,7 @@ noFlags =
       priority = false;
       timestamp = false;
       zone = false;
-      session = false;
+      «session_name» = false;
       domain = false;
       authentication = false;
     }
@@ -132,7 +132,7 @@ unfoldable pub refusedHeader : Refusal → Header
 refusedHeader r =
     record {
       refusal = r;
-      primary = record { kind = 0; apid = record { 0 = 0 }; flags = 0; count = record { 0 = 0 } };
+      primary = record { «packet_type» = 0; apid = record { 0 = 0 }; flags = 0; «sequence_count» = record { 0 = 0 } };
       fixed = noFixed;
       has = noFlags;
       ids = record { source = 0; destination = 0; counter = record { 0 = 0 }; priority = 0 };
@@ -140,7 +140,7 @@ refusedHeader r =
           record {
             timestamp = nowhere;
             zone = nowhere;
-            session = nowhere;
+            «session_name» = nowhere;
             count = 0;
             parts = replicate 16 nowhere;
             authentication = nowhere;

@@ -1,4 +1,4 @@
-// Reading a packet: the four kinds of number, the decoded header, `read` and `next_sequence_count`.
+// Reading a packet: the four kinds of number, the decoded header, `read`, and the sequence count moved on.
 //
 //   octets  0 1   version 3 | packet type 1 | secondary header flag 1 | APID 11
 //           2 3   sequence flags 2 | sequence count 14
@@ -19,17 +19,29 @@ ghost use lib.ListN.{length};
 ghost use Rattle.octets.specs.Octets.{Octets};
 ghost use Rattle.walk.specs.Inner.{asWalk, ofWalk};
 ghost use Rattle.fields.specs.Fields.{opt};
-ghost use Rattle.packet.specs.Numbers.{nextSequenceCount};
+ghost use Rattle.packet.specs.Numbers.{nextSequenceCount, sequenceCountAt};
 ghost use Rattle.packet.specs.FixedPart.{flagsOf, octetField, wideField, sduField};
-ghost use Rattle.packet.specs.Reading.{primaryTests, primaryOf, idsOf, textsOf, bodyTest, segmented as segmentedOf, counterSize, refusedHeader, noFixed, readPacket};
-ghost use Rattle.packet.specs.Inner.{namesOf, routingOf, fixedStep, asOctet, asWord, asCounter, asIds, asTexts};
+ghost use Rattle.packet.specs.Reading.{primaryTests, primaryOf, idsOf, textsOf, bodyTest, segmented as segmentedOf, counterSize};
+ghost use Rattle.packet.specs.Reading.{refusedHeader, noFixed, readPacket};
+ghost use Rattle.packet.specs.Inner.{heldCount, namesOf, routingOf, fixedStep, asOctet, asWord, asCounter, asIds, asTexts};
 use fields::Place;
+use walk::REFUSED_BINDING;
+use walk::REFUSED_EMPTY_SEGMENT;
+use walk::REFUSED_FEW_OCTETS;
+use walk::REFUSED_IDLE;
+use walk::REFUSED_LENGTH;
+use walk::REFUSED_NO_SECONDARY;
+use walk::REFUSED_SDU_TYPE;
+use walk::REFUSED_SESSION;
+use walk::REFUSED_VERSION;
 use walk::Refusal;
 use walk::Settings;
 use walk::Walk;
 
-// The largest sequence count.
+// The largest sequence count, and how many there are.
 pub const COUNT_MOST: u16 = 16383;
+
+pub const COUNTS: usize = 16384;
 
 pub struct Apid(pub u16);
 
@@ -39,12 +51,21 @@ pub struct SequenceCount(pub u16);
 
 pub struct SegmentCounter(pub u32);
 
+// The sequence flags: what a packet is in its message.
+pub const CONTINUATION: u8 = 0;
+
+pub const FIRST: u8 = 1;
+
+pub const LAST: u8 = 2;
+
+pub const UNSEGMENTED: u8 = 3;
+
 // The primary header: packet type, APID, sequence flags, sequence count.
 pub struct Primary {
-    pub kind: u8,
+    pub packet_type: u8,
     pub apid: Apid,
     pub flags: u8,
-    pub count: SequenceCount,
+    pub sequence_count: SequenceCount,
 }
 
 // The fixed part of the secondary header, but for its presence flags.
@@ -57,7 +78,7 @@ pub struct Fixed {
     pub error: u8,
     pub qos: u8,
     pub session: u8,
-    pub apid: SecondaryApid,
+    pub secondary_apid: SecondaryApid,
     pub qualifier: u16,
     pub transaction: u64,
 }
@@ -69,7 +90,7 @@ pub struct Present {
     pub priority: bool,
     pub timestamp: bool,
     pub zone: bool,
-    pub session: bool,
+    pub session_name: bool,
     pub domain: bool,
     pub authentication: bool,
 }
@@ -86,7 +107,7 @@ pub struct Ids {
 pub struct Texts {
     pub timestamp: Place,
     pub zone: Place,
-    pub session: Place,
+    pub session_name: Place,
     pub count: usize,
     pub parts: [Place; 16],
     pub authentication: Place,
@@ -119,7 +140,7 @@ struct Routing {
     error: u8,
     qos: u8,
     session: u8,
-    apid: SecondaryApid,
+    secondary_apid: SecondaryApid,
     qualifier: u16,
 }
 
@@ -154,15 +175,32 @@ struct TextsStep {
     texts: Texts,
 }
 
-// The next sequence count: 0 follows 16,383.
+// A count above the largest stands for the largest: 0 follows either.
+fn held_count(x: u16) -> u16
+    ensures { λ r. ⌜ r ≡ heldCount x ⌝ }
+{
+    if COUNT_MOST <= x {
+        return COUNT_MOST;
+    }
+    x
+}
+
+// The sequence count n packets on: 0 follows 16,383.
+pub fn sequence_count_after(c: SequenceCount, n: usize) -> SequenceCount
+    ensures { λ r. ⌜ r ≡ sequenceCountAt c n ⌝ }
+{
+    let x = held_count(c.0) as usize;
+    if n == 0 {
+        return c;
+    }
+    SequenceCount(((x + n % COUNTS) % COUNTS) as u16)
+}
+
+// The next sequence count.
 pub fn next_sequence_count(c: SequenceCount) -> SequenceCount
     ensures { λ r. ⌜ r ≡ nextSequenceCount c ⌝ }
 {
-    let x = c.0;
-    if COUNT_MOST <= x {
-        return SequenceCount(0);
-    }
-    SequenceCount(x + 1)
+    sequence_count_after(c, 1)
 }
 
 // 1 to 5.
@@ -172,9 +210,11 @@ fn primary_walk(p: &[u8], w: Walk) -> Walk
     let first = octets::octet(p, 0);
     let id = octets::be16(p, 0);
     let want = octets::be16(p, 4) as usize + 7;
-    let a = w.check(6 <= p.len(), 1).check(first < 32, 2);
-    let b = a.check(first / 8 % 2 == 1, 3).check(id % 2048 != 2047, 4);
-    b.check(p.len() == want, 5)
+    let a = w.check(6 <= p.len(), REFUSED_FEW_OCTETS)
+        .check(first < 32, REFUSED_VERSION);
+    let b = a.check(first / 8 % 2 == 1, REFUSED_NO_SECONDARY)
+        .check(id % 2048 != 2047, REFUSED_IDLE);
+    b.check(p.len() == want, REFUSED_LENGTH)
 }
 
 fn read_primary(p: &[u8]) -> Primary
@@ -183,12 +223,12 @@ fn read_primary(p: &[u8]) -> Primary
     let first = octets::octet(p, 0);
     let third = octets::octet(p, 2);
     let apid = Apid(octets::be16(p, 0) % 2048);
-    let count = SequenceCount(octets::be16(p, 2) % 16384);
+    let sequence_count = SequenceCount(octets::be16(p, 2) % 16384);
     Primary {
-        kind: first / 16 % 2,
+        packet_type: first / 16 % 2,
         apid: apid,
         flags: third / 64,
-        count: count,
+        sequence_count: sequence_count,
     }
 }
 
@@ -223,7 +263,8 @@ fn read_sdu(p: &[u8], w: Walk) -> Octet
     let a = read_octet(p, w);
     let aw = a.walk;
     let first = a.value;
-    let end = aw.check(first < 32, 7).check(first % 32 < 22, 8);
+    let end = aw.check(first < 32, REFUSED_BINDING)
+        .check(first % 32 < 22, REFUSED_SDU_TYPE);
     Octet {
         walk: end,
         value: first % 32,
@@ -261,17 +302,17 @@ fn read_routing(p: &[u8], w: Walk) -> Routing
     let a = read_octet(p, w);
     let aw = a.walk;
     let high = a.value;
-    let b = read_octet(p, aw.check(high / 8 % 4 < 3, 9));
+    let b = read_octet(p, aw.check(high / 8 % 4 < 3, REFUSED_SESSION));
     let bw = b.walk;
     let c = read_word(p, bw);
     let cw = c.walk;
-    let apid = SecondaryApid((high % 8) as u16 * 256 + b.value as u16);
+    let secondary_apid = SecondaryApid((high % 8) as u16 * 256 + b.value as u16);
     Routing {
         walk: cw,
         error: high / 128,
         qos: high / 32 % 4,
         session: high / 8 % 4,
-        apid: apid,
+        secondary_apid: secondary_apid,
         qualifier: c.value,
     }
 }
@@ -285,7 +326,7 @@ fn flags_of(f: u8) -> Present
         priority: f / 32 % 2 == 1,
         timestamp: f / 16 % 2 == 1,
         zone: f / 8 % 2 == 1,
-        session: f / 4 % 2 == 1,
+        session_name: f / 4 % 2 == 1,
         domain: f / 2 % 2 == 1,
         authentication: f % 2 == 1,
     }
@@ -303,7 +344,7 @@ fn read_fixed(p: &[u8], w: Walk) -> FixedStep
     let t = rw.octets(p, 8);
     let has = flags_of(octets::octet(p, t.at as usize));
     let end = t.octets(p, 1);
-    let apid = r.apid;
+    let secondary_apid = r.secondary_apid;
     let fixed = Fixed {
         sdu: n.sdu,
         area: n.area,
@@ -313,7 +354,7 @@ fn read_fixed(p: &[u8], w: Walk) -> FixedStep
         error: r.error,
         qos: r.qos,
         session: r.session,
-        apid: apid,
+        secondary_apid: secondary_apid,
         qualifier: r.qualifier,
         transaction: transaction,
     };
@@ -384,7 +425,7 @@ fn read_texts(s: Settings, has: Present, p: &[u8], w: Walk) -> TextsStep
     let aw = a.walk;
     let b = fields::text_if(has.zone, s, p, aw);
     let bw = b.walk;
-    let c = fields::text_if(has.session, s, p, bw);
+    let c = fields::text_if(has.session_name, s, p, bw);
     let cw = c.walk;
     let d = fields::domain_if(has.domain, s, p, cw);
     let dw = d.walk;
@@ -392,13 +433,13 @@ fn read_texts(s: Settings, has: Present, p: &[u8], w: Walk) -> TextsStep
     let ew = e.walk;
     let timestamp = a.place;
     let zone = b.place;
-    let session = c.place;
+    let session_name = c.place;
     let parts = d.parts;
     let authentication = e.place;
     let texts = Texts {
         timestamp: timestamp,
         zone: zone,
-        session: session,
+        session_name: session_name,
         count: d.count,
         parts: parts,
         authentication: authentication,
@@ -414,7 +455,7 @@ fn body_walk(p: &[u8], w: Walk) -> Walk
     ensures { λ r. ⌜ r ≡ asWalk (bodyTest (now (p .entry)) (ofWalk w)) ⌝ }
 {
     if segmented(p) {
-        return w.check((w.at as usize) < p.len(), 14);
+        return w.check((w.at as usize) < p.len(), REFUSED_EMPTY_SEGMENT);
     }
     w
 }
@@ -423,7 +464,7 @@ fn body_walk(p: &[u8], w: Walk) -> Walk
 fn no_fixed() -> Fixed
     ensures { λ r. ⌜ r ≡ noFixed ⌝ }
 {
-    let apid = SecondaryApid(0);
+    let secondary_apid = SecondaryApid(0);
     Fixed {
         sdu: 0,
         area: 0,
@@ -433,7 +474,7 @@ fn no_fixed() -> Fixed
         error: 0,
         qos: 0,
         session: 0,
-        apid: apid,
+        secondary_apid: secondary_apid,
         qualifier: 0,
         transaction: 0,
     }
@@ -445,13 +486,13 @@ fn refused_header(refusal: Refusal) -> Header
 {
     let none = Place { at: 0, length: 0 };
     let apid = Apid(0);
-    let count = SequenceCount(0);
+    let sequence_count = SequenceCount(0);
     let counter = SegmentCounter(0);
     let primary = Primary {
-        kind: 0,
+        packet_type: 0,
         apid: apid,
         flags: 0,
-        count: count,
+        sequence_count: sequence_count,
     };
     let ids = Ids {
         source: 0,
@@ -462,7 +503,7 @@ fn refused_header(refusal: Refusal) -> Header
     let texts = Texts {
         timestamp: none,
         zone: none,
-        session: none,
+        session_name: none,
         count: 0,
         parts: [none; 16],
         authentication: none,

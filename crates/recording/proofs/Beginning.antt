@@ -6,9 +6,8 @@ use mathlib.Core.List.{List}
 use native.Mathlib.Omega.{arith}
 use lib.ListN.{length, replicate, length-replicate}
 use Rattle.walk.specs.Walk.{begun, check}
-use Rattle.cells.specs.Order.{countIn, cellSize}
-use Rattle.messages.proofs.Empty.{empty-order, empty-count}
-use Rattle.opening.specs.Inner.{gate}
+use Rattle.cells.specs.Order.{countIn, cellSize, gate}
+use Rattle.cells.proofs.Empty.{empty-order, empty-count}
 use Rattle.steps.specs.Stepping.{room}
 use Rattle.recording.specs.Recording.{settings, cellCount, emptyStore}
 

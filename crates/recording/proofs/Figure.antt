@@ -1,4 +1,4 @@
--- Document 01: "Figure 14 alone gives 4D 4D 00 00 00 17, then 18 05 and its 21 header octets."
+-- SPEC F-14: what a recording of that packet alone comes to.
 -- Assumes nothing.
 use Prim.Native.Nat.{ℕ, suc}
 use mathlib.Core.Path.{_≡_, refl, ap, sym, _∙_}
@@ -6,10 +6,10 @@ use mathlib.Core.Bool.{true}
 use mathlib.Core.Logic.{inl}
 use mathlib.Core.List.{List, [], _∷_, _++_, append-nil}
 use Rattle.octets.specs.Octets.{number, alike, wide}
-use Rattle.format.proofs.Figure14.{packet, reads}
-use Rattle.cells.specs.Order.{countIn, cellSize}
+use Rattle.packet.specs.Figure14.{packet}
+use Rattle.format.proofs.Figure14.{reads}
+use Rattle.cells.specs.Order.{countIn, cellSize, gate}
 use Rattle.arrival.specs.Arriving.{Arrived, whole, arrivedIn, arrived}
-use Rattle.opening.specs.Inner.{gate}
 use Rattle.arrival.proofs.Checked.{arrived-open}
 use Rattle.join.specs.Joining.{joinedBy, joining}
 use Rattle.steps.specs.Stepping.{room, wholly, cameBy, cameOf, framed, without, foundIn, came, stepped, storeBehind}

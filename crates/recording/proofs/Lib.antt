@@ -7,3 +7,4 @@ pub mod Shorter
 mod Reaching
 mod Leaving
 mod Calls
+pub mod Arguments

@@ -19,7 +19,8 @@ use Rattle.walk.specs.declared.Settings.{Settings}
 use Rattle.cells.specs.Rows.{sizeIn}
 use Rattle.cells.specs.Order.{cellSize}
 use Rattle.cells.proofs.Held.{both-true}
-use Rattle.steps.specs.Stepping.{Found, nothing, other, cut, whole, begins, foundIn, Came, cameOf, wrote, Stepped, wanting, ended, unmarked, torn, came, stepBy, stepped, storeBehind, usedBy, writtenBy}
+use Rattle.steps.specs.Stepping.{Found, nothing, other, cut, whole, begins, foundIn, Came, cameOf, wrote, Stepped, wanting, ended, unmarked, torn}
+use Rattle.steps.specs.Stepping.{came, stepBy, stepped, storeBehind, usedBy, writtenBy}
 use Rattle.recording.specs.Recording.{recordedFrom, recorded, settings, emptyStore}
 use Rattle.recording.specs.Handing.{Hand, inHand, endsWith, Outcome, onward, handed}
 use Rattle.steps.proofs.Places.{found-nothing, found-cut}
@@ -65,7 +66,7 @@ module _ (s : Settings) (Z : ℕ) (st : List ℕ) where
 
   -- too few to tell what follows
   abbrev pub Short : List ℕ → Type 0
-  Short w = (length w ≡ 0) ⊎ ((begins w ≡ true) × (length w < 2 + sizeIn 0 w))
+  Short w = (length w ≡ 0) ⊎ ((begins w ≡ true) × (length w < 2 + sizeIn w))
 
   wanting-by : (w : List ℕ) (b : Bool) (f : Found) → foundIn w ≡ f → stepBy s Z st b f ≡ wanting → (b ≡ false) × Short w
   wanting-by w true nothing e d = let z : _≡_ {A = ℕ} 0 1 = cc d in absurd (omega arith)

@@ -14,8 +14,7 @@ use Rattle.octets.specs.Octets.{Octets}
 use Rattle.octets.proofs.Lists.{sets-append}
 use Rattle.walk.specs.declared.Settings.{Settings}
 use Rattle.cells.specs.Rows.{zeroRow}
-use Rattle.cells.specs.Order.{countIn, cellSize}
-use Rattle.opening.specs.Inner.{gate}
+use Rattle.cells.specs.Order.{countIn, cellSize, gate}
 use Rattle.walk.specs.Walk.{refusal}
 use Rattle.steps.specs.declared.Done.{Done}
 use Rattle.recording.specs.declared.Why.{Why}

@@ -19,16 +19,16 @@ use Rattle.packet.specs.declared.Header.{Header}
 use Rattle.packet.specs.Reading.{readPacket, counterSize}
 use Rattle.packet.specs.Key.{keyOf, counterPlace}
 use Rattle.cells.specs.Segments.{Seg, segOf}
-use Rattle.cells.specs.Rows.{Cell, free, held, broken, rowAt, packetIn, cellOf}
+use Rattle.cells.specs.Rows.{Cell, held, rowAt, packetIn, cellOf, segmentIn, bySegment}
 use Rattle.cells.proofs.Carries.{held-is}
 use Rattle.cells.specs.Order.{cellAt, countIn}
-use Rattle.messages.specs.Messages.{listed, cellsOf, look, Role, first, middle, last, roleOf, Run, bodies, bodyOf, segments, linkBy, link, chain, picked, top}
+use Rattle.cells.specs.Messages.{listed, cellsOf, look, Role, first, middle, last, roleOf, Run, bodies, bodyOf, segments, linkBy, link, restFrom, picked, top}
 use Rattle.arrival.specs.Arriving.{Arrived, whole, stored, again, refused, arrived, storeWith}
 use Rattle.taking.specs.Taking.{writing, drawn, tookIn, took, storeLess}
-use Rattle.messages.proofs.Distinct.{carries-true}
-use Rattle.messages.proofs.Listed.{Among, among-cases}
-use Rattle.messages.proofs.Looking.{look-some}
-use Rattle.messages.proofs.Members.{In, opening, picked-held}
+use Rattle.cells.proofs.Distinct.{carries-true}
+use Rattle.cells.proofs.Listed.{Among, among-cases}
+use Rattle.cells.proofs.Looking.{look-some}
+use Rattle.cells.proofs.Members.{In, opening, picked-held}
 use Rattle.arrival.proofs.Keeps.{arrive-long}
 use Rattle.join.specs.Joining.{tookAs, joinedBy, storeBy, joining, storeJoined}
 use Rattle.steps.specs.Stepping.{room}
@@ -37,9 +37,7 @@ use Rattle.steps.specs.Stepping.{room}
 
 -- a cell holds a segment of this counter or a higher one
 abbrev fromOn : ℕ → Cell → ℕ
-fromOn c free = 0
-fromOn c (held t) = pick (leb c (t .counter)) 1 0
-fromOn c broken = 0
+fromOn c x = bySegment 0 (λ t. pick (leb c (t .counter)) 1 0) (segmentIn x)
 
 -- how many of n cells do
 unfoldable cellsFrom : (ℕ → Cell) → ℕ → ℕ → ℕ → ℕ
@@ -47,22 +45,26 @@ cellsFrom f c zero i = 0
 cellsFrom f c (suc n) i = fromOn c (f i) + cellsFrom f c n (suc i)
 
 one-most : (c : ℕ) (x : Cell) → fromOn c x ≤ 1
-one-most c free = omega arith
-one-most c (held t) = go (leb c (t .counter))
+one-most c x = of (segmentIn x)
   where
     go : (b : Bool) → pick b 1 0 ≤ 1
     go true = omega arith
     go false = omega arith
-one-most c broken = omega arith
+
+    of : (o : Option Seg) → bySegment 0 (λ t. pick (leb c (t .counter)) 1 0) o ≤ 1
+    of none = omega arith
+    of (some t) = go (leb c (t .counter))
 
 one-fewer : (c : ℕ) (x : Cell) → fromOn (suc c) x ≤ fromOn c x
-one-fewer c free = omega arith
-one-fewer c (held t) = go (below-or (t .counter) (suc c))
+one-fewer c x = of (segmentIn x)
   where
-    go : (t .counter < suc c) ⊎ (suc c ≤ t .counter) → pick (leb (suc c) (t .counter)) 1 0 ≤ pick (leb c (t .counter)) 1 0
-    go (inl h) = rw (lt-leb (suc c) (t .counter) h) (omega arith)
-    go (inr h) = rw (le-leb (suc c) (t .counter) h, le-leb c (t .counter) (omega arith)) (omega arith)
-one-fewer c broken = omega arith
+    go : (t : Seg) → (t .counter < suc c) ⊎ (suc c ≤ t .counter) → pick (leb (suc c) (t .counter)) 1 0 ≤ pick (leb c (t .counter)) 1 0
+    go t (inl h) = rw (lt-leb (suc c) (t .counter) h) (omega arith)
+    go t (inr h) = rw (le-leb (suc c) (t .counter) h, le-leb c (t .counter) (omega arith)) (omega arith)
+
+    of : (o : Option Seg) → bySegment 0 (λ t. pick (leb (suc c) (t .counter)) 1 0) o ≤ bySegment 0 (λ t. pick (leb c (t .counter)) 1 0) o
+    of none = omega arith
+    of (some t) = go t (below-or (t .counter) (suc c))
 
 -- the counter itself
 one-less : (t : Seg) (x : Cell) → x ≡ held t → suc (fromOn (suc (t .counter)) x) ≤ fromOn (t .counter) x
@@ -115,11 +117,11 @@ module _ (f : ℕ → Cell) where
             omega (arith, h t refl, k us refl, ap length g)
         go last q k d = let g : t ∷ [] ≡ ts = cc d in omega (arith, h t refl, ap length g)
 
-    chain-most : (m : ℕ) (k : List ℕ) (c : ℕ) (ts : List Seg) → chain suc top m (listed f n 0) k c ≡ some ts → length ts ≤ cellsFrom f c n 0
-    unfolding chain
-    chain-most zero k c ts e = let z : _≡_ {A = ℕ} 0 1 = cc e in absurd (omega arith)
-    chain-most (suc m) k c ts e =
-        link-most c (look (listed f n 0) k c) (chain suc top m (listed f n 0) k (suc c)) ts here (λ us d. chain-most m k (suc c) us d) e
+    rest-most : (m : ℕ) (k : List ℕ) (c : ℕ) (ts : List Seg) → restFrom suc top m (listed f n 0) k c ≡ some ts → length ts ≤ cellsFrom f c n 0
+    unfolding restFrom
+    rest-most zero k c ts e = let z : _≡_ {A = ℕ} 0 1 = cc e in absurd (omega arith)
+    rest-most (suc m) k c ts e =
+        link-most c (look (listed f n 0) k c) (restFrom suc top m (listed f n 0) k (suc c)) ts here (λ us d. rest-most m k (suc c) us d) e
       where
         here : (t : Seg) → look (listed f n 0) k c ≡ some t → suc (cellsFrom f (suc c) n 0) ≤ cellsFrom f c n 0
         here t d =
@@ -133,7 +135,7 @@ module _ (f : ℕ → Cell) where
         let a = opening suc top (listed f n 0) f n 0 r e in
         omega (
           arith,
-          chain-most top (r .head .key) (suc (r .head .counter)) (r .rest) (a .3),
+          rest-most top (r .head .key) (suc (r .head .counter)) (r .rest) (a .3),
           cells-less (r .head) n 0 (a .0) (a .1) (a .2),
           cells-most (r .head .counter) n 0,
         )
@@ -172,7 +174,7 @@ pub held-small : (s : Settings) (Z : ℕ) (r : List ℕ) (t : Seg) → cellOf s 
 unfolding segOf
 held-small s Z r t e =
     let h = held-is s Z r t e in
-    let p : List ℕ = packetIn Z r in
+    let p : List ℕ = packetIn r in
     let d : held (segOf p (readPacket s p)) ≡ held t = sym (h .cell) ∙ e in
     let same : segOf p (readPacket s p) ≡ t = cc d in
     record {

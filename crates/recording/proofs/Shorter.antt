@@ -16,7 +16,8 @@ use Rattle.cells.specs.Order.{countIn, cellSize}
 use Rattle.arrival.specs.Arriving.{Arrived, whole as wholly', stored, again, refused as refused', arrived, storeWith}
 use Rattle.taking.specs.Taking.{Took, message as message', unable, writing, took, storeLess}
 use Rattle.join.specs.Joining.{tookAs, joinedBy, storeBy, joining, storeJoined}
-use Rattle.steps.specs.Stepping.{Found, nothing, other, cut, whole, foundIn, longest, room, over, refused, kept, cameBy, cameOf, storeAfter, without, wrote, stepBy, stepped, storeBehind, usedBy, writtenBy}
+use Rattle.steps.specs.Stepping.{Found, nothing, other, cut, whole, foundIn, longest, room, over, refused, kept, cameBy, cameOf, storeAfter, without}
+use Rattle.steps.specs.Stepping.{wrote, stepBy, stepped, storeBehind, usedBy, writtenBy}
 use Rattle.recording.specs.Recording.{recordedFrom, recorded, settings, cellCount, emptyStore}
 use Rattle.steps.proofs.Frames.{framed-long}
 use Rattle.steps.proofs.Showing.{whole-tells}
@@ -81,12 +82,12 @@ module _ (s : Settings) (Z : ℕ) where
     step-by cut e = omega arith
     step-by (whole p) e =
         let a = whole-tells x p e in
-        let l : length p ≡ sizeIn 0 x = ap length (a .1 .1) ∙ long (a .1 .0) in
-        let q : Octets p = rw (a .1 .1) (octets-part x 2 (sizeIn 0 x) o) in
+        let l : length p ≡ sizeIn x = ap length (a .1 .1) ∙ long (a .1 .0) in
+        let q : Octets p = rw (a .1 .1) (octets-part x 2 (sizeIn x) o) in
         came-weighs st p (omega arith) q
       where
-        long : 2 + sizeIn 0 x ≤ length x → length (take (sizeIn 0 x) (drop 2 x)) ≡ sizeIn 0 x
-        long h = omega (arith, length-take (sizeIn 0 x) (drop 2 x), length-drop 2 x)
+        long : 2 + sizeIn x ≤ length x → length (take (sizeIn x) (drop 2 x)) ≡ sizeIn x
+        long h = omega (arith, length-take (sizeIn x) (drop 2 x), length-drop 2 x)
 
     step-weighs :
         length (writtenBy (stepped s Z st x true)) + weighs s Z (storeBehind s Z st (stepped s Z st x true)) ≤ weighs s Z st + usedBy (stepped s Z st x true)

@@ -2,8 +2,8 @@
 -- packet has with its mark, and a taking takes off at least what it gives.
 -- Assumes nothing.
 use Prim.Native.Nat.{ℕ, zero, suc, _+_, _≤_, _<_}
-use mathlib.Core.Path.{_≡_, refl, ap, sym}
-use mathlib.Core.Logic.{_≢_, _⊎_, inl, inr}
+use mathlib.Core.Path.{_≡_, refl, ap, sym, _∙_}
+use mathlib.Core.Logic.{_≢_, _⊎_, inl, inr, ⊎-elim}
 use mathlib.Core.Bool.{Bool, true, false}
 use mathlib.Core.List.{List, [], _∷_, _++_}
 use mathlib.Core.Option.{Option, none, some}
@@ -19,21 +19,22 @@ use Rattle.format.specs.Told.{valuesOf}
 use Rattle.format.proofs.Frame.{identification-long}
 use Rattle.format.proofs.Accepting.{accepted}
 use Rattle.cells.specs.Segments.{Seg, segOf, carries}
-use Rattle.cells.specs.Rows.{Cell, free, held, broken}
+use Rattle.cells.specs.Rows.{Cell, free, held, segmentIn, bySegment}
 use Rattle.cells.specs.Order.{cellAt, countIn}
-use Rattle.messages.specs.Messages.{listed, look, Role, first, middle, last, roleOf, Run, bodies, segments, linkBy, link, chain, or, among, amongIn, top}
+use Rattle.cells.proofs.CellSegments.{segment-or, segment-freed}
+use Rattle.cells.specs.Messages.{listed, look, Role, first, middle, last, roleOf, Run, bodies, segments, linkBy, link, restFrom, or, among, amongIn, top}
 use Rattle.arrival.specs.Arriving.{stored, arrived, storeWith}
 use Rattle.taking.specs.Taking.{message, writing, took, storeLess}
-use Rattle.messages.proofs.Distinct.{carries-true, carries-yes}
-use Rattle.messages.proofs.Listed.{Among, among-cases, among-first, among-more}
-use Rattle.messages.proofs.Looking.{look-some}
-use Rattle.messages.proofs.Order.{cells-inside}
-use Rattle.messages.proofs.Members.{opening}
+use Rattle.cells.proofs.Distinct.{carries-true, carries-yes}
+use Rattle.cells.proofs.Listed.{Among, among-cases, among-first, among-more}
+use Rattle.cells.proofs.Looking.{look-some}
+use Rattle.cells.proofs.StoreOrder.{cells-inside}
+use Rattle.cells.proofs.Members.{opening}
 use Rattle.arrival.proofs.After.{segment, stored-tells, cell-kept, cell-stored}
 use Rattle.arrival.proofs.Keeps.{arrive-long, arrived-tells}
 use Rattle.taking.proofs.Keeps.{cell-taken, take-long}
 use Rattle.taking.proofs.Tells.{taken-tells}
-use Rattle.messages.proofs.Empty.{zeros, empty-cell, empty-count}
+use Rattle.cells.proofs.Empty.{zeros, empty-cell, empty-count}
 
 -- ---- sums
 
@@ -83,9 +84,7 @@ abbrev pub weight : Seg → ℕ
 weight t = 6 + (length (t .key) + length (t .body))
 
 abbrev pub inCell : Cell → ℕ
-inCell free = 0
-inCell (held t) = weight t
-inCell broken = 0
+inCell x = bySegment 0 weight (segmentIn x)
 
 unfoldable weights : List Seg → ℕ
 weights [] = 0
@@ -132,11 +131,11 @@ module _ (f : ℕ → Cell) (n : ℕ) where
           let w : Climbs c (t ∷ []) = on (a .0) (a .1 .0) (a .1 .1) (a .1 .2) done in
           rw g at w
 
-  chain-climbs : (m : ℕ) (k : List ℕ) (c : ℕ) (ts : List Seg) → chain suc top m (listed f n 0) k c ≡ some ts → Climbs c ts
-  unfolding chain
-  chain-climbs zero k c ts e = let z : _≡_ {A = ℕ} 0 1 = cc e in absurd (omega arith)
-  chain-climbs (suc m) k c ts e =
-      link-climbs c (look (listed f n 0) k c) (chain suc top m (listed f n 0) k (suc c)) ts here (λ us d. chain-climbs m k (suc c) us d) e
+  rest-climbs : (m : ℕ) (k : List ℕ) (c : ℕ) (ts : List Seg) → restFrom suc top m (listed f n 0) k c ≡ some ts → Climbs c ts
+  unfolding restFrom
+  rest-climbs zero k c ts e = let z : _≡_ {A = ℕ} 0 1 = cc e in absurd (omega arith)
+  rest-climbs (suc m) k c ts e =
+      link-climbs c (look (listed f n 0) k c) (restFrom suc top m (listed f n 0) k (suc c)) ts here (λ us d. rest-climbs m k (suc c) us d) e
     where
       here : (t : Seg) → look (listed f n 0) k c ≡ some t → (t .counter ≡ c) × ((j : ℕ) × Among n 0 j × (f j ≡ held t))
       here t d = let a = look-some f k c n 0 t d in (sym (carries-true k c t (a .3) .1), (a .0, a .1, a .2))
@@ -158,17 +157,27 @@ module _ (f : ℕ → Cell) (n : ℕ) where
   abbrev left : List Seg → ℕ → ℕ
   left us j = inCell (freed us (f j))
 
+  -- a cell that holds none has no weight, freed or not
+  freed-nothing : (us : List Seg) (x : Cell) → segmentIn x ≡ none → inCell (freed us x) ≡ 0
+  freed-nothing us x n = ap (λ (o : Option Seg). bySegment 0 weight o) (segment-freed (amongIn us x) x ∙ ap (pick (amongIn us x) none) n) ∙ both-none (amongIn us x)
+    where
+      both-none : (b : Bool) → bySegment 0 weight (pick b none none) ≡ 0
+      both-none true = refl
+      both-none false = refl
+
   freed-less : (u : Seg) (us : List Seg) (x : Cell) → inCell (freed (u ∷ us) x) ≤ inCell (freed us x)
   unfolding among
-  freed-less u us free = omega arith
-  freed-less u us (held t) = go (carries (u .key) (u .counter) t) (among us t)
+  freed-less u us x =
+      ⊎-elim
+      (λ w. rw (w .1) (go (w .0) (carries (u .key) (u .counter) (w .0)) (among us (w .0))))
+      (λ n. rw (freed-nothing (u ∷ us) x n, freed-nothing us x n) (omega arith))
+      (segment-or x)
     where
-      go : (a b : Bool) → inCell (pick (or a b) free (held t)) ≤ inCell (pick b free (held t))
-      go true true = omega arith
-      go true false = omega arith
-      go false true = omega arith
-      go false false = omega arith
-  freed-less u us broken = omega arith
+      go : (t : Seg) (a b : Bool) → inCell (pick (or a b) free (held t)) ≤ inCell (pick b free (held t))
+      go t true true = omega arith
+      go t true false = omega arith
+      go t false true = omega arith
+      go t false false = omega arith
 
   freed-this : (u : Seg) (us : List Seg) (x : Cell) → x ≡ held u → among us u ≡ false → inCell (freed (u ∷ us) x) + weight u ≤ inCell (freed us x) + 0
   unfolding among
@@ -178,9 +187,7 @@ module _ (f : ℕ → Cell) (n : ℕ) where
 
   freed-none : (x : Cell) → inCell (freed [] x) ≤ inCell x
   unfolding among
-  freed-none free = omega arith
-  freed-none (held t) = omega arith
-  freed-none broken = omega arith
+  freed-none x = ⊎-elim (λ w. rw (w .1) (omega arith)) (λ n. omega (arith, freed-nothing [] x n)) (segment-or x)
 
   climbs-less : {c : ℕ} {ts : List Seg} → Climbs c ts → sum (left ts) n 0 + weights ts ≤ sum (λ j. inCell (f j)) n 0
   unfolding weights
@@ -252,7 +259,7 @@ module _ (s : Settings) (Z : ℕ) where
       let x = storeLess s Z st n (message r) in
       let f = cellAt s Z st in
       let a = opening suc top (listed f n 0) f n 0 r (taken-tells s Z st long r e .picked) in
-      let w = chain-climbs f n top (r .head .key) (suc (r .head .counter)) (r .rest) (a .3) in
+      let w = rest-climbs f n top (r .head .key) (suc (r .head .counter)) (r .rest) (a .3) in
       let g = climbs-less f n (on refl (a .0) (a .1) (a .2) w) in
       let m = sum-most (λ j. inCell (cellAt s Z x j)) (left f n (segments r)) n 0
       (λ j q. rw (cell-taken s Z st n r (cells-inside Z st) j (omega (arith, q .top))) (omega arith)) in

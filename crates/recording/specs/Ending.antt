@@ -1,7 +1,6 @@
 -- A whole recording in hand: where it stops, why, and what is told of it.
--- Document 01, "What the ground program covers": the program "stops where no whole mark and packet, by its length field, follow." And
--- "Refusal numbers", 21: "output too short"; "A refusal answers its number, every other answer zero .., and no lent octet changed."
--- An output is too short where it is shorter than the recording: what is written is never longer than that, and so always fits.
+-- SPEC G-3: where it stops, and why. G-8: 21 and nothing written if the output is shorter than the recording; what comes out is never
+-- longer than that, and so always fits.
 -- Assumes nothing: these are definitions.
 use Prim.Native.Nat.{ℕ, zero, suc, _+_}
 use mathlib.Core.List.{List}

@@ -1,6 +1,5 @@
 -- Joining a recording.
--- Document 01, "What the ground program covers": "A small program joins a recording: packets, each after the mark 4D 50. It uses T 8
--- and 32 cells, .. and stops where no whole mark and packet, by its length field, follow."
+-- SPEC G-2, G-3: T 8, 32 cells, from mark to mark, as far as whole packets follow.
 -- Assumes nothing: these are definitions.
 use Prim.Native.Nat.{ℕ, zero, suc, _*_}
 use mathlib.Core.Bool.{true}
@@ -18,7 +17,7 @@ recordedFrom s Z (suc f) st x =
     let r = recordedFrom s Z f (storeBehind s Z st d) (drop (usedBy d) x) in
     writtenBy d ++ r
 
--- "T 8 and 32 cells"
+-- SPEC G-2
 abbrev pub settings : Settings
 settings = record { t = 8 }
 

@@ -12,6 +12,7 @@ ghost use Rattle.recording.specs.Recording.{recorded, emptyStore};
 ghost use Rattle.recording.specs.Ending.{reach, whyAt, recordedOf, outRecorded};
 use cells::CELL;
 use steps::Stands;
+use walk::REFUSED_OUTPUT;
 use walk::Refusal;
 use walk::Settings;
 
@@ -92,7 +93,9 @@ pub fn join_all(recording: &[u8], out: &mut [u8]) -> Recorded
     let n = recording.len();
     if out.len() < n {
         return Recorded {
-            refusal: Refusal { number: 21 },
+            refusal: Refusal {
+                number: REFUSED_OUTPUT,
+            },
             why: Why::Unsaid,
             place: 0,
             written: 0,

@@ -89,7 +89,7 @@ fn present(all: bool) -> Present {
         priority: all,
         timestamp: all,
         zone: all,
-        session: all,
+        session_name: all,
         domain: all,
         authentication: all,
     }
@@ -99,7 +99,7 @@ fn header(m: u8) -> HeaderValues {
     let all = rich(m);
     let has = present(all);
     HeaderValues {
-        kind: 1,
+        packet_type: 1,
         apid: Apid(m as u16 + 5),
         sdu: 0,
         area: 1,
@@ -109,7 +109,7 @@ fn header(m: u8) -> HeaderValues {
         error: 0,
         qos: 1,
         session: 0,
-        second: SecondaryApid(6),
+        secondary_apid: SecondaryApid(6),
         qualifier: 7,
         transaction: m as u64 + 9,
         has: has,
@@ -123,7 +123,7 @@ fn header(m: u8) -> HeaderValues {
 fn sender(m: u8) -> Sender {
     let next = Next::At(SegmentCounter(m as u32 * 1000));
     Sender {
-        count: SequenceCount(m as u16 * 6 + 16341),
+        sequence_count: SequenceCount(m as u16 * 6 + 16341),
         next: next,
     }
 }

@@ -1,9 +1,10 @@
 // The sender's two running numbers: the sequence count of the next packet, and the counter of the next segment or that none is left.
 //
-// `after_packet` and `after_segment` hand back the state behind one packet, whole or a segment, and refuse nothing. A counter of
-// 4,294,967,295 may be used, and then none is left. How many packets a message takes, and the numbers behind it, is for crate `cut`.
+// `after_packet` and `after_segment` hand back the state after one packet, whole or a segment, `after_message` the state after a
+// message; they refuse nothing. A counter of 4,294,967,295 may be used, and then none is left. How many packets a message takes is
+// for crate `cut`.
 ghost use mathlib.Core.Path.{_≡_};
-ghost use Rattle.sender.specs.Sending.{nextCounter, afterPacket, afterSegment};
+ghost use Rattle.sender.specs.Sending.{counterAfter, afterPacket, afterSegment, afterSegments, afterMessage};
 use packet::SegmentCounter;
 use packet::SequenceCount;
 
@@ -18,23 +19,32 @@ pub enum Next {
 
 // The sender's two running numbers.
 pub struct Sender {
-    pub count: SequenceCount,
+    pub sequence_count: SequenceCount,
     pub next: Next,
 }
 
-// The counter after one that was used.
-fn next_counter(n: Next) -> Next
-    ensures { λ r. ⌜ r ≡ nextCounter n ⌝ }
-{
-    match n {
-        Next::At(c) => {
-            let x = c.0;
-            if COUNTER_MOST <= x {
-                return Next::NoneLeft;
+// How a message is sent: as one unsegmented packet, or as so many segments.
+pub enum Sent {
+    Whole,
+    Segments(usize),
+}
+
+impl Next {
+    // The counter n segments on.
+    pub fn after(self, n: usize) -> Next
+        ensures { λ r. ⌜ r ≡ counterAfter n self ⌝ }
+    {
+        match self {
+            Next::At(c) => {
+                let x = c.0;
+                let left = (COUNTER_MOST - x) as u64;
+                if n as u64 <= left {
+                    return Next::At(SegmentCounter(x + n as u32));
+                }
+                Next::NoneLeft
             }
-            Next::At(SegmentCounter(x + 1))
+            Next::NoneLeft => Next::NoneLeft,
         }
-        Next::NoneLeft => Next::NoneLeft,
     }
 }
 
@@ -43,24 +53,41 @@ impl Sender {
     pub fn after_packet(self) -> Sender
         ensures { λ r. ⌜ r ≡ afterPacket self ⌝ }
     {
-        let later = packet::next_sequence_count(self.count);
+        let later = packet::next_sequence_count(self.sequence_count);
         let next = self.next;
         Sender {
-            count: later,
+            sequence_count: later,
             next: next,
         }
     }
 
-    // The state after a segment: both numbers move.
+    // The state after n segments: both numbers move.
+    fn after_segments(self, n: usize) -> Sender
+        ensures { λ r. ⌜ r ≡ afterSegments n self ⌝ }
+    {
+        let next = self.next;
+        let moved = next.after(n);
+        let sequence_count = packet::sequence_count_after(self.sequence_count, n);
+        Sender {
+            sequence_count: sequence_count,
+            next: moved,
+        }
+    }
+
+    // The state after a segment.
     pub fn after_segment(self) -> Sender
         ensures { λ r. ⌜ r ≡ afterSegment self ⌝ }
     {
-        let next = self.next;
-        let moved = next_counter(next);
-        let count = packet::next_sequence_count(self.count);
-        Sender {
-            count: count,
-            next: moved,
+        self.after_segments(1)
+    }
+
+    // The state after a message.
+    pub fn after_message(self, sent: Sent) -> Sender
+        ensures { λ r. ⌜ r ≡ afterMessage sent self ⌝ }
+    {
+        match sent {
+            Sent::Whole => self.after_packet(),
+            Sent::Segments(n) => self.after_segments(n),
         }
     }
 }

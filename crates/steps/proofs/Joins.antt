@@ -13,7 +13,7 @@ use Rattle.walk.specs.declared.Settings.{Settings}
 use Rattle.walk.specs.declared.Refusal.{Refusal}
 use Rattle.walk.specs.Walk.{refusal}
 use Rattle.cells.specs.Rows.{rowAt}
-use Rattle.messages.specs.Messages.{Run, bodyOf}
+use Rattle.cells.specs.Messages.{Run, bodyOf}
 use Rattle.arrival.specs.Arriving.{Arrived, whole, stored, again, refused, arrived, storeWith}
 use Rattle.taking.specs.Taking.{Took, message, unable, writing, took, outWith}
 use Rattle.taking.proofs.Tells.{taken-tells, segment-held}

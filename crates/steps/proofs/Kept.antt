@@ -8,8 +8,7 @@ use lib.ListN.{length}
 use lib.Dec.{leb}
 use Rattle.octets.specs.Octets.{pick}
 use Rattle.walk.specs.declared.Settings.{Settings}
-use Rattle.cells.specs.Order.{countIn}
-use Rattle.opening.specs.Inner.{gate}
+use Rattle.cells.specs.Order.{countIn, gate}
 use Rattle.join.specs.Joining.{storeJoined}
 use Rattle.join.proofs.Kept.{join-gate, join-long}
 use Rattle.steps.specs.Stepping.{longest, room, storeAfter, Stepped, wanting, ended, unmarked, torn, came, storeBehind}

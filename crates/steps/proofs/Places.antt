@@ -14,6 +14,7 @@ use Rattle.octets.proofs.Lists.{below-or}
 use Rattle.octets.proofs.Numbers.{number-top}
 use Rattle.cells.specs.Rows.{sizeIn, packetIn}
 use Rattle.steps.specs.Stepping.{packetMark, begins, foundIn, nothing, other, cut, whole}
+use Rattle.packet.specs.Format.{packetMost}
 
 -- the mark, as far as there are octets
 pub begins-as :
@@ -38,14 +39,14 @@ module _ (x : List ℕ) where
     found-other b = rw (ne-eqb (length x) 0 some, b) refl
 
     module _ (b : begins x ≡ true) where
-      pub found-cut : length x < 2 + sizeIn 0 x → foundIn x ≡ cut
+      pub found-cut : length x < 2 + sizeIn x → foundIn x ≡ cut
       unfolding foundIn
-      found-cut h = rw (ne-eqb (length x) 0 some, b, lt-leb (2 + sizeIn 0 x) (length x) h) refl
+      found-cut h = rw (ne-eqb (length x) 0 some, b, lt-leb (2 + sizeIn x) (length x) h) refl
 
-      pub found-whole : 2 + sizeIn 0 x ≤ length x → foundIn x ≡ whole (packetIn 0 x)
+      pub found-whole : 2 + sizeIn x ≤ length x → foundIn x ≡ whole (packetIn x)
       unfolding foundIn
-      found-whole h = rw (ne-eqb (length x) 0 some, b, le-leb (2 + sizeIn 0 x) (length x) h) refl
+      found-whole h = rw (ne-eqb (length x) 0 some, b, le-leb (2 + sizeIn x) (length x) h) refl
 
 -- the longest packet that a length field tells of
-pub packet-most : (x : List ℕ) → Octets x → length (packetIn 0 x) ≤ 65542
-packet-most x o = omega (arith, length-take (sizeIn 0 x) (drop 2 x), number-top 2 x 6 o)
+pub packet-most : (x : List ℕ) → Octets x → length (packetIn x) ≤ packetMost
+packet-most x o = omega (arith, length-take (sizeIn x) (drop 2 x), number-top 2 x 6 o)

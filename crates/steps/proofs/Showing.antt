@@ -45,18 +45,18 @@ begins-same (a ∷ b ∷ w) y h = begins-two a b (w ++ y) ∙ sym (begins-two a 
 
 -- ---- a packet
 
-size-same : (w y : List ℕ) → 8 ≤ length w → sizeIn 0 (w ++ y) ≡ sizeIn 0 w
+size-same : (w y : List ℕ) → 8 ≤ length w → sizeIn (w ++ y) ≡ sizeIn w
 unfolding number
 size-same w y h =
     let a : octetAt (w ++ y) 6 ≡ octetAt w 6 = List·getD-append w y 0 6 (omega arith) in
     let b : octetAt (w ++ y) 7 ≡ octetAt w 7 = List·getD-append w y 0 7 (omega arith) in
     ap₂ (λ (m n : ℕ). (0 * 256 + m) * 256 + n + 7) a b
 
-packet-same : (w y : List ℕ) → 2 + sizeIn 0 w ≤ length w → packetIn 0 (w ++ y) ≡ packetIn 0 w
+packet-same : (w y : List ℕ) → 2 + sizeIn w ≤ length w → packetIn (w ++ y) ≡ packetIn w
 packet-same w y h =
     ap (λ (n : ℕ). part (w ++ y) 2 n) (size-same w y (omega arith))
-    ∙ ap (take (sizeIn 0 w)) (drop-append-le 2 w y (omega arith))
-    ∙ take-append-le (sizeIn 0 w) (drop 2 w) y (omega (arith, length-drop 2 w))
+    ∙ ap (take (sizeIn w)) (drop-append-le 2 w y (omega arith))
+    ∙ take-append-le (sizeIn w) (drop 2 w) y (omega (arith, length-drop 2 w))
 
 -- ---- what stands there
 
@@ -64,20 +64,20 @@ packet-same w y h =
 abbrev Tells : List ℕ → Found → Type 0
 Tells x nothing = length x ≡ 0
 Tells x other = (length x ≡ 0 → ⊥) × (begins x ≡ false)
-Tells x cut = (begins x ≡ true) × (length x < 2 + sizeIn 0 x)
-Tells x (whole p) = (begins x ≡ true) × ((2 + sizeIn 0 x ≤ length x) × (p ≡ packetIn 0 x))
+Tells x cut = (begins x ≡ true) × (length x < 2 + sizeIn x)
+Tells x (whole p) = (begins x ≡ true) × ((2 + sizeIn x ≤ length x) × (p ≡ packetIn x))
 
 found-tells : (x : List ℕ) → Tells x (foundIn x)
 unfolding foundIn
-found-tells x = told (bool (eqb (length x) 0)) (bool (begins x)) (bool (leb (2 + sizeIn 0 x) (length x)))
+found-tells x = told (bool (eqb (length x) 0)) (bool (begins x)) (bool (leb (2 + sizeIn x) (length x)))
   where
     told :
         (eqb (length x) 0 ≡ true) ⊎ (eqb (length x) 0 ≡ false) → (begins x ≡ true) ⊎ (begins x ≡ false) →
-        (leb (2 + sizeIn 0 x) (length x) ≡ true) ⊎ (leb (2 + sizeIn 0 x) (length x) ≡ false) →
-        Tells x (pick (eqb (length x) 0) nothing (pick (begins x) (pick (leb (2 + sizeIn 0 x) (length x)) (whole (packetIn 0 x)) cut) other))
+        (leb (2 + sizeIn x) (length x) ≡ true) ⊎ (leb (2 + sizeIn x) (length x) ≡ false) →
+        Tells x (pick (eqb (length x) 0) nothing (pick (begins x) (pick (leb (2 + sizeIn x) (length x)) (whole (packetIn x)) cut) other))
     told (inl a) b c = rw a (eqb-true (length x) 0 a)
-    told (inr a) (inl b) (inl c) = rw (a, b, c) (b, (leb-true (2 + sizeIn 0 x) (length x) c, refl))
-    told (inr a) (inl b) (inr c) = rw (a, b, c) (b, leb-false (2 + sizeIn 0 x) (length x) c)
+    told (inr a) (inl b) (inl c) = rw (a, b, c) (b, (leb-true (2 + sizeIn x) (length x) c, refl))
+    told (inr a) (inl b) (inr c) = rw (a, b, c) (b, leb-false (2 + sizeIn x) (length x) c)
     told (inr a) (inr b) c = rw (a, b) (eqb-false (length x) 0 a, b)
 
 pub nothing-tells : (x : List ℕ) → foundIn x ≡ nothing → length x ≡ 0
@@ -86,12 +86,12 @@ nothing-tells x e = subst (Tells x) e (found-tells x)
 other-tells : (x : List ℕ) → foundIn x ≡ other → (length x ≡ 0 → ⊥) × (begins x ≡ false)
 other-tells x e = subst (Tells x) e (found-tells x)
 
-pub cut-tells : (x : List ℕ) → foundIn x ≡ cut → (begins x ≡ true) × (length x < 2 + sizeIn 0 x)
+pub cut-tells : (x : List ℕ) → foundIn x ≡ cut → (begins x ≡ true) × (length x < 2 + sizeIn x)
 cut-tells x e = subst (Tells x) e (found-tells x)
 
 -- a whole packet is the one behind the mark
 pub whole-tells :
-    (x p : List ℕ) → foundIn x ≡ whole p → (begins x ≡ true) × ((2 + sizeIn 0 x ≤ length x) × (p ≡ packetIn 0 x))
+    (x p : List ℕ) → foundIn x ≡ whole p → (begins x ≡ true) × ((2 + sizeIn x ≤ length x) × (p ≡ packetIn x))
 whole-tells x p e = subst (Tells x) e (found-tells x)
 
 -- more octets behind other octets, or behind a whole packet, change nothing

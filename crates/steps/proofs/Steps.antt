@@ -20,7 +20,8 @@ use Rattle.steps.specs.declared.What.the-variants.{More, Ended, Unmarked
 use Rattle.steps.specs.declared.Stands.{Stands}
 use Rattle.steps.specs.declared.Stands.the-variants.{Nothing, Other, Cut, Whole}
 use Rattle.steps.specs.declared.Done.{Done}
-use Rattle.steps.specs.Stepping.{Found, nothing, other, cut, whole, foundIn, longest, room, over, refused, kept, cameBy, cameOf, storeAfter, without, wrote, Stepped, wanting, ended, unmarked, torn, came, stepBy, stepped, storeBehind, usedBy, writtenBy}
+use Rattle.steps.specs.Stepping.{Found, nothing, other, cut, whole, foundIn, longest, room, over, refused, kept, cameBy, cameOf, storeAfter}
+use Rattle.steps.specs.Stepping.{without, wrote, Stepped, wanting, ended, unmarked, torn, came, stepBy, stepped, storeBehind, usedBy, writtenBy}
 use Rattle.steps.specs.Told.{standsOf, still, doneCame, doneOf}
 use Rattle.steps.specs.Inner.{stopAs}
 use Rattle.steps.proofs.Frames.{framed-long, without-long}
@@ -138,7 +139,7 @@ module _ (s : Settings) (Z : ℕ) (st w : List ℕ) (e : Bool) (out : List ℕ) 
     unfolding stepped
     step-cut h ed = cut-by (foundIn w) er h ed
 
-    pub step-whole : {q x y : List ℕ} → r ≡ Whole → q ≡ packetIn 0 w → Passes s Z st q out d x y → Steps d x y
+    pub step-whole : {q x y : List ℕ} → r ≡ Whole → q ≡ packetIn w → Passes s Z st q out d x y → Steps d x y
     unfolding stepped
     step-whole h eq a = whole-by (foundIn w) (λ p f. whole-tells w p f .1 .1 ∙ sym eq) er h a
 
@@ -159,7 +160,7 @@ module _ (s : Settings) (Z : ℕ) (st w : List ℕ) (e : Bool) where
       go false = omega arith
   used-by (whole p) h =
       let a = whole-tells w p h in
-      omega (arith, a .1 .0, ap length (a .1 .1), length-take (sizeIn 0 w) (drop 2 w))
+      omega (arith, a .1 .0, ap length (a .1 .1), length-take (sizeIn w) (drop 2 w))
 
   -- no more than are in hand
   pub used-most : usedBy (stepped s Z st w e) ≤ length w

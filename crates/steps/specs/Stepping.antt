@@ -1,7 +1,6 @@
 -- A step along a recording.
--- Document 01, "What the ground program covers": "A small program joins a recording: packets, each after the mark 4D 50. It .. passes
--- over refused packets and those above 32,768 octets, and stops where no whole mark and packet, by its length field, follow. For each
--- message it writes 4D 4D, a four-octet length, then what taking writes (a whole packet likewise)."
+-- SPEC G-1, G-3 to G-6: packets after their marks; those that are refused or too long are passed over; it stops where none is whole;
+-- each message goes out after a mark and its length.
 -- Assumes nothing: these are definitions.
 use Prim.Native.Nat.{ℕ, _+_}
 use mathlib.Core.Bool.{Bool}
@@ -11,13 +10,13 @@ use lib.Dec.{leb, eqb}
 use Rattle.octets.specs.Octets.{pick, alike, wide}
 use Rattle.walk.specs.declared.Settings.{Settings}
 use Rattle.cells.specs.Rows.{sizeIn, packetIn}
-use Rattle.messages.specs.Messages.{Run}
+use Rattle.cells.specs.Messages.{Run}
 use Rattle.taking.specs.Taking.{writing}
 use Rattle.join.specs.Joining.{Joining, inPacket, inOutput, unjoined, joining, storeJoined}
 
 -- ---- what stands at a place
 
--- "packets, each after the mark 4D 50"
+-- SPEC G-1: before each packet
 abbrev pub packetMark : List ℕ
 packetMark = 0x4d ∷ 0x50 ∷ []
 
@@ -33,16 +32,15 @@ pub data Found : Type 0 where
 abbrev pub begins : List ℕ → Bool
 begins x = alike (take 2 x) (take (length x) packetMark)
 
--- "whole mark and packet, by its length field": a packet has at least 7 octets, so where its length field is not there, they are
--- not whole
+-- SPEC G-3: a packet has at least 7 octets, so without its length field it is not whole
 unfoldable pub foundIn : List ℕ → Found
 foundIn x =
     pick (eqb (length x) 0) nothing
-    (pick (begins x) (pick (leb (2 + sizeIn 0 x) (length x)) (whole (packetIn 0 x)) cut) other)
+    (pick (begins x) (pick (leb (2 + sizeIn x) (length x)) (whole (packetIn x)) cut) other)
 
 -- ---- what a packet comes to
 
--- "passes over .. those above 32,768 octets": the packet without its mark
+-- SPEC N-12: the packet without its mark
 abbrev pub longest : ℕ
 longest = 32768
 
@@ -72,7 +70,7 @@ storeAfter s Z st p = pick (leb (length p) longest) (storeJoined s Z st p room) 
 
 -- ---- what is written
 
--- "4D 4D, a four-octet length"
+-- SPEC G-5: mark, length, message
 unfoldable pub framed : List ℕ → List ℕ
 framed m = 0x4d ∷ 0x4d ∷ (wide 4 (length m) ++ m)
 

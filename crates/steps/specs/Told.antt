@@ -9,7 +9,8 @@ use Rattle.steps.specs.declared.What.the-variants.{More, Ended, Unmarked
 use Rattle.steps.specs.declared.Stands.{Stands}
 use Rattle.steps.specs.declared.Stands.the-variants.{Nothing, Other, Cut, Whole as InFull}
 use Rattle.steps.specs.declared.Done.{Done}
-use Rattle.steps.specs.Stepping.{Found, nothing, other, cut, whole, Came, over, refused, kept, wholly, message, wrote, Stepped, wanting, ended, unmarked, torn, came}
+use Rattle.steps.specs.Stepping.{Found, nothing, other, cut, whole, Came, over, refused, kept, wholly, message, wrote, Stepped}
+use Rattle.steps.specs.Stepping.{wanting, ended, unmarked, torn, came}
 
 abbrev pub standsOf : Found → Stands
 standsOf nothing = Nothing

@@ -12,15 +12,16 @@ ghost use lib.ListN.{length};
 ghost use lib.Seq.{sets};
 ghost use Rattle.octets.specs.Octets.{part, wide};
 ghost use Rattle.cells.specs.Rows.{zeroRow};
-ghost use Rattle.cells.specs.Order.{countIn};
-ghost use Rattle.opening.specs.Inner.{gate};
+ghost use Rattle.cells.specs.Order.{countIn, gate};
 ghost use Rattle.join.specs.Joining.{joining, storeJoined};
 ghost use Rattle.join.specs.Told.{joinedOf};
 ghost use Rattle.steps.specs.Stepping.{foundIn, begins, room, longest, cameOf, cameBy, storeAfter, without, wrote, stepped, storeBehind, writtenBy};
 ghost use Rattle.steps.specs.Told.{standsOf, still as stillAs, doneCame, doneOf};
 ghost use Rattle.steps.specs.Inner.{takenIn, leftAs, framedAs, stopAs};
+ghost use Rattle.packet.specs.Format.{packetMost};
 use join::Joined;
 use join::Which;
+use walk::REFUSED_INCOMPLETE;
 use walk::Refusal;
 use walk::Settings;
 
@@ -117,7 +118,7 @@ fn stop(ends: bool, what: What) -> Done
 fn left(refusal: Refusal, used: usize) -> Done
     ensures { λ r. ⌜ r ≡ leftAs (refusal .number) used ⌝ }
 {
-    if refusal.number == 20 {
+    if refusal.number == REFUSED_INCOMPLETE {
         return Done {
             what: What::Kept,
             refusal: Refusal { number: 0 },
@@ -182,11 +183,12 @@ fn join_behind(
     requires { ⌜ 6 + room ≤ length (now out) ⌝ }
     ensures { λ r. ⌜ r ≡ joinedOf (joining s (length (now (zero .entry))) (now (store .entry)) (now (p .entry)) room) ⌝ }
     ensures { λ r. ⌜ now (store .exit) ≡ storeJoined s (length (now (zero .entry))) (now (store .entry)) (now (p .entry)) room ⌝ }
-    ensures { λ r. ⌜ now (out .exit) ≡ sets (now (out .entry)) 6 (takenIn (joining s (length (now (zero .entry))) (now (store .entry)) (now (p .entry)) room)) ⌝ }
+    ensures { λ r. ⌜ now (out .exit) ≡ sets (now (out .entry)) 6
+        (takenIn (joining s (length (now (zero .entry))) (now (store .entry)) (now (p .entry)) room)) ⌝ }
 {
     let from: usize = FRAME;
     let to: usize = FRAME + ROOM;
-    join::join_on(s, store, n, zero, p, &mut out[from..to])
+    join::join_in(s, store, n, zero, p, &mut out[from..to])
 }
 
 // A packet that is not too long is joined, and what is to be written stands in the output.
@@ -205,7 +207,8 @@ fn join_packet(
     requires { ⌜ length (now p) ≤ longest ⌝ }
     ensures { λ r. ⌜ r ≡ doneCame (now (p .entry)) (cameBy (joining s (length (now (zero .entry))) (now (store .entry)) (now (p .entry)) room)) ⌝ }
     ensures { λ r. ⌜ now (store .exit) ≡ storeJoined s (length (now (zero .entry))) (now (store .entry)) (now (p .entry)) room ⌝ }
-    ensures { λ r. ⌜ now (out .exit) ≡ sets (now (out .entry)) 0 (wrote (now (p .entry)) (cameBy (joining s (length (now (zero .entry))) (now (store .entry)) (now (p .entry)) room))) ⌝ }
+    ensures { λ r. ⌜ now (out .exit) ≡ sets (now (out .entry)) 0
+        (wrote (now (p .entry)) (cameBy (joining s (length (now (zero .entry))) (now (store .entry)) (now (p .entry)) room))) ⌝ }
 {
     let used = 2 + p.len();
     let j = join_behind(s, store, n, zero, p, out);
@@ -236,10 +239,11 @@ fn step_packet(
     requires { ⌜ gate s (length (now zero)) (now store) ≡ 0 ⌝ }
     requires { ⌜ n ≡ countIn (length (now zero)) (now store) ⌝ }
     requires { ⌜ 6 + room ≤ length (now out) ⌝ }
-    requires { ⌜ length (now p) ≤ 65542 ⌝ }
+    requires { ⌜ length (now p) ≤ packetMost ⌝ }
     ensures { λ r. ⌜ r ≡ doneCame (now (p .entry)) (cameOf s (length (now (zero .entry))) (now (store .entry)) (now (p .entry))) ⌝ }
     ensures { λ r. ⌜ now (store .exit) ≡ storeAfter s (length (now (zero .entry))) (now (store .entry)) (now (p .entry)) ⌝ }
-    ensures { λ r. ⌜ now (out .exit) ≡ sets (now (out .entry)) 0 (wrote (now (p .entry)) (cameOf s (length (now (zero .entry))) (now (store .entry)) (now (p .entry)))) ⌝ }
+    ensures { λ r. ⌜ now (out .exit) ≡ sets (now (out .entry)) 0
+        (wrote (now (p .entry)) (cameOf s (length (now (zero .entry))) (now (store .entry)) (now (p .entry)))) ⌝ }
 {
     if LONGEST < p.len() {
         return Done {
@@ -267,8 +271,10 @@ pub fn step(
     requires { ⌜ n ≡ countIn (length (now zero)) (now store) ⌝ }
     requires { ⌜ 6 + room ≤ length (now out) ⌝ }
     ensures { λ r. ⌜ r ≡ doneOf (stepped s (length (now (zero .entry))) (now (store .entry)) (now (window .entry)) ends) ⌝ }
-    ensures { λ r. ⌜ now (store .exit) ≡ storeBehind s (length (now (zero .entry))) (now (store .entry)) (stepped s (length (now (zero .entry))) (now (store .entry)) (now (window .entry)) ends) ⌝ }
-    ensures { λ r. ⌜ now (out .exit) ≡ sets (now (out .entry)) 0 (writtenBy (stepped s (length (now (zero .entry))) (now (store .entry)) (now (window .entry)) ends)) ⌝ }
+    ensures { λ r. ⌜ now (store .exit) ≡ storeBehind s (length (now (zero .entry))) (now (store .entry))
+        (stepped s (length (now (zero .entry))) (now (store .entry)) (now (window .entry)) ends) ⌝ }
+    ensures { λ r. ⌜ now (out .exit) ≡ sets (now (out .entry)) 0
+        (writtenBy (stepped s (length (now (zero .entry))) (now (store .entry)) (now (window .entry)) ends)) ⌝ }
 {
     match look(window) {
         Stands::Nothing => stop(ends, What::Ended),
@@ -308,8 +314,10 @@ fn step_spare(
     requires { ⌜ n ≡ countIn (length (now zero)) (now store) ⌝ }
     requires { ⌜ 6 + room ≤ length (now spare) ⌝ }
     ensures { λ r. ⌜ r ≡ doneOf (stepped s (length (now (zero .entry))) (now (store .entry)) (now (rest .entry)) true) ⌝ }
-    ensures { λ r. ⌜ now (store .exit) ≡ storeBehind s (length (now (zero .entry))) (now (store .entry)) (stepped s (length (now (zero .entry))) (now (store .entry)) (now (rest .entry)) true) ⌝ }
-    ensures { λ r. ⌜ now (out .exit) ≡ sets (now (out .entry)) at (writtenBy (stepped s (length (now (zero .entry))) (now (store .entry)) (now (rest .entry)) true)) ⌝ }
+    ensures { λ r. ⌜ now (store .exit) ≡ storeBehind s (length (now (zero .entry))) (now (store .entry))
+        (stepped s (length (now (zero .entry))) (now (store .entry)) (now (rest .entry)) true) ⌝ }
+    ensures { λ r. ⌜ now (out .exit) ≡ sets (now (out .entry)) at
+        (writtenBy (stepped s (length (now (zero .entry))) (now (store .entry)) (now (rest .entry)) true)) ⌝ }
 {
     let d = step(s, store, n, zero, rest, true, spare);
     let written = d.written;
@@ -332,8 +340,10 @@ fn step_there(
     requires { ⌜ n ≡ countIn (length (now zero)) (now store) ⌝ }
     requires { ⌜ at + (6 + room) ≤ length (now out) ⌝ }
     ensures { λ r. ⌜ r ≡ doneOf (stepped s (length (now (zero .entry))) (now (store .entry)) (now (rest .entry)) true) ⌝ }
-    ensures { λ r. ⌜ now (store .exit) ≡ storeBehind s (length (now (zero .entry))) (now (store .entry)) (stepped s (length (now (zero .entry))) (now (store .entry)) (now (rest .entry)) true) ⌝ }
-    ensures { λ r. ⌜ now (out .exit) ≡ sets (now (out .entry)) at (writtenBy (stepped s (length (now (zero .entry))) (now (store .entry)) (now (rest .entry)) true)) ⌝ }
+    ensures { λ r. ⌜ now (store .exit) ≡ storeBehind s (length (now (zero .entry))) (now (store .entry))
+        (stepped s (length (now (zero .entry))) (now (store .entry)) (now (rest .entry)) true) ⌝ }
+    ensures { λ r. ⌜ now (out .exit) ≡ sets (now (out .entry)) at
+        (writtenBy (stepped s (length (now (zero .entry))) (now (store .entry)) (now (rest .entry)) true)) ⌝ }
 {
     let to = at + SPACE;
     step(s, store, n, zero, rest, true, &mut out[at..to])
@@ -356,8 +366,10 @@ pub fn step_at(
     requires { ⌜ 6 + room ≤ length (now spare) ⌝ }
     requires { ⌜ at ≤ length (now out) ⌝ }
     ensures { λ r. ⌜ r ≡ doneOf (stepped s (length (now (zero .entry))) (now (store .entry)) (now (rest .entry)) true) ⌝ }
-    ensures { λ r. ⌜ now (store .exit) ≡ storeBehind s (length (now (zero .entry))) (now (store .entry)) (stepped s (length (now (zero .entry))) (now (store .entry)) (now (rest .entry)) true) ⌝ }
-    ensures { λ r. ⌜ now (out .exit) ≡ sets (now (out .entry)) at (writtenBy (stepped s (length (now (zero .entry))) (now (store .entry)) (now (rest .entry)) true)) ⌝ }
+    ensures { λ r. ⌜ now (store .exit) ≡ storeBehind s (length (now (zero .entry))) (now (store .entry))
+        (stepped s (length (now (zero .entry))) (now (store .entry)) (now (rest .entry)) true) ⌝ }
+    ensures { λ r. ⌜ now (out .exit) ≡ sets (now (out .entry)) at
+        (writtenBy (stepped s (length (now (zero .entry))) (now (store .entry)) (now (rest .entry)) true)) ⌝ }
 {
     if out.len() - at < SPACE {
         return step_spare(s, store, n, zero, rest, spare, out, at);

@@ -1,17 +1,12 @@
--- The answer of an arrival says document 01's number and word for what the arrival comes to (S-12), also over its contract.
+-- The answer of an arrival says SPEC's number and word for what the arrival comes to (S-12), also over its contract.
 -- Assumes nothing.
-use mathlib.Core.Path.{_≡_, refl, ap, _∙_}
+use mathlib.Core.Path.{_≡_, ap}
 use contract.Lifetimes as L
 use denote.Ref.{now}
-use Rattle.arrival.specs.Arriving.{Arrived, whole, stored, again, refused, arrived}
-use Rattle.arrival.specs.Told.{said, saidOf, arrivalOf}
+use Rattle.arrival.specs.Arriving.{arrived}
+use Rattle.arrival.specs.Told.{said, arrivalOf}
 use Rattle.store.proofs.arrive.Reads as arrives
+use Rattle.cells.specs.Order.{cellSize}
 
-pub said-is : (a : Arrived) → said (arrivalOf a) ≡ saidOf a
-said-is whole = refl
-said-is (stored i) = refl
-said-is again = refl
-said-is (refused k) = refl
-
-pub arrive-says : (κs : L.Lfts 2) (a : _) (r : _) (x : _) → arrives.Post κs a r x → said r ≡ saidOf (arrived (a .0) 1024 (now (a .1 .0)) (now (a .1 .1 .0)))
-arrive-says κs a r x p = ap said (p .0) ∙ said-is (arrived (a .0) 1024 (now (a .1 .0)) (now (a .1 .1 .0)))
+pub arrive-says : (κs : L.Lfts 2) (a : _) (r : _) (x : _) → arrives.Post κs a r x → said r ≡ said (arrivalOf (arrived (a .0) cellSize (now (a .1 .0)) (now (a .1 .1 .0))))
+arrive-says κs a r x p = ap said (p .0)

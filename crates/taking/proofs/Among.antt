@@ -1,6 +1,6 @@
--- The segments of a run are those of its key with a counter from its first on and below the one behind its last.
+-- The segments of a message are those of its key whose counter is its first's or one of so many steps after it, as there are others.
 -- Assumes nothing.
-use Prim.Native.Nat.{ℕ, zero, suc, _+_, _≤_, _<_}
+use Prim.Native.Nat.{ℕ, zero, suc, _≤_, _<_}
 use mathlib.Core.Path.{_≡_, refl, ap, ap₂, sym, _∙_}
 use mathlib.Core.Logic.{⊎-elim}
 use mathlib.Core.Bool.{Bool, true, false}
@@ -9,132 +9,92 @@ use mathlib.Core.Option.{Option, none, some}
 use native.Mathlib.Omega.{arith}
 use lib.ListN.{length}
 use lib.Dec.{eqb}
-use borrow.Author.Tests.{le-leb, lt-leb, eq-eqb, ne-eqb}
-use Rattle.octets.specs.Octets.{alike}
+use Rattle.octets.specs.Octets.{pick, alike}
 use Rattle.octets.proofs.Lists.{below-or}
 use Rattle.walk.specs.declared.Settings.{Settings}
 use Rattle.cells.specs.Segments.{Seg, carries, both}
-use Rattle.cells.specs.Rows.{Cell, free, held, broken}
+use Rattle.cells.specs.Rows.{Cell, segmentIn, bySegment}
 use Rattle.cells.specs.Order.{carriesIn, foundIn}
-use Rattle.cells.specs.Inner.{withinIn}
-use Rattle.messages.specs.Messages.{Role, first, middle, last, roleOf, linkBy, or, among, amongIn}
+use Rattle.cells.specs.Inner.{reaches, withinIn, within}
+use Rattle.cells.specs.Messages.{Role, first, middle, last, roleOf, linkBy, or, among, amongIn}
 use Rattle.taking.specs.Follow.{segAt, follow}
-use Rattle.messages.proofs.Found.{found-carries, found-held}
+use Rattle.cells.proofs.Found.{found-carries, found-held}
 use Rattle.taking.proofs.Following.{follow-none, follow-by}
-use Rattle.messages.proofs.Distinct.{carries-true}
+use Rattle.cells.proofs.Distinct.{carries-true}
 
 or-false : (b : Bool) → or b false ≡ b
 or-false true = refl
 or-false false = refl
 
--- ---- one segment beside those of a key between two counters
+-- two ranges of one key are one
+either : (a b k : Bool) → or (both a k) (both b k) ≡ both (pick a true b) k
+either true true true = refl
+either true true false = refl
+either true false true = refl
+either true false false = refl
+either false true true = refl
+either false true false = refl
+either false false true = refl
+either false false false = refl
 
-module _ (k : List ℕ) (t : Seg) where
-  abbrev x : ℕ
-  x = t .counter
-
-  abbrev same : Bool
-  same = alike k (t .key)
-
-  abbrev between : ℕ → ℕ → Bool
-  between c d = withinIn k c d (held t)
-
-  -- none is from a counter on and below it
-  between-none : (c : ℕ) → between c c ≡ false
-  between-none c =
-      ⊎-elim
-      (λ h. rw (lt-leb c x h) refl)
-      (λ h. let l : c < suc x = omega arith in rw (le-leb c x h, lt-leb (suc x) c l) refl)
-      (below-or x c)
-
-  -- one counter more
-  between-more : (c d : ℕ) → c < d → or (carries k c t) (between (suc c) d) ≡ between c d
-  unfolding carries
-  between-more c d h = ⊎-elim low (λ a. ⊎-elim high (λ b. here (omega arith)) (below-or c x)) (below-or x c)
-    where
-      low : x < c → or (both (eqb c x) same) (between (suc c) d) ≡ between c d
-      low l =
-          let m : x < suc c = omega arith in
-          let n : c ≡ x → ⊥ = λ e. omega arith in
-          rw (ne-eqb c x n, lt-leb (suc c) x m, lt-leb c x l) refl
-
-      high : c < x → or (both (eqb c x) same) (between (suc c) d) ≡ between c d
-      high l =
-          let m : suc c ≤ x = omega arith in
-          let o : c ≤ x = omega arith in
-          let n : c ≡ x → ⊥ = λ e. omega arith in
-          rw (ne-eqb c x n, le-leb (suc c) x m, le-leb c x o) refl
-
-      here : c ≡ x → or (both (eqb c x) same) (between (suc c) d) ≡ between c d
-      here e =
-          let m : x < suc c = omega arith in
-          let o : c ≤ x = omega arith in
-          let u : suc x ≤ d = omega arith in
-          rw (eq-eqb c x e, lt-leb (suc c) x m, le-leb c x o, le-leb (suc x) d u) (or-false same)
-
--- ---- a run
-
-module _ (s : Settings) (Z : ℕ) (st : List ℕ) (n : ℕ) (k : List ℕ) (t : Seg) where
+module _ (next : ℕ → ℕ) (span : ℕ) (s : Settings) (Z : ℕ) (st : List ℕ) (n : ℕ) (k : List ℕ) (t : Seg) where
   abbrev seg : ℕ → Seg
   seg j = segAt s Z st j
 
+  -- a segment at c and those in these cells have the key and the counters of so many steps from c on
+  abbrev Reached : ℕ → List ℕ → Type 0
+  Reached c js = or (carries k c t) (among (map seg js) t) ≡ both (reaches next (length js) c (t .counter)) (alike k (t .key))
+
+  reached-none : (c : ℕ) → Reached c []
+  unfolding among reaches carries
+  reached-none c = or-false (both (eqb c (t .counter)) (alike k (t .key)))
+
+  reached-more : (c j : ℕ) (js : List ℕ) → carries (seg j .key) (seg j .counter) t ≡ carries k (next c) t → Reached (next c) js → Reached c (j ∷ js)
+  unfolding among reaches carries
+  reached-more c j js h r =
+      ap (or (both (eqb c (t .counter)) (alike k (t .key)))) (ap (λ (b : Bool). or b (among (map seg js) t)) h ∙ r)
+      ∙ either (eqb c (t .counter)) (reaches next (length js) (next c) (t .counter)) (alike k (t .key))
+
   found-is : (c : ℕ) → foundIn s Z st n k c < n → carries (seg (foundIn s Z st n k c) .key) (seg (foundIn s Z st n k c) .counter) t ≡ carries k c t
   found-is c h =
-      let j = foundIn s Z st n k c in
       let e = carries-true k c (seg (foundIn s Z st n k c)) (sym (ap (carriesIn k c) (found-held s Z st n k c refl h .cell)) ∙ found-carries s Z st n k c refl h) in
       ap₂ (λ (a : List ℕ) (b : ℕ). carries a b t) (sym (e .0)) (sym (e .1))
 
   on-among :
-      (x : Role) (c j : ℕ) (o : Option (List ℕ)) (js : List ℕ) → carries (seg j .key) (seg j .counter) t ≡ carries k c t →
-      ((ks : List ℕ) → o ≡ some ks → among (map seg ks) t ≡ between k t (suc c) (suc c + length ks)) → linkBy x j o ≡ some js →
-      among (map seg js) t ≡ between k t c (c + length js)
-  unfolding among
+      (x : Role) (c j : ℕ) (o : Option (List ℕ)) (js : List ℕ) → carries (seg j .key) (seg j .counter) t ≡ carries k (next c) t →
+      ((ks : List ℕ) → o ≡ some ks → Reached (next c) ks) → linkBy x j o ≡ some js → Reached c js
   on-among first c j o js h rest e = let z : _≡_ {A = ℕ} 0 1 = cc in absurd (omega arith)
   on-among middle c j none js h rest e = let z : _≡_ {A = ℕ} 0 1 = cc in absurd (omega arith)
-  on-among middle c j (some ks) js h rest e = let d : j ∷ ks ≡ js = cc in rw (sym d) (more (rest ks refl))
-    where
-      more : among (map seg ks) t ≡ between k t (suc c) (suc c + length ks) → among (map seg (j ∷ ks)) t ≡ between k t c (c + length (j ∷ ks))
-      more r =
-          let l : suc c + length ks ≡ c + length (j ∷ ks) = omega arith in
-          let m : c < c + length (j ∷ ks) = omega arith in
-          ap₂ (λ (a b : Bool). or a b) h (r ∙ ap (between k t (suc c)) l) ∙ between-more k t c (c + length (j ∷ ks)) m
-  on-among last c j o js h rest e = let d : j ∷ [] ≡ js = cc in rw (sym d) alone
-    where
-      alone : among (map seg (j ∷ [])) t ≡ between k t c (c + length (j ∷ []))
-      alone =
-          let l : suc c ≡ c + length (j ∷ []) = omega arith in
-          let m : c < c + length (j ∷ []) = omega arith in
-          ap₂ (λ (a b : Bool). or a b) h (sym (between-none k t (suc c)) ∙ ap (between k t (suc c)) l)
-          ∙ between-more k t c (c + length (j ∷ [])) m
+  on-among middle c j (some ks) js h rest e = let d : j ∷ ks ≡ js = cc in rw (sym d) (reached-more c j ks h (rest ks refl))
+  on-among last c j o js h rest e = let d : j ∷ [] ≡ js = cc in rw (sym d) (reached-more c j [] h (reached-none (next c)))
 
-  pub follow-among : (f c : ℕ) (js : List ℕ) → follow s Z st n k f c ≡ some js → among (map seg js) t ≡ between k t c (c + length js)
+  pub follow-among : (f c : ℕ) (js : List ℕ) → follow next span s Z st n k f (next c) ≡ some js → Reached c js
   unfolding follow
   follow-among zero c js e = let z : _≡_ {A = ℕ} 0 1 = cc in absurd (omega arith)
-  follow-among (suc f) c js e = ⊎-elim (there (follow-among f (suc c))) nowhere (below-or (foundIn s Z st n k c) n)
+  follow-among (suc f) c js e = ⊎-elim (there (follow-among f (next c))) nowhere (below-or (foundIn s Z st n k (next c)) n)
     where
       there :
-          ((ks : List ℕ) → follow s Z st n k f (suc c) ≡ some ks → among (map seg ks) t ≡ between k t (suc c) (suc c + length ks)) →
-          foundIn s Z st n k c < n → among (map seg js) t ≡ between k t c (c + length js)
+          ((ks : List ℕ) → follow next span s Z st n k f (next (next c)) ≡ some ks → Reached (next c) ks) →
+          foundIn s Z st n k (next c) < n → Reached c js
       there rest h =
-          on-among (roleOf (seg (foundIn s Z st n k c) .flags)) c (foundIn s Z st n k c) (follow s Z st n k f (suc c)) js
-          (found-is c h) rest
-          (sym (follow-by s Z st n k f c refl h refl) ∙ e)
+          on-among (roleOf (seg (foundIn s Z st n k (next c)) .flags)) c (foundIn s Z st n k (next c)) (follow next span s Z st n k f (next (next c))) js
+          (found-is (next c) h) rest
+          (sym (follow-by next span s Z st n k f (next c) refl h refl) ∙ e)
 
-      nowhere : n ≤ foundIn s Z st n k c → among (map seg js) t ≡ between k t c (c + length js)
+      nowhere : n ≤ foundIn s Z st n k (next c) → Reached c js
       nowhere h =
-          let d : _≡_ {A = Option (List ℕ)} none (some js) = sym (follow-none s Z st n k f c refl h) ∙ e in
+          let d : _≡_ {A = Option (List ℕ)} none (some js) = sym (follow-none next span s Z st n k f (next c) refl h) ∙ e in
           let z : _≡_ {A = ℕ} 0 1 = cc in absurd (omega arith)
 
 -- ---- a message: its first and the others
 
 pub message-among :
-    (s : Settings) (Z : ℕ) (st : List ℕ) (n f : ℕ) (u : Seg) (js : List ℕ) → follow s Z st n (u .key) f (suc (u .counter)) ≡ some js → (y : Cell) →
-    withinIn (u .key) (u .counter) (suc (u .counter) + length js) y ≡ amongIn (u ∷ map (segAt s Z st) js) y
+    (next : ℕ → ℕ) (span : ℕ) (s : Settings) (Z : ℕ) (st : List ℕ) (n f : ℕ) (u : Seg) (js : List ℕ) →
+    follow next span s Z st n (u .key) f (next (u .counter)) ≡ some js → (y : Cell) →
+    withinIn next (u .key) (u .counter) (length js) y ≡ amongIn (u ∷ map (segAt s Z st) js) y
 unfolding among
-message-among s Z st n f u js e free = refl
-message-among s Z st n f u js e broken = refl
-message-among s Z st n f u js e (held t) =
-    let l : u .counter < suc (u .counter) + length js = omega arith in
-    sym
-    (ap (or (carries (u .key) (u .counter) t)) (follow-among s Z st n (u .key) t f (suc (u .counter)) js e)
-    ∙ between-more (u .key) t (u .counter) (suc (u .counter) + length js) l)
+message-among next span s Z st n f u js e y = go (segmentIn y)
+  where
+    go : (o : Option Seg) → bySegment false (within next (u .key) (u .counter) (length js)) o ≡ bySegment false (among (u ∷ map (segAt s Z st) js)) o
+    go none = refl
+    go (some t) = sym (follow-among next span s Z st n (u .key) t f (u .counter) js e)

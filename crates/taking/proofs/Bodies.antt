@@ -6,7 +6,6 @@ use mathlib.Core.Logic.{⊎-elim}
 use mathlib.Core.Bool.{Bool, true, false}
 use mathlib.Core.List.{List, [], _∷_, _++_, append-nil}
 use mathlib.Core.Option.{Option, none, some, Option·map}
-use native.Mathlib.Numerals.{add-one}
 use native.Mathlib.Omega.{arith}
 use lib.ListN.{length, length-append}
 use lib.Seq.{sets, length-sets}
@@ -19,9 +18,9 @@ use Rattle.packet.specs.Reading.{readPacket}
 use Rattle.cells.specs.Segments.{segOf}
 use Rattle.cells.specs.Rows.{rowAt, packetIn}
 use Rattle.cells.specs.Order.{foundIn}
-use Rattle.messages.specs.declared.Piece.{Piece}
-use Rattle.messages.specs.Messages.{first, middle, last, roleOf, linkBy}
-use Rattle.messages.specs.Inner.{segIn, pieceOf}
+use Rattle.cells.specs.declared.messages.Piece.{Piece}
+use Rattle.cells.specs.Messages.{first, middle, last, roleOf, linkBy}
+use Rattle.cells.specs.Pieces.{segIn, pieceOf}
 use Rattle.taking.specs.Follow.{segAt, onAt, follow, placesFrom, bodiesAt, Ready}
 
 -- ---- the next cell of a run
@@ -54,36 +53,24 @@ role-on f j r ks no2 h = go (eqb f 1) (eqb f 2) (ne-eqb f 2 no2) h
     go false true e u = let z : _≡_ {A = ℕ} 0 1 = cc in absurd (omega arith)
     go false false e u = mapped j r ks u
 
-module _ (s : Settings) (Z : ℕ) (st : List ℕ) (n : ℕ) (k : List ℕ) where
-  follow-step : (f c : ℕ) → 0 < f → follow s Z st n k f c ≡ onAt s Z st n (foundIn s Z st n k c) (follow s Z st n k (f - 1) (c + 1))
-  unfolding follow
-  follow-step f c h =
-      let e : f ≡ suc (f - 1) = omega arith in
-      ap (λ (g : ℕ). follow s Z st n k g c) e
-      ∙ ap (λ (d : ℕ). onAt s Z st n (foundIn s Z st n k c) (follow s Z st n k (f - 1) d)) (sym (add-one c))
+module _ (next : ℕ → ℕ) (span : ℕ) (s : Settings) (Z : ℕ) (st : List ℕ) (n : ℕ) (k : List ℕ) where
+  module _ (f c : ℕ) (ks : List ℕ) (e : follow next span s Z st n k (suc f) c ≡ some ks) {j : ℕ} (ej : j ≡ foundIn s Z st n k c) where
+    -- what goes on from there
+    abbrev ahead : Option (List ℕ)
+    ahead = follow next span s Z st n k f (next c)
 
-  pub follow-none : (f c : ℕ) (ks : List ℕ) → f ≤ 0 → follow s Z st n k f c ≡ some ks → ⊥
-  unfolding follow
-  follow-none f c ks h e =
-      let z : f ≡ 0 = omega arith in
-      let u : none ≡ some ks = ap (λ (g : ℕ). follow s Z st n k g c) (sym z) ∙ e in
-      let y : _≡_ {A = ℕ} 0 1 = cc in
-      omega arith
-
-  module _ (f c : ℕ) (ks : List ℕ) (h : 0 < f) (e : follow s Z st n k f c ≡ some ks) {j : ℕ} (ej : j ≡ foundIn s Z st n k c) where
-    stepped : (ltb j n ≡ true) × (linkBy (roleOf (segAt s Z st j .flags)) j (follow s Z st n k (f - 1) (c + 1)) ≡ some ks)
-    stepped =
-        taken (ltb j n) (linkBy (roleOf (segAt s Z st j .flags)) j (follow s Z st n k (f - 1) (c + 1))) ks
-        (ap (λ (i : ℕ). onAt s Z st n i (follow s Z st n k (f - 1) (c + 1))) ej ∙ sym (follow-step f c h) ∙ e)
+    stepped : (ltb j n ≡ true) × (linkBy (roleOf (segAt s Z st j .flags)) j ahead ≡ some ks)
+    unfolding follow
+    stepped = taken (ltb j n) (linkBy (roleOf (segAt s Z st j .flags)) j ahead) ks (ap (λ (i : ℕ). onAt s Z st n i ahead) ej ∙ e)
 
     pub next-inside : j < n
     next-inside = ltb-true j n (stepped .0)
 
     pub next-last : segAt s Z st j .flags ≡ 2 → ks ≡ j ∷ []
-    next-last g = role-last (segAt s Z st j .flags) j (follow s Z st n k (f - 1) (c + 1)) ks g (stepped .1)
+    next-last g = role-last (segAt s Z st j .flags) j ahead ks g (stepped .1)
 
-    pub next-on : (segAt s Z st j .flags ≡ 2 → ⊥) → (js : List ℕ) × (ks ≡ j ∷ js) × (follow s Z st n k (f - 1) (c + 1) ≡ some js)
-    next-on g = role-on (segAt s Z st j .flags) j (follow s Z st n k (f - 1) (c + 1)) ks g (stepped .1)
+    pub next-on : (segAt s Z st j .flags ≡ 2 → ⊥) → (js : List ℕ) × (ks ≡ j ∷ js) × (ahead ≡ some js)
+    next-on g = role-on (segAt s Z st j .flags) j ahead ks g (stepped .1)
 
     next-some : (js : List ℕ) × (ks ≡ j ∷ js)
     next-some = ⊎-elim ends goes-on (bool (eqb (segAt s Z st j .flags) 2))
@@ -96,17 +83,18 @@ module _ (s : Settings) (Z : ℕ) (st : List ℕ) (n : ℕ) (k : List ℕ) where
 
 -- ---- a body, as it stands in its row
 
-module _ (s : Settings) (Z : ℕ) (st : List ℕ) (j : ℕ) {r : List ℕ} {t : Piece} (er : r ≡ rowAt Z st j) (et : t ≡ pieceOf (readPacket s (packetIn 0 r))) where
-  pub body-there : part (packetIn 0 r) (t .at) (t .length) ≡ segAt s Z st j .body
+module _ (s : Settings) (Z : ℕ) (st : List ℕ) (j : ℕ) {r : List ℕ} {t : Piece} (er : r ≡ rowAt Z st j) (et : t ≡ pieceOf (readPacket s (packetIn r))) where
+  pub body-there : part (packetIn r) (t .at) (t .length) ≡ segAt s Z st j .body
   unfolding segOf pieceOf
   body-there =
-      ap (λ (u : Piece). part (packetIn 0 r) (u .at) (u .length)) et ∙ ap (λ (x : List ℕ). segIn s Z x .body) er
+      ap (λ (u : Piece). part (packetIn r) (u .at) (u .length)) et ∙ ap (λ (x : List ℕ). segIn s Z x .body) er
 
   pub flags-there : t .flags ≡ segAt s Z st j .flags
   unfolding segOf pieceOf
   flags-there = ap (λ (u : Piece). u .flags) et ∙ ap (λ (x : List ℕ). segIn s Z x .flags) er
 
-bodies-first : (s : Settings) (Z : ℕ) (st : List ℕ) (j : ℕ) (js ks : List ℕ) {x : List ℕ} → ks ≡ j ∷ js → x ≡ segAt s Z st j .body → bodiesAt s Z st ks ≡ x ++ bodiesAt s Z st js
+bodies-first : (s : Settings) (Z : ℕ) (st : List ℕ) (j : ℕ) (js ks : List ℕ) {x : List ℕ} → ks ≡ j ∷ js → x ≡ segAt s Z st j .body → bodiesAt s Z st
+    ks ≡ x ++ bodiesAt s Z st js
 unfolding bodiesAt
 bodies-first s Z st j js ks e ex = ap (bodiesAt s Z st) e ∙ ap (λ (y : List ℕ). y ++ bodiesAt s Z st js) (sym ex)
 
@@ -116,77 +104,90 @@ bodies-last s Z st j ks {x} e ex = bodies-first s Z st j [] ks e ex ∙ append-n
 
 -- ---- the loop
 
--- what is done, over what is left to do: the run from the counter c on, its bodies from `at` on
-pub record Copying (s : Settings) (Z : ℕ) (st : List ℕ) (n : ℕ) (k js : List ℕ) (place : ℕ) (o : List ℕ) (start : ℕ) (out : List ℕ) (c left at : ℕ) : Type 0 where
-  pub rest : List ℕ
-  pub ahead : follow s Z st n k left c ≡ some rest
-  pub octets : sets out at (bodiesAt s Z st rest) ≡ sets o place (bodiesAt s Z st js)
-  pub room : at + length (bodiesAt s Z st rest) ≤ length out
-  pub long : length out ≡ length o
-  pub told : c + length rest ≡ start + length js
-  pub count : c + left ≤ 8589934591
+module _ (next : ℕ → ℕ) (span : ℕ) (s : Settings) (Z : ℕ) (st : List ℕ) (n : ℕ) (k js : List ℕ) (place : ℕ) (o : List ℕ) (slack : ℕ) where
+  -- what is done, over what is left to do: the run after the counter c, its bodies from `at` on
+  pub record Copying (out : List ℕ) (c left steps at : ℕ) : Type 0 where
+    pub rest : List ℕ
+    pub ahead : follow next span s Z st n k (left + slack) (next c) ≡ some rest
+    pub octets : sets out at (bodiesAt s Z st rest) ≡ sets o place (bodiesAt s Z st js)
+    pub room : at + length (bodiesAt s Z st rest) ≤ length out
+    pub long : length out ≡ length o
+    pub told : steps + length rest ≡ length js
+    pub count : steps + left ≤ 4294967295
 
 pub copying-first :
-    (s : Settings) (Z : ℕ) (st : List ℕ) (n : ℕ) (k : List ℕ) (c place : ℕ) (o : List ℕ) → c ≤ 4294967296 → Ready s Z st n k c place o →
-    Copying s Z st n k (placesFrom s Z st n k c) place o c o c 4294967295 place
-copying-first s Z st n k c place o h r =
+    (next : ℕ → ℕ) (span : ℕ) (s : Settings) (Z : ℕ) (st : List ℕ) (n : ℕ) (k : List ℕ) (c place slack : ℕ) (o : List ℕ) {left : ℕ} →
+    left + slack ≡ span → left ≤ 4294967295 → Ready next span s Z st n k (next c) place o →
+    Copying next span s Z st n k (placesFrom next span s Z st n k (next c)) place o slack o c left 0 place
+copying-first next span s Z st n k c place slack o e h r =
     record {
-      rest = placesFrom s Z st n k c;
-      ahead = r .complete;
+      rest = placesFrom next span s Z st n k (next c);
+      ahead = ap (λ (f : ℕ). follow next span s Z st n k f (next c)) e ∙ r .complete;
       octets = refl;
       room = r .room;
       long = refl;
-      told = refl;
+      told = omega arith;
       count = omega arith;
     }
 
-module _ {s : Settings} {Z : ℕ} {st : List ℕ} {n : ℕ} {k js : List ℕ} {place start : ℕ} {o out : List ℕ} {c left at : ℕ}
-    (w : Copying s Z st n k js place o start out c left at) where
-  pub copying-ended : left ≤ 0 → ⊥
-  copying-ended h = follow-none s Z st n k left c (w .rest) h (w .ahead)
+module _ {next : ℕ → ℕ} {span : ℕ} {s : Settings} {Z : ℕ} {st : List ℕ} {n : ℕ} {k js : List ℕ} {place : ℕ} {o : List ℕ} {slack : ℕ}
+    {out : List ℕ} {c left steps at : ℕ} (w : Copying next span s Z st n k js place o slack out c left steps at) where
+  -- a run that is complete does not come to where no counter is left
+  pub copying-ended : left ≤ 0 → follow next span s Z st n k slack (next c) ≡ none → ⊥
+  copying-ended h e =
+      let z : slack ≡ left + slack = omega arith in
+      let u : none ≡ some (w .rest) = sym e ∙ ap (λ (f : ℕ). follow next span s Z st n k f (next c)) z ∙ w .ahead in
+      let y : _≡_ {A = ℕ} 0 1 = cc in
+      omega arith
 
-  pub copying-inside : 0 < left → {j : ℕ} → j ≡ foundIn s Z st n k c → j < n
-  copying-inside h ej = next-inside s Z st n k left c (w .rest) h (w .ahead) ej
+  module _ (h : 0 < left) {d : ℕ} (ed : d ≡ next c) {j : ℕ} (ej : j ≡ foundIn s Z st n k d) where
+    ahead-at : follow next span s Z st n k (suc (left - 1 + slack)) d ≡ some (w .rest)
+    ahead-at =
+        let e : suc (left - 1 + slack) ≡ left + slack = omega arith in
+        ap₂ (λ (f x : ℕ). follow next span s Z st n k f x) e ed ∙ w .ahead
 
-  module _ (h : 0 < left) {j : ℕ} {r : List ℕ} {t : Piece} (ej : j ≡ foundIn s Z st n k c) (er : r ≡ rowAt Z st j) (et : t ≡ pieceOf (readPacket s (packetIn 0 r))) where
-    abbrev x : List ℕ
-    x = part (packetIn 0 r) (t .at) (t .length)
+    pub copying-inside : j < n
+    copying-inside = next-inside next span s Z st n k (left - 1 + slack) d (w .rest) ahead-at ej
 
-    body-is : x ≡ segAt s Z st j .body
-    body-is = body-there s Z st j er et
+    module _ {r : List ℕ} {t : Piece} (er : r ≡ rowAt Z st j) (et : t ≡ pieceOf (readPacket s (packetIn r))) where
+      abbrev x : List ℕ
+      x = part (packetIn r) (t .at) (t .length)
 
-    pub copying-room : at + length x ≤ length out
-    copying-room =
-        let y = next-some s Z st n k left c (w .rest) h (w .ahead) ej in
-        let e = ap length (bodies-first s Z st j (y .0) (w .rest) (y .1) body-is) ∙ length-append x (bodiesAt s Z st (y .0)) in
-        omega (arith, w .room)
+      body-is : x ≡ segAt s Z st j .body
+      body-is = body-there s Z st j er et
 
-    module _ {place′ : ℕ} {out′ : List ℕ} (ea : place′ ≡ at + length x) (eo : out′ ≡ sets out at x) where
-      pub copying-long : length out′ ≡ length o
-      copying-long = ap length eo ∙ length-sets out at x ∙ w .long
+      pub copying-room : at + length x ≤ length out
+      copying-room =
+          let y = next-some next span s Z st n k (left - 1 + slack) d (w .rest) ahead-at ej in
+          let e = ap length (bodies-first s Z st j (y .0) (w .rest) (y .1) body-is) ∙ length-append x (bodiesAt s Z st (y .0)) in
+          omega (arith, w .room)
 
-      pub copying-last : t .flags ≡ 2 → (c + 1 ≡ start + length js) × (out′ ≡ sets o place (bodiesAt s Z st js))
-      copying-last f =
-          let e = next-last s Z st n k left c (w .rest) h (w .ahead) ej (sym (flags-there s Z st j er et) ∙ f) in (
-            omega (arith, w .told, ap length e),
-            eo ∙ ap (sets out at) (sym (bodies-last s Z st j (w .rest) e body-is)) ∙ w .octets,
-          )
+      module _ {place′ : ℕ} {out′ : List ℕ} (ea : place′ ≡ at + length x) (eo : out′ ≡ sets out at x) where
+        pub copying-long : length out′ ≡ length o
+        copying-long = ap length eo ∙ length-sets out at x ∙ w .long
 
-      pub copying-turn : (t .flags ≡ 2 → ⊥) → Copying s Z st n k js place o start out′ (c + 1) (left - 1) place′
-      copying-turn f =
-          let y = next-on s Z st n k left c (w .rest) h (w .ahead) ej (λ g. f (flags-there s Z st j er et ∙ g)) in
-          let b = bodies-first s Z st j (y .0) (w .rest) (y .1) body-is in
-          let l = ap length b ∙ length-append x (bodiesAt s Z st (y .0)) in
-          record {
-            rest = y .0;
-            ahead = y .2;
-            octets =
-                ap₂ (λ (p : List ℕ) (i : ℕ). sets p i (bodiesAt s Z st (y .0))) eo ea
-                ∙ sets-append out at x (bodiesAt s Z st (y .0))
-                ∙ ap (sets out at) (sym b)
-                ∙ w .octets;
-            room = omega (arith, w .room, ap length eo, length-sets out at x);
-            long = copying-long;
-            told = omega (arith, w .told, ap length (y .1));
-            count = omega (arith, w .count);
-          }
+        pub copying-last : t .flags ≡ 2 → (steps + 1 ≡ length js) × (out′ ≡ sets o place (bodiesAt s Z st js))
+        copying-last f =
+            let e = next-last next span s Z st n k (left - 1 + slack) d (w .rest) ahead-at ej (sym (flags-there s Z st j er et) ∙ f) in (
+              omega (arith, w .told, ap length e),
+              eo ∙ ap (sets out at) (sym (bodies-last s Z st j (w .rest) e body-is)) ∙ w .octets,
+            )
+
+        pub copying-turn : (t .flags ≡ 2 → ⊥) → Copying next span s Z st n k js place o slack out′ d (left - 1) (steps + 1) place′
+        copying-turn f =
+            let y = next-on next span s Z st n k (left - 1 + slack) d (w .rest) ahead-at ej (λ g. f (flags-there s Z st j er et ∙ g)) in
+            let b = bodies-first s Z st j (y .0) (w .rest) (y .1) body-is in
+            let l = ap length b ∙ length-append x (bodiesAt s Z st (y .0)) in
+            record {
+              rest = y .0;
+              ahead = y .2;
+              octets =
+                  ap₂ (λ (p : List ℕ) (i : ℕ). sets p i (bodiesAt s Z st (y .0))) eo ea
+                  ∙ sets-append out at x (bodiesAt s Z st (y .0))
+                  ∙ ap (sets out at) (sym b)
+                  ∙ w .octets;
+              room = omega (arith, w .room, ap length eo, length-sets out at x);
+              long = copying-long;
+              told = omega (arith, w .told, ap length (y .1));
+              count = omega (arith, w .count);
+            }

@@ -42,7 +42,7 @@ three : (x y z : List ℕ) → together (x ∷ y ∷ z ∷ []) ≡ x ++ (y ++ z)
 unfolding together
 three x y z = ap (λ (w : List ℕ). x ++ (y ++ w)) (append-nil z)
 
-module _ (s : Settings) (q : List ℕ) (stop : ℕ) (a : Asked s q stop) {c : ℕ} (ec : c ≡ placeIn q) where
+module _ (s : Settings) (q : List ℕ) (body-at : ℕ) (a : Asked s q body-at) {c : ℕ} (ec : c ≡ placeIn q) where
   place-is : counterPlace (readPacket s q) ≡ c
   unfolding placeIn
   place-is = place-told s q (a .octets) (a .accepted) ∙ sym ec
@@ -50,11 +50,11 @@ module _ (s : Settings) (q : List ℕ) (stop : ℕ) (a : Asked s q stop) {c : �
   four : counterSize q ≡ 4
   four = ap (λ (b : Bool). pick b 4 0) (a .segment)
 
-  key-spread : keyOf q (readPacket s q) ≡ part q 0 2 ++ (part q 6 (c - 6) ++ part q (c + 4) (stop - (c + 4)))
-  key-spread = spread q (readPacket s q) c stop place-is four (a .body)
+  key-spread : keyOf q (readPacket s q) ≡ part q 0 2 ++ (part q 6 (c - 6) ++ part q (c + 4) (body-at - (c + 4)))
+  key-spread = spread q (readPacket s q) c body-at place-is four (a .body)
 
   -- the counter stands where the octets around it have room
-  pub key-places : (6 ≤ c) × ((c ≤ 29) × (c + 4 ≤ stop))
+  pub key-places : (6 ≤ c) × ((c ≤ 29) × (c + 4 ≤ body-at))
   key-places =
       let p = place-least q in
       let x = accepted s q (a .octets) (a .accepted) in
@@ -62,7 +62,7 @@ module _ (s : Settings) (q : List ℕ) (stop : ℕ) (a : Asked s q stop) {c : �
 
   pub key-put :
       {out l m n x y z : List ℕ} {i j r : ℕ} → length (keyOf q (readPacket s q)) ≤ length out → x ≡ part q 0 2 → y ≡ part q 6 (c - 6) →
-      z ≡ part q (c + 4) (stop - (c + 4)) → Lays (laid out 0) (x ∷ []) l i → Lays (laid l i) (y ∷ []) m j → Lays (laid m j) (z ∷ []) n r →
+      z ≡ part q (c + 4) (body-at - (c + 4)) → Lays (laid out 0) (x ∷ []) l i → Lays (laid l i) (y ∷ []) m j → Lays (laid m j) (z ∷ []) n r →
       (r ≡ length (keyOf q (readPacket s q))) × (n ≡ sets out 0 (keyOf q (readPacket s q)))
   key-put {out} {l} {m} {n} {x} {y} {z} {i} {j} {r} h ex ey ez u v w =
       let e : together (x ∷ y ∷ z ∷ []) ≡ keyOf q (readPacket s q) = three x y z ∙ ap₂ _++_ ex (ap₂ _++_ ey ez) ∙ sym key-spread in

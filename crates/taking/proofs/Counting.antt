@@ -1,11 +1,10 @@
 -- The octets of a run, counted as its segments are found one after the other.
 -- Assumes nothing.
 use Prim.Native.Nat.{ℕ, suc, _+_, _-_, _*_, _≤_, _<_}
-use mathlib.Core.Path.{_≡_, refl, ap, ap₂, sym, _∙_}
+use mathlib.Core.Path.{_≡_, ap, ap₂, sym, _∙_}
 use mathlib.Core.List.{List}
-use mathlib.Core.Option.{Option}
+use mathlib.Core.Option.{Option, none}
 use native.Mathlib.Omega.{arith}
-use native.Mathlib.Numerals.{add-one}
 use lib.ListN.{length}
 use Rattle.octets.specs.Octets.{Octets}
 use Rattle.octets.proofs.Has.{octets-part}
@@ -14,27 +13,21 @@ use Rattle.packet.specs.Reading.{readPacket}
 use Rattle.cells.specs.Segments.{segOf}
 use Rattle.cells.specs.Rows.{rowAt, packetIn}
 use Rattle.cells.specs.Order.{foundIn}
-use Rattle.messages.specs.declared.Piece.{Piece}
-use Rattle.messages.specs.Messages.{Role, roleOf, linkBy}
-use Rattle.messages.specs.Inner.{pieceOf}
+use Rattle.cells.specs.declared.messages.Piece.{Piece}
+use Rattle.cells.specs.Messages.{Role, roleOf, linkBy}
+use Rattle.cells.specs.Pieces.{pieceOf}
+use Rattle.taking.specs.declared.Measured.{Measured}
+use Rattle.taking.specs.declared.Measured.the-variants.{Long, Incomplete}
 use Rattle.taking.specs.Follow.{segAt, follow, total}
-use Rattle.messages.proofs.Found.{found-held, body-long, part-most}
+use Rattle.cells.proofs.Found.{found-held, body-long, part-most}
 use Rattle.taking.proofs.Following.{role-first, role-last, role-middle, follow-none, follow-by, total-on, total-last}
-
--- what is left from the counter c on, and sum octets, come to what the whole run does
-pub record Counted (s : Settings) (Z : ℕ) (st : List ℕ) (n : ℕ) (k : List ℕ) (b from c left sum : ℕ) : Type 0 where
-  pub same : total s Z st sum (follow s Z st n k left c) ≡ total s Z st b (follow s Z st n k 4294967295 from)
-  pub steps : c + left ≡ from + 4294967295
-  pub most : sum + left * 65542 ≤ b + 281500746448890
-
-pub counted-first : (s : Settings) (Z : ℕ) (st : List ℕ) (n : ℕ) (k : List ℕ) (b from : ℕ) → Counted s Z st n k b from from 4294967295 b
-counted-first s Z st n k b from = record { same = refl; steps = refl; most = omega arith }
 
 -- ---- the segment in a cell that was found, as the code reads it
 
-module _ (s : Settings) (Z : ℕ) (st : List ℕ) (n : ℕ) (k : List ℕ) (c : ℕ) {j : ℕ} (ej : j ≡ foundIn s Z st n k c) (h : j < n) {r : List ℕ} {u : Piece} (er : r ≡ rowAt Z st j) (eu : u ≡ pieceOf (readPacket s (packetIn 0 r))) where
-  read-is : u ≡ pieceOf (readPacket s (packetIn Z (rowAt Z st j)))
-  read-is = eu ∙ ap (λ (x : List ℕ). pieceOf (readPacket s (packetIn Z x))) er
+module _ (s : Settings) (Z : ℕ) (st : List ℕ) (n : ℕ) (k : List ℕ) (c : ℕ) {j : ℕ} (ej : j ≡ foundIn s Z st n k c) (h : j < n)
+    {r : List ℕ} {u : Piece} (er : r ≡ rowAt Z st j) (eu : u ≡ pieceOf (readPacket s (packetIn r))) where
+  read-is : u ≡ pieceOf (readPacket s (packetIn (rowAt Z st j)))
+  read-is = eu ∙ ap (λ (x : List ℕ). pieceOf (readPacket s (packetIn x))) er
 
   pub piece-flags : u .flags ≡ segAt s Z st j .flags
   unfolding segOf pieceOf
@@ -44,69 +37,75 @@ module _ (s : Settings) (Z : ℕ) (st : List ℕ) (n : ℕ) (k : List ℕ) (c : 
   unfolding segOf pieceOf
   piece-long =
       ap (λ (x : Piece). x .length) read-is
-      ∙ sym (body-long s (packetIn Z (rowAt Z st j)) (found-held s Z st n k c ej h .accepted))
+      ∙ sym (body-long s (packetIn (rowAt Z st j)) (found-held s Z st n k c ej h .accepted))
 
   pub piece-most : Octets st → u .length ≤ 65542
   unfolding segOf
   piece-most o =
-      let m = part-most (rowAt Z st j) (readPacket s (packetIn Z (rowAt Z st j)) .body .at) (readPacket s (packetIn Z (rowAt Z st j)) .body .length) Z (octets-part st (j * Z) Z o) in
+      let m = part-most (rowAt Z st j) (readPacket s (packetIn (rowAt Z st j)) .body .at) (readPacket s (packetIn (rowAt Z st j)) .body .length) (octets-part st (j * Z) Z o) in
       omega (arith, piece-long)
 
 -- ---- one turn
 
-module _ (s : Settings) (Z : ℕ) (st : List ℕ) (n : ℕ) (k : List ℕ) (b from : ℕ) {c left sum : ℕ} (inv : Counted s Z st n k b from c left sum) (more : 0 < left) {j : ℕ} (ej : j ≡ foundIn s Z st n k c) where
-  one-less : left ≡ suc (left - 1)
-  one-less = omega arith
+module _ (next : ℕ → ℕ) (span : ℕ) (s : Settings) (Z : ℕ) (st : List ℕ) (n : ℕ) (k : List ℕ) (b from slack : ℕ) where
+  -- what the whole run comes to
+  abbrev whole : Measured
+  whole = total s Z st b (follow next span s Z st n k span (next from))
 
-  whole-is : {o : Option (List ℕ)} → follow s Z st n k (suc (left - 1)) c ≡ o → total s Z st sum o ≡ total s Z st b (follow s Z st n k 4294967295 from)
-  whole-is e = ap (total s Z st sum) (sym e ∙ ap (λ (x : ℕ). follow s Z st n k x c) (sym one-less)) ∙ inv .same
+  -- what is left after the counter c, and sum octets, come to what the whole run does; so many steps are left, and the slack, for which
+  -- there are no counters
+  pub record Counted (c left sum : ℕ) : Type 0 where
+    pub same : total s Z st sum (follow next span s Z st n k (left + slack) (next c)) ≡ whole
+    pub most : sum + left * 65542 ≤ b + 281500746448890
 
-  pub counted-none : n ≤ j → 0 ≡ total s Z st b (follow s Z st n k 4294967295 from)
-  counted-none h = whole-is (follow-none s Z st n k (left - 1) c ej h)
+  pub counted-first : {left : ℕ} → left + slack ≡ span → left ≤ 4294967295 → Counted from left b
+  counted-first e h =
+      record { same = ap (λ (f : ℕ). total s Z st b (follow next span s Z st n k f (next from))) e; most = omega arith }
 
-  module _ (h : j < n) {r : List ℕ} {u : Piece} (er : r ≡ rowAt Z st j) (eu : u ≡ pieceOf (readPacket s (packetIn 0 r))) where
-    role-is : {x : Role} → roleOf (u .flags) ≡ x → roleOf (segAt s Z st j .flags) ≡ x
-    role-is e = ap roleOf (sym (piece-flags s Z st n k c ej h er eu)) ∙ e
+  module _ {c left sum : ℕ} (inv : Counted c left sum) where
+    module _ (more : 0 < left) {d : ℕ} (ed : d ≡ next c) {j : ℕ} (ej : j ≡ foundIn s Z st n k d) where
+      one-less : left + slack ≡ suc (left - 1 + slack)
+      one-less = omega arith
 
-    by : {x : Role} → roleOf (u .flags) ≡ x → total s Z st sum (linkBy x j (follow s Z st n k (left - 1) (suc c))) ≡ total s Z st b (follow s Z st n k 4294967295 from)
-    by e = whole-is (follow-by s Z st n k (left - 1) c ej h (role-is e))
+      whole-is : {o : Option (List ℕ)} → follow next span s Z st n k (suc (left - 1 + slack)) d ≡ o → total s Z st sum o ≡ whole
+      whole-is e =
+          ap (total s Z st sum) (sym e ∙ ap₂ (λ (f x : ℕ). follow next span s Z st n k f x) (sym one-less) ed) ∙ inv .same
 
-    module _ (o : Octets st) (d : b ≤ 65542) where
-      pub counted-room : sum + u .length < 18446744073709551616
-      counted-room = omega (arith, piece-most s Z st n k c ej h er eu o, inv .most)
+      pub counted-none : n ≤ j → Incomplete ≡ whole
+      counted-none h = whole-is (follow-none next span s Z st n k (left - 1 + slack) d ej h)
 
-      pub counted-more : sum + u .length + 1 < 18446744073709551616
-      counted-more = omega (arith, piece-most s Z st n k c ej h er eu o, inv .most)
+      module _ (h : j < n) {r : List ℕ} {u : Piece} (er : r ≡ rowAt Z st j) (eu : u ≡ pieceOf (readPacket s (packetIn r))) where
+        role-is : {x : Role} → roleOf (u .flags) ≡ x → roleOf (segAt s Z st j .flags) ≡ x
+        role-is e = ap roleOf (sym (piece-flags s Z st n k d ej h er eu)) ∙ e
 
-    pub counted-broken : u .flags ≡ 1 → 0 ≡ total s Z st b (follow s Z st n k 4294967295 from)
-    counted-broken e = by (role-first e)
+        by : {x : Role} → roleOf (u .flags) ≡ x → total s Z st sum (linkBy x j (follow next span s Z st n k (left - 1 + slack) (next d))) ≡ whole
+        by e = whole-is (follow-by next span s Z st n k (left - 1 + slack) d ej h (role-is e))
 
-    pub counted-last : u .flags ≡ 2 → sum + u .length + 1 ≡ total s Z st b (follow s Z st n k 4294967295 from)
-    counted-last e =
-        ap (λ (x : ℕ). sum + x + 1) (piece-long s Z st n k c ej h er eu)
-        ∙ sym (total-last s Z st n k sum j (follow s Z st n k (left - 1) (suc c)))
-        ∙ by (role-last e)
+        pub counted-room : Octets st → b ≤ 65542 → sum + u .length < 18446744073709551616
+        counted-room o l = omega (arith, piece-most s Z st n k d ej h er eu o, inv .most)
 
-    pub counted-on :
-        Octets st → (u .flags ≡ 1 → ⊥) → (u .flags ≡ 2 → ⊥) → Counted s Z st n k b from (c + 1) (left - 1) (sum + u .length)
-    counted-on o x y =
-        record {
-          same =
-              ap₂ (λ (a d : ℕ). total s Z st a (follow s Z st n k (left - 1) d))
-              (ap (λ (a : ℕ). sum + a) (piece-long s Z st n k c ej h er eu))
-              (add-one c)
-              ∙ sym (total-on s Z st n k sum j (follow s Z st n k (left - 1) (suc c)))
-              ∙ by (role-middle x y);
-          steps = omega (arith, inv .steps);
-          most = omega (arith, inv .most, piece-most s Z st n k c ej h er eu o);
-        }
+        pub counted-broken : u .flags ≡ 1 → Incomplete ≡ whole
+        counted-broken e = by (role-first e)
 
-pub counter-room : {s : Settings} {Z : ℕ} {st : List ℕ} {n : ℕ} {k : List ℕ} {b from c left sum : ℕ} → Counted s Z st n k b from c left sum → from ≤ 4294967296 → c + 1 < 18446744073709551616
-counter-room inv h = omega (arith, inv .steps)
+        pub counted-last : u .flags ≡ 2 → Long (sum + u .length) ≡ whole
+        counted-last e =
+            ap (λ (x : ℕ). Long (sum + x)) (piece-long s Z st n k d ej h er eu)
+            ∙ sym (total-last next span s Z st n k sum j (follow next span s Z st n k (left - 1 + slack) (next d)))
+            ∙ by (role-last e)
 
--- no segment more is allowed
-pub counted-out : {s : Settings} {Z : ℕ} {st : List ℕ} {n : ℕ} {k : List ℕ} {b from c left sum : ℕ} → Counted s Z st n k b from c left sum → left ≤ 0 → 0 ≡ total s Z st b (follow s Z st n k 4294967295 from)
-unfolding follow
-counted-out {s} {Z} {st} {n} {k} {b} {from} {c} {left} {sum} inv h =
-    let e : 0 ≡ left = omega arith in
-    ap (λ (x : ℕ). total s Z st sum (follow s Z st n k x c)) e ∙ inv .same
+        pub counted-on : Octets st → (u .flags ≡ 1 → ⊥) → (u .flags ≡ 2 → ⊥) → Counted d (left - 1) (sum + u .length)
+        counted-on o x y =
+            record {
+              same =
+                  ap (λ (a : ℕ). total s Z st (sum + a) (follow next span s Z st n k (left - 1 + slack) (next d)))
+                  (piece-long s Z st n k d ej h er eu)
+                  ∙ sym (total-on next span s Z st n k sum j (follow next span s Z st n k (left - 1 + slack) (next d)))
+                  ∙ by (role-middle x y);
+              most = omega (arith, inv .most, piece-most s Z st n k d ej h er eu o);
+            }
+
+    -- no counter is left
+    pub counted-out : left ≤ 0 → follow next span s Z st n k slack (next c) ≡ none → Incomplete ≡ whole
+    counted-out h e =
+        let z : slack ≡ left + slack = omega arith in
+        ap (total s Z st sum) (sym e ∙ ap (λ (f : ℕ). follow next span s Z st n k f (next c)) z) ∙ inv .same

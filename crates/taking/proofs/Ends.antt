@@ -13,15 +13,15 @@ use Rattle.octets.specs.Octets.{pick, octetAt, number}
 use Rattle.octets.proofs.Lists.{bool}
 use Rattle.walk.specs.declared.Settings.{Settings}
 use Rattle.cells.specs.Segments.{Seg, segOf}
-use Rattle.cells.specs.Rows.{Cell, free, held, broken, rowAt, zeroRow, packetIn}
+use Rattle.cells.specs.Rows.{Cell, held, rowAt, zeroRow, packetIn, segmentIn, bySegment}
 use Rattle.cells.specs.Order.{cellAt, lowest}
 use Rattle.cells.proofs.Held.{flags-same}
 use Rattle.cells.proofs.Transactions.{part-octet}
 use Rattle.cells.proofs.Carries.{Holding, held-is}
 use Rattle.cells.proofs.Lowest.{same-or}
-use Rattle.messages.specs.Messages.{Role, first, middle, last, roleOf, Run, orElse, listed, look, cellsOf, linkBy, link, opensBy, chain, runFrom, runIn, pickIn, picked, top}
-use Rattle.messages.proofs.Listed.{lowest-hit, lowest-miss}
-use Rattle.messages.proofs.Looking.{look-some}
+use Rattle.cells.specs.Messages.{Role, first, middle, last, roleOf, Run, orElse, listed, look, cellsOf, linkBy, link, opensBy, restFrom, runFrom, runIn, pickIn, picked}
+use Rattle.cells.proofs.Listed.{lowest-hit, lowest-miss}
+use Rattle.cells.proofs.Looking.{look-some}
 use Rattle.taking.specs.Follow.{segAt, endsAt}
 
 -- ---- the flags in a row
@@ -37,7 +37,7 @@ module _ (s : Settings) (Z : ℕ) (st : List ℕ) (i : ℕ) (h : Holding s Z (ro
   flags-told =
       let r = rowAt Z st i in
       let l : 2 < number 2 (rowAt Z st i) 6 + 7 = omega arith in
-      flags-same s (packetIn Z (rowAt Z st i)) (h .accepted)
+      flags-same s (packetIn (rowAt Z st i)) (h .accepted)
       ∙ ap (λ (x : ℕ). x / 64) (part-octet (rowAt Z st i) 2 (number 2 (rowAt Z st i) 6 + 7) 2 l)
 
 -- ---- what is looked for is held
@@ -57,7 +57,7 @@ role-of-last f e = go (eqb f 1) (eqb f 2) (λ x. eqb-true f 2 x) e
     go false true h d = h refl
     go false false h d = let z : _≡_ {A = ℕ} 0 1 = cc in absurd (omega arith)
 
-module _ (cs : List Cell) (no : (k : List ℕ) (c : ℕ) (t : Seg) → look cs k c ≡ some t → t .flags ≡ 2 → ⊥) where
+module _ (next : ℕ → ℕ) (span : ℕ) (cs : List Cell) (no : (k : List ℕ) (c : ℕ) (t : Seg) → look cs k c ≡ some t → t .flags ≡ 2 → ⊥) where
   link-none : (o : Option Seg) → ((t : Seg) → o ≡ some t → t .flags ≡ 2 → ⊥) → (r : Option (List Seg)) → r ≡ none → link o r ≡ none
   link-none none h r e = refl
   link-none (some t) h r e = go (roleOf (t .flags)) refl
@@ -67,26 +67,28 @@ module _ (cs : List Cell) (no : (k : List ℕ) (c : ℕ) (t : Seg) → look cs k
       go middle d = ap (Option·map (λ (ts : List Seg). t ∷ ts)) e
       go last d = absurd (h t refl (role-of-last (t .flags) d))
 
-  chain-none : (m : ℕ) (k : List ℕ) (c : ℕ) → chain suc top m cs k c ≡ none
-  unfolding chain
-  chain-none zero k c = refl
-  chain-none (suc m) k c = link-none (look cs k c) (no k c) (chain suc top m cs k (suc c)) (chain-none m k (suc c))
+  rest-none : (m : ℕ) (k : List ℕ) (c : ℕ) → restFrom next span m cs k c ≡ none
+  unfolding restFrom
+  rest-none zero k c = refl
+  rest-none (suc m) k c = link-none (look cs k c) (no k c) (restFrom next span m cs k (next c)) (rest-none m k (next c))
 
   opens-nothing : (x : Role) (t : Seg) (r : Option (List Seg)) → r ≡ none → opensBy x t r ≡ none
   opens-nothing first t r e = ap (Option·map (λ (ts : List Seg). record { head = t; rest = ts })) e
   opens-nothing middle t r e = refl
   opens-nothing last t r e = refl
 
-  run-nothing : (x : Cell) → runIn suc top cs x ≡ none
+  run-nothing : (x : Cell) → runIn next span cs x ≡ none
   unfolding runFrom
-  run-nothing free = refl
-  run-nothing (held t) = opens-nothing (roleOf (t .flags)) t (chain suc top top cs (t .key) (suc (t .counter))) (chain-none top (t .key) (suc (t .counter)))
-  run-nothing broken = refl
+  run-nothing x = go (segmentIn x)
+    where
+      go : (o : Option Seg) → bySegment none (runFrom next span cs) o ≡ none
+      go none = refl
+      go (some t) = opens-nothing (roleOf (t .flags)) t (restFrom next span span cs (t .key) (next (t .counter))) (rest-none span (t .key) (next (t .counter)))
 
-  pub pick-nothing : (xs : List Cell) → pickIn suc top cs xs ≡ none
+  pub pick-nothing : (xs : List Cell) → pickIn next span cs xs ≡ none
   unfolding pickIn
   pick-nothing [] = refl
-  pick-nothing (x ∷ xs) = ap (λ (o : Option Run). orElse o (pickIn suc top cs xs)) (run-nothing x) ∙ pick-nothing xs
+  pick-nothing (x ∷ xs) = ap (λ (o : Option Run). orElse o (pickIn next span cs xs)) (run-nothing x) ∙ pick-nothing xs
 
 -- ---- over the store
 
@@ -101,7 +103,7 @@ lowest-misses f (suc n) i h j a b = ⊎-elim here (on (lowest-misses f n (suc i)
     on : (suc i + n ≤ lowest f n (suc i) → (m : ℕ) → suc i ≤ m → m < suc i + n → f m ≡ false) → f i ≡ false → f j ≡ false
     on rest e = ⊎-elim (λ (d : j ≡ i). ap f d ∙ e) (λ (d : j ≡ i → ⊥). rest (omega (arith, lowest-miss f n i e)) j (omega (arith, d)) (omega arith)) (same-or j i)
 
-module _ (s : Settings) (Z : ℕ) (st : List ℕ) (n : ℕ) where
+module _ (next : ℕ → ℕ) (span : ℕ) (s : Settings) (Z : ℕ) (st : List ℕ) (n : ℕ) where
   no-last : n ≤ lowest (endsAt Z st) n 0 → (j : ℕ) → j < 0 + n → (t : Seg) → cellAt s Z st j ≡ held t → t .flags ≡ 2 → ⊥
   no-last h j l t e d =
       let there = held-is s Z (rowAt Z st j) t e in
@@ -115,9 +117,9 @@ module _ (s : Settings) (Z : ℕ) (st : List ℕ) (n : ℕ) where
       seg-same : {a b : Seg} → held a ≡ held b → a ≡ b
       seg-same x = cc
 
-  pub nothing-complete : {r : ℕ} → r ≡ lowest (endsAt Z st) n 0 → n ≤ r → picked suc top (cellsOf s Z st n) ≡ none
+  pub nothing-complete : {r : ℕ} → r ≡ lowest (endsAt Z st) n 0 → n ≤ r → picked next span (cellsOf s Z st n) ≡ none
   nothing-complete e h =
-      pick-nothing (cellsOf s Z st n)
+      pick-nothing next span (cellsOf s Z st n)
       (λ k c. look-any (λ t. t .flags ≡ 2 → ⊥) (cellAt s Z st) k c n 0 (no-last (omega (arith, e))))
       (cellsOf s Z st n)
 

@@ -1,4 +1,4 @@
--- A run followed by the places of its segments, and that it is the chain of what the cells hold.
+-- A run followed by the places of its segments, and that it is what the cells hold from a counter on.
 -- Assumes nothing.
 use Prim.Native.Nat.{ℕ, zero, suc, _+_, _≤_, _<_}
 use mathlib.Core.Path.{_≡_, refl, ap, sym, _∙_}
@@ -15,10 +15,11 @@ use Rattle.walk.specs.declared.Settings.{Settings}
 use Rattle.cells.specs.Segments.{Seg}
 use Rattle.cells.specs.Rows.{held}
 use Rattle.cells.specs.Order.{cellAt, foundIn}
-use Rattle.messages.specs.Messages.{Role, first, middle, last, roleOf, bodies, cellsOf, look, link, linkBy, chain, top}
+use Rattle.cells.specs.Messages.{Role, first, middle, last, roleOf, bodies, cellsOf, look, link, linkBy, restFrom}
+use Rattle.taking.specs.declared.Measured.the-variants.{Long}
 use Rattle.taking.specs.Follow.{segAt, onAt, follow, bodiesAt, total}
-use Rattle.messages.proofs.Looks.{look-found, look-none}
-use Rattle.messages.proofs.Found.{found-held}
+use Rattle.cells.proofs.Looks.{look-found, look-none}
+use Rattle.cells.proofs.Found.{found-held}
 
 -- ---- roles
 
@@ -53,7 +54,7 @@ nowhere-look : (s : Settings) (Z : ℕ) (st : List ℕ) (n : ℕ) (k : List ℕ)
 unfolding foundIn
 nowhere-look s Z st n k c h = look-none (cellAt s Z st) k c n 0 (omega arith)
 
-module _ (s : Settings) (Z : ℕ) (st : List ℕ) (n : ℕ) (k : List ℕ) where
+module _ (next : ℕ → ℕ) (span : ℕ) (s : Settings) (Z : ℕ) (st : List ℕ) (n : ℕ) (k : List ℕ) where
   -- ---- one step
 
   module _ (f c : ℕ) {j : ℕ} (e : j ≡ foundIn s Z st n k c) where
@@ -69,15 +70,15 @@ module _ (s : Settings) (Z : ℕ) (st : List ℕ) (n : ℕ) (k : List ℕ) where
         ∙ ap (λ (b : Bool). pick b (linkBy (roleOf (segAt s Z st j .flags)) j r) none) (le-leb (suc j) n m)
         ∙ ap (λ (y : Role). linkBy y j r) w
 
-    pub follow-none : n ≤ j → follow s Z st n k (suc f) c ≡ none
+    pub follow-none : n ≤ j → follow next span s Z st n k (suc f) c ≡ none
     unfolding follow
-    follow-none h = on-none h (follow s Z st n k f (suc c))
+    follow-none h = on-none h (follow next span s Z st n k f (next c))
 
-    pub follow-by : {x : Role} → j < n → roleOf (segAt s Z st j .flags) ≡ x → follow s Z st n k (suc f) c ≡ linkBy x j (follow s Z st n k f (suc c))
+    pub follow-by : {x : Role} → j < n → roleOf (segAt s Z st j .flags) ≡ x → follow next span s Z st n k (suc f) c ≡ linkBy x j (follow next span s Z st n k f (next c))
     unfolding follow
-    follow-by h w = on-by h w (follow s Z st n k f (suc c))
+    follow-by h w = on-by h w (follow next span s Z st n k f (next c))
 
-  -- ---- as the chain of what the cells hold
+  -- ---- as what the cells hold from a counter on
 
   abbrev at : ℕ → Seg
   at j = segAt s Z st j
@@ -91,8 +92,8 @@ module _ (s : Settings) (Z : ℕ) (st : List ℕ) (n : ℕ) (k : List ℕ) where
   link-by middle j (some js) = refl
   link-by last j r = refl
 
-  chain-step : (c : ℕ) (r : Option (List ℕ)) → link (look (cellsOf s Z st n) k c) (segs r) ≡ segs (onAt s Z st n (foundIn s Z st n k c) r)
-  chain-step c r = ⊎-elim there nowhere (below-or (foundIn s Z st n k c) n)
+  rest-step : (c : ℕ) (r : Option (List ℕ)) → link (look (cellsOf s Z st n) k c) (segs r) ≡ segs (onAt s Z st n (foundIn s Z st n k c) r)
+  rest-step c r = ⊎-elim there nowhere (below-or (foundIn s Z st n k c) n)
     where
       there : foundIn s Z st n k c < n → link (look (cellsOf s Z st n) k c) (segs r) ≡ segs (onAt s Z st n (foundIn s Z st n k c) r)
       there h =
@@ -103,10 +104,10 @@ module _ (s : Settings) (Z : ℕ) (st : List ℕ) (n : ℕ) (k : List ℕ) where
       nowhere : n ≤ foundIn s Z st n k c → link (look (cellsOf s Z st n) k c) (segs r) ≡ segs (onAt s Z st n (foundIn s Z st n k c) r)
       nowhere h = ap (λ (o : Option Seg). link o (segs r)) (nowhere-look s Z st n k c h) ∙ ap segs (sym (on-none 0 c refl h r))
 
-  pub chain-places : (f c : ℕ) → chain suc top f (cellsOf s Z st n) k c ≡ segs (follow s Z st n k f c)
-  unfolding chain follow
-  chain-places zero c = refl
-  chain-places (suc f) c = ap (link (look (cellsOf s Z st n) k c)) (chain-places f (suc c)) ∙ chain-step c (follow s Z st n k f (suc c))
+  pub rest-places : (f c : ℕ) → restFrom next span f (cellsOf s Z st n) k c ≡ segs (follow next span s Z st n k f c)
+  unfolding restFrom follow
+  rest-places zero c = refl
+  rest-places (suc f) c = ap (link (look (cellsOf s Z st n) k c)) (rest-places f (next c)) ∙ rest-step c (follow next span s Z st n k f (next c))
 
   -- ---- the octets of a run
 
@@ -118,10 +119,13 @@ module _ (s : Settings) (Z : ℕ) (st : List ℕ) (n : ℕ) (k : List ℕ) where
   pub total-on : (b j : ℕ) (r : Option (List ℕ)) → total s Z st b (linkBy middle j r) ≡ total s Z st (b + length (at j .body)) r
   unfolding bodiesAt
   total-on b j none = refl
-  total-on b j (some js) = let e : b + length (at j .body ++ bodiesAt s Z st js) ≡ b + length (at j .body) + length (bodiesAt s Z st js) = omega (arith, length-append (at j .body) (bodiesAt s Z st js)) in ap suc e
+  total-on b j (some js) =
+      let e : b + length (at j .body ++ bodiesAt s Z st js) ≡ b + length (at j .body) + length (bodiesAt s Z st js) =
+      omega (arith, length-append (at j .body) (bodiesAt s Z st js)) in
+      ap Long e
 
-  pub total-last : (b j : ℕ) (r : Option (List ℕ)) → total s Z st b (linkBy last j r) ≡ b + length (at j .body) + 1
+  pub total-last : (b j : ℕ) (r : Option (List ℕ)) → total s Z st b (linkBy last j r) ≡ Long (b + length (at j .body))
   unfolding bodiesAt
   total-last b j r =
-      let e : suc (b + length (at j .body ++ [])) ≡ b + length (at j .body) + 1 = omega (arith, length-append (at j .body) []) in
-      e
+      let e : b + length (at j .body ++ []) ≡ b + length (at j .body) = omega (arith, length-append (at j .body) []) in
+      ap Long e

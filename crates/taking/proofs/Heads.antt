@@ -1,10 +1,9 @@
 -- The message that opens in a cell, to the output: its key, the first's body, then the others'; and what is told of it.
 -- Assumes nothing.
-use Prim.Native.Nat.{ℕ, suc, _+_, _-_, _*_, _≤_}
+use Prim.Native.Nat.{ℕ, _+_, _-_, _*_, _≤_}
 use mathlib.Core.Path.{_≡_, ap, ap₂, sym, _∙_, subst}
 use mathlib.Core.List.{List, _∷_, _++_}
 use mathlib.Core.Option.{some}
-use native.Mathlib.Numerals.{add-one}
 use native.Mathlib.Omega.{arith}
 use lib.ListN.{length, length-append}
 use lib.Seq.{sets, length-sets}
@@ -24,8 +23,8 @@ use Rattle.cells.specs.Rows.{held, rowAt, packetIn}
 use Rattle.cells.specs.Order.{cellAt}
 use Rattle.cells.specs.Inner.{Asked}
 use Rattle.cells.proofs.Carries.{Holding, held-is}
-use Rattle.messages.specs.declared.Piece.{Piece}
-use Rattle.messages.specs.Inner.{pieceOf}
+use Rattle.cells.specs.declared.messages.Piece.{Piece}
+use Rattle.cells.specs.Pieces.{pieceOf}
 use Rattle.taking.specs.Follow.{segAt, follow, placesOf, placesFrom, bodiesAt, copiedOf, Ready, Opens}
 use Rattle.taking.proofs.Bodies.{body-there}
 
@@ -54,17 +53,19 @@ key-two s p o z =
     omega (arith, identification-long v)
 
 -- the places of a run that is complete
-places-are : (s : Settings) (Z : ℕ) (st : List ℕ) (n : ℕ) (k : List ℕ) (c : ℕ) (js : List ℕ) → follow s Z st n k 4294967295 c ≡ some js → placesFrom s Z st n k c ≡ js
+places-are :
+    (next : ℕ → ℕ) (span : ℕ) (s : Settings) (Z : ℕ) (st : List ℕ) (n : ℕ) (k : List ℕ) (c : ℕ) (js : List ℕ) →
+    follow next span s Z st n k span c ≡ some js → placesFrom next span s Z st n k c ≡ js
 unfolding placesFrom
-places-are s Z st n k c js e = ap placesOf e
+places-are next span s Z st n k c js e = ap placesOf e
 
-module _ (s : Settings) (Z : ℕ) (st : List ℕ) (n i : ℕ) (o : Octets st) (there : cellAt s Z st i ≡ held (segAt s Z st i))
-    {r q : List ℕ} {h : Header} {t : Piece} (er : r ≡ rowAt Z st i) (eq : q ≡ packetIn 0 r) (eh : h ≡ readPacket s q) (et : t ≡ pieceOf (readPacket s (packetIn 0 r))) where
+module _ (next : ℕ → ℕ) (span : ℕ) (s : Settings) (Z : ℕ) (st : List ℕ) (n i : ℕ) (o : Octets st) (there : cellAt s Z st i ≡ held (segAt s Z st i))
+    {r q : List ℕ} {h : Header} {t : Piece} (er : r ≡ rowAt Z st i) (eq : q ≡ packetIn r) (eh : h ≡ readPacket s q) (et : t ≡ pieceOf (readPacket s (packetIn r))) where
   holds-it : Holding s Z (rowAt Z st i)
   holds-it = held-is s Z (rowAt Z st i) (segAt s Z st i) there
 
-  packet-is : q ≡ packetIn Z (rowAt Z st i)
-  packet-is = eq ∙ ap (λ (x : List ℕ). packetIn Z x) er
+  packet-is : q ≡ packetIn (rowAt Z st i)
+  packet-is = eq ∙ ap (λ (x : List ℕ). packetIn x) er
 
   pub head-asked : Asked s q (h .body .at)
   head-asked =
@@ -83,29 +84,29 @@ module _ (s : Settings) (Z : ℕ) (st : List ℕ) (n i : ℕ) (o : Octets st) (t
   unfolding segOf
   counter-is = ap (λ (x : Header). x .ids .counter .0) eh ∙ ap (λ (x : List ℕ). readPacket s x .ids .counter .0) packet-is
 
-  next-is : h .ids .counter .0 + 1 ≡ suc (segAt s Z st i .counter)
-  next-is = add-one (h .ids .counter .0) ∙ ap suc counter-is
+  next-is : next (h .ids .counter .0) ≡ next (segAt s Z st i .counter)
+  next-is = ap next counter-is
 
   -- the places of the others
   abbrev js : List ℕ
-  js = placesFrom s Z st n (segAt s Z st i .key) (suc (segAt s Z st i .counter))
+  js = placesFrom next span s Z st n (segAt s Z st i .key) (next (segAt s Z st i .counter))
 
-  others-are : placesFrom s Z st n (keyOf q (readPacket s q)) (h .ids .counter .0 + 1) ≡ js
-  others-are = ap₂ (λ (k : List ℕ) (c : ℕ). placesFrom s Z st n k c) key-is next-is
+  others-are : placesFrom next span s Z st n (keyOf q (readPacket s q)) (next (h .ids .counter .0)) ≡ js
+  others-are = ap₂ (λ (k : List ℕ) (c : ℕ). placesFrom next span s Z st n k c) key-is next-is
 
   -- what is told
   pub head-told :
-      {m : ℕ} → m ≡ h .ids .counter .0 + 1 + length (placesFrom s Z st n (keyOf q (readPacket s q)) (h .ids .counter .0 + 1)) →
-      record { header = h .h; counter = h .ids .counter; until = m } ≡ copiedOf (segAt s Z st i) (length js)
+      {m : ℕ} → m ≡ length (placesFrom next span s Z st n (keyOf q (readPacket s q)) (next (h .ids .counter .0))) →
+      record { header = h .h; counter = h .ids .counter; steps = m } ≡ copiedOf (segAt s Z st i) (length js)
   unfolding copiedOf
   head-told em =
       let e : h .h ≡ length (segAt s Z st i .key) - 2 =
       ap (λ (x : Header). x .h) eh ∙ header-of s q (head-asked .octets) (head-asked .accepted) ∙ ap (λ (x : List ℕ). length x - 2) key-is in
-      let u = em ∙ ap₂ (λ (a : ℕ) (b : List ℕ). a + length b) next-is others-are in
-      λ k. record { header = e k; counter = record { 0 = counter-is k }; until = u k }
+      let u = em ∙ ap length others-are in
+      λ k. record { header = e k; counter = record { 0 = counter-is k }; steps = u k }
 
   abbrev x : List ℕ
-  x = part (packetIn 0 r) (t .at) (t .length)
+  x = part (packetIn r) (t .at) (t .length)
 
   body-is : x ≡ segAt s Z st i .body
   body-is = body-there s Z st i er et
@@ -114,9 +115,9 @@ module _ (s : Settings) (Z : ℕ) (st : List ℕ) (n i : ℕ) (o : Octets st) (t
   unfolding bodiesAt
   whole-is = ap₂ (λ (k b : List ℕ). k ++ (b ++ bodiesAt s Z st js)) (sym key-is) (sym body-is)
 
-  module _ {out : List ℕ} (w : Opens s Z st n i out) where
+  module _ {out : List ℕ} (w : Opens next span s Z st n i out) where
     places-is : js ≡ w .places
-    places-is = places-are s Z st n (segAt s Z st i .key) (suc (segAt s Z st i .counter)) (w .places) (w .complete)
+    places-is = places-are next span s Z st n (segAt s Z st i .key) (next (segAt s Z st i .counter)) (w .places) (w .complete)
 
     -- there is room for all of it
     room : length (keyOf q (readPacket s q)) + (length x + length (bodiesAt s Z st js)) ≤ length out
@@ -135,10 +136,10 @@ module _ (s : Settings) (Z : ℕ) (st : List ℕ) (n i : ℕ) (o : Octets st) (t
       head-body-room = omega (arith, room, ap length eo, length-sets out 0 (keyOf q (readPacket s q)))
 
       module _ {at : ℕ} {two : List ℕ} (ea : at ≡ key + length x) (ew : two ≡ sets one key x) where
-        pub head-ready : Ready s Z st n (keyOf q (readPacket s q)) (h .ids .counter .0 + 1) at two
+        pub head-ready : Ready next span s Z st n (keyOf q (readPacket s q)) (next (h .ids .counter .0)) at two
         head-ready =
-            let f : follow s Z st n (keyOf q (readPacket s q)) 4294967295 (h .ids .counter .0 + 1) ≡ some (w .places) =
-            ap₂ (λ (k : List ℕ) (c : ℕ). follow s Z st n k 4294967295 c) key-is next-is ∙ w .complete in
+            let f : follow next span s Z st n (keyOf q (readPacket s q)) span (next (h .ids .counter .0)) ≡ some (w .places) =
+            ap₂ (λ (k : List ℕ) (c : ℕ). follow next span s Z st n k span c) key-is next-is ∙ w .complete in
             let l = ap (λ (y : List ℕ). length (bodiesAt s Z st y)) others-are in
             record {
               complete = f ∙ ap some (sym (others-are ∙ places-is));
@@ -148,7 +149,7 @@ module _ (s : Settings) (Z : ℕ) (st : List ℕ) (n i : ℕ) (o : Octets st) (t
             }
 
         pub head-written :
-            {m : List ℕ} → m ≡ sets two at (bodiesAt s Z st (placesFrom s Z st n (keyOf q (readPacket s q)) (h .ids .counter .0 + 1))) →
+            {m : List ℕ} → m ≡ sets two at (bodiesAt s Z st (placesFrom next span s Z st n (keyOf q (readPacket s q)) (next (h .ids .counter .0)))) →
             m ≡ sets out 0 (segAt s Z st i .key ++ bodiesAt s Z st (i ∷ js))
         head-written em =
             em

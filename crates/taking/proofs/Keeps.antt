@@ -12,15 +12,16 @@ use Rattle.walk.specs.declared.Settings.{Settings}
 use Rattle.cells.specs.Segments.{Seg}
 use Rattle.cells.specs.Rows.{Cell, free, held, rowAt, zeroRow, cellOf}
 use Rattle.cells.specs.Order.{isSound, cellAt, countIn, inOrder}
-use Rattle.messages.specs.Messages.{Run, segments, amongIn}
-use Rattle.messages.proofs.HeldRow.{zero-free}
-use Rattle.messages.proofs.Order.{cells-inside, order-tells, order-same}
+use Rattle.cells.specs.Messages.{Run, segments, amongIn}
+use Rattle.cells.proofs.HeldRow.{zero-free}
+use Rattle.cells.proofs.StoreOrder.{cells-inside, order-tells, order-same}
 use Rattle.taking.specs.Taking.{Took, message, unable, took, storeLess}
-use Rattle.clearing.proofs.Clearing.{cleared-long, cleared-row}
+use Rattle.taking.specs.Cleared.{zeroIf}
+use Rattle.taking.proofs.Clears.{cleared-long, zeroed-row}
 
 pub take-long : (Z : ℕ) (st : List ℕ) (s : Settings) (n : ℕ) (t : Took) → length (storeLess s Z st n t) ≡ length st
 unfolding storeLess
-take-long Z st s n (message r) = cleared-long (λ i. amongIn (segments r) (cellAt s Z st i)) Z st n
+take-long Z st s n (message r) = cleared-long (λ i. zeroIf Z (amongIn (segments r) (cellAt s Z st i))) Z st n
 take-long Z st s n (unable k) = refl
 
 -- ---- the cells after a taking
@@ -29,7 +30,7 @@ module _ (s : Settings) (Z : ℕ) (st : List ℕ) (n : ℕ) (r : Run) (l : n * Z
   -- each row of the message is made zero, and no other
   pub row-taken : (j : ℕ) → j < n → rowAt Z (storeLess s Z st n (message r)) j ≡ pick (amongIn (segments r) (cellAt s Z st j)) (zeroRow Z) (rowAt Z st j)
   unfolding storeLess
-  row-taken j h = cleared-row (λ i. amongIn (segments r) (cellAt s Z st i)) Z st n j l h
+  row-taken j h = zeroed-row (λ i. amongIn (segments r) (cellAt s Z st i)) Z st n j l h
 
   -- each cell of the message is freed, and no other
   pub cell-taken : (j : ℕ) → j < n → cellAt s Z (storeLess s Z st n (message r)) j ≡ pick (amongIn (segments r) (cellAt s Z st j)) free (cellAt s Z st j)

@@ -8,10 +8,11 @@ pub mod Copying
 pub mod Bodies
 pub mod Heads
 pub mod Drawing
+pub mod Past
 pub mod Among
 pub mod Drawn
 pub mod Takings
-pub mod Beside
 pub mod Checked
 pub mod Keeps
 pub mod Tells
+pub mod Clears

@@ -22,33 +22,33 @@ use Rattle.cells.specs.Inner.{placeIn, spansAlike, Asked}
 use Rattle.cells.proofs.Held.{both-true}
 use Rattle.cells.proofs.Carries.{Holding}
 use Rattle.cells.proofs.SameKeys.{keys-same}
-use Rattle.messages.specs.declared.Piece.{Piece}
-use Rattle.messages.specs.Inner.{pieceOf}
+use Rattle.cells.specs.declared.messages.Piece.{Piece}
+use Rattle.cells.specs.Pieces.{pieceOf}
 use Rattle.taking.specs.Inner.{pieceIn}
 use Rattle.taking.specs.Follow.{segAt}
-use Rattle.messages.proofs.Found.{found-carries, found-held}
+use Rattle.cells.proofs.Found.{found-carries, found-held}
 use Rattle.taking.proofs.Ends.{flags-told}
-use Rattle.messages.proofs.Distinct.{carries-true}
+use Rattle.cells.proofs.Distinct.{carries-true}
 
 -- as the code reads it
 pub piece-read :
-    (r : List ℕ) (stop : ℕ) {p x : List ℕ} {f : ℕ} → p ≡ packetIn 0 r → x ≡ part p stop (length p) → f ≡ octetAt r 4 / 64 →
-    record { flags = f; at = stop; length = length x } ≡ pieceIn r stop
+    (r : List ℕ) (body-at : ℕ) {p x : List ℕ} {f : ℕ} → p ≡ packetIn r → x ≡ part p body-at (length p) → f ≡ octetAt r 4 / 64 →
+    record { flags = f; at = body-at; length = length x } ≡ pieceIn r body-at
 unfolding pieceIn
-piece-read r stop ep ex ef =
-    let l = ap length ex ∙ ap (λ (y : List ℕ). length (part y stop (length y))) ep in
-    λ i. record { flags = ef i; at = stop; length = l i }
+piece-read r body-at ep ex ef =
+    let l = ap length ex ∙ ap (λ (y : List ℕ). length (part y body-at (length y))) ep in
+    λ i. record { flags = ef i; at = body-at; length = l i }
 
 -- packets that agree around their counters have their bodies at one place
-spans-end : (p q : List ℕ) (end stop : ℕ) → spansAlike p end q stop ≡ true → end ≡ stop
+spans-end : (p q : List ℕ) (end body-at : ℕ) → spansAlike p end q body-at ≡ true → end ≡ body-at
 unfolding spansAlike
-spans-end p q end stop e =
-    let a = both-true (both (eqb (placeIn p) (placeIn q)) (eqb end stop)) _ e in
-    eqb-true end stop (both-true (eqb (placeIn p) (placeIn q)) (eqb end stop) (a .0) .1)
+spans-end p q end body-at e =
+    let a = both-true (both (eqb (placeIn p) (placeIn q)) (eqb end body-at)) _ e in
+    eqb-true end body-at (both-true (eqb (placeIn p) (placeIn q)) (eqb end body-at) (a .0) .1)
 
-module _ (s : Settings) (Z : ℕ) (st q : List ℕ) (n stop c : ℕ) {j : ℕ} (a : Asked s q stop) (o : Octets st) (ej : j ≡ foundIn s Z st n (keyOf q (readPacket s q)) c) (h : j < n) where
+module _ (s : Settings) (Z : ℕ) (st q : List ℕ) (n body-at c : ℕ) {j : ℕ} (a : Asked s q body-at) (o : Octets st) (ej : j ≡ foundIn s Z st n (keyOf q (readPacket s q)) c) (h : j < n) where
   abbrev p : List ℕ
-  p = packetIn Z (rowAt Z st j)
+  p = packetIn (rowAt Z st j)
 
   there : Holding s Z (rowAt Z st j)
   there = found-held s Z st n (keyOf q (readPacket s q)) c ej h
@@ -62,7 +62,7 @@ module _ (s : Settings) (Z : ℕ) (st q : List ℕ) (n stop c : ℕ) {j : ℕ} (
       carries-true (keyOf q (readPacket s q)) c (segAt s Z st j)
       (sym (ap (carriesIn (keyOf q (readPacket s q)) c) (there .cell)) ∙ found-carries s Z st n (keyOf q (readPacket s q)) c ej h) .0
 
-  at-is : stop ≡ readPacket s p .body .at
+  at-is : body-at ≡ readPacket s p .body .at
   at-is =
       a .body
       ∙ spans-end q p (readPacket s q .body .at) (readPacket s p .body .at)
@@ -70,14 +70,14 @@ module _ (s : Settings) (Z : ℕ) (st q : List ℕ) (n stop c : ℕ) {j : ℕ} (
       ∙ ap (λ (k : List ℕ). alike k (keyOf p (readPacket s p))) key-is
       ∙ alike-self (keyOf p (readPacket s p)))
 
-  long-is : length (part p stop (length p)) ≡ readPacket s p .body .length
-  long-is = omega (arith, length-take (length p) (drop stop p), length-drop stop p, at-is, accepted s p plain (there .accepted) .body-end)
+  long-is : length (part p body-at (length p)) ≡ readPacket s p .body .length
+  long-is = omega (arith, length-take (length p) (drop body-at p), length-drop body-at p, at-is, accepted s p plain (there .accepted) .body-end)
 
-  pub piece-found : {r : List ℕ} {u : Piece} → r ≡ rowAt Z st j → u ≡ pieceIn r stop → u ≡ pieceOf (readPacket s (packetIn 0 r))
+  pub piece-found : {r : List ℕ} {u : Piece} → r ≡ rowAt Z st j → u ≡ pieceIn r body-at → u ≡ pieceOf (readPacket s (packetIn r))
   unfolding pieceIn pieceOf segOf
   piece-found {r} er eu =
       let f : octetAt (rowAt Z st j) 4 / 64 ≡ readPacket s p .primary .flags = sym (flags-told s Z st j there) in
       eu
-      ∙ ap (λ (y : List ℕ). pieceIn y stop) er
+      ∙ ap (λ (y : List ℕ). pieceIn y body-at) er
       ∙ (λ i. record { flags = f i; at = at-is i; length = long-is i })
-      ∙ ap (λ (y : List ℕ). pieceOf (readPacket s (packetIn Z y))) (sym er)
+      ∙ ap (λ (y : List ℕ). pieceOf (readPacket s (packetIn y))) (sym er)

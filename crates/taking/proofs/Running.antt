@@ -1,35 +1,34 @@
 -- The message that opens in a cell, as the code finds it.
 -- Assumes nothing.
-use Prim.Native.Nat.{ℕ, suc, _+_, _-_, _*_, _/_, _^_, _≤_, _<_}
+use Prim.Native.Nat.{ℕ, _+_, _-_, _*_, _/_, _≤_}
 use mathlib.Core.Path.{_≡_, refl, ap, ap₂, sym, _∙_}
 use mathlib.Core.Logic.{⊎-elim}
 use mathlib.Core.Bool.{Bool, true, false}
 use mathlib.Core.List.{List, _∷_, map}
 use mathlib.Core.Option.{Option, none, some, Option·map}
 use native.Mathlib.Omega.{arith}
-use native.Mathlib.Numerals.{add-one}
 use lib.ListN.{length, length-append}
 use lib.Dec.{eqb}
 use borrow.Author.Tests.{eqb-true}
 use Rattle.octets.specs.Octets.{pick, Octets, octetAt, number}
 use Rattle.octets.proofs.Has.{octets-part}
-use Rattle.octets.proofs.Numbers.{number-top}
 use Rattle.walk.specs.declared.Settings.{Settings}
 use Rattle.packet.specs.Reading.{readPacket}
 use Rattle.packet.specs.Key.{keyOf}
 use Rattle.format.proofs.Accepting.{accepted}
 use Rattle.cells.specs.Segments.{Seg, segOf}
-use Rattle.cells.specs.Rows.{Cell, free, broken, rowAt, packetIn, cellOf}
+use Rattle.cells.specs.Rows.{Cell, rowAt, packetIn, cellOf, bySegment}
 use Rattle.cells.specs.Order.{cellAt}
 use Rattle.cells.specs.declared.Judged.{Judged}
-use Rattle.cells.specs.Inner.{bodyIn, judgedOf, Asked}
-use Rattle.cells.proofs.Counters.{counter-told}
-use Rattle.cells.proofs.Carries.{Holding, kinds, judged-one, judged-at}
-use Rattle.messages.specs.Messages.{Role, first, middle, last, roleOf, bodies, cellsOf, chain, opensBy, runFrom, runIn, top}
+use Rattle.cells.specs.Inner.{bodyIn, judgedOf, toldHeld, Asked}
+use Rattle.cells.proofs.Carries.{Holding, not-held, kinds, judged-one, judged-at}
+use Rattle.cells.specs.Messages.{Role, first, middle, last, roleOf, bodies, cellsOf, restFrom, opensBy, runFrom, runIn}
+use Rattle.taking.specs.declared.Measured.{Measured}
+use Rattle.taking.specs.declared.Measured.the-variants.{Long, Incomplete}
 use Rattle.taking.specs.Follow.{segAt, follow, bodiesAt, total, answer}
-use Rattle.messages.proofs.Found.{body-long, part-most}
+use Rattle.cells.proofs.Found.{body-long, part-most}
 use Rattle.taking.proofs.Ends.{flags-told}
-use Rattle.taking.proofs.Following.{role-first, chain-places, bodies-places}
+use Rattle.taking.proofs.Following.{role-first, rest-places, bodies-places}
 
 -- a segment that is no first opens nothing
 opens-none : (x : Role) (t : Seg) (r : Option (List Seg)) → (x ≡ first → ⊥) → opensBy x t r ≡ none
@@ -46,7 +45,7 @@ role-of-first f e = go (eqb f 1) (eqb f 2) (λ x. eqb-true f 1 x) e
     go false true h d = let z : _≡_ {A = ℕ} 0 1 = cc in absurd (omega arith)
     go false false h d = let z : _≡_ {A = ℕ} 0 1 = cc in absurd (omega arith)
 
-module _ (s : Settings) (Z : ℕ) (st : List ℕ) (n i : ℕ) {r : List ℕ} (er : r ≡ rowAt Z st i) where
+module _ (next : ℕ → ℕ) (span : ℕ) (s : Settings) (Z : ℕ) (st : List ℕ) (n i : ℕ) {r : List ℕ} (er : r ≡ rowAt Z st i) where
   abbrev cs : List Cell
   cs = cellsOf s Z st n
 
@@ -54,35 +53,30 @@ module _ (s : Settings) (Z : ℕ) (st : List ℕ) (n i : ℕ) {r : List ℕ} (er
   t = segAt s Z st i
 
   abbrev p : List ℕ
-  p = packetIn Z (rowAt Z st i)
+  p = packetIn (rowAt Z st i)
 
-  runs : Holding s Z (rowAt Z st i) → runIn suc top cs (cellAt s Z st i) ≡ opensBy (roleOf (t .flags)) t (chain suc top top cs (t .key) (suc (t .counter)))
+  runs : Holding s Z (rowAt Z st i) → runIn next span cs (cellAt s Z st i) ≡ opensBy (roleOf (t .flags)) t (restFrom next span span cs (t .key) (next (t .counter)))
   unfolding runFrom
-  runs h = ap (runIn suc top cs) (h .cell)
+  runs h = ap (runIn next span cs) (h .cell)
 
   -- a cell opens nothing unless it holds a segment
-  unless-held : (Holding s Z (rowAt Z st i) → 0 ≡ answer (runIn suc top cs (cellAt s Z st i))) → 0 ≡ answer (runIn suc top cs (cellAt s Z st i))
-  unless-held f = ⊎-elim f (⊎-elim nothing nothing′) (kinds s Z (rowAt Z st i))
-    where
-      nothing : cellAt s Z st i ≡ free → 0 ≡ answer (runIn suc top cs (cellAt s Z st i))
-      nothing e = sym (ap (λ (y : Cell). answer (runIn suc top cs y)) e)
-
-      nothing′ : cellAt s Z st i ≡ broken → 0 ≡ answer (runIn suc top cs (cellAt s Z st i))
-      nothing′ e = sym (ap (λ (y : Cell). answer (runIn suc top cs y)) e)
+  unless-held : (Holding s Z (rowAt Z st i) → Incomplete ≡ answer (runIn next span cs (cellAt s Z st i))) → Incomplete ≡ answer (runIn next span cs (cellAt s Z st i))
+  unless-held f =
+      ⊎-elim f (λ e. sym (ap (λ (o : Option Seg). answer (bySegment none (runFrom next span cs) o)) e)) (kinds s Z (rowAt Z st i))
 
   module _ {f : ℕ} (ef : f ≡ octetAt r 4 / 64) where
     flags-row : f ≡ octetAt (rowAt Z st i) 4 / 64
     flags-row = ef ∙ ap (λ (y : List ℕ). octetAt y 4 / 64) er
 
     -- one whose flags are not those of a first opens nothing
-    pub run-none : (f ≡ 1 → ⊥) → 0 ≡ answer (runIn suc top cs (cellAt s Z st i))
+    pub run-none : (f ≡ 1 → ⊥) → Incomplete ≡ answer (runIn next span cs (cellAt s Z st i))
     run-none ne =
         unless-held
         (λ h.
         sym
         (ap answer
         (runs h
-        ∙ opens-none (roleOf (t .flags)) t (chain suc top top cs (t .key) (suc (t .counter)))
+        ∙ opens-none (roleOf (t .flags)) t (restFrom next span span cs (t .key) (next (t .counter)))
         (λ y. ne (flags-row ∙ sym (flags-told s Z st i h) ∙ role-of-first (t .flags) y)))))
 
   -- nor does one that is not judged held
@@ -90,15 +84,15 @@ module _ (s : Settings) (Z : ℕ) (st : List ℕ) (n i : ℕ) {r : List ℕ} (er
     judged-there : u ≡ judgedOf (bodyIn s Z (rowAt Z st i)) (cellOf s Z (rowAt Z st i))
     judged-there = eu ∙ ap (λ (y : List ℕ). judgedOf (bodyIn s Z y) (cellOf s Z y)) er
 
-    pub run-other : (u .kind ≡ 1 → ⊥) → 0 ≡ answer (runIn suc top cs (cellAt s Z st i))
-    run-other ne = unless-held (λ h. absurd (ne (judged-at s Z (rowAt Z st i) judged-there h .0)))
+    pub run-other : toldHeld (u .content) ≡ false → Incomplete ≡ answer (runIn next span cs (cellAt s Z st i))
+    run-other ne = unless-held (λ h. absurd (not-held (judged-at s Z (rowAt Z st i) judged-there h .0) ne))
 
-    module _ {q : List ℕ} (eq : q ≡ packetIn 0 r) (o : Octets st) (one : u .kind ≡ 1) where
+    module _ {q : List ℕ} (eq : q ≡ packetIn r) (o : Octets st) (one : toldHeld (u .content) ≡ true) where
       there : Holding s Z (rowAt Z st i)
       there = judged-one s Z (rowAt Z st i) judged-there one
 
       packet-is : q ≡ p
-      packet-is = eq ∙ ap (packetIn Z) er
+      packet-is = eq ∙ ap packetIn er
 
       plain : Octets p
       plain = octets-part (rowAt Z st i) 2 (number 2 (rowAt Z st i) 6 + 7) (octets-part st (i * Z) Z o)
@@ -106,7 +100,7 @@ module _ (s : Settings) (Z : ℕ) (st : List ℕ) (n i : ℕ) {r : List ℕ} (er
       at-is : u .at ≡ readPacket s p .body .at
       at-is = judged-at s Z (rowAt Z st i) judged-there there .1 .0
 
-      counter-is : u .counter ≡ t .counter
+      counter-is : u .counter .0 ≡ t .counter
       unfolding segOf
       counter-is = judged-at s Z (rowAt Z st i) judged-there there .1 .1
 
@@ -141,36 +135,28 @@ module _ (s : Settings) (Z : ℕ) (st : List ℕ) (n i : ℕ) {r : List ℕ} (er
       pub run-most : length q - u .at ≤ 65542
       unfolding segOf
       run-most =
-          let m = part-most (rowAt Z st i) (readPacket s p .body .at) (readPacket s p .body .length) Z (octets-part st (i * Z) Z o) in
+          let m = part-most (rowAt Z st i) (readPacket s p .body .at) (readPacket s p .body .length) (octets-part st (i * Z) Z o) in
           omega (arith, long-is)
 
-      -- a counter has 32 bits
-      pub run-counter : u .counter + 1 ≤ 4294967296
-      unfolding segOf
-      run-counter =
-          let e : readPacket s p .ids .counter .0 < 256 ^ 4 =
-          rw (sym (counter-told s p plain (there .accepted) (there .segment))) (number-top 4 p _ plain) in
-          omega (arith, counter-is)
-
-      opened : (js : List ℕ) → suc (length (t .body) + length (bodiesAt s Z st js)) ≡ suc (length (bodies (t ∷ map (segAt s Z st) js)))
+      opened : (js : List ℕ) → Long (length (t .body) + length (bodiesAt s Z st js)) ≡ Long (length (bodies (t ∷ map (segAt s Z st) js)))
       unfolding bodies
       opened js =
-          ap suc
+          ap Long
           (sym
           (length-append (t .body) (bodies (map (segAt s Z st) js))
-          ∙ ap (λ (y : List ℕ). length (t .body) + length y) (bodies-places s Z st n (t .key) js)))
+          ∙ ap (λ (y : List ℕ). length (t .body) + length y) (bodies-places next span s Z st n (t .key) js)))
 
       pub run-first :
-          {f b : ℕ} → f ≡ octetAt r 4 / 64 → f ≡ 1 →
-          b ≡ total s Z st (length q - u .at) (follow s Z st n (keyOf q (readPacket s q)) 4294967295 (u .counter + 1)) →
-          b ≡ answer (runIn suc top cs (cellAt s Z st i))
-      run-first {f} {b} ef is-first eb =
+          {f : ℕ} {b : Measured} → f ≡ octetAt r 4 / 64 → f ≡ 1 →
+          b ≡ total s Z st (length q - u .at) (follow next span s Z st n (keyOf q (readPacket s q)) span (next (u .counter .0))) →
+          b ≡ answer (runIn next span cs (cellAt s Z st i))
+      run-first ef is-first eb =
           eb
-          ∙ ap₂ (λ (l : ℕ) (k : List ℕ). total s Z st l (follow s Z st n k 4294967295 (u .counter + 1))) long-is key-is
-          ∙ ap (λ (c : ℕ). total s Z st (length (t .body)) (follow s Z st n (t .key) 4294967295 c)) (add-one (u .counter) ∙ ap suc counter-is)
-          ∙ told (follow s Z st n (t .key) 4294967295 (suc (t .counter)))
-          ∙ ap (λ (o : Option (List Seg)). answer (opensBy first t o)) (sym (chain-places s Z st n (t .key) top (suc (t .counter))))
-          ∙ ap (λ (y : Role). answer (opensBy y t (chain suc top top cs (t .key) (suc (t .counter)))))
+          ∙ ap₂ (λ (l : ℕ) (k : List ℕ). total s Z st l (follow next span s Z st n k span (next (u .counter .0)))) long-is key-is
+          ∙ ap (λ (c : ℕ). total s Z st (length (t .body)) (follow next span s Z st n (t .key) span (next c))) counter-is
+          ∙ told (follow next span s Z st n (t .key) span (next (t .counter)))
+          ∙ ap (λ (o : Option (List Seg)). answer (opensBy first t o)) (sym (rest-places next span s Z st n (t .key) span (next (t .counter))))
+          ∙ ap (λ (y : Role). answer (opensBy y t (restFrom next span span cs (t .key) (next (t .counter)))))
           (sym (role-first (flags-told s Z st i there ∙ sym (flags-row ef) ∙ is-first)))
           ∙ sym (ap answer (runs there))
         where

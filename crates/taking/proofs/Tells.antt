@@ -14,10 +14,11 @@ use Rattle.walk.specs.declared.Settings.{Settings}
 use Rattle.walk.specs.Walk.{begun}
 use Rattle.cells.specs.Segments.{Seg}
 use Rattle.cells.specs.Rows.{held}
-use Rattle.cells.specs.Order.{cellAt, countIn, inOrder}
-use Rattle.messages.specs.Messages.{cellsOf, Run, segments, picked, top}
-use Rattle.messages.proofs.Picking.{pick-tells}
-use Rattle.messages.proofs.Members.{In, picked-held}
+use Rattle.cells.specs.Order.{cellAt, countIn, inOrder, gate}
+use Rattle.cells.proofs.Gate.{through-tells, open-true}
+use Rattle.cells.specs.Messages.{cellsOf, Run, segments, picked, top}
+use Rattle.cells.proofs.Picking.{pick-tells}
+use Rattle.cells.proofs.Members.{In, picked-held}
 use Rattle.taking.specs.Taking.{message, unable, writing, drawn, tookIn, took}
 
 not-unable : (k : ℕ) (r : Run) → unable k ≡ message r → ⊥
@@ -40,10 +41,10 @@ pub record Taken (s : Settings) (Z : ℕ) (st : List ℕ) (long : ℕ) (r : Run)
 pub taken-tells : (s : Settings) (Z : ℕ) (st : List ℕ) (long : ℕ) (r : Run) → took s Z st long ≡ message r → Taken s Z st long r
 unfolding took tookIn
 taken-tells s Z st long r e =
-    let a = pick-tells (eqb (begun s .refusal .number) 0) _ _ (message r) (not-unable 15 r) e in
-    let b = pick-tells (inOrder s Z st) _ _ (message r) (not-unable 16 r) (a .1) in
-    let c = drawn-tells (picked suc top (cellsOf s Z st (countIn Z st))) long r (b .1) in
-    record { settings = a .0; order = b .0; picked = c .0; fits = c .1 }
+    let a = through-tells (gate s Z st) (tookIn s Z st (countIn Z st) long) unable (message r) (λ k. not-unable k r) e in
+    let b = open-true s Z st (a .0) in
+    let c = drawn-tells (picked suc top (cellsOf s Z st (countIn Z st))) long r (a .1) in
+    record { settings = b .0; order = b .1; picked = c .0; fits = c .1 }
 
 -- each segment of the message is held in a cell before
 pub segment-held :

@@ -1,5 +1,5 @@
 pub mod Taking
-pub mod Beside
 pub mod Told
 pub mod Inner
 pub mod Follow
+pub mod Cleared

@@ -1,19 +1,18 @@
 -- Taking a message out of a store.
--- Document 01, "The store": taking "writes the two octets of packet identification, the H header octets without counter, and the body,
--- tells H, B and c, and zeroes just its cells." The order of the refusals: "Taking: 15, 16, 20, 21."
+-- SPEC S-10 to S-12: identification, the header without its counter and the body go out, H, B and c are told, and the message's cells
+-- become zero. The tests in their order: 15, 16, 20, 21.
 -- Assumes nothing: these are definitions.
 use Prim.Native.Nat.{ℕ, suc}
 use mathlib.Core.List.{List, _++_}
 use mathlib.Core.Option.{Option, none, some}
 use lib.ListN.{length}
 use lib.Seq.{sets}
-use lib.Dec.{leb, eqb}
+use lib.Dec.{leb}
 use Rattle.octets.specs.Octets.{pick}
 use Rattle.walk.specs.declared.Settings.{Settings}
-use Rattle.walk.specs.Walk.{begun}
-use Rattle.cells.specs.Order.{cellAt, inOrder, countIn}
-use Rattle.clearing.specs.Cleared.{clearedTo}
-use Rattle.messages.specs.Messages.{cellsOf, Run, bodyOf, segments, picked, amongIn, top}
+use Rattle.cells.specs.Order.{cellAt, countIn, gate, through}
+use Rattle.taking.specs.Cleared.{clearedTo, zeroIf}
+use Rattle.cells.specs.Messages.{cellsOf, Run, bodyOf, segments, picked, amongIn, top}
 
 -- what a taking comes to
 pub data Took : Type 0 where
@@ -35,10 +34,7 @@ tookIn s Z st n long = drawn (picked suc top (cellsOf s Z st n)) long
 
 -- from any octets
 unfoldable pub took : Settings → ℕ → List ℕ → ℕ → Took
-took s Z st long =
-    pick (eqb (begun s .refusal .number) 0)
-    (pick (inOrder s Z st) (tookIn s Z st (countIn Z st) long) (unable 16))
-    (unable 15)
+took s Z st long = through (gate s Z st) (tookIn s Z st (countIn Z st) long) unable
 
 -- the output behind it
 unfoldable pub outWith : List ℕ → Took → List ℕ
@@ -47,5 +43,5 @@ outWith out (unable k) = out
 
 -- the store behind it: just the message's cells are zero
 unfoldable pub storeLess : Settings → ℕ → List ℕ → ℕ → Took → List ℕ
-storeLess s Z st n (message r) = clearedTo (λ i. amongIn (segments r) (cellAt s Z st i)) Z n st
+storeLess s Z st n (message r) = clearedTo (λ i. zeroIf Z (amongIn (segments r) (cellAt s Z st i))) Z n st
 storeLess s Z st n (unable k) = st

@@ -1,9 +1,9 @@
--- What a taking answers: document 01's number and values for what a taking comes to.
--- Document 01, "Refusal numbers": "A refusal answers its number, every other answer zero".
+-- What a taking answers: SPEC's number and values for what a taking comes to.
+-- SPEC A-2: beside a refusal's number all else is 0.
 -- Assumes nothing: these are definitions.
 use Prim.Native.Nat.{_-_}
 use lib.ListN.{length}
-use Rattle.messages.specs.Messages.{bodyOf}
+use Rattle.cells.specs.Messages.{bodyOf}
 use Rattle.walk.specs.Walk.{refusal}
 use Rattle.taking.specs.declared.Taken.{Taken}
 use Rattle.taking.specs.Taking.{Took, message, unable}

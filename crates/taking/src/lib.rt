@@ -1,7 +1,9 @@
-// Taking from the store: the complete message whose first lies in the lowest cell is found, written out, and its cells are freed.
+// Taking from the store: the complete message with its first in the lowest cell is found, written out, and its cells are freed.
 //
 // The store is any octets here, and the size of a cell is that of the zero cell lent: T and the store's order are tested by
 // `store::take`, or by whoever keeps a store in order.
+pub mod clearing;
+
 ghost use mathlib.Core.Path.{_≡_};
 ghost use mathlib.Core.List.{_∷_, _++_};
 ghost use Prim.Native.Nat.{suc, _+_, _/_, _≤_, _<_};
@@ -10,17 +12,23 @@ ghost use lib.Seq.{sets};
 ghost use Rattle.octets.specs.Octets.{octetAt, part};
 ghost use Rattle.packet.specs.Reading.{readPacket};
 ghost use Rattle.packet.specs.Key.{keyOf};
+ghost use Rattle.packet.specs.Format.{packetMost};
 ghost use Rattle.cells.specs.Rows.{zeroRow, packetIn, held};
 ghost use Rattle.cells.specs.Order.{cellsMost, lowest, cellAt};
 ghost use Rattle.cells.specs.Inner.{Asked};
-ghost use Rattle.messages.specs.Messages.{cellsOf, runIn, picked, top};
+ghost use Rattle.cells.specs.Chains.{bucketAt, Chained};
+ghost use Rattle.cells.specs.Messages.{cellsOf, runIn, picked, top};
 ghost use Rattle.taking.specs.Taking.{unable, tookIn, outWith, storeLess};
-ghost use Rattle.taking.specs.Beside.{tookBeside};
 ghost use Rattle.taking.specs.Told.{takenOf};
 ghost use Rattle.taking.specs.Inner.{pieceIn};
-ghost use Rattle.taking.specs.Follow.{segAt, follow as followed, placesFrom, bodiesAt, total, answer, opensAt, endsAt, pickedOf, copiedOf, Lent, Ready, Opens};
-use messages::Piece;
+ghost use Rattle.taking.specs.Follow.{segAt, follow as followed, placesFrom, bodiesAt, total, answer, opensAt, endsAt, pickedOf};
+ghost use Rattle.taking.specs.Follow.{copiedOf, Lent, Ready, Opens};
+use cells::messages::Piece;
+use packet::FIRST;
+use packet::LAST;
 use packet::SegmentCounter;
+use walk::REFUSED_INCOMPLETE;
+use walk::REFUSED_OUTPUT;
 use walk::Refusal;
 use walk::Settings;
 
@@ -35,17 +43,23 @@ pub struct Taken {
     pub counter: SegmentCounter,
 }
 
-// A message that was picked: the cell of its first segment, and one more than the octets of its body; 0 where none is complete.
-struct Picked {
-    cell: usize,
-    body: usize,
+// How long the body of a run is, if the run is complete.
+enum Measured {
+    Long(usize),
+    Incomplete,
 }
 
-// A message that was copied: H, the counter of its first segment, and the one behind its last.
+// The complete message with its first in the lowest cell: that cell, and the octets of its body.
+enum Picked {
+    Message { cell: usize, body: usize },
+    Nothing,
+}
+
+// A message that was copied: H, the counter of its first segment, and how many segments follow it.
 struct Copied {
     header: usize,
     counter: SegmentCounter,
-    until: u64,
+    steps: u32,
 }
 
 // The one place where a taking is refused.
@@ -62,58 +76,59 @@ pub fn not_taken(k: u8) -> Taken
 
 // The segment in a cell that was found by the key of another, told where the other's body begins: so does this one's, and the header is
 // not read again.
-fn piece_with(row: &[u8], stop: usize) -> Piece
-    ensures { λ r. ⌜ r ≡ pieceIn (now (row .entry)) stop ⌝ }
+fn piece_with(row: &[u8], body_at: usize) -> Piece
+    ensures { λ r. ⌜ r ≡ pieceIn (now (row .entry)) «body_at» ⌝ }
 {
     let p = cells::packet_in(row);
-    let body = cells::span(p, stop, p.len());
+    let body = cells::span(p, body_at, p.len());
     Piece {
         flags: flags_in(row),
-        at: stop,
+        at: body_at,
         length: body.len(),
     }
 }
 
-// The segments with the key of q from a counter on, up to a last: one more than the octets of their bodies and b, or 0 where the
-// run is not complete.
+// The segments with the key of q whose counters follow the first, up to a last: the octets of their bodies and b.
 fn follow(
     s: Settings,
     store: &[u8],
     n: usize,
     zero: &[u8],
     q: &[u8],
-    stop: usize,
-    from: u64,
+    body_at: usize,
+    first: SegmentCounter,
     b: usize,
     chained: bool,
     heads: &[u16; cells::CHAINS],
     links: &[u16; cells::CELLS_MOST],
-) -> usize
+) -> Measured
     requires { ⌜ Lent s (now zero) (now store) n chained (now heads) (now links) ⌝ }
-    requires { ⌜ Asked s (now q) stop × ((from ≤ 4294967296) × (b ≤ 65542)) ⌝ }
-    ensures { λ r. ⌜ r ≡ total s (length (now (zero .entry))) (now (store .entry)) b (followed s (length (now (zero .entry))) (now (store .entry)) n (keyOf (now (q .entry)) (readPacket s (now (q .entry)))) 4294967295 from) ⌝ }
+    requires { ⌜ Asked s (now q) «body_at» × (b ≤ packetMost) ⌝ }
+    ensures { λ r. ⌜ r ≡ total s (length (now (zero .entry))) (now (store .entry)) b
+        (followed suc top s (length (now (zero .entry))) (now (store .entry)) n (keyOf (now (q .entry)) (readPacket s (now (q .entry)))) top
+        (suc (first .0))) ⌝ }
 {
     let z = zero.len();
-    let mut c = from;
-    let mut left: u64 = 4294967295;
+    let mut c = first;
+    let mut left = cells::messages::further(first);
     let mut sum = b;
     while 0 < left {
-        let j = cells::find_by(s, store, n, zero, q, stop, c, chained, heads, links);
+        c = cells::messages::next(c);
+        let j = cells::find_by(s, store, n, zero, q, body_at, c, chained, heads, links);
         if n <= j {
-            return 0;
+            return Measured::Incomplete;
         }
-        let t = piece_with(cells::row(store, z, j), stop);
+        let t = piece_with(cells::row(store, z, j), body_at);
         sum += t.length;
-        if t.flags == 1 {
-            return 0;
+        if t.flags == FIRST {
+            return Measured::Incomplete;
         }
-        if t.flags == 2 {
-            return sum + 1;
+        if t.flags == LAST {
+            return Measured::Long(sum);
         }
-        c += 1;
         left -= 1;
     }
-    0
+    Measured::Incomplete
 }
 
 // The sequence flags of the packet in a row.
@@ -129,7 +144,7 @@ fn lowest_last(store: &[u8], n: usize, z: usize) -> usize
 {
     let mut i: usize = 0;
     while i < n {
-        if flags_in(cells::row(store, z, i)) == 2 {
+        if flags_in(cells::row(store, z, i)) == LAST {
             return i;
         }
         i += 1;
@@ -137,7 +152,7 @@ fn lowest_last(store: &[u8], n: usize, z: usize) -> usize
     n
 }
 
-// One more than the octets of the body of the message that opens in cell i, or 0 where none does that is complete.
+// How long the body of the message is that opens in cell i.
 fn run_at(
     s: Settings,
     store: &[u8],
@@ -147,17 +162,18 @@ fn run_at(
     chained: bool,
     heads: &[u16; cells::CHAINS],
     links: &[u16; cells::CELLS_MOST],
-) -> usize
+) -> Measured
     requires { ⌜ Lent s (now zero) (now store) n chained (now heads) (now links) ⌝ }
-    ensures { λ r. ⌜ r ≡ answer (runIn suc top (cellsOf s (length (now (zero .entry))) (now (store .entry)) n) (cellAt s (length (now (zero .entry))) (now (store .entry)) i)) ⌝ }
+    ensures { λ r. ⌜ r ≡ answer (runIn suc top (cellsOf s (length (now (zero .entry))) (now (store .entry)) n)
+        (cellAt s (length (now (zero .entry))) (now (store .entry)) i)) ⌝ }
 {
     let r = cells::row(store, zero.len(), i);
-    if flags_in(r) != 1 {
-        return 0;
+    if flags_in(r) != FIRST {
+        return Measured::Incomplete;
     }
     let t = cells::judge(s, r, zero);
-    if t.kind != 1 {
-        return 0;
+    if !cells::is_held(t) {
+        return Measured::Incomplete;
     }
     let q = cells::packet_in(r);
     follow(
@@ -167,7 +183,7 @@ fn run_at(
         zero,
         q,
         t.at,
-        t.counter as u64 + 1,
+        t.counter,
         q.len() - t.at,
         chained,
         heads,
@@ -175,7 +191,7 @@ fn run_at(
     )
 }
 
-// The complete message whose first lies in the lowest cell.
+// The complete message with its first in the lowest cell.
 fn pick_message(
     s: Settings,
     store: &[u8],
@@ -186,22 +202,25 @@ fn pick_message(
     links: &[u16; cells::CELLS_MOST],
 ) -> Picked
     requires { ⌜ Lent s (now zero) (now store) n chained (now heads) (now links) ⌝ }
-    ensures { λ r. ⌜ r ≡ pickedOf s (length (now (zero .entry))) (now (store .entry)) n ⌝ }
+    ensures { λ r. ⌜ r ≡ pickedOf suc top s (length (now (zero .entry))) (now (store .entry)) n ⌝ }
 {
     let mut i: usize = 0;
     while i < n {
         let b = run_at(s, store, n, zero, i, chained, heads, links);
-        if b != 0 {
-            return Picked { cell: i, body: b };
+        if let Measured::Long(body) = b {
+            return Picked::Message {
+                cell: i,
+                body: body,
+            };
         }
         i += 1;
     }
-    Picked { cell: n, body: 0 }
+    Picked::Nothing
 }
 
 // The key of a segment, told where its body begins, to the front of the output. The place behind it.
-fn put_key(s: Settings, out: &mut [u8], q: &[u8], stop: usize) -> usize
-    requires { ⌜ Asked s (now q) stop ⌝ }
+fn put_key(s: Settings, out: &mut [u8], q: &[u8], body_at: usize) -> usize
+    requires { ⌜ Asked s (now q) «body_at» ⌝ }
     requires { ⌜ length (keyOf (now q) (readPacket s (now q))) ≤ length (now out) ⌝ }
     ensures { λ r. ⌜ r ≡ length (keyOf (now (q .entry)) (readPacket s (now (q .entry)))) ⌝ }
     ensures { λ r. ⌜ now (out .exit) ≡ sets (now (out .entry)) 0 (keyOf (now (q .entry)) (readPacket s (now (q .entry)))) ⌝ }
@@ -209,57 +228,62 @@ fn put_key(s: Settings, out: &mut [u8], q: &[u8], stop: usize) -> usize
     let c = cells::counter_place(q);
     let ids = octets::lay(out, 0, cells::span(q, 0, 2));
     let fore = octets::lay(out, ids, cells::span(q, 6, c - 6));
-    octets::lay(out, fore, cells::span(q, c + 4, stop - (c + 4)))
+    octets::lay(out, fore, cells::span(q, c + 4, body_at - (c + 4)))
 }
 
 // The body of the segment in a row to a place of the output. The place behind it.
 fn put_body(out: &mut [u8], at: usize, row: &[u8], t: Piece) -> usize
-    requires { ⌜ at + length (part (packetIn 0 (now row)) (t .at) (t .length)) ≤ length (now out) ⌝ }
-    ensures { λ r. ⌜ r ≡ at + length (part (packetIn 0 (now (row .entry))) (t .at) (t .length)) ⌝ }
-    ensures { λ r. ⌜ now (out .exit) ≡ sets (now (out .entry)) at (part (packetIn 0 (now (row .entry))) (t .at) (t .length)) ⌝ }
+    requires { ⌜ at + length (part (packetIn (now row)) (t .at) (t .length)) ≤ length (now out) ⌝ }
+    ensures { λ r. ⌜ r ≡ at + length (part (packetIn (now (row .entry))) (t .at) (t .length)) ⌝ }
+    ensures { λ r. ⌜ now (out .exit) ≡ sets (now (out .entry)) at (part (packetIn (now (row .entry))) (t .at) (t .length)) ⌝ }
 {
     let p = cells::packet_in(row);
     octets::lay(out, at, cells::span(p, t.at, t.length))
 }
 
-// The bodies of a complete run from a counter on to a place of the output. The counter behind its last.
+// The bodies of the segments whose counters follow the first of a complete run, to a place of the output. How many there are.
 fn copy_rest(
     s: Settings,
     store: &[u8],
     n: usize,
     zero: &[u8],
     q: &[u8],
-    stop: usize,
-    start: u64,
+    body_at: usize,
+    first: SegmentCounter,
     out: &mut [u8],
     place: usize,
     chained: bool,
     heads: &[u16; cells::CHAINS],
     links: &[u16; cells::CELLS_MOST],
-) -> u64
+) -> u32
     requires { ⌜ Lent s (now zero) (now store) n chained (now heads) (now links) ⌝ }
-    requires { ⌜ Asked s (now q) stop ⌝ }
-    requires { ⌜ start ≤ 4294967296 ⌝ }
-    requires { ⌜ Ready s (length (now zero)) (now store) n (keyOf (now q) (readPacket s (now q))) start place (now out) ⌝ }
-    ensures { λ r. ⌜ r ≡ start + length (placesFrom s (length (now (zero .entry))) (now (store .entry)) n (keyOf (now (q .entry)) (readPacket s (now (q .entry)))) start) ⌝ }
-    ensures { λ r. ⌜ now (out .exit) ≡ sets (now (out .entry)) place (bodiesAt s (length (now (zero .entry))) (now (store .entry)) (placesFrom s (length (now (zero .entry))) (now (store .entry)) n (keyOf (now (q .entry)) (readPacket s (now (q .entry)))) start)) ⌝ }
+    requires { ⌜ Asked s (now q) «body_at» ⌝ }
+    requires { ⌜ Ready suc top s (length (now zero)) (now store) n (keyOf (now q) (readPacket s (now q))) (suc (first .0)) place (now out) ⌝ }
+    ensures { λ r. ⌜ r ≡ length (placesFrom suc top s (length (now (zero .entry))) (now (store .entry)) n
+        (keyOf (now (q .entry)) (readPacket s (now (q .entry)))) (suc (first .0))) ⌝ }
+    ensures { λ r. ⌜ now (out .exit) ≡ sets (now (out .entry)) place
+        (bodiesAt s (length (now (zero .entry))) (now (store .entry))
+        (placesFrom suc top s (length (now (zero .entry))) (now (store .entry)) n (keyOf (now (q .entry)) (readPacket s (now (q .entry))))
+        (suc (first .0)))) ⌝ }
 {
     let z = zero.len();
-    let mut c = start;
-    let mut left: u64 = 4294967295;
+    let mut c = first;
+    let mut left = cells::messages::further(first);
+    let mut steps: u32 = 0;
     let mut at = place;
     while 0 < left {
-        let j = cells::find_by(s, store, n, zero, q, stop, c, chained, heads, links);
+        c = cells::messages::next(c);
+        steps += 1;
+        let j = cells::find_by(s, store, n, zero, q, body_at, c, chained, heads, links);
         let r = cells::row(store, z, j);
-        let t = piece_with(r, stop);
+        let t = piece_with(r, body_at);
         at = put_body(out, at, r, t);
-        if t.flags == 2 {
-            return c + 1;
+        if t.flags == LAST {
+            return steps;
         }
-        c += 1;
         left -= 1;
     }
-    c
+    steps
 }
 
 // The message that opens in cell i to the output.
@@ -276,9 +300,14 @@ fn copy_message(
 ) -> Copied
     requires { ⌜ Lent s (now zero) (now store) n chained (now heads) (now links) ⌝ }
     requires { ⌜ cellAt s (length (now zero)) (now store) i ≡ held (segAt s (length (now zero)) (now store) i) ⌝ }
-    requires { ⌜ Opens s (length (now zero)) (now store) n i (now out) ⌝ }
-    ensures { λ r. ⌜ r ≡ copiedOf (segAt s (length (now (zero .entry))) (now (store .entry)) i) (length (placesFrom s (length (now (zero .entry))) (now (store .entry)) n (segAt s (length (now (zero .entry))) (now (store .entry)) i .key) (suc (segAt s (length (now (zero .entry))) (now (store .entry)) i .counter)))) ⌝ }
-    ensures { λ r. ⌜ now (out .exit) ≡ sets (now (out .entry)) 0 (segAt s (length (now (zero .entry))) (now (store .entry)) i .key ++ bodiesAt s (length (now (zero .entry))) (now (store .entry)) (i ∷ placesFrom s (length (now (zero .entry))) (now (store .entry)) n (segAt s (length (now (zero .entry))) (now (store .entry)) i .key) (suc (segAt s (length (now (zero .entry))) (now (store .entry)) i .counter)))) ⌝ }
+    requires { ⌜ Opens suc top s (length (now zero)) (now store) n i (now out) ⌝ }
+    ensures { λ r. ⌜ r ≡ copiedOf (segAt s (length (now (zero .entry))) (now (store .entry)) i)
+        (length (placesFrom suc top s (length (now (zero .entry))) (now (store .entry)) n
+        (segAt s (length (now (zero .entry))) (now (store .entry)) i .key) (suc (segAt s (length (now (zero .entry))) (now (store .entry)) i .counter)))) ⌝ }
+    ensures { λ r. ⌜ now (out .exit) ≡ sets (now (out .entry)) 0
+        (segAt s (length (now (zero .entry))) (now (store .entry)) i .key ++ bodiesAt s (length (now (zero .entry))) (now (store .entry))
+        (i ∷ placesFrom suc top s (length (now (zero .entry))) (now (store .entry)) n
+        (segAt s (length (now (zero .entry))) (now (store .entry)) i .key) (suc (segAt s (length (now (zero .entry))) (now (store .entry)) i .counter)))) ⌝ }
 {
     let r = cells::row(store, zero.len(), i);
     let q = cells::packet_in(r);
@@ -286,16 +315,27 @@ fn copy_message(
     let ids = h.ids;
     let counter = ids.counter;
     let body = h.body;
-    let end = body.at;
-    let t = messages::piece_in(s, r);
-    let key = put_key(s, out, q, end);
+    let t = cells::messages::piece_in(s, r);
+    let key = put_key(s, out, q, body.at);
     let at = put_body(out, key, r, t);
-    let c = counter.0 as u64 + 1;
-    let until = copy_rest(s, store, n, zero, q, end, c, out, at, chained, heads, links);
+    let steps = copy_rest(
+        s,
+        store,
+        n,
+        zero,
+        q,
+        body.at,
+        counter,
+        out,
+        at,
+        chained,
+        heads,
+        links,
+    );
     Copied {
         header: h.h,
         counter: counter,
-        until: until,
+        steps: steps,
     }
 }
 
@@ -313,17 +353,18 @@ fn draw(
     links: &[u16; cells::CELLS_MOST],
 ) -> Taken
     requires { ⌜ Lent s (now zero) (now store) n chained (now heads) (now links) ⌝ }
-    requires { ⌜ i ≡ lowest (opensAt s (length (now zero)) (now store) n) n 0 ⌝ }
-    requires { ⌜ (i < n) × (suc b ≡ answer (picked suc top (cellsOf s (length (now zero)) (now store) n))) ⌝ }
+    requires { ⌜ i ≡ lowest (opensAt suc top s (length (now zero)) (now store) n) n 0 ⌝ }
+    requires { ⌜ (i < n) × (Measured.Long b ≡ answer (picked suc top (cellsOf s (length (now zero)) (now store) n))) ⌝ }
     requires { ⌜ length (segAt s (length (now zero)) (now store) i .key) + b ≤ length (now out) ⌝ }
     ensures { λ r. ⌜ r ≡ takenOf (tookIn s (length (now (zero .entry))) (now (store .entry)) n (length (now (out .entry)))) ⌝ }
     ensures { λ r. ⌜ now (out .exit) ≡ outWith (now (out .entry)) (tookIn s (length (now (zero .entry))) (now (store .entry)) n (length (now (out .entry)))) ⌝ }
-    ensures { λ r. ⌜ now (store .exit) ≡ storeLess s (length (now (zero .entry))) (now (store .entry)) n (tookIn s (length (now (zero .entry))) (now (store .entry)) n (length (now (out .entry)))) ⌝ }
+    ensures { λ r. ⌜ now (store .exit) ≡ storeLess s (length (now (zero .entry))) (now (store .entry)) n
+        (tookIn s (length (now (zero .entry))) (now (store .entry)) n (length (now (out .entry)))) ⌝ }
 {
     let t = copy_message(s, store, n, zero, i, out, chained, heads, links);
     let counter = t.counter;
     let key = cells::span(out, 0, 2 + t.header);
-    clearing::clear(s, store, n, zero, key, counter.0 as u64, t.until);
+    crate::clearing::clear(s, store, n, zero, key, counter, t.steps);
     Taken {
         refusal: Refusal { number: 0 },
         header: t.header,
@@ -333,7 +374,7 @@ fn draw(
 }
 
 // Taking from the first n cells of any octets, by their chains where they are made.
-fn take_by(
+fn take_lowest(
     s: Settings,
     store: &mut [u8],
     n: usize,
@@ -346,26 +387,25 @@ fn take_by(
     requires { ⌜ Lent s (now zero) (now store) n chained (now heads) (now links) ⌝ }
     ensures { λ r. ⌜ r ≡ takenOf (tookIn s (length (now (zero .entry))) (now (store .entry)) n (length (now (out .entry)))) ⌝ }
     ensures { λ r. ⌜ now (out .exit) ≡ outWith (now (out .entry)) (tookIn s (length (now (zero .entry))) (now (store .entry)) n (length (now (out .entry)))) ⌝ }
-    ensures { λ r. ⌜ now (store .exit) ≡ storeLess s (length (now (zero .entry))) (now (store .entry)) n (tookIn s (length (now (zero .entry))) (now (store .entry)) n (length (now (out .entry)))) ⌝ }
+    ensures { λ r. ⌜ now (store .exit) ≡ storeLess s (length (now (zero .entry))) (now (store .entry)) n
+        (tookIn s (length (now (zero .entry))) (now (store .entry)) n (length (now (out .entry)))) ⌝ }
 {
     let m = pick_message(s, store, n, zero, chained, heads, links);
-    let cell = m.cell;
-    if m.body == 0 {
-        return not_taken(20);
-    }
-    let b = m.body - 1;
+    let Picked::Message { cell, body } = m else {
+        return not_taken(REFUSED_INCOMPLETE);
+    };
     let h = packet::read(s, cells::packet_in(cells::row(store, zero.len(), cell)));
     let long = out.len();
     if long < 2 {
-        return not_taken(21);
+        return not_taken(REFUSED_OUTPUT);
     }
     if long - 2 < h.h {
-        return not_taken(21);
+        return not_taken(REFUSED_OUTPUT);
     }
-    if long - 2 - h.h < b {
-        return not_taken(21);
+    if long - 2 - h.h < body {
+        return not_taken(REFUSED_OUTPUT);
     }
-    draw(s, store, n, zero, cell, b, out, chained, heads, links)
+    draw(s, store, n, zero, cell, body, out, chained, heads, links)
 }
 
 // The same by plain searches, without chains.
@@ -373,11 +413,12 @@ fn take_plain(s: Settings, store: &mut [u8], n: usize, zero: &[u8], out: &mut [u
     requires { ⌜ now zero ≡ zeroRow (length (now zero)) ⌝ }
     ensures { λ r. ⌜ r ≡ takenOf (tookIn s (length (now (zero .entry))) (now (store .entry)) n (length (now (out .entry)))) ⌝ }
     ensures { λ r. ⌜ now (out .exit) ≡ outWith (now (out .entry)) (tookIn s (length (now (zero .entry))) (now (store .entry)) n (length (now (out .entry)))) ⌝ }
-    ensures { λ r. ⌜ now (store .exit) ≡ storeLess s (length (now (zero .entry))) (now (store .entry)) n (tookIn s (length (now (zero .entry))) (now (store .entry)) n (length (now (out .entry)))) ⌝ }
+    ensures { λ r. ⌜ now (store .exit) ≡ storeLess s (length (now (zero .entry))) (now (store .entry)) n
+        (tookIn s (length (now (zero .entry))) (now (store .entry)) n (length (now (out .entry)))) ⌝ }
 {
     let heads = [0u16; cells::CHAINS];
     let links = [0u16; cells::CELLS_MOST];
-    take_by(s, store, n, zero, out, false, &heads, &links)
+    take_lowest(s, store, n, zero, out, false, &heads, &links)
 }
 
 // The same by chains, which are made first.
@@ -386,23 +427,25 @@ fn take_chained(s: Settings, store: &mut [u8], n: usize, zero: &[u8], out: &mut 
     requires { ⌜ n ≤ cellsMost ⌝ }
     ensures { λ r. ⌜ r ≡ takenOf (tookIn s (length (now (zero .entry))) (now (store .entry)) n (length (now (out .entry)))) ⌝ }
     ensures { λ r. ⌜ now (out .exit) ≡ outWith (now (out .entry)) (tookIn s (length (now (zero .entry))) (now (store .entry)) n (length (now (out .entry)))) ⌝ }
-    ensures { λ r. ⌜ now (store .exit) ≡ storeLess s (length (now (zero .entry))) (now (store .entry)) n (tookIn s (length (now (zero .entry))) (now (store .entry)) n (length (now (out .entry)))) ⌝ }
+    ensures { λ r. ⌜ now (store .exit) ≡ storeLess s (length (now (zero .entry))) (now (store .entry)) n
+        (tookIn s (length (now (zero .entry))) (now (store .entry)) n (length (now (out .entry)))) ⌝ }
 {
     let mut heads = [0u16; cells::CHAINS];
     let mut links = [0u16; cells::CELLS_MOST];
     cells::order_by(s, store, n, zero, &mut heads, &mut links);
-    take_by(s, store, n, zero, out, true, &heads, &links)
+    take_lowest(s, store, n, zero, out, true, &heads, &links)
 }
 
 // The same: without a last segment nothing is searched, and chains are made only for many cells.
-pub fn take_on(s: Settings, store: &mut [u8], n: usize, zero: &[u8], out: &mut [u8]) -> Taken
+pub fn take_in(s: Settings, store: &mut [u8], n: usize, zero: &[u8], out: &mut [u8]) -> Taken
     requires { ⌜ now zero ≡ zeroRow (length (now zero)) ⌝ }
     ensures { λ r. ⌜ r ≡ takenOf (tookIn s (length (now (zero .entry))) (now (store .entry)) n (length (now (out .entry)))) ⌝ }
     ensures { λ r. ⌜ now (out .exit) ≡ outWith (now (out .entry)) (tookIn s (length (now (zero .entry))) (now (store .entry)) n (length (now (out .entry)))) ⌝ }
-    ensures { λ r. ⌜ now (store .exit) ≡ storeLess s (length (now (zero .entry))) (now (store .entry)) n (tookIn s (length (now (zero .entry))) (now (store .entry)) n (length (now (out .entry)))) ⌝ }
+    ensures { λ r. ⌜ now (store .exit) ≡ storeLess s (length (now (zero .entry))) (now (store .entry)) n
+        (tookIn s (length (now (zero .entry))) (now (store .entry)) n (length (now (out .entry)))) ⌝ }
 {
     if n <= lowest_last(store, n, zero.len()) {
-        return not_taken(20);
+        return not_taken(REFUSED_INCOMPLETE);
     }
     if n <= SEARCH_MOST {
         return take_plain(s, store, n, zero, out);
@@ -413,14 +456,25 @@ pub fn take_on(s: Settings, store: &mut [u8], n: usize, zero: &[u8], out: &mut [
     take_chained(s, store, n, zero, out)
 }
 
-// The same beside any octets: where they are not all zeros, no store is in order beside them.
-pub fn take_in(s: Settings, store: &mut [u8], n: usize, zero: &[u8], out: &mut [u8]) -> Taken
-    ensures { λ r. ⌜ r ≡ takenOf (tookBeside s (now (zero .entry)) (now (store .entry)) n (length (now (out .entry)))) ⌝ }
-    ensures { λ r. ⌜ now (out .exit) ≡ outWith (now (out .entry)) (tookBeside s (now (zero .entry)) (now (store .entry)) n (length (now (out .entry)))) ⌝ }
-    ensures { λ r. ⌜ now (store .exit) ≡ storeLess s (length (now (zero .entry))) (now (store .entry)) n (tookBeside s (now (zero .entry)) (now (store .entry)) n (length (now (out .entry)))) ⌝ }
+// The same by chains that lead through these cells already.
+pub fn take_by(
+    s: Settings,
+    store: &mut [u8],
+    n: usize,
+    zero: &[u8],
+    out: &mut [u8],
+    heads: &[u16; cells::CHAINS],
+    links: &[u16; cells::CELLS_MOST],
+) -> Taken
+    requires { ⌜ now zero ≡ zeroRow (length (now zero)) ⌝ }
+    requires { ⌜ Chained (bucketAt s (length (now zero)) (now store)) (now heads) (now links) n ⌝ }
+    ensures { λ r. ⌜ r ≡ takenOf (tookIn s (length (now (zero .entry))) (now (store .entry)) n (length (now (out .entry)))) ⌝ }
+    ensures { λ r. ⌜ now (out .exit) ≡ outWith (now (out .entry)) (tookIn s (length (now (zero .entry))) (now (store .entry)) n (length (now (out .entry)))) ⌝ }
+    ensures { λ r. ⌜ now (store .exit) ≡ storeLess s (length (now (zero .entry))) (now (store .entry)) n
+        (tookIn s (length (now (zero .entry))) (now (store .entry)) n (length (now (out .entry)))) ⌝ }
 {
-    if !octets::zeros(zero) {
-        return not_taken(16);
+    if n <= lowest_last(store, n, zero.len()) {
+        return not_taken(REFUSED_INCOMPLETE);
     }
-    take_on(s, store, n, zero, out)
+    take_lowest(s, store, n, zero, out, true, heads, links)
 }

@@ -1,6 +1,5 @@
 -- What is left in a store: its held cells, and the keys among them.
--- Document 01, "The store": "A held cell is the mark, one segmented packet of at most 1,022 octets as it arrived, and zeros." and
--- "A key is the packet type, the APID and all octets of the secondary header except the counter."
+-- SPEC S-3 says which cells are held, S-4 what a key is.
 -- Assumes nothing: these are definitions.
 use Prim.Native.Nat.{ℕ, zero, suc, _+_}
 use mathlib.Core.List.{List}
@@ -8,7 +7,7 @@ use mathlib.Core.Bool.{Bool, true, false, not}
 use lib.ListN.{length}
 use Rattle.octets.specs.Octets.{pick, alike}
 use Rattle.walk.specs.declared.Settings.{Settings}
-use Rattle.cells.specs.Rows.{Cell, free, held, broken}
+use Rattle.cells.specs.Rows.{Cell, segmentIn, bySegment}
 use Rattle.cells.specs.Order.{lengthFits, countIn, cellAt, allTo}
 use Rattle.tally.specs.declared.Tallied.{Tallied}
 
@@ -18,15 +17,11 @@ countTo f zero = 0
 countTo f (suc n) = countTo f n + pick (f n) 1 0
 
 abbrev pub isHeld : Cell → Bool
-isHeld free = false
-isHeld (held t) = true
-isHeld broken = false
+isHeld x = bySegment false (λ t. true) (segmentIn x)
 
 -- the cell holds a segment of this key
 abbrev pub keyed : List ℕ → Cell → Bool
-keyed k free = false
-keyed k (held t) = alike k (t .key)
-keyed k broken = false
+keyed k x = bySegment false (λ t. alike k (t .key)) (segmentIn x)
 
 -- none of the first n cells does
 unfoldable pub newKeyTo : Settings → ℕ → List ℕ → ℕ → List ℕ → Bool
@@ -34,9 +29,7 @@ newKeyTo s Z st n k = allTo (λ j. not (keyed k (cellAt s Z st j))) n
 
 -- the cell is held, and no cell below i has its key
 abbrev pub newKeyIn : Settings → ℕ → List ℕ → ℕ → Cell → Bool
-newKeyIn s Z st i free = false
-newKeyIn s Z st i (held t) = newKeyTo s Z st i (t .key)
-newKeyIn s Z st i broken = false
+newKeyIn s Z st i x = bySegment false (λ t. newKeyTo s Z st i (t .key)) (segmentIn x)
 
 -- the held cells among the first n, and their different keys: of each key the lowest cell counts
 unfoldable pub segmentsIn : Settings → ℕ → List ℕ → ℕ → ℕ

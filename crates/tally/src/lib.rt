@@ -1,4 +1,4 @@
-// What is left in a store: how many segments it holds, and how many different keys these have.
+// What is left in a store: how many segments it holds, how many different keys these have, and of each cell whose segment it holds.
 //
 // All segments of a message have one key, so there are at least as many messages as keys; two messages of one key count once. A cell
 // that is neither free nor held counts for nothing, and a store whose length does not fit has no cells. Each held cell is looked for
@@ -11,9 +11,11 @@ ghost use Rattle.packet.specs.Reading.{readPacket};
 ghost use Rattle.packet.specs.Key.{keyOf};
 ghost use Rattle.cells.specs.Segments.{both};
 ghost use Rattle.cells.specs.Rows.{zeroRow, cellOf};
-ghost use Rattle.cells.specs.Order.{cellAt, cellsMost};
+ghost use Rattle.cells.specs.Order.{cellAt, cellsMost, cellSize};
 ghost use Rattle.cells.specs.Inner.{Asked};
 ghost use Rattle.tally.specs.Counting.{isHeld, keyed as keyedAs, newKeyTo, newKeyIn, segmentsIn, keysIn, leftIn};
+ghost use Rattle.cells.specs.Segments.{segOf};
+ghost use Rattle.tally.specs.Telling.{keyAt, toldBy, toldAt};
 use walk::Settings;
 
 // The segments held, and the different keys among them.
@@ -39,33 +41,33 @@ fn held(s: Settings, row: &[u8], zero: &[u8]) -> bool
     ensures { λ r. ⌜ r ≡ isHeld (cellOf s (length (now (zero .entry))) (now (row .entry))) ⌝ }
 {
     let t = cells::judge(s, row, zero);
-    t.kind == 1
+    cells::is_held(t)
 }
 
-// Whether a row holds a segment with the key of q, whose body begins at stop.
-fn keyed(s: Settings, row: &[u8], zero: &[u8], q: &[u8], stop: usize) -> bool
+// Whether a row holds a segment with the key of q, told where its body begins.
+fn keyed(s: Settings, row: &[u8], zero: &[u8], q: &[u8], body_at: usize) -> bool
     requires { ⌜ now zero ≡ zeroRow (length (now zero)) ⌝ }
-    requires { ⌜ Asked s (now q) stop ⌝ }
+    requires { ⌜ Asked s (now q) «body_at» ⌝ }
     ensures { λ r. ⌜ r ≡ keyedAs (keyOf (now (q .entry)) (readPacket s (now (q .entry)))) (cellOf s (length (now (zero .entry))) (now (row .entry))) ⌝ }
 {
     let t = cells::judge(s, row, zero);
-    if t.kind != 1 {
+    if !cells::is_held(t) {
         return false;
     }
-    cells::same_key(q, stop, cells::packet_in(row), t.at)
+    cells::same_key(q, body_at, cells::packet_in(row), t.at)
 }
 
 // Whether none of the first n cells holds a segment with the key of q.
-fn new_key(s: Settings, store: &[u8], n: usize, zero: &[u8], q: &[u8], stop: usize) -> bool
+fn new_key(s: Settings, store: &[u8], n: usize, zero: &[u8], q: &[u8], body_at: usize) -> bool
     requires { ⌜ now zero ≡ zeroRow (length (now zero)) ⌝ }
-    requires { ⌜ Asked s (now q) stop ⌝ }
+    requires { ⌜ Asked s (now q) «body_at» ⌝ }
     ensures { λ r. ⌜ r ≡ newKeyTo s (length (now (zero .entry))) (now (store .entry)) n (keyOf (now (q .entry)) (readPacket s (now (q .entry)))) ⌝ }
 {
     let z = zero.len();
     let mut is_new = true;
     let mut j: usize = 0;
     while j < n {
-        is_new = octets::both(is_new, !keyed(s, cells::row(store, z, j), zero, q, stop));
+        is_new = octets::both(is_new, !keyed(s, cells::row(store, z, j), zero, q, body_at));
         j += 1;
     }
     is_new
@@ -78,7 +80,7 @@ fn first(s: Settings, store: &[u8], i: usize, zero: &[u8]) -> bool
 {
     let r = cells::row(store, zero.len(), i);
     let t = cells::judge(s, r, zero);
-    if t.kind != 1 {
+    if !cells::is_held(t) {
         return false;
     }
     new_key(s, store, i, zero, cells::packet_in(r), t.at)
@@ -117,7 +119,7 @@ fn keys(s: Settings, store: &[u8], n: usize, zero: &[u8]) -> usize
 
 // The segments left in a store, and their keys.
 pub fn left(s: Settings, store: &[u8]) -> Tallied
-    ensures { λ r. ⌜ r ≡ leftIn s 1024 (now (store .entry)) ⌝ }
+    ensures { λ r. ⌜ r ≡ leftIn s cellSize (now (store .entry)) ⌝ }
 {
     let zero = [0u8; cells::CELL];
     let n = cells::count(store.len(), zero.len());
@@ -127,4 +129,90 @@ pub fn left(s: Settings, store: &[u8]) -> Tallied
         segments: all,
         keys: different,
     }
+}
+
+// What a cell tells, if it is held: the lowest cell of its key, which may be its own; packet type, APID, SDU type and transaction id; and
+// which segment it is, by sequence flags (1 first, 0 continuation, 2 last) and counter.
+pub struct Told {
+    pub held: bool,
+    pub key: usize,
+    pub packet_type: u8,
+    pub apid: u16,
+    pub sdu: u8,
+    pub transaction: u64,
+    pub flags: u8,
+    pub counter: u32,
+}
+
+// The lowest of the first n cells that holds a segment with the key of q, whose body begins at stop; n if there is none.
+fn key_at(s: Settings, store: &[u8], n: usize, zero: &[u8], q: &[u8], stop: usize) -> usize
+    requires { ⌜ now zero ≡ zeroRow (length (now zero)) ⌝ }
+    requires { ⌜ Asked s (now q) stop ⌝ }
+    ensures { λ r. ⌜ r ≡ keyAt s (length (now (zero .entry))) (now (store .entry)) n (keyOf (now (q .entry)) (readPacket s (now (q .entry)))) ⌝ }
+{
+    let z = zero.len();
+    let mut j: usize = 0;
+    while j < n {
+        if keyed(s, cells::row(store, z, j), zero, q, stop) {
+            return j;
+        }
+        j += 1;
+    }
+    n
+}
+
+// What a segment in cell i tells.
+fn told_of(s: Settings, store: &[u8], i: usize, zero: &[u8], q: &[u8], stop: usize) -> Told
+    requires { ⌜ now zero ≡ zeroRow (length (now zero)) ⌝ }
+    requires { ⌜ Asked s (now q) stop ⌝ }
+    ensures { λ r. ⌜ r ≡ toldBy s (length (now (zero .entry))) (now (store .entry)) i (readPacket s (now (q .entry)))
+        (segOf (now (q .entry)) (readPacket s (now (q .entry)))) ⌝ }
+{
+    let h = packet::read(s, q);
+    let primary = h.primary;
+    let fixed = h.fixed;
+    let ids = h.ids;
+    let apid = primary.apid;
+    let counter = ids.counter;
+    let key = key_at(s, store, i, zero, q, stop);
+    Told {
+        held: true,
+        key: key,
+        packet_type: primary.packet_type,
+        apid: apid.0,
+        sdu: fixed.sdu,
+        transaction: fixed.transaction,
+        flags: primary.flags,
+        counter: counter.0,
+    }
+}
+
+// What cell i tells.
+fn told_at(s: Settings, store: &[u8], i: usize, zero: &[u8]) -> Told
+    requires { ⌜ now zero ≡ zeroRow (length (now zero)) ⌝ }
+    ensures { λ r. ⌜ r ≡ toldAt s (length (now (zero .entry))) (now (store .entry)) i ⌝ }
+{
+    let r = cells::row(store, zero.len(), i);
+    let t = cells::judge(s, r, zero);
+    if !cells::is_held(t) {
+        return Told {
+            held: false,
+            key: 0,
+            packet_type: 0,
+            apid: 0,
+            sdu: 0,
+            transaction: 0,
+            flags: 0,
+            counter: 0,
+        };
+    }
+    told_of(s, store, i, zero, cells::packet_in(r), t.at)
+}
+
+// What cell i of a store tells, for any octets.
+pub fn cell(s: Settings, store: &[u8], i: usize) -> Told
+    ensures { λ r. ⌜ r ≡ toldAt s 1024 (now (store .entry)) i ⌝ }
+{
+    let zero = [0u8; cells::CELL];
+    told_at(s, store, i, &zero)
 }

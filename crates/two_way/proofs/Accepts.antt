@@ -22,7 +22,8 @@ use Rattle.write.specs.Given.{Lent, headOf, packetOf, headerChecks, packetCheck
 use Rattle.write.specs.Writing.{settingsTest, partsTest, bodyFits, givenPacket, sizeTests, valueRefusal, writeRefusal}
 use Rattle.write.proofs.Tests.{unless-fine, unless-true, AllHold, unlessAll-fine, unlessAll-true}
 use Rattle.write.proofs.Answers.{secondary-length}
-use Rattle.two_way.specs.Writable.{Bits64, LentOctets, Writable}
+use Rattle.write.specs.Lending.{Bits64, LentOctets}
+use Rattle.two_way.specs.Writable.{Writable}
 use Rattle.two_way.proofs.Fits.{number-opt, opt-number, opt-parts}
 use Rattle.two_way.proofs.Headers.{PlainTexts, checks-sum, checks-range, range-checks}
 use Rattle.two_way.proofs.Texts.{lent-texts}
@@ -61,7 +62,7 @@ module _ (s : Settings) (v : HeaderValues) (o : PacketValues) (t : Lent) (body :
               settings = record { t-low = leb-true timestampLeast (s .t) (j .held); t-top = leb-true (s .t) timestampMost (i .held) };
               head = checks-range s v t (g .1) (leb-true (length (t .lengths)) partsMost (e .held)) w p;
               flags = omega (arith, leb-true (o .flags) 3 (f .1 .0));
-              count = omega (arith, leb-true (o .count .0) countMost (f .1 .1 .0));
+              sequence-count = omega (arith, leb-true (o .«sequence_count» .0) countMost (f .1 .1 .0));
               counter = number-opt (segment (o .flags)) (o .counter .0) most32 4294967296 refl (f .1 .1 .1 .0);
               body = q;
               packet = leb-true (length (octetsOf s whole)) packetMost (d .held);
@@ -84,7 +85,7 @@ module _ (s : Settings) (v : HeaderValues) (o : PacketValues) (t : Lent) (body :
     packet-checks = (
       le-leb (o .flags) 3 (omega (arith, k .range .flags)),
       (
-        le-leb (o .count .0) countMost (omega (arith, k .range .count)),
+        le-leb (o .«sequence_count» .0) countMost (omega (arith, k .range .sequence-count)),
         (opt-number (segment (o .flags)) (o .counter .0) most32 4294967296 refl (k .range .counter), tt),
       ),
     )

@@ -19,7 +19,8 @@ use Rattle.format.specs.Accepted.{Accepted}
 use Rattle.format.proofs.TwoWay.{reads-back, writes-octets, one-value}
 use Rattle.format.proofs.Accepting.{accepted}
 use Rattle.two_way.specs.Again.{partPlaces, againHeader, againPacket, againDomain, againLengths, againTexts, againBody}
-use Rattle.two_way.specs.Writable.{Bits64, LentOctets, Writable}
+use Rattle.write.specs.Lending.{Bits64, LentOctets}
+use Rattle.two_way.specs.Writable.{Writable}
 use Rattle.two_way.specs.Same.{written, SameRead}
 use Rattle.two_way.proofs.Lists.{lengths-told, joined-contents, lengths-split, joined-split}
 use Rattle.two_way.proofs.Texts.{packet-texts, packet-body}
@@ -36,10 +37,10 @@ told-same s p h v o t b z a n e =
     let d : map (content p) (partPlaces h) ≡ split (t .lengths) (t .domain) = ap (λ (u : Values). u .head .domain) e in
     record {
       no-refusal = z;
-      kind = ap (λ (u : Values). u .head .kind) e;
+      packet-type = ap (λ (u : Values). u .head .packet-type) e;
       apid = λ i. record { 0 = e i .head .apid };
       flags = ap (λ (u : Values). u .flags) e;
-      count = λ i. record { 0 = e i .count };
+      sequence-count = λ i. record { 0 = e i .sequence-count };
       sdu = ap (λ (u : Values). u .head .sdu) e;
       area = ap (λ (u : Values). u .head .area) e;
       service = ap (λ (u : Values). u .head .service) e;
@@ -48,7 +49,7 @@ told-same s p h v o t b z a n e =
       error = ap (λ (u : Values). u .head .error) e;
       qos = ap (λ (u : Values). u .head .qos) e;
       session = ap (λ (u : Values). u .head .session) e;
-      second = λ i. record { 0 = e i .head .second };
+      secondary-apid = λ i. record { 0 = e i .head .secondary-apid };
       qualifier = ap (λ (u : Values). u .head .qualifier) e;
       transaction = ap (λ (u : Values). u .head .transaction) e;
       has =
@@ -59,7 +60,7 @@ told-same s p h v o t b z a n e =
             priority = e i .head .has-priority;
             timestamp = e i .head .has-timestamp;
             zone = e i .head .has-zone;
-            session = e i .head .has-name;
+            «session_name» = e i .head .has-session-name;
             domain = e i .head .has-domain;
             authentication = e i .head .has-authentication;
           };
@@ -69,7 +70,7 @@ told-same s p h v o t b z a n e =
       priority = ap (λ (u : Values). u .head .priority) e;
       timestamp = ap (λ (u : Values). u .head .timestamp) e;
       zone = ap (λ (u : Values). u .head .zone) e;
-      name = ap (λ (u : Values). u .head .name) e;
+      session-name = ap (λ (u : Values). u .head .session-name) e;
       parts = d;
       domain =
           joined-contents p (partPlaces h)
@@ -88,7 +89,7 @@ unfolding againHeader againPacket againTexts againDomain againLengths
 same-again p h v o t b k = (
   λ i.
       record {
-        kind = k .kind i;
+        «packet_type» = k .packet-type i;
         apid = k .apid i;
         sdu = k .sdu i;
         area = k .area i;
@@ -98,7 +99,7 @@ same-again p h v o t b k = (
         error = k .error i;
         qos = k .qos i;
         session = k .session i;
-        second = k .second i;
+        «secondary_apid» = k .secondary-apid i;
         qualifier = k .qualifier i;
         transaction = k .transaction i;
         has = k .has i;
@@ -107,13 +108,13 @@ same-again p h v o t b k = (
         priority = k .priority i;
       },
   (
-    λ i. record { flags = k .flags i; count = k .count i; counter = k .counter i },
+    λ i. record { flags = k .flags i; «sequence_count» = k .sequence-count i; counter = k .counter i },
     (
       λ i.
           record {
             timestamp = k .timestamp i;
             zone = k .zone i;
-            name = k .name i;
+            session-name = k .session-name i;
             domain = k .domain i;
             lengths = k .lengths i;
             authentication = k .authentication i;

@@ -1,13 +1,13 @@
 -- The same over the generated contracts of the two calls, `write::write` and `packet::read`: what the one writes the other reads back
 -- the same (M-3), and what the other accepts the one writes (M-4). And two outcomes that the writer's contract allows for the same
--- arguments have the same answer and the same octets in the output (M-7). The slice read is octets by the reader's own contract,
--- so nothing need be said of the lent texts; that the transaction id has 64 bits is its type's.
+-- arguments have the same answer and the same octets in the output (M-7). The slice read is octets by the reader's own contract, and
+-- the transaction id has 64 bits by the writer's: so nothing need be said of what is lent.
 -- Assumes nothing.
 use Prim.Native.Nat.{ℕ, _≤_}
 use mathlib.Core.Path.{_≡_, ap, sym, _∙_, subst}
+use mathlib.Core.Logic.{_↔_}
 use mathlib.Core.List.{List, _++_}
 use contract.Lifetimes as L
-use denote.Ref.{now}
 use lib.ListN.{length, take, drop}
 use Rattle.octets.specs.Octets.{Octets}
 use Rattle.walk.specs.declared.Settings.{Settings}
@@ -15,17 +15,20 @@ use Rattle.walk.specs.Walk.{noRefusal}
 use Rattle.packet.specs.declared.Header.{Header}
 use Rattle.packet.specs.Reading.{readPacket}
 use Rattle.packet.proofs.read.Reads as reads
+use Rattle.packet.proofs.Arguments.{read-call}
 use Rattle.write.specs.declared.HeaderValues.{HeaderValues}
 use Rattle.write.specs.declared.PacketValues.{PacketValues}
 use Rattle.write.specs.declared.Written.{Written}
-use Rattle.write.specs.Given.{Lent, lent}
+use Rattle.write.specs.Given.{Lent}
 use Rattle.write.specs.Writing.{writeRefusal, writeAnswer, writeOutput}
 use Rattle.write.proofs.write.Reads as writes
+use Rattle.write.proofs.Arguments.{write-call, write-output}
 use Rattle.two_way.specs.Again.{againHeader, againPacket, againTexts, againBody}
-use Rattle.two_way.specs.Writable.{Bits64}
-use Rattle.two_way.specs.Same.{written, SameRead}
+use Rattle.write.specs.Lending.{Bits64}
+use Rattle.two_way.specs.Same.{written, CouldWrite, SameRead}
 use Rattle.two_way.proofs.Back.{written-writable, writable-back}
 use Rattle.two_way.proofs.Forth.{writes-again, writes-slice}
+use Rattle.two_way.proofs.Exactly.{reads-exactly}
 
 -- ---- over plain values
 
@@ -83,39 +86,40 @@ given-again s c v w o q t u b d out e f g h i = (cc, cc)
 -- what `write` wrote, `read` answers: no refusal, every number, every text's octets at its told place, the body
 pub write-back :
     (κs : L.Lfts 8) (a : _) (r : _) (x : _) (λs : L.Lfts 1) (b : _) (h : _) (y : _) → writes.Post κs a r x → reads.Post λs b h y →
-    b .0 ≡ a .0 → now (b .1 .0) ≡ take (r .length) (now (x .1 .1 .1 .1 .1 .1 .1 .1 .1 .1 .0)) → r .refusal .number ≡ 0 →
-    Bits64 (a .1 .0 .transaction) →
-    SameRead (now (b .1 .0)) h (a .1 .0) (a .1 .1 .0)
-    (lent (now (a .1 .1 .1 .0)) (now (a .1 .1 .1 .1 .0)) (now (a .1 .1 .1 .1 .1 .0)) (now (a .1 .1 .1 .1 .1 .1 .0))
-    (now (a .1 .1 .1 .1 .1 .1 .1 .0)) (now (a .1 .1 .1 .1 .1 .1 .1 .1 .0)))
-    (now (a .1 .1 .1 .1 .1 .1 .1 .1 .1 .0))
-write-back κs a r x λs b h y k j n m z w =
-    plain-back (a .0) (a .1 .0) (a .1 .1 .0)
-    (lent (now (a .1 .1 .1 .0)) (now (a .1 .1 .1 .1 .0)) (now (a .1 .1 .1 .1 .1 .0)) (now (a .1 .1 .1 .1 .1 .1 .0))
-    (now (a .1 .1 .1 .1 .1 .1 .1 .0)) (now (a .1 .1 .1 .1 .1 .1 .1 .1 .0)))
-    (now (a .1 .1 .1 .1 .1 .1 .1 .1 .1 .0)) (now (a .1 .1 .1 .1 .1 .1 .1 .1 .1 .1 .0)) (now (x .1 .1 .1 .1 .1 .1 .1 .1 .1 .1 .0)) r (k .0)
-    (k .1) (b .0) (now (b .1 .0)) h (j .0) (j .1) n m z w
+    read-call λs b .settings ≡ write-call κs a .settings → read-call λs b .packet ≡ take (r .length) (write-output κs x) →
+    r .refusal .number ≡ 0 →
+    SameRead (read-call λs b .packet) h (write-call κs a .header) (write-call κs a .own) (write-call κs a .texts) (write-call κs a .body)
+write-back κs a r x λs b h y k j n m z =
+    let w = write-call κs a in
+    plain-back (w .settings) (w .header) (w .own) (w .texts) (w .body) (w .output) (write-output κs x) r (k .0) (k .1 .0)
+    (read-call λs b .settings) (read-call λs b .packet) h (j .0) (j .1) n m z (k .1 .1 .transaction)
 
 -- what `read` accepted, `write` writes: given the values told, texts from their places, the same settings and room, that very slice
 pub read-forth :
     (κs : L.Lfts 1) (a : _) (h : _) (x : _) (λs : L.Lfts 8) (b : _) (r : _) (y : _) → reads.Post κs a h x → writes.Post λs b r y →
-    h .refusal .number ≡ 0 → b .0 ≡ a .0 → b .1 .0 ≡ againHeader h → b .1 .1 .0 ≡ againPacket h →
-    lent (now (b .1 .1 .1 .0)) (now (b .1 .1 .1 .1 .0)) (now (b .1 .1 .1 .1 .1 .0)) (now (b .1 .1 .1 .1 .1 .1 .0))
-    (now (b .1 .1 .1 .1 .1 .1 .1 .0)) (now (b .1 .1 .1 .1 .1 .1 .1 .1 .0))
-    ≡ againTexts (now (a .1 .0)) h →
-    now (b .1 .1 .1 .1 .1 .1 .1 .1 .1 .0) ≡ againBody (now (a .1 .0)) h →
-    length (now (a .1 .0)) ≤ length (now (b .1 .1 .1 .1 .1 .1 .1 .1 .1 .1 .0)) →
-    (r ≡ record { refusal = noRefusal; length = length (now (a .1 .0)) })
-    × (now (y .1 .1 .1 .1 .1 .1 .1 .1 .1 .1 .0)
-    ≡ now (a .1 .0) ++ drop (length (now (a .1 .0))) (now (b .1 .1 .1 .1 .1 .1 .1 .1 .1 .1 .0)))
+    h .refusal .number ≡ 0 → write-call λs b .settings ≡ read-call κs a .settings → write-call λs b .header ≡ againHeader h →
+    write-call λs b .own ≡ againPacket h → write-call λs b .texts ≡ againTexts (read-call κs a .packet) h →
+    write-call λs b .body ≡ againBody (read-call κs a .packet) h →
+    length (read-call κs a .packet) ≤ length (write-call λs b .output) →
+    (r ≡ record { refusal = noRefusal; length = length (read-call κs a .packet) })
+    × (write-output λs y ≡ read-call κs a .packet ++ drop (length (read-call κs a .packet)) (write-call λs b .output))
 read-forth κs a h x λs b r y k j z e f g t d l =
-    let p = plain-forth (a .0) (now (a .1 .0)) h (k .0) (k .1) z (now (b .1 .1 .1 .1 .1 .1 .1 .1 .1 .1 .0)) l in
+    let s = read-call κs a .settings in
+    let p = read-call κs a .packet in
+    let w = write-call λs b in
+    let u = plain-forth s p h (k .0) (k .1) z (w .output) l in
     let q =
-    given-again (a .0) (b .0) (againHeader h) (b .1 .0) (againPacket h) (b .1 .1 .0) (againTexts (now (a .1 .0)) h)
-    (lent (now (b .1 .1 .1 .0)) (now (b .1 .1 .1 .1 .0)) (now (b .1 .1 .1 .1 .1 .0)) (now (b .1 .1 .1 .1 .1 .1 .0))
-    (now (b .1 .1 .1 .1 .1 .1 .1 .0)) (now (b .1 .1 .1 .1 .1 .1 .1 .1 .0)))
-    (againBody (now (a .1 .0)) h) (now (b .1 .1 .1 .1 .1 .1 .1 .1 .1 .0)) (now (b .1 .1 .1 .1 .1 .1 .1 .1 .1 .1 .0)) e f g t d in
-    (j .0 ∙ q .0 ∙ p .0, j .1 ∙ q .1 ∙ p .1)
+    given-again s (w .settings) (againHeader h) (w .header) (againPacket h) (w .own) (againTexts p h) (w .texts) (againBody p h) (w .body)
+    (w .output) e f g t d in
+    (j .0 ∙ q .0 ∙ u .0, j .1 .0 ∙ q .1 ∙ u .1)
+
+-- `read` accepts a slice exactly if the writer could have written it
+pub read-exactly :
+    (κs : L.Lfts 1) (a : _) (h : _) (x : _) → reads.Post κs a h x →
+    h .refusal .number ≡ 0 ↔ CouldWrite (read-call κs a .settings) (read-call κs a .packet)
+read-exactly κs a h x k =
+    subst (λ (g : Header). g .refusal .number ≡ 0 ↔ CouldWrite (read-call κs a .settings) (read-call κs a .packet)) (sym (k .0))
+    (reads-exactly (read-call κs a .settings) (read-call κs a .packet) (k .1))
 
 -- ---- the same arguments, the same answer and the same output
 
@@ -123,6 +127,5 @@ pub write-same-answer : (κs : L.Lfts 8) (a : _) (r q : _) (s t : _) → writes.
 write-same-answer κs a r q s t k j = k .0 ∙ sym (j .0)
 
 pub write-same-lent :
-    (κs : L.Lfts 8) (a : _) (r q : _) (s t : _) → writes.Post κs a r s → writes.Post κs a q t →
-    now (s .1 .1 .1 .1 .1 .1 .1 .1 .1 .1 .0) ≡ now (t .1 .1 .1 .1 .1 .1 .1 .1 .1 .1 .0)
-write-same-lent κs a r q s t k j = k .1 ∙ sym (j .1)
+    (κs : L.Lfts 8) (a : _) (r q : _) (s t : _) → writes.Post κs a r s → writes.Post κs a q t → write-output κs s ≡ write-output κs t
+write-same-lent κs a r q s t k j = k .1 .0 ∙ sym (j .1 .0)

@@ -18,7 +18,7 @@ use Rattle.write.specs.Writing.{writeRefusal, writeAnswer}
 use Rattle.format.specs.Told.{headOf, valuesOf}
 use Rattle.format.proofs.TwoWay.{writes-octets, reads-back, only-writing}
 use Rattle.two_way.specs.Again.{partPlaces, againHeader, againPacket, againDomain, againTexts, againBody}
-use Rattle.two_way.specs.Writable.{Bits64, LentOctets}
+use Rattle.write.specs.Lending.{Bits64, LentOctets}
 use Rattle.two_way.specs.Same.{written, CouldWrite}
 use Rattle.two_way.proofs.Lists.{joined-octets}
 use Rattle.two_way.proofs.Forth.{writes-again, writes-slice}
@@ -31,7 +31,7 @@ again-octets p h o =
     record {
       timestamp = octets-part p (h .texts .timestamp .at) (h .texts .timestamp .length) o;
       zone = octets-part p (h .texts .zone .at) (h .texts .zone .length) o;
-      name = octets-part p (h .texts .session .at) (h .texts .session .length) o;
+      session-name = octets-part p (h .texts .«session_name» .at) (h .texts .«session_name» .length) o;
       domain = joined-octets p (partPlaces h) o;
       authentication = octets-part p (h .texts .authentication .at) (h .texts .authentication .length) o;
       body = octets-part p (h .body .at) (h .body .length) o;

@@ -1,4 +1,4 @@
--- By computation: document 01's figure 14, written into 27 and into 30 octets, is its packet and the rest as it was. So a writer that
+-- By computation: the packet of SPEC F-14, written into 27 and into 30 octets, is its packet and the rest as it was. So a writer that
 -- writes nothing is refuted. And a segment with every optional field can be written: the laws are not empty.
 -- Assumes nothing.
 use Prim.Native.Nat.{ℕ, zero, suc, _/_, _%_}
@@ -6,20 +6,21 @@ use mathlib.Core.Path.{_≡_, refl, ap, sym, _∙_}
 use mathlib.Core.Bool.{true, false}
 use mathlib.Core.List.{List, [], _∷_, _++_, map}
 use native.Mathlib.Omega.{arith}
-use lib.ListN.{length, take, replicate}
+use lib.ListN.{length, take}
 use Rattle.octets.specs.Octets.{octetAt, wide}
 use Rattle.walk.specs.Walk.{unless, noRefusal, refusal}
 use Rattle.fields.specs.Form.{split}
 use Rattle.packet.specs.declared.Header.{Header}
+use Rattle.packet.specs.Figure14.{settings, packet, zeros}
 use Rattle.packet.specs.Format.{presence, identification, fixedOctets, frontOctets, counterOctets, backOctets, secondaryOctets, dataOctets, octetsOf}
 use Rattle.packet.specs.Reading.{primaryOf, acceptedHeader, readPacket}
 use Rattle.write.specs.declared.HeaderValues.{HeaderValues}
 use Rattle.write.specs.declared.PacketValues.{PacketValues}
 use Rattle.write.specs.declared.Written.{Written}
+use Rattle.write.specs.Figure14.{header, own, texts}
 use Rattle.write.specs.Given.{Lent, lent, headOf, packetOf, sum, nameChecks, routingChecks, idChecks, textChecks, headerChecks, packetChecks, unlessAll}
 use Rattle.write.specs.Writing.{settingsTest, partsTest, givenPacket, sizeTests, valueRefusal, writeRefusal, writeAnswer, writeOutput}
 use Rattle.format.proofs.Start.{answer}
-use Rattle.format.proofs.Figure14.{settings, packet}
 use Rattle.format.proofs.Examples.{two, full, full-in-range, full-octets}
 use Rattle.two_way.specs.Writable.{Writable}
 use Rattle.two_way.specs.Same.{written, SameRead}
@@ -27,47 +28,6 @@ use Rattle.two_way.proofs.Accepts.{accepts}
 use Rattle.two_way.proofs.Back.{writable-back}
 
 -- ---- figure 14
-
-abbrev pub header : HeaderValues
-header =
-    record {
-      kind = 1;
-      apid = record { 0 = 5 };
-      sdu = 0;
-      area = 1;
-      service = 2;
-      operation = 3;
-      version = 1;
-      error = 0;
-      qos = 1;
-      session = 0;
-      second = record { 0 = 6 };
-      qualifier = 7;
-      transaction = 9;
-      has =
-          record {
-            source = false;
-            destination = false;
-            priority = false;
-            timestamp = false;
-            zone = false;
-            session = false;
-            domain = false;
-            authentication = false;
-          };
-      source = 0;
-      destination = 0;
-      priority = 0;
-    }
-
-abbrev pub own : PacketValues
-own = record { flags = 3; count = record { 0 = 0 }; counter = record { 0 = 0 } }
-
-abbrev pub texts : Lent
-texts = lent [] [] [] [] [] []
-
-abbrev pub zeros : ℕ → List ℕ
-zeros n = replicate n 0
 
 -- what writing it into n zeros answers, and the output afterwards
 abbrev answers : ℕ → Written
@@ -83,7 +43,8 @@ pub figure-written :
     ∷ record { refusal = refusal 21; length = 0 }
     ∷ [])
     × ((outputs 27 ≡ packet) × ((outputs 30 ≡ packet ++ (0 ∷ 0 ∷ 0 ∷ [])) × (outputs 26 ≡ zeros 26)))
-unfolding writeAnswer writeOutput writeRefusal sizeTests valueRefusal partsTest settingsTest unlessAll unless headerChecks nameChecks routingChecks idChecks textChecks packetChecks headOf packetOf split sum octetsOf identification dataOctets secondaryOctets fixedOctets presence frontOctets counterOctets backOctets wide
+unfolding writeAnswer writeOutput writeRefusal sizeTests valueRefusal partsTest settingsTest unlessAll unless headerChecks nameChecks routingChecks
+    idChecks textChecks packetChecks headOf packetOf split sum octetsOf identification dataOctets secondaryOctets fixedOctets presence frontOctets counterOctets backOctets wide
 figure-written = (refl, (refl, (refl, refl)))
 
 -- ---- a writer that writes nothing
@@ -102,16 +63,16 @@ first-zero (suc n) = refl
 pub no-silent-writer : (n : ℕ) → SameRead (take n (zeros 27)) (readPacket settings (take n (zeros 27))) header own texts [] → ⊥
 unfolding acceptedHeader primaryOf
 no-silent-writer n k =
-    let a : readPacket settings (take n (zeros 27)) .primary .kind ≡ octetAt (take n (zeros 27)) 0 / 16 % 2 =
-    ap (λ (h : Header). h .primary .kind) (answer settings (take n (zeros 27)) (k .no-refusal)) in
-    omega (arith, k .kind, first-zero n)
+    let a : readPacket settings (take n (zeros 27)) .primary .«packet_type» ≡ octetAt (take n (zeros 27)) 0 / 16 % 2 =
+    ap (λ (h : Header). h .primary .«packet_type») (answer settings (take n (zeros 27)) (k .no-refusal)) in
+    omega (arith, k .packet-type, first-zero n)
 
 -- ---- a first segment with every optional field
 
 abbrev pub full-header : HeaderValues
 full-header =
     record {
-      kind = 0;
+      «packet_type» = 0;
       apid = record { 0 = 2046 };
       sdu = 21;
       area = 65535;
@@ -121,7 +82,7 @@ full-header =
       error = 1;
       qos = 3;
       session = 2;
-      second = record { 0 = 2047 };
+      «secondary_apid» = record { 0 = 2047 };
       qualifier = 1;
       transaction = 18446744073709551615;
       has =
@@ -131,7 +92,7 @@ full-header =
             priority = true;
             timestamp = true;
             zone = true;
-            session = true;
+            «session_name» = true;
             domain = true;
             authentication = true;
           };
@@ -141,7 +102,7 @@ full-header =
     }
 
 abbrev pub full-own : PacketValues
-full-own = record { flags = 1; count = record { 0 = 16383 }; counter = record { 0 = 4294967295 } }
+full-own = record { flags = 1; «sequence_count» = record { 0 = 16383 }; counter = record { 0 = 4294967295 } }
 
 abbrev pub full-texts : Lent
 full-texts = lent (1 ∷ 2 ∷ []) (65 ∷ []) [] (66 ∷ []) (1 ∷ 0 ∷ []) (255 ∷ 0 ∷ [])

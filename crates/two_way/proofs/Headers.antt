@@ -11,7 +11,7 @@ use borrow.Author.Tests.{leb-true, ltb-true, le-leb, lt-ltb}
 use Rattle.octets.specs.Octets.{pick, Octets, most8, most16, most32}
 use Rattle.walk.specs.declared.Settings.{Settings}
 use Rattle.fields.specs.Fields.{partsMost}
-use Rattle.fields.specs.Form.{numberOctets, partOctets, joined, domainOctets}
+use Rattle.fields.specs.Form.{uintegerOctets, partOctets, joined, domainOctets}
 use Rattle.packet.specs.Format.{Head, Each, headerOctets, textMost, HeadInRange}
 use Rattle.write.specs.declared.HeaderValues.{HeaderValues}
 use Rattle.write.specs.Given.{Lent, headOf, sum, nameChecks, routingChecks, idChecks, textChecks, headerChecks}
@@ -24,7 +24,7 @@ use Rattle.two_way.proofs.Fits.{number-opt, text-opt, exact-opt, domain
 pub record PlainTexts (h : Head) : Type 0 where
   pub timestamp : h .has-timestamp ≡ true → Octets (h .timestamp)
   pub zone : h .has-zone ≡ true → Octets (h .zone)
-  pub name : h .has-name ≡ true → Octets (h .name)
+  pub session-name : h .has-session-name ≡ true → Octets (h .session-name)
   pub domain : h .has-domain ≡ true → Each Octets (h .domain)
   pub authentication : h .has-authentication ≡ true → Octets (h .authentication)
 
@@ -36,17 +36,17 @@ pick-true false n e = let z : _≡_ {A = ℕ} 0 1 = cc in absurd (omega arith)
 
 module _ (s : Settings) (h : Head) where
   zone-long : h .has-zone ≡ true → length (h .zone) ≤ length (headerOctets s h)
-  zone-long e = omega (arith, header-length s h, pick-true (h .has-zone) (length (numberOctets s (length (h .zone))) + length (h .zone)) e)
+  zone-long e = omega (arith, header-length s h, pick-true (h .has-zone) (length (uintegerOctets s (length (h .zone))) + length (h .zone)) e)
 
-  name-long : h .has-name ≡ true → length (h .name) ≤ length (headerOctets s h)
-  name-long e = omega (arith, header-length s h, pick-true (h .has-name) (length (numberOctets s (length (h .name))) + length (h .name)) e)
+  name-long : h .has-session-name ≡ true → length (h .session-name) ≤ length (headerOctets s h)
+  name-long e = omega (arith, header-length s h, pick-true (h .has-session-name) (length (uintegerOctets s (length (h .session-name))) + length (h .session-name)) e)
 
   authentication-long : h .has-authentication ≡ true → length (h .authentication) ≤ length (headerOctets s h)
   authentication-long e =
       omega (
         arith,
         header-length s h,
-        pick-true (h .has-authentication) (length (numberOctets s (length (h .authentication))) + length (h .authentication)) e,
+        pick-true (h .has-authentication) (length (uintegerOctets s (length (h .authentication))) + length (h .authentication)) e,
       )
 
   domain-long : h .has-domain ≡ true → length (joined (partOctets s) (h .domain)) ≤ length (headerOctets s h)
@@ -56,7 +56,7 @@ module _ (s : Settings) (h : Head) where
         arith,
         header-length s h,
         pick-true (h .has-domain) (length (domainOctets s (h .domain))) e,
-        length-append (numberOctets s (length (h .domain))) (joined (partOctets s) (h .domain)),
+        length-append (uintegerOctets s (length (h .domain))) (joined (partOctets s) (h .domain)),
       )
 
 module _ (s : Settings) (v : HeaderValues) (t : Lent) where
@@ -96,7 +96,7 @@ module _ (s : Settings) (v : HeaderValues) (t : Lent) where
         let i = ids in
         let x = texts in
         record {
-          kind = omega (arith, leb-true (v .kind) 1 (n .0));
+          packet-type = omega (arith, leb-true (v .«packet_type») 1 (n .0));
           apid = ltb-true (v .apid .0) 2047 (n .1 .0);
           sdu = leb-true (v .sdu) 21 (n .1 .1 .0);
           area = omega (arith, leb-true (v .area) most16 (n .1 .1 .1 .0));
@@ -106,7 +106,7 @@ module _ (s : Settings) (v : HeaderValues) (t : Lent) where
           error = omega (arith, leb-true (v .error) 1 (r .0));
           qos = omega (arith, leb-true (v .qos) 3 (r .1 .0));
           session = leb-true (v .session) 2 (r .1 .1 .0);
-          second = omega (arith, leb-true (v .second .0) 2047 (r .1 .1 .1 .0));
+          secondary-apid = omega (arith, leb-true (v .«secondary_apid» .0) 2047 (r .1 .1 .1 .0));
           qualifier = omega (arith, leb-true (v .qualifier) most16 (r .1 .1 .1 .1 .0));
           transaction = w;
           source = number-opt (v .has .source) (v .source) most8 256 refl (i .0);
@@ -114,7 +114,7 @@ module _ (s : Settings) (v : HeaderValues) (t : Lent) where
           priority = number-opt (v .has .priority) (v .priority) most32 4294967296 refl (i .1 .1 .0);
           timestamp = exact-opt (v .has .timestamp) (t .timestamp) (s .t) (p .timestamp) (x .0);
           zone = text-opt (v .has .zone) (t .zone) (p .zone) (x .1 .0);
-          name = text-opt (v .has .session) (t .name) (p .name) (x .1 .1 .0);
+          session-name = text-opt (v .has .«session_name») (t .session-name) (p .session-name) (x .1 .1 .0);
           domain = domain-opt (v .has .domain) (t .lengths) (t .domain) (p .domain) l (x .1 .1 .1 .1 .0);
           authentication = text-opt (v .has .authentication) (t .authentication) (p .authentication) (x .1 .1 .1 .1 .1 .0);
         }
@@ -128,7 +128,7 @@ module _ (s : Settings) (v : HeaderValues) (t : Lent) where
     names-hold : AllHold (nameChecks v)
     unfolding AllHold nameChecks headOf
     names-hold = (
-      le-leb (v .kind) 1 (omega (arith, r .kind)),
+      le-leb (v .«packet_type») 1 (omega (arith, r .packet-type)),
       (
         lt-ltb (v .apid .0) 2047 (r .apid),
         (
@@ -152,7 +152,7 @@ module _ (s : Settings) (v : HeaderValues) (t : Lent) where
         le-leb (v .qos) 3 (omega (arith, r .qos)),
         (
           le-leb (v .session) 2 (r .session),
-          (le-leb (v .second .0) 2047 (omega (arith, r .second)), (le-leb (v .qualifier) most16 (omega (arith, r .qualifier)), tt)),
+          (le-leb (v .«secondary_apid» .0) 2047 (omega (arith, r .secondary-apid)), (le-leb (v .qualifier) most16 (omega (arith, r .qualifier)), tt)),
         ),
       ),
     )
@@ -178,7 +178,7 @@ module _ (s : Settings) (v : HeaderValues) (t : Lent) where
       (
         opt-text (v .has .zone) (t .zone) (r .zone) (λ h. omega (arith, zone-long s (headOf v t) h)),
         (
-          opt-text (v .has .session) (t .name) (r .name) (λ h. omega (arith, name-long s (headOf v t) h)),
+          opt-text (v .has .«session_name») (t .session-name) (r .session-name) (λ h. omega (arith, name-long s (headOf v t) h)),
           (
             opt-domain (t .lengths) (t .domain) e (v .has .domain) (r .domain) domain-most,
             (

@@ -12,7 +12,7 @@ use Rattle.octets.proofs.Laying.{empty}
 use Rattle.walk.specs.declared.Settings.{Settings}
 use Rattle.fields.specs.declared.Place.{Place}
 use Rattle.fields.specs.Fields.{nowhere}
-use Rattle.fields.specs.Form.{numberOctets, blobOctets, textOctets, partOctets, joined, split}
+use Rattle.fields.specs.Form.{uintegerOctets, blobOctets, textOctets, partOctets, joined, split}
 use Rattle.packet.specs.Format.{Each}
 use Rattle.write.specs.Given.{sum}
 use Rattle.format.specs.Told.{content}
@@ -37,7 +37,7 @@ split-octets (n ∷ ns) x o = (octets-take n x o, split-octets ns (drop n x) (oc
 -- parts whose writing is octets are octets
 pub text-octets : (s : Settings) (x : List ℕ) → Octets (textOctets s x) → Octets x
 unfolding textOctets blobOctets
-text-octets s x o = octets-right (numberOctets s (length x)) x o
+text-octets s x o = octets-right (uintegerOctets s (length x)) x o
 
 pub parts-octets : (s : Settings) (ts : List (List ℕ)) → Octets (joined (partOctets s) ts) → Each Octets ts
 unfolding joined partOctets Each

@@ -8,11 +8,11 @@ use native.Mathlib.Omega.{arith}
 use lib.ListN.{length}
 use Rattle.octets.specs.Octets.{Octets, wide}
 use Rattle.walk.specs.declared.Settings.{Settings}
-use Rattle.fields.specs.Form.{numberOctets, blobOctets, textOctets, partOctets, joined, domainOctets}
+use Rattle.fields.specs.Form.{uintegerOctets, blobOctets, textOctets, partOctets, joined, domainOctets}
 use Rattle.packet.specs.Format.{Head, Values, Each, when, identification, fixedOctets, frontOctets, counterOctets, backOctets, secondaryOctets, dataOctets, octetsOf}
 use Rattle.write.specs.declared.HeaderValues.{HeaderValues}
 use Rattle.write.specs.Given.{Lent, headOf}
-use Rattle.two_way.specs.Writable.{LentOctets}
+use Rattle.write.specs.Lending.{LentOctets}
 use Rattle.two_way.proofs.Lists.{octets-left, octets-right, split-octets, text-octets, parts-octets}
 use Rattle.two_way.proofs.Headers.{PlainTexts}
 
@@ -23,7 +23,7 @@ lent-texts v t body p =
     record {
       timestamp = λ e. p .timestamp;
       zone = λ e. p .zone;
-      name = λ e. p .name;
+      session-name = λ e. p .session-name;
       domain = λ e. split-octets (t .lengths) (t .domain) (p .domain);
       authentication = λ e. p .authentication;
     }
@@ -35,26 +35,26 @@ when-octets false l o e = let z : _≡_ {A = ℕ} 0 1 = cc in absurd (omega arit
 
 blob-octets : (s : Settings) (x : List ℕ) → Octets (blobOctets s x) → Octets x
 unfolding blobOctets
-blob-octets s x o = octets-right (numberOctets s (length x)) x o
+blob-octets s x o = octets-right (uintegerOctets s (length x)) x o
 
 domain-octets : (s : Settings) (ts : List (List ℕ)) → Octets (domainOctets s ts) → Each Octets ts
 unfolding domainOctets
-domain-octets s ts o = parts-octets s ts (octets-right (numberOctets s (length ts)) (joined (partOctets s) ts) o)
+domain-octets s ts o = parts-octets s ts (octets-right (uintegerOctets s (length ts)) (joined (partOctets s) ts) o)
 
 back-texts : (s : Settings) (h : Head) → Octets (backOctets s h) → PlainTexts h
 unfolding backOctets
 back-texts s h o =
-    let a = octets-right (when (h .has-priority) (numberOctets s (h .priority))) _ o in
+    let a = octets-right (when (h .has-priority) (uintegerOctets s (h .priority))) _ o in
     let b = octets-right (when (h .has-timestamp) (h .timestamp)) _ a in
     let c = octets-right (when (h .has-zone) (textOctets s (h .zone))) _ b in
-    let d = octets-right (when (h .has-name) (textOctets s (h .name))) _ c in
+    let d = octets-right (when (h .has-session-name) (textOctets s (h .session-name))) _ c in
     let f = octets-right (when (h .has-domain) (domainOctets s (h .domain))) _ d in
     record {
       timestamp = λ e. when-octets (h .has-timestamp) (h .timestamp) (octets-left (when (h .has-timestamp) (h .timestamp)) _ a) e;
       zone =
           λ e. text-octets s (h .zone) (when-octets (h .has-zone) (textOctets s (h .zone)) (octets-left (when (h .has-zone) (textOctets s (h .zone))) _ b) e);
-      name =
-          λ e. text-octets s (h .name) (when-octets (h .has-name) (textOctets s (h .name)) (octets-left (when (h .has-name) (textOctets s (h .name))) _ c) e);
+      session-name =
+          λ e. text-octets s (h .session-name) (when-octets (h .has-session-name) (textOctets s (h .session-name)) (octets-left (when (h .has-session-name) (textOctets s (h .session-name))) _ c) e);
       domain =
           λ e.
           domain-octets s (h .domain)
@@ -67,7 +67,7 @@ data-octets : (s : Settings) (v : Values) → Octets (octetsOf s v) → Octets (
 unfolding octetsOf
 data-octets s v o =
     octets-right (wide 2 (length (dataOctets s v) - 1)) (dataOctets s v)
-    (octets-right (wide 2 (v .flags * 16384 + v .count)) _ (octets-right (identification (v .head)) _ o))
+    (octets-right (wide 2 (v .flags * 16384 + v .sequence-count)) _ (octets-right (identification (v .head)) _ o))
 
 pub packet-body : (s : Settings) (v : Values) → Octets (octetsOf s v) → Octets (v .body)
 unfolding dataOctets

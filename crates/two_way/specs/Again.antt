@@ -16,7 +16,7 @@ use Rattle.format.specs.Told.{content}
 unfoldable pub againHeader : Header → HeaderValues
 againHeader h =
     record {
-      kind = h .primary .kind;
+      «packet_type» = h .primary .«packet_type»;
       apid = h .primary .apid;
       sdu = h .fixed .sdu;
       area = h .fixed .area;
@@ -26,7 +26,7 @@ againHeader h =
       error = h .fixed .error;
       qos = h .fixed .qos;
       session = h .fixed .session;
-      second = h .fixed .apid;
+      «secondary_apid» = h .fixed .«secondary_apid»;
       qualifier = h .fixed .qualifier;
       transaction = h .fixed .transaction;
       has = h .has;
@@ -37,7 +37,7 @@ againHeader h =
 
 -- those of the one packet
 unfoldable pub againPacket : Header → PacketValues
-againPacket h = record { flags = h .primary .flags; count = h .primary .count; counter = h .ids .counter }
+againPacket h = record { flags = h .primary .flags; «sequence_count» = h .primary .«sequence_count»; counter = h .ids .counter }
 
 -- the places of the domain's parts
 abbrev pub partPlaces : Header → List Place
@@ -54,7 +54,7 @@ againLengths h = map (λ (a : Place). a .length) (partPlaces h)
 -- the texts
 unfoldable pub againTexts : List ℕ → Header → Lent
 againTexts p h =
-    lent (content p (h .texts .timestamp)) (content p (h .texts .zone)) (content p (h .texts .session)) (againDomain p h) (againLengths h)
+    lent (content p (h .texts .timestamp)) (content p (h .texts .zone)) (content p (h .texts .«session_name»)) (againDomain p h) (againLengths h)
     (content p (h .texts .authentication))
 
 -- the body

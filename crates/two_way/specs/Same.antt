@@ -16,7 +16,7 @@ use Rattle.write.specs.Given.{Lent}
 use Rattle.write.specs.Writing.{writeAnswer, writeOutput}
 use Rattle.format.specs.Told.{content}
 use Rattle.two_way.specs.Again.{partPlaces}
-use Rattle.two_way.specs.Writable.{Bits64, LentOctets}
+use Rattle.write.specs.Lending.{Bits64, LentOctets}
 
 -- the octets that the writer wrote: as many as it answers, from the output's first on
 abbrev pub written : Settings → HeaderValues → PacketValues → Lent → List ℕ → List ℕ → List ℕ
@@ -39,10 +39,10 @@ pub record CouldWrite (s : Settings) (p : List ℕ) : Type 0 where
 -- h is what reading answers of p
 pub record SameRead (p : List ℕ) (h : Header) (v : HeaderValues) (o : PacketValues) (t : Lent) (b : List ℕ) : Type 0 where
   pub no-refusal : h .refusal .number ≡ 0
-  pub kind : h .primary .kind ≡ v .kind
+  pub packet-type : h .primary .«packet_type» ≡ v .«packet_type»
   pub apid : h .primary .apid ≡ v .apid
   pub flags : h .primary .flags ≡ o .flags
-  pub count : h .primary .count ≡ o .count
+  pub sequence-count : h .primary .«sequence_count» ≡ o .«sequence_count»
   pub sdu : h .fixed .sdu ≡ v .sdu
   pub area : h .fixed .area ≡ v .area
   pub service : h .fixed .service ≡ v .service
@@ -51,7 +51,7 @@ pub record SameRead (p : List ℕ) (h : Header) (v : HeaderValues) (o : PacketVa
   pub error : h .fixed .error ≡ v .error
   pub qos : h .fixed .qos ≡ v .qos
   pub session : h .fixed .session ≡ v .session
-  pub second : h .fixed .apid ≡ v .second
+  pub secondary-apid : h .fixed .«secondary_apid» ≡ v .«secondary_apid»
   pub qualifier : h .fixed .qualifier ≡ v .qualifier
   pub transaction : h .fixed .transaction ≡ v .transaction
   pub has : h .has ≡ v .has
@@ -61,7 +61,7 @@ pub record SameRead (p : List ℕ) (h : Header) (v : HeaderValues) (o : PacketVa
   pub priority : h .ids .priority ≡ v .priority
   pub timestamp : content p (h .texts .timestamp) ≡ t .timestamp
   pub zone : content p (h .texts .zone) ≡ t .zone
-  pub name : content p (h .texts .session) ≡ t .name
+  pub session-name : content p (h .texts .«session_name») ≡ t .session-name
   -- the domain: its parts, all of it, and their lengths
   pub parts : map (content p) (partPlaces h) ≡ split (t .lengths) (t .domain)
   pub domain : joined (content p) (partPlaces h) ≡ t .domain

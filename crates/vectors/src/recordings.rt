@@ -4,6 +4,6 @@ use crate::print;
 
 // Answers: the refusal, the octets written, the place where it stopped, and why.
 pub fn join(c: &[u8], out: &mut [u8]) {
-    let answer = flat_recording::join_recording(case::part(c, 1), out);
+    let answer = flat_store::recordings::join_recording(case::part(c, 1), out);
     print::numbers(&answer);
 }

@@ -19,7 +19,7 @@ use Rattle.varint.specs.Answer.{found}
 use Rattle.varint.proofs.Told.{got, told}
 use Rattle.varint.proofs.Laws.{within, only-written}
 use Rattle.walk.specs.declared.Settings.{Settings}
-use Rattle.walk.specs.Walk.{Reading, goes, refused, going, headerEnd, octets, check, numberStep, number}
+use Rattle.walk.specs.Walk.{Reading, goes, refused, going, headerEnd, octets, check, uintegerStep, uinteger}
 
 -- ---- by cases
 
@@ -58,12 +58,12 @@ module _ (ok : Bool) (k : ℕ) (w : Reading) where
   check-fails h f = simp (h, f)
 
 module _ (s : Settings) (p : List ℕ) (w : Reading) where
-  pub number-refused : going w ≡ false → number s p w ≡ record { walk = w; value = 0 }
-  unfolding number
+  pub number-refused : going w ≡ false → uinteger s p w ≡ record { walk = w; value = 0 }
+  unfolding uinteger
   number-refused h = simp h
 
-  pub number-found : going w ≡ true → {g : Got} → readAt 32 (take headerEnd p) (w .at) ≡ g → number s p w ≡ numberStep p g
-  unfolding number
+  pub number-found : going w ≡ true → {g : Got} → readAt 32 (take headerEnd p) (w .at) ≡ g → uinteger s p w ≡ uintegerStep p g
+  unfolding uinteger
   number-found h e = simp (h, e)
 
 -- ---- what a step that goes on tells
@@ -143,5 +143,5 @@ module _ (s : Settings) (p : List ℕ) (w : Reading) {end : ℕ} {r q : Found}
   pub number-got : readAt 32 (take headerEnd p) (w .at) ≡ got q
   number-got = rw (limited p end e) at (told (readAt 32 (take (end - 0) (drop 0 p)) (w .at)) h d)
 
-  pub number-told : w .refusal .number ≡ 0 → number s p w ≡ numberStep p (got q)
+  pub number-told : w .refusal .number ≡ 0 → uinteger s p w ≡ uintegerStep p (got q)
   number-told g = number-found s p w (eq-eqb (w .refusal .number) 0 g) number-got

@@ -2,7 +2,7 @@
 -- Assumes nothing: these are definitions.
 use Prim.Native.Nat.{ℕ}
 use Rattle.walk.specs.declared.Walk.{Walk}
-use Rattle.walk.specs.declared.Number.{Number}
+use Rattle.walk.specs.declared.UInteger.{UInteger}
 use Rattle.walk.specs.Walk.{Reading, Step}
 
 abbrev pub asWalk : Reading → Walk
@@ -11,5 +11,5 @@ asWalk w = record { at = w .at; refusal = w .refusal }
 abbrev pub ofWalk : Walk → Reading
 ofWalk w = record { at = w .at; refusal = w .refusal }
 
-abbrev pub asNumber : Step ℕ → Number
-asNumber n = record { walk = asWalk (n .walk); value = n .value }
+abbrev pub asUInteger : Step ℕ → UInteger
+asUInteger n = record { walk = asWalk (n .walk); value = n .value }

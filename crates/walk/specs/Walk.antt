@@ -1,6 +1,5 @@
 -- A reading: where it stands, or by which number it was refused. All refusals of reading are made by `octets`, `number` and `check`.
--- Document 01: "Each octet, or the whole content of a known length, is tested for 12, then 6, then its value; Varint octets come
--- singly, and a fifth above 15 gives 10."
+-- SPEC R-2 to R-5, V-4: first 12, then 6, then the value, octet by octet; a content whose length is known is tested as a whole.
 -- Assumes nothing: these are definitions.
 use Prim.Native.Nat.{ℕ, _+_}
 use mathlib.Core.List.{List}
@@ -72,14 +71,14 @@ unfoldable pub check : Bool → ℕ → Reading → Reading
 check ok k w = pick (going w) (pick ok w (refused k)) w
 
 -- what a Varint's reading means here. Where its octets end, the header's limit comes first: 12, else 6
-unfoldable pub numberStep : List ℕ → Got → Step ℕ
-numberStep p (value v next) = record { walk = goes next; value = v }
-numberStep p ends = record { walk = refused (pick (leb headerEnd (length p)) 12 6); value = 0 }
-numberStep p bad = record { walk = refused 10; value = 0 }
+unfoldable pub uintegerStep : List ℕ → Got → Step ℕ
+uintegerStep p (value v next) = record { walk = goes next; value = v }
+uintegerStep p ends = record { walk = refused (pick (leb headerEnd (length p)) 12 6); value = 0 }
+uintegerStep p bad = record { walk = refused 10; value = 0 }
 
 -- an unsigned number of at most 32 bits, under the settings: a Varint, among the octets up to the header's limit
-unfoldable pub number : Settings → List ℕ → Reading → Step ℕ
-number s p w = pick (going w) (numberStep p (readAt 32 (take headerEnd p) (w .at))) (record { walk = w; value = 0 })
+unfoldable pub uinteger : Settings → List ℕ → Reading → Step ℕ
+uinteger s p w = pick (going w) (uintegerStep p (readAt 32 (take headerEnd p) (w .at))) (record { walk = w; value = 0 })
 
 -- where reading begins: 15 for T, and then the secondary header behind the six octets of the primary one
 unfoldable pub begun : Settings → Reading

@@ -1,15 +1,16 @@
 // A reading's place and refusal, and the steps that make every refusal of reading.
 //
 // A `Walk` goes by value through every step; a refused one passes through unchanged, so the code above is straight-line. Two
-// steps test octets (`octets` and `read_number`: 12, then 6, then 10), one tests a value (`check`). `Settings` is what both sides
-// agreed on. The number behind lengths, counts and priority is `read_number`, and nothing else knows how it is written.
+// steps test octets (`octets` and `read_uinteger`: 12, then 6, then 10), one tests a value (`check`). `Settings` is what both sides
+// agreed on. The number behind lengths, counts and priority is `read_uinteger`, and nothing else knows how it is written.
 ghost use mathlib.Core.Path.{_≡_};
 ghost use Prim.Native.Nat.{min};
 ghost use lib.Dec.{leb};
 ghost use Rattle.octets.specs.Octets.{pick};
 ghost use lib.ListN.{length};
-ghost use Rattle.walk.specs.Walk.{goes as goesAt, refused as refusedBy, octets as octetsOf, check as checkOf, number, begun, unless as unlessOf, headerEnd};
-ghost use Rattle.walk.specs.Inner.{asWalk, ofWalk, asNumber};
+ghost use Rattle.walk.specs.Walk.{goes as goesAt, refused as refusedBy, octets as octetsOf, check as checkOf, uinteger, begun};
+ghost use Rattle.walk.specs.Walk.{unless as unlessOf, headerEnd};
+ghost use Rattle.walk.specs.Inner.{asWalk, ofWalk, asUInteger};
 use varint::Found;
 
 // Where the secondary header ends at the latest: six octets of primary header and 256.
@@ -19,12 +20,91 @@ pub const TIMESTAMP_LEAST: usize = 1;
 
 pub const TIMESTAMP_MOST: usize = 16;
 
+// The refusals by name; docs/SPEC.md has the rule of each.
+// Fewer than six octets.
+pub const REFUSED_FEW_OCTETS: u8 = 1;
+
+// Packet version not 000.
+pub const REFUSED_VERSION: u8 = 2;
+
+// Secondary header flag 0.
+pub const REFUSED_NO_SECONDARY: u8 = 3;
+
+// APID 2047.
+pub const REFUSED_IDLE: u8 = 4;
+
+// The slice is not as long as the length field says.
+pub const REFUSED_LENGTH: u8 = 5;
+
+// The data field ends inside the secondary header.
+pub const REFUSED_HEADER_ENDS: u8 = 6;
+
+// Binding version not 000.
+pub const REFUSED_BINDING: u8 = 7;
+
+// SDU type 22 to 31.
+pub const REFUSED_SDU_TYPE: u8 = 8;
+
+// Session 3.
+pub const REFUSED_SESSION: u8 = 9;
+
+// A Varint not shortest, or above 32 bits.
+pub const REFUSED_VARINT: u8 = 10;
+
+// A domain part that is not there.
+pub const REFUSED_DOMAIN_PART: u8 = 11;
+
+// Secondary header above 256 octets.
+pub const REFUSED_HEADER_LONG: u8 = 12;
+
+// More than sixteen domain parts.
+pub const REFUSED_MANY_PARTS: u8 = 13;
+
+// A segment without a body.
+pub const REFUSED_EMPTY_SEGMENT: u8 = 14;
+
+// T or P out of range.
+pub const REFUSED_SETTINGS: u8 = 15;
+
+// Store not in order.
+pub const REFUSED_ORDER: u8 = 16;
+
+// A segment that fits no cell.
+pub const REFUSED_CELL: u8 = 17;
+
+// Contradicts a held segment.
+pub const REFUSED_CONTRADICTS: u8 = 18;
+
+// No free cell.
+pub const REFUSED_FULL: u8 = 19;
+
+// Nothing complete.
+pub const REFUSED_INCOMPLETE: u8 = 20;
+
+// Output too short.
+pub const REFUSED_OUTPUT: u8 = 21;
+
+// A value to write that its field can not have.
+pub const REFUSED_VALUE: u8 = 22;
+
+// Packet or message too large.
+pub const REFUSED_LARGE: u8 = 23;
+
+// No room for body octets in a packet.
+pub const REFUSED_NO_ROOM: u8 = 24;
+
+// No counter left.
+pub const REFUSED_COUNTER: u8 = 25;
+
+// No packet of that number.
+pub const REFUSED_NUMBER: u8 = 26;
+
 // What both sides agreed on: T, the octets of a timestamp.
 pub struct Settings {
     pub t: usize,
 }
 
-// The number of a refusal of document 01; 0 where there is none.
+// The number of a refusal of SPEC's list; 0 if there is none.
 pub struct Refusal {
     pub number: u8,
 }
@@ -36,7 +116,7 @@ pub struct Walk {
 }
 
 // A number that was read, and the reading behind it.
-pub struct Number {
+pub struct UInteger {
     pub walk: Walk,
     pub value: u32,
 }
@@ -85,13 +165,13 @@ impl Walk {
             return self;
         }
         if HEADER_END < at {
-            return refused(12);
+            return refused(REFUSED_HEADER_LONG);
         }
         if HEADER_END - at < n {
-            return refused(12);
+            return refused(REFUSED_HEADER_LONG);
         }
         if p.len() < at + n {
-            return refused(6);
+            return refused(REFUSED_HEADER_ENDS);
         }
         goes((at + n) as u16)
     }
@@ -131,11 +211,11 @@ fn end_refusal(p: &[u8]) -> u8
 }
 
 // An unsigned number of at most 32 bits at the place, refused by 12, 6 or 10.
-pub fn read_number(s: Settings, p: &[u8], w: Walk) -> Number
-    ensures { λ r. ⌜ r ≡ asNumber (number s (now (p .entry)) (ofWalk w)) ⌝ }
+pub fn read_uinteger(s: Settings, p: &[u8], w: Walk) -> UInteger
+    ensures { λ r. ⌜ r ≡ asUInteger (uinteger s (now (p .entry)) (ofWalk w)) ⌝ }
 {
     if w.refusal.number != 0 {
-        return Number { walk: w, value: 0 };
+        return UInteger { walk: w, value: 0 };
     }
     let at = w.at as usize;
     let end = before_limit(p);
@@ -144,21 +224,21 @@ pub fn read_number(s: Settings, p: &[u8], w: Walk) -> Number
     match varint::read32(head, at) {
         Found::Value(v, next) => {
             let walk = goes(next as u16);
-            Number {
+            UInteger {
                 walk: walk,
                 value: v as u32,
             }
         }
         Found::Ends => {
             let walk = refused(ended);
-            Number {
+            UInteger {
                 walk: walk,
                 value: 0,
             }
         }
         Found::Bad => {
-            let walk = refused(10);
-            Number {
+            let walk = refused(REFUSED_VARINT);
+            UInteger {
                 walk: walk,
                 value: 0,
             }
@@ -171,6 +251,6 @@ pub fn begin(s: Settings) -> Walk
     ensures { λ r. ⌜ r ≡ asWalk (begun s) ⌝ }
 {
     let w = goes(6);
-    w.check(TIMESTAMP_LEAST <= s.t, 15)
-        .check(s.t <= TIMESTAMP_MOST, 15)
+    w.check(TIMESTAMP_LEAST <= s.t, REFUSED_SETTINGS)
+        .check(s.t <= TIMESTAMP_MOST, REFUSED_SETTINGS)
 }

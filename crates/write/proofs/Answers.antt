@@ -155,7 +155,8 @@ module _ (s : Settings) (v : HeaderValues) (o : PacketValues) (t : Lent) (body :
     fits z =
         let g : fine (writeRefusal s v o t body room) ≡ true = ap fine (sym refusal-is) ∙ eq-eqb (q .number) 0 z in
         let a = unless-fine (leb (length (octetsOf s whole)) room) 20 _ g in
-        let e = exact (ap (λ (x : Refusal). fine (unless (bodyFits (o .flags) (length body)) 14 (unless (leb (length (secondaryOctets s whole)) headerMost) 12 (unless (leb (length (octetsOf s whole)) packetMost) 23 x)))) er ∙ a .before) in
+        let e = exact (ap (λ (x : Refusal). fine (unless (bodyFits (o .flags) (length body)) 14
+        (unless (leb (length (secondaryOctets s whole)) headerMost) 12 (unless (leb (length (octetsOf s whole)) packetMost) 23 x)))) er ∙ a .before) in
         record { size-exact = e; fits-room = leb-true (length (octetsOf s whole)) room (a .held); least = omega (arith, packet-least s whole) }
 
     pub refused-answer : (q .number ≡ 0 → ⊥) → record { refusal = q; length = 0 } ≡ writeAnswer s v o t body room

@@ -3,3 +3,4 @@ pub mod Tests
 pub mod Sizes
 pub mod Pieces
 pub mod Answers
+pub mod Arguments

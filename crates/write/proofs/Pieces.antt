@@ -10,7 +10,7 @@ use Rattle.octets.specs.Octets.{wide}
 use Rattle.octets.specs.Laying.{together}
 use Rattle.octets.proofs.Laying.{together-append, one-together}
 use Rattle.walk.specs.declared.Settings.{Settings}
-use Rattle.fields.specs.Form.{numberOctets, blobOctets, textOctets, partOctets, joined, domainOctets}
+use Rattle.fields.specs.Form.{uintegerOctets, blobOctets, textOctets, partOctets, joined, domainOctets}
 use Rattle.fields.specs.Inner.{blobPieces, textPieces, partPieces, partsPieces, domainPieces}
 use Rattle.packet.specs.Format.{when, identification, presence, fixedOctets, frontOctets, counterOctets, backOctets, secondaryOctets, dataOctets, octetsOf}
 use Rattle.write.specs.declared.HeaderValues.{HeaderValues}
@@ -53,7 +53,7 @@ parts-together s (t ∷ ts) =
 
 domain-together : (s : Settings) (ts : List (List ℕ)) → together (domainPieces s ts) ≡ domainOctets s ts
 unfolding domainPieces domainOctets together
-domain-together s ts = ap (λ (y : List ℕ). numberOctets s (length ts) ++ y) (parts-together s ts)
+domain-together s ts = ap (λ (y : List ℕ). uintegerOctets s (length ts) ++ y) (parts-together s ts)
 
 -- ---- the groups
 
@@ -63,7 +63,7 @@ grouped :
 grouped p i s l n r f x g c m e b y h j k d = rw (h, k, ← j, ← d) (simp append-assoc)
 
 module _ (s : Settings) (v : HeaderValues) (o : PacketValues) (t : Lent) where
-  primary-together : (n : ℕ) → together (primaryPieces v o n) ≡ identification (headOf v t) ++ (wide 2 (o .flags * 16384 + o .count .0) ++ wide 2 n)
+  primary-together : (n : ℕ) → together (primaryPieces v o n) ≡ identification (headOf v t) ++ (wide 2 (o .flags * 16384 + o .«sequence_count» .0) ++ wide 2 n)
   unfolding primaryPieces identification headOf together
   primary-together n = simp append-nil
 
@@ -77,7 +77,7 @@ module _ (s : Settings) (v : HeaderValues) (o : PacketValues) (t : Lent) where
 
   back-together :
       together (middlePieces s v (t .timestamp) (t .zone))
-      ++ together (endPieces s (v .has) (t .name) (t .domain) (t .lengths) (t .authentication))
+      ++ together (endPieces s (v .has) (t .session-name) (t .domain) (t .lengths) (t .authentication))
       ≡ backOctets s (headOf v t)
   unfolding middlePieces endPieces backOctets headOf
   back-together = simp (together-append, if-together, one-together, text-together, domain-together, blob-together, append-assoc)
@@ -92,7 +92,7 @@ module _ (s : Settings) (v : HeaderValues) (o : PacketValues) (t : Lent) where
       (grouped
       (together (primaryPieces v o n))
       (identification (headOf v t))
-      (wide 2 (o .flags * 16384 + o .count .0))
+      (wide 2 (o .flags * 16384 + o .«sequence_count» .0))
       (wide 2 n)
       (together (namePieces v))
       (together (routingPieces v))
@@ -101,7 +101,7 @@ module _ (s : Settings) (v : HeaderValues) (o : PacketValues) (t : Lent) where
       (frontOctets (headOf v t))
       (counterOctets (packetOf (headOf v t) o body))
       (together (middlePieces s v (t .timestamp) (t .zone)))
-      (together (endPieces s (v .has) (t .name) (t .domain) (t .lengths) (t .authentication)))
+      (together (endPieces s (v .has) (t .session-name) (t .domain) (t .lengths) (t .authentication)))
       (backOctets s (headOf v t))
       body
       (primary-together n)

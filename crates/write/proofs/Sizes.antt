@@ -9,7 +9,7 @@ use lib.ListN.{length, length-append}
 use Rattle.octets.specs.Octets.{pick}
 use Rattle.octets.proofs.Numbers.{wide-length}
 use Rattle.walk.specs.declared.Settings.{Settings}
-use Rattle.fields.specs.Form.{numberOctets, domainOctets, split}
+use Rattle.fields.specs.Form.{uintegerOctets, domainOctets, split}
 use Rattle.fields.specs.Inner.{capped}
 use Rattle.fields.proofs.Sized.{text-long, blob-long, cap-right, cap-both}
 use Rattle.packet.specs.Format.{Head, when, fixedOctets, frontOctets, backOctets, headerOctets}
@@ -37,14 +37,14 @@ cap-three a b c = ap (λ (n : ℕ). capped (capped a + n)) (cap-both b c) ∙ ca
 -- priority, timestamp and zone; session name, domain and authentication id
 abbrev middleLength : Settings → Head → ℕ
 middleLength s h =
-    pick (h .has-priority) (length (numberOctets s (h .priority))) 0
-    + (pick (h .has-timestamp) (length (h .timestamp)) 0 + pick (h .has-zone) (length (numberOctets s (length (h .zone))) + length (h .zone)) 0)
+    pick (h .has-priority) (length (uintegerOctets s (h .priority))) 0
+    + (pick (h .has-timestamp) (length (h .timestamp)) 0 + pick (h .has-zone) (length (uintegerOctets s (length (h .zone))) + length (h .zone)) 0)
 
 abbrev endLength : Settings → Head → ℕ
 endLength s h =
-    pick (h .has-name) (length (numberOctets s (length (h .name))) + length (h .name)) 0
+    pick (h .has-session-name) (length (uintegerOctets s (length (h .session-name))) + length (h .session-name)) 0
     + (pick (h .has-domain) (length (domainOctets s (h .domain))) 0
-    + pick (h .has-authentication) (length (numberOctets s (length (h .authentication))) + length (h .authentication)) 0)
+    + pick (h .has-authentication) (length (uintegerOctets s (length (h .authentication))) + length (h .authentication)) 0)
 
 regroup : (a b c d e f : ℕ) → a + (b + (c + (d + (e + f)))) ≡ (a + (b + c)) + (d + (e + f))
 regroup a b c d e f = omega arith
@@ -72,26 +72,26 @@ middle-size :
     middleSize s v (length (t .timestamp)) (length (t .zone)) ≡ capped (middleLength s (headOf v t))
 unfolding middleSize headOf
 middle-size s v t =
-    ap (λ (n : ℕ). capped (pick (v .has .priority) (length (numberOctets s (v .priority))) 0 + capped (pick (v .has .timestamp) (length (t .timestamp)) 0 + n)))
-    (cap-pick (v .has .zone) (length (numberOctets s (length (t .zone))) + length (t .zone)))
-    ∙ ap (λ (n : ℕ). capped (pick (v .has .priority) (length (numberOctets s (v .priority))) 0 + n)) (cap-right _ _)
+    ap (λ (n : ℕ). capped (pick (v .has .priority) (length (uintegerOctets s (v .priority))) 0 + capped (pick (v .has .timestamp) (length (t .timestamp)) 0 + n)))
+    (cap-pick (v .has .zone) (length (uintegerOctets s (length (t .zone))) + length (t .zone)))
+    ∙ ap (λ (n : ℕ). capped (pick (v .has .priority) (length (uintegerOctets s (v .priority))) 0 + n)) (cap-right _ _)
     ∙ cap-right _ _
 
 end-size :
     (s : Settings) (v : HeaderValues) (t : Lent) →
-    endSize s (v .has) (length (t .name)) (t .domain) (t .lengths) (length (t .authentication)) ≡ capped (endLength s (headOf v t))
+    endSize s (v .has) (length (t .session-name)) (t .domain) (t .lengths) (length (t .authentication)) ≡ capped (endLength s (headOf v t))
 unfolding endSize headOf
 end-size s v t =
-    let a = cap-pick (v .has .session) (length (numberOctets s (length (t .name))) + length (t .name)) in
+    let a = cap-pick (v .has .«session_name») (length (uintegerOctets s (length (t .session-name))) + length (t .session-name)) in
     let b = cap-pick (v .has .domain) (length (domainOctets s (split (t .lengths) (t .domain)))) in
-    let c = cap-pick (v .has .authentication) (length (numberOctets s (length (t .authentication))) + length (t .authentication)) in
+    let c = cap-pick (v .has .authentication) (length (uintegerOctets s (length (t .authentication))) + length (t .authentication)) in
     rw (a, b, c) (cap-three _ _ _)
 
 -- H, as the code adds it up
 pub header-size :
     (s : Settings) (v : HeaderValues) (t : Lent) {f m e x r : ℕ} → f ≡ pick (v .has .source) 1 0 + pick (v .has .destination) 1 0 →
     m ≡ middleSize s v (length (t .timestamp)) (length (t .zone)) →
-    e ≡ endSize s (v .has) (length (t .name)) (t .domain) (t .lengths) (length (t .authentication)) → x ≡ capped (m + e) →
+    e ≡ endSize s (v .has) (length (t .session-name)) (t .domain) (t .lengths) (length (t .authentication)) → x ≡ capped (m + e) →
     r ≡ capped (21 + f + x) → r ≡ capped (length (headerOctets s (headOf v t)))
 unfolding headOf
 header-size s v t {f} {m} {e} {x} {r} ef em ee ex er =

@@ -1,6 +1,6 @@
 -- The values to write as they are given, and which of them are refused by 22.
--- Document 01, refusal 22: "a field to write above its width or range, APID 2047, a non-zero or non-empty value for an absent field
--- (a cutting start isn't one), a present timestamp not of T octets, text too long, domain lengths that don't add up".
+-- SPEC W-2: too wide or out of range, a value for a field that is absent, a timestamp of another length than T, a text that is too
+-- long, lengths that do not make up the domain.
 -- Assumes nothing: these are definitions.
 use Prim.Native.Nat.{ℕ, _+_}
 use mathlib.Core.List.{List, [], _∷_, _++_}
@@ -21,20 +21,20 @@ use Rattle.write.specs.declared.PacketValues.{PacketValues}
 pub record Lent : Type 0 where
   pub timestamp : List ℕ
   pub zone : List ℕ
-  pub name : List ℕ
+  pub session-name : List ℕ
   pub domain : List ℕ
   pub lengths : List ℕ
   pub authentication : List ℕ
 
 abbrev pub lent : List ℕ → List ℕ → List ℕ → List ℕ → List ℕ → List ℕ → Lent
 lent timestamp zone name domain lengths authentication =
-    record { timestamp = timestamp; zone = zone; name = name; domain = domain; lengths = lengths; authentication = authentication }
+    record { timestamp = timestamp; zone = zone; session-name = name; domain = domain; lengths = lengths; authentication = authentication }
 
 -- the format's values for those that are given
 unfoldable pub headOf : HeaderValues → Lent → Head
 headOf v t =
     record {
-      kind = v .kind;
+      packet-type = v .«packet_type»;
       apid = v .apid .0;
       sdu = v .sdu;
       area = v .area;
@@ -44,7 +44,7 @@ headOf v t =
       error = v .error;
       qos = v .qos;
       session = v .session;
-      second = v .second .0;
+      secondary-apid = v .«secondary_apid» .0;
       qualifier = v .qualifier;
       transaction = v .transaction;
       has-source = v .has .source;
@@ -52,7 +52,7 @@ headOf v t =
       has-priority = v .has .priority;
       has-timestamp = v .has .timestamp;
       has-zone = v .has .zone;
-      has-name = v .has .session;
+      has-session-name = v .has .«session_name»;
       has-domain = v .has .domain;
       has-authentication = v .has .authentication;
       source = v .source;
@@ -60,13 +60,13 @@ headOf v t =
       priority = v .priority;
       timestamp = t .timestamp;
       zone = t .zone;
-      name = t .name;
+      session-name = t .session-name;
       domain = split (t .lengths) (t .domain);
       authentication = t .authentication;
     }
 
 unfoldable pub packetOf : Head → PacketValues → List ℕ → Values
-packetOf h o body = record { head = h; flags = o .flags; count = o .count .0; counter = o .counter .0; body = body }
+packetOf h o body = record { head = h; flags = o .flags; sequence-count = o .«sequence_count» .0; counter = o .counter .0; body = body }
 
 -- ---- the checks behind 22
 
@@ -93,14 +93,14 @@ lengthsFit there ns n = pick there (eqb (sum ns) n) (eqb (length ns) 0)
 -- packet type, APID and SDU type to area version
 unfoldable pub nameChecks : HeaderValues → List Bool
 nameChecks v =
-    leb (v .kind) 1 ∷ ltb (v .apid .0) 2047 ∷ leb (v .sdu) 21 ∷ leb (v .area) most16 ∷ leb (v .service) most16 ∷ leb (v .operation) most16
+    leb (v .«packet_type») 1 ∷ ltb (v .apid .0) 2047 ∷ leb (v .sdu) 21 ∷ leb (v .area) most16 ∷ leb (v .service) most16 ∷ leb (v .operation) most16
     ∷ leb (v .version) most8
     ∷ []
 
 -- error to qualifier. A transaction id of 64 bits always fits
 unfoldable pub routingChecks : HeaderValues → List Bool
 routingChecks v =
-    leb (v .error) 1 ∷ leb (v .qos) 3 ∷ leb (v .session) 2 ∷ leb (v .second .0) 2047 ∷ leb (v .qualifier) most16 ∷ []
+    leb (v .error) 1 ∷ leb (v .qos) 3 ∷ leb (v .session) 2 ∷ leb (v .«secondary_apid» .0) 2047 ∷ leb (v .qualifier) most16 ∷ []
 
 -- source id, destination id, priority
 unfoldable pub idChecks : HeaderValues → List Bool
@@ -113,7 +113,7 @@ idChecks v =
 unfoldable pub textChecks : Settings → HeaderValues → Lent → List Bool
 textChecks s v t =
     exactFits (v .has .timestamp) (length (t .timestamp)) (s .t) ∷ textFits (v .has .zone) (length (t .zone))
-    ∷ textFits (v .has .session) (length (t .name))
+    ∷ textFits (v .has .«session_name») (length (t .session-name))
     ∷ textFits (v .has .domain) (length (t .domain))
     ∷ lengthsFit (v .has .domain) (t .lengths) (length (t .domain))
     ∷ textFits (v .has .authentication) (length (t .authentication))
@@ -126,7 +126,7 @@ headerChecks s v t = nameChecks v ++ (routingChecks v ++ (idChecks v ++ textChec
 -- and of a packet's own values: sequence flags, sequence count, and with flags 11 no counter
 unfoldable pub packetChecks : PacketValues → List Bool
 packetChecks o =
-    leb (o .flags) 3 ∷ leb (o .count .0) countMost ∷ numberFits (segment (o .flags)) (o .counter .0) most32 ∷ []
+    leb (o .flags) 3 ∷ leb (o .«sequence_count» .0) countMost ∷ numberFits (segment (o .flags)) (o .counter .0) most32 ∷ []
 
 -- the refusal k unless all of them hold
 unfoldable pub unlessAll : List Bool → ℕ → Refusal → Refusal

@@ -5,7 +5,7 @@ use mathlib.Core.List.{List, [], _∷_, _++_}
 use lib.ListN.{length}
 use Rattle.octets.specs.Octets.{pick, wide}
 use Rattle.walk.specs.declared.Settings.{Settings}
-use Rattle.fields.specs.Form.{numberOctets, domainOctets, split}
+use Rattle.fields.specs.Form.{uintegerOctets, domainOctets, split}
 use Rattle.fields.specs.Inner.{blobPieces, textPieces, domainPieces, capped}
 use Rattle.packet.specs.declared.Present.{Present}
 use Rattle.packet.specs.Format.{segment, bit, when}
@@ -16,7 +16,7 @@ use Rattle.write.specs.Given.{Lent}
 -- identification; sequence flags and count; length field
 unfoldable pub primaryPieces : HeaderValues → PacketValues → ℕ → List (List ℕ)
 primaryPieces v o n =
-    wide 2 (v .kind * 4096 + 2048 + v .apid .0) ∷ wide 2 (o .flags * 16384 + o .count .0) ∷ wide 2 n ∷ []
+    wide 2 (v .«packet_type» * 4096 + 2048 + v .apid .0) ∷ wide 2 (o .flags * 16384 + o .«sequence_count» .0) ∷ wide 2 n ∷ []
 
 unfoldable pub namePieces : HeaderValues → List (List ℕ)
 namePieces v = wide 1 (v .sdu) ∷ wide 2 (v .area) ∷ wide 2 (v .service) ∷ wide 2 (v .operation) ∷ wide 1 (v .version) ∷ []
@@ -25,13 +25,13 @@ namePieces v = wide 1 (v .sdu) ∷ wide 2 (v .area) ∷ wide 2 (v .service) ∷ 
 unfoldable pub presentOctet : Present → ℕ
 presentOctet has =
     128 * bit (has .source) + 64 * bit (has .destination) + 32 * bit (has .priority) + 16 * bit (has .timestamp) + 8 * bit (has .zone)
-    + 4 * bit (has .session)
+    + 4 * bit (has .«session_name»)
     + 2 * bit (has .domain)
     + bit (has .authentication)
 
 unfoldable pub routingPieces : HeaderValues → List (List ℕ)
 routingPieces v =
-    wide 2 (v .error * 32768 + v .qos * 8192 + v .session * 2048 + v .second .0) ∷ wide 2 (v .qualifier) ∷ wide 8 (v .transaction)
+    wide 2 (v .error * 32768 + v .qos * 8192 + v .session * 2048 + v .«secondary_apid» .0) ∷ wide 2 (v .qualifier) ∷ wide 8 (v .transaction)
     ∷ wide 1 (presentOctet (v .has))
     ∷ []
 
@@ -42,12 +42,12 @@ frontPieces v o =
 
 unfoldable pub middlePieces : Settings → HeaderValues → List ℕ → List ℕ → List (List ℕ)
 middlePieces s v timestamp zone =
-    when (v .has .priority) (numberOctets s (v .priority) ∷ [])
+    when (v .has .priority) (uintegerOctets s (v .priority) ∷ [])
     ++ (when (v .has .timestamp) (timestamp ∷ []) ++ when (v .has .zone) (textPieces s zone))
 
 unfoldable pub endPieces : Settings → Present → List ℕ → List ℕ → List ℕ → List ℕ → List (List ℕ)
 endPieces s has name domain lengths authentication =
-    when (has .session) (textPieces s name)
+    when (has .«session_name») (textPieces s name)
     ++ (when (has .domain) (domainPieces s (split lengths domain)) ++ when (has .authentication) (blobPieces s authentication))
 
 -- the packet; n is its length field
@@ -58,21 +58,21 @@ packetPieces s v o t n body =
     ++ (routingPieces v
     ++ (frontPieces v o
     ++ (middlePieces s v (t .timestamp) (t .zone)
-    ++ (endPieces s (v .has) (t .name) (t .domain) (t .lengths) (t .authentication) ++ (body ∷ []))))))
+    ++ (endPieces s (v .has) (t .session-name) (t .domain) (t .lengths) (t .authentication) ++ (body ∷ []))))))
 
 -- ---- sizes, told up to the limit
 
 unfoldable pub middleSize : Settings → HeaderValues → ℕ → ℕ → ℕ
 middleSize s v timestamp zone =
     capped
-    (pick (v .has .priority) (length (numberOctets s (v .priority))) 0
+    (pick (v .has .priority) (length (uintegerOctets s (v .priority))) 0
     + capped
-    (pick (v .has .timestamp) timestamp 0 + pick (v .has .zone) (capped (length (numberOctets s zone) + zone)) 0))
+    (pick (v .has .timestamp) timestamp 0 + pick (v .has .zone) (capped (length (uintegerOctets s zone) + zone)) 0))
 
 unfoldable pub endSize : Settings → Present → ℕ → List ℕ → List ℕ → ℕ → ℕ
 endSize s has name domain lengths authentication =
     capped
-    (pick (has .session) (capped (length (numberOctets s name) + name)) 0
+    (pick (has .«session_name») (capped (length (uintegerOctets s name) + name)) 0
     + capped
     (pick (has .domain) (capped (length (domainOctets s (split lengths domain)))) 0
-    + pick (has .authentication) (capped (length (numberOctets s authentication) + authentication)) 0))
+    + pick (has .authentication) (capped (length (uintegerOctets s authentication) + authentication)) 0))

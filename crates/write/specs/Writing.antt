@@ -1,5 +1,5 @@
 -- What writing one packet answers and writes, with its order of refusals.
--- Document 01: "Writing one packet: 15, 22, 13, 23, 12, 14, 21."
+-- SPEC W-2, W-3: first 15, then 22, 13, 23, 12, 14, 21.
 -- Assumes nothing: these are definitions.
 use Prim.Native.Nat.{ℕ}
 use mathlib.Core.List.{List, _++_}

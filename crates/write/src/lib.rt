@@ -1,7 +1,7 @@
 // Writing one packet: the values to write, the tests behind each refusal, and the octets.
 //
 // `write` takes any settings, values, texts, body and output. It answers the octets written, from the output's first octet on, or
-// one refusal, and then the output is as it was. A number that document 01 limits is held in a type wide enough for a bad value,
+// one refusal, and then the output is as it was. A number that SPEC limits is held in a type wide enough for a bad value,
 // which is 22 and never cut off. The domain is one lent text and the lengths of its parts.
 // As parameters, `time` is the timestamp, `zone` the network zone, `name` the session name and `id` the authentication id.
 //
@@ -16,18 +16,28 @@ ghost use Rattle.octets.specs.Octets.{pick, wide};
 ghost use Rattle.octets.specs.Laying.{laid, Lays};
 ghost use Rattle.walk.specs.Walk.{unless};
 ghost use Rattle.fields.specs.Fields.{partsMost};
-ghost use Rattle.fields.specs.Form.{numberOctets, split};
+ghost use Rattle.fields.specs.Form.{uintegerOctets, split};
 ghost use Rattle.fields.specs.Inner.{blobPieces, textPieces, domainPieces, capped};
 ghost use Rattle.packet.specs.Format.{segment, headerOctets, headerMost, packetMost, when};
-ghost use Rattle.write.specs.Given.{lent, headOf, numberFits, textFits, exactFits, lengthsFit, sum, nameChecks, routingChecks, idChecks, textChecks, headerChecks, packetChecks, unlessAll};
+ghost use Rattle.write.specs.Given.{lent, headOf, numberFits, textFits, exactFits, lengthsFit, sum, nameChecks, routingChecks};
+ghost use Rattle.write.specs.Given.{idChecks, textChecks, headerChecks, packetChecks, unlessAll};
+ghost use Rattle.write.specs.Lending.{Lends};
 ghost use Rattle.write.specs.Writing.{settingsTest, bodyFits, valueRefusal, writeAnswer, writeOutput};
-ghost use Rattle.write.specs.Inner.{primaryPieces, namePieces, routingPieces, presentOctet, frontPieces, middlePieces, endPieces, packetPieces, middleSize, endSize};
+ghost use Rattle.write.specs.Inner.{primaryPieces, namePieces, routingPieces, presentOctet, frontPieces, middlePieces, endPieces};
+ghost use Rattle.write.specs.Inner.{packetPieces, middleSize, endSize};
 use packet::Apid;
 use packet::Present;
 use packet::SecondaryApid;
 use packet::SegmentCounter;
 use packet::SequenceCount;
 use varint::MOST_32;
+use walk::REFUSED_EMPTY_SEGMENT;
+use walk::REFUSED_HEADER_LONG;
+use walk::REFUSED_LARGE;
+use walk::REFUSED_MANY_PARTS;
+use walk::REFUSED_OUTPUT;
+use walk::REFUSED_SETTINGS;
+use walk::REFUSED_VALUE;
 use walk::Refusal;
 use walk::Settings;
 
@@ -43,7 +53,7 @@ const MOST_16: u32 = 65535;
 
 // The values that all packets of a message share, but for its texts.
 pub struct HeaderValues {
-    pub kind: u8,
+    pub packet_type: u8,
     pub apid: Apid,
     pub sdu: u8,
     pub area: u32,
@@ -53,7 +63,7 @@ pub struct HeaderValues {
     pub error: u8,
     pub qos: u8,
     pub session: u8,
-    pub second: SecondaryApid,
+    pub secondary_apid: SecondaryApid,
     pub qualifier: u32,
     pub transaction: u64,
     pub has: Present,
@@ -65,7 +75,7 @@ pub struct HeaderValues {
 // The values of one packet: sequence flags, sequence count, segment counter.
 pub struct PacketValues {
     pub flags: u8,
-    pub count: SequenceCount,
+    pub sequence_count: SequenceCount,
     pub counter: SegmentCounter,
 }
 
@@ -81,8 +91,8 @@ pub struct Written {
 pub fn test_settings(s: Settings, r: Refusal) -> Refusal
     ensures { λ q. ⌜ q ≡ settingsTest s r ⌝ }
 {
-    let a = walk::unless(r, walk::TIMESTAMP_LEAST <= s.t, 15);
-    walk::unless(a, s.t <= walk::TIMESTAMP_MOST, 15)
+    let a = walk::unless(r, walk::TIMESTAMP_LEAST <= s.t, REFUSED_SETTINGS);
+    walk::unless(a, s.t <= walk::TIMESTAMP_MOST, REFUSED_SETTINGS)
 }
 
 fn number_fits(there: bool, x: u64, most: u64) -> bool
@@ -141,24 +151,24 @@ fn test_names(v: HeaderValues, r: Refusal) -> Refusal
     ensures { λ q. ⌜ q ≡ unlessAll (nameChecks v) 22 r ⌝ }
 {
     let apid = v.apid;
-    let a = walk::unless(r, v.kind <= 1, 22);
-    let b = walk::unless(a, apid.0 < 2047, 22);
-    let c = walk::unless(b, v.sdu <= 21, 22);
-    let d = walk::unless(c, v.area <= MOST_16, 22);
-    let e = walk::unless(d, v.service <= MOST_16, 22);
-    let f = walk::unless(e, v.operation <= MOST_16, 22);
-    walk::unless(f, v.version <= 255, 22)
+    let a = walk::unless(r, v.packet_type <= 1, REFUSED_VALUE);
+    let b = walk::unless(a, apid.0 < 2047, REFUSED_VALUE);
+    let c = walk::unless(b, v.sdu <= 21, REFUSED_VALUE);
+    let d = walk::unless(c, v.area <= MOST_16, REFUSED_VALUE);
+    let e = walk::unless(d, v.service <= MOST_16, REFUSED_VALUE);
+    let f = walk::unless(e, v.operation <= MOST_16, REFUSED_VALUE);
+    walk::unless(f, v.version <= 255, REFUSED_VALUE)
 }
 
 fn test_routing(v: HeaderValues, r: Refusal) -> Refusal
     ensures { λ q. ⌜ q ≡ unlessAll (routingChecks v) 22 r ⌝ }
 {
-    let second = v.second;
-    let a = walk::unless(r, v.error <= 1, 22);
-    let b = walk::unless(a, v.qos <= 3, 22);
-    let c = walk::unless(b, v.session <= 2, 22);
-    let d = walk::unless(c, second.0 <= 2047, 22);
-    walk::unless(d, v.qualifier <= MOST_16, 22)
+    let secondary_apid = v.secondary_apid;
+    let a = walk::unless(r, v.error <= 1, REFUSED_VALUE);
+    let b = walk::unless(a, v.qos <= 3, REFUSED_VALUE);
+    let c = walk::unless(b, v.session <= 2, REFUSED_VALUE);
+    let d = walk::unless(c, secondary_apid.0 <= 2047, REFUSED_VALUE);
+    walk::unless(d, v.qualifier <= MOST_16, REFUSED_VALUE)
 }
 
 fn test_ids(v: HeaderValues, r: Refusal) -> Refusal
@@ -167,9 +177,17 @@ fn test_ids(v: HeaderValues, r: Refusal) -> Refusal
     let has = v.has;
     let source = v.source as u64;
     let destination = v.destination as u64;
-    let a = walk::unless(r, number_fits(has.source, source, MOST_8), 22);
-    let b = walk::unless(a, number_fits(has.destination, destination, MOST_8), 22);
-    walk::unless(b, number_fits(has.priority, v.priority, MOST_32), 22)
+    let a = walk::unless(r, number_fits(has.source, source, MOST_8), REFUSED_VALUE);
+    let b = walk::unless(
+        a,
+        number_fits(has.destination, destination, MOST_8),
+        REFUSED_VALUE,
+    );
+    walk::unless(
+        b,
+        number_fits(has.priority, v.priority, MOST_32),
+        REFUSED_VALUE,
+    )
 }
 
 fn test_texts(
@@ -183,15 +201,20 @@ fn test_texts(
     id: &[u8],
     r: Refusal,
 ) -> Refusal
-    ensures { λ q. ⌜ q ≡ unlessAll (textChecks s v (lent (now (time .entry)) (now (zone .entry)) (now (name .entry)) (now (domain .entry)) (now (lengths .entry)) (now (id .entry)))) 22 r ⌝ }
+    ensures { λ q. ⌜ q ≡ unlessAll (textChecks s v (lent (now (time .entry)) (now (zone .entry)) (now (name .entry)) (now (domain .entry))
+        (now (lengths .entry)) (now (id .entry)))) 22 r ⌝ }
 {
     let has = v.has;
-    let a = walk::unless(r, exact_fits(has.timestamp, time.len(), s.t), 22);
-    let b = walk::unless(a, text_fits(has.zone, zone.len()), 22);
-    let c = walk::unless(b, text_fits(has.session, name.len()), 22);
-    let d = walk::unless(c, text_fits(has.domain, domain.len()), 22);
-    let e = walk::unless(d, lengths_fit(has.domain, lengths, domain.len()), 22);
-    walk::unless(e, text_fits(has.authentication, id.len()), 22)
+    let a = walk::unless(r, exact_fits(has.timestamp, time.len(), s.t), REFUSED_VALUE);
+    let b = walk::unless(a, text_fits(has.zone, zone.len()), REFUSED_VALUE);
+    let c = walk::unless(b, text_fits(has.session_name, name.len()), REFUSED_VALUE);
+    let d = walk::unless(c, text_fits(has.domain, domain.len()), REFUSED_VALUE);
+    let e = walk::unless(
+        d,
+        lengths_fit(has.domain, lengths, domain.len()),
+        REFUSED_VALUE,
+    );
+    walk::unless(e, text_fits(has.authentication, id.len()), REFUSED_VALUE)
 }
 
 // 22, as far as a header's values go: the one list of its checks.
@@ -206,7 +229,8 @@ pub fn test_header(
     id: &[u8],
     r: Refusal,
 ) -> Refusal
-    ensures { λ q. ⌜ q ≡ unlessAll (headerChecks s v (lent (now (time .entry)) (now (zone .entry)) (now (name .entry)) (now (domain .entry)) (now (lengths .entry)) (now (id .entry)))) 22 r ⌝ }
+    ensures { λ q. ⌜ q ≡ unlessAll (headerChecks s v (lent (now (time .entry)) (now (zone .entry)) (now (name .entry)) (now (domain .entry))
+        (now (lengths .entry)) (now (id .entry)))) 22 r ⌝ }
 {
     let a = test_names(v, r);
     let b = test_routing(v, a);
@@ -218,17 +242,17 @@ pub fn test_header(
 fn segmented(flags: u8) -> bool
     ensures { λ r. ⌜ r ≡ segment flags ⌝ }
 {
-    flags != 3
+    flags != packet::UNSEGMENTED
 }
 
 // 22, as far as a packet's own values go.
 fn test_packet(o: PacketValues, r: Refusal) -> Refusal
     ensures { λ q. ⌜ q ≡ unlessAll (packetChecks o) 22 r ⌝ }
 {
-    let count = o.count;
+    let sequence_count = o.sequence_count;
     let counter = o.counter;
-    let a = walk::unless(r, o.flags <= 3, 22);
-    let b = walk::unless(a, count.0 <= packet::COUNT_MOST, 22);
+    let a = walk::unless(r, o.flags <= packet::UNSEGMENTED, REFUSED_VALUE);
+    let b = walk::unless(a, sequence_count.0 <= packet::COUNT_MOST, REFUSED_VALUE);
     walk::unless(
         b,
         number_fits(segmented(o.flags), counter.0 as u64, MOST_32),
@@ -240,7 +264,7 @@ fn test_packet(o: PacketValues, r: Refusal) -> Refusal
 pub fn test_parts(count: usize, r: Refusal) -> Refusal
     ensures { λ q. ⌜ q ≡ unless (leb count partsMost) 13 r ⌝ }
 {
-    walk::unless(r, count <= fields::PARTS, 13)
+    walk::unless(r, count <= fields::PARTS, REFUSED_MANY_PARTS)
 }
 
 // ---- sizes
@@ -284,7 +308,7 @@ fn end_size(
 ) -> usize
     ensures { λ r. ⌜ r ≡ endSize s has name (now (domain .entry)) (now (lengths .entry)) id ⌝ }
 {
-    let a = size_if(has.session, fields::text_size(s, name));
+    let a = size_if(has.session_name, fields::text_size(s, name));
     let b = size_if(has.domain, fields::domain_size(s, domain, lengths));
     let c = size_if(has.authentication, fields::text_size(s, id));
     fields::plus(a, fields::plus(b, c))
@@ -301,7 +325,8 @@ pub fn header_size(
     lengths: &[u64],
     id: &[u8],
 ) -> usize
-    ensures { λ r. ⌜ r ≡ capped (length (headerOctets s (headOf v (lent (now (time .entry)) (now (zone .entry)) (now (name .entry)) (now (domain .entry)) (now (lengths .entry)) (now (id .entry)))))) ⌝ }
+    ensures { λ r. ⌜ r ≡ capped (length (headerOctets s (headOf v
+        (lent (now (time .entry)) (now (zone .entry)) (now (name .entry)) (now (domain .entry)) (now (lengths .entry)) (now (id .entry)))))) ⌝ }
 {
     let has = v.has;
     let a = 21 + front_size(has);
@@ -316,9 +341,9 @@ fn put_primary(out: &mut [u8], v: HeaderValues, o: PacketValues, n: usize) -> us
     ensures { λ r. ⌜ Lays (laid (now (out .entry)) 0) (primaryPieces v o n) (now (out .exit)) r ⌝ }
 {
     let apid = v.apid;
-    let count = o.count;
-    let id = v.kind as u64 * 4096 + 2048 + apid.0 as u64;
-    let sequence = o.flags as u64 * 16384 + count.0 as u64;
+    let sequence_count = o.sequence_count;
+    let id = v.packet_type as u64 * 4096 + 2048 + apid.0 as u64;
+    let sequence = o.flags as u64 * 16384 + sequence_count.0 as u64;
     let a = octets::lay_number(out, 0, 2, id);
     let b = octets::lay_number(out, a, 2, sequence);
     octets::lay_number(out, b, 2, n as u64)
@@ -342,7 +367,7 @@ fn present_octet(has: Present) -> u64
         + 32 * octets::bit_of(has.priority)
         + 16 * octets::bit_of(has.timestamp)
         + 8 * octets::bit_of(has.zone)
-        + 4 * octets::bit_of(has.session)
+        + 4 * octets::bit_of(has.session_name)
         + 2 * octets::bit_of(has.domain)
         + octets::bit_of(has.authentication)
 }
@@ -350,10 +375,10 @@ fn present_octet(has: Present) -> u64
 fn put_routing(out: &mut [u8], at: usize, v: HeaderValues) -> usize
     ensures { λ r. ⌜ Lays (laid (now (out .entry)) at) (routingPieces v) (now (out .exit)) r ⌝ }
 {
-    let second = v.second;
+    let secondary_apid = v.secondary_apid;
     let has = v.has;
     let high = v.error as u64 * 32768 + v.qos as u64 * 8192;
-    let low = v.session as u64 * 2048 + second.0 as u64;
+    let low = v.session as u64 * 2048 + secondary_apid.0 as u64;
     let a = octets::lay_number(out, at, 2, high + low);
     let b = octets::lay_number(out, a, 2, v.qualifier as u64);
     let c = octets::lay_number(out, b, 8, v.transaction);
@@ -382,7 +407,7 @@ fn put_front(out: &mut [u8], at: usize, v: HeaderValues, o: PacketValues) -> usi
 }
 
 fn number_if(there: bool, s: Settings, out: &mut [u8], at: usize, n: u64) -> usize
-    ensures { λ r. ⌜ Lays (laid (now (out .entry)) at) (when there (numberOctets s n ∷ [])) (now (out .exit)) r ⌝ }
+    ensures { λ r. ⌜ Lays (laid (now (out .entry)) at) (when there (uintegerOctets s n ∷ [])) (now (out .exit)) r ⌝ }
 {
     if there {
         return fields::put_number(s, out, at, n);
@@ -461,9 +486,10 @@ fn put_end(
     lengths: &[u64],
     id: &[u8],
 ) -> usize
-    ensures { λ r. ⌜ Lays (laid (now (out .entry)) at) (endPieces s has (now (name .entry)) (now (domain .entry)) (now (lengths .entry)) (now (id .entry))) (now (out .exit)) r ⌝ }
+    ensures { λ r. ⌜ Lays (laid (now (out .entry)) at) (endPieces s has (now (name .entry)) (now (domain .entry)) (now (lengths .entry))
+        (now (id .entry))) (now (out .exit)) r ⌝ }
 {
-    let a = text_if(has.session, s, out, at, name);
+    let a = text_if(has.session_name, s, out, at, name);
     let b = domain_if(has.domain, s, out, a, domain, lengths);
     blob_if(has.authentication, s, out, b, id)
 }
@@ -483,7 +509,9 @@ pub fn put_packet(
     id: &[u8],
     body: &[u8],
 ) -> usize
-    ensures { λ r. ⌜ Lays (laid (now (out .entry)) 0) (packetPieces s v o (lent (now (time .entry)) (now (zone .entry)) (now (name .entry)) (now (domain .entry)) (now (lengths .entry)) (now (id .entry))) n (now (body .entry))) (now (out .exit)) r ⌝ }
+    ensures { λ r. ⌜ Lays (laid (now (out .entry)) 0) (packetPieces s v o
+        (lent (now (time .entry)) (now (zone .entry)) (now (name .entry)) (now (domain .entry)) (now (lengths .entry)) (now (id .entry))) n
+        (now (body .entry))) (now (out .exit)) r ⌝ }
 {
     let has = v.has;
     let a = put_primary(out, v, o, n);
@@ -503,10 +531,10 @@ pub fn secondary_size(h: usize, flags: u8) -> usize
 }
 
 // A packet with this secondary header and body, told up to the limit.
-pub fn packet_size(second: usize, body: usize) -> usize
-    ensures { λ r. ⌜ r ≡ capped (6 + second + body) ⌝ }
+pub fn packet_size(secondary: usize, body: usize) -> usize
+    ensures { λ r. ⌜ r ≡ capped (6 + secondary + body) ⌝ }
 {
-    fields::plus(fields::plus(6, second), body)
+    fields::plus(fields::plus(6, secondary), body)
 }
 
 fn body_fits(flags: u8, n: usize) -> bool
@@ -520,19 +548,20 @@ fn body_fits(flags: u8, n: usize) -> bool
 
 // 23, 12, 14, 21, by the sizes of the secondary header, the packet, the body and the output.
 fn test_sizes(
-    second: usize,
+    secondary: usize,
     size: usize,
     flags: u8,
     body: usize,
     room: usize,
     r: Refusal,
 ) -> Refusal
-    ensures { λ q. ⌜ q ≡ unless (leb size room) 21 (unless (bodyFits flags body) 14 (unless (leb second headerMost) 12 (unless (leb size packetMost) 23 r))) ⌝ }
+    ensures { λ q. ⌜ q ≡ unless (leb size room) 21 (unless (bodyFits flags body) 14
+        (unless (leb secondary headerMost) 12 (unless (leb size packetMost) 23 r))) ⌝ }
 {
-    let a = walk::unless(r, size <= PACKET_MOST, 23);
-    let b = walk::unless(a, second <= HEADER_MOST, 12);
-    let c = walk::unless(b, body_fits(flags, body), 14);
-    walk::unless(c, size <= room, 21)
+    let a = walk::unless(r, size <= PACKET_MOST, REFUSED_LARGE);
+    let b = walk::unless(a, secondary <= HEADER_MOST, REFUSED_HEADER_LONG);
+    let c = walk::unless(b, body_fits(flags, body), REFUSED_EMPTY_SEGMENT);
+    walk::unless(c, size <= room, REFUSED_OUTPUT)
 }
 
 // 15, 22 and 13: the tests on the values alone.
@@ -547,7 +576,8 @@ fn test_values(
     lengths: &[u64],
     id: &[u8],
 ) -> Refusal
-    ensures { λ q. ⌜ q ≡ valueRefusal s v o (lent (now (time .entry)) (now (zone .entry)) (now (name .entry)) (now (domain .entry)) (now (lengths .entry)) (now (id .entry))) ⌝ }
+    ensures { λ q. ⌜ q ≡ valueRefusal s v o (lent (now (time .entry)) (now (zone .entry)) (now (name .entry)) (now (domain .entry))
+        (now (lengths .entry)) (now (id .entry))) ⌝ }
 {
     let none = Refusal { number: 0 };
     let a = test_settings(s, none);
@@ -570,14 +600,20 @@ pub fn write(
     body: &[u8],
     out: &mut [u8],
 ) -> Written
-    ensures answer { λ r. ⌜ r ≡ writeAnswer s v o (lent (now (time .entry)) (now (zone .entry)) (now (name .entry)) (now (domain .entry)) (now (lengths .entry)) (now (id .entry))) (now (body .entry)) (length (now (out .entry))) ⌝ }
-    ensures octets { λ r. ⌜ now (out .exit) ≡ writeOutput s v o (lent (now (time .entry)) (now (zone .entry)) (now (name .entry)) (now (domain .entry)) (now (lengths .entry)) (now (id .entry))) (now (body .entry)) (now (out .entry)) ⌝ }
+    ensures answer { λ r. ⌜ r ≡ writeAnswer s v o (lent (now (time .entry)) (now (zone .entry)) (now (name .entry)) (now (domain .entry))
+        (now (lengths .entry)) (now (id .entry))) (now (body .entry)) (length (now (out .entry))) ⌝ }
+    ensures octets { λ r. ⌜ now (out .exit) ≡ writeOutput s v o
+        (lent (now (time .entry)) (now (zone .entry)) (now (name .entry)) (now (domain .entry)) (now (lengths .entry)) (now (id .entry)))
+        (now (body .entry)) (now (out .entry)) ⌝ }
+    ensures lends { λ r. ⌜ Lends v
+        (lent (now (time .entry)) (now (zone .entry)) (now (name .entry)) (now (domain .entry)) (now (lengths .entry)) (now (id .entry)))
+        (now (body .entry)) ⌝ }
 {
     let values = test_values(s, v, o, time, zone, name, domain, lengths, id);
     let h = header_size(s, v, time, zone, name, domain, lengths, id);
-    let second = secondary_size(h, o.flags);
-    let size = packet_size(second, body.len());
-    let r = test_sizes(second, size, o.flags, body.len(), out.len(), values);
+    let secondary = secondary_size(h, o.flags);
+    let size = packet_size(secondary, body.len());
+    let r = test_sizes(secondary, size, o.flags, body.len(), out.len(), values);
     if r.number != 0 {
         return Written {
             refusal: r,

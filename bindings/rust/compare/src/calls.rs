@@ -1,18 +1,24 @@
-//! Both programs behind one trait, each answering in the library's own terms.
+//! Both programs under one trait, each answering in the library's own terms.
 
 use crate::told;
-use orlyukan::{Arrived, Cut, CutPacket, Header, Joined, Next, Order, Reading, SegmentCounter, Sender, Taken, Which, Written};
+use orlyukan::{
+    Arrived, Cut, CutPacket, Header, Joined, Next, Order, Reading, Recording, Refusal, SegmentCounter, Sender, SequenceCount,
+    Taken, Which, Written,
+};
 
 /// The values of a packet beside its header's.
 #[derive(Clone, Copy, Debug)]
 pub struct Numbers {
     pub flags: u64,
-    pub seq: u64,
-    pub counter: u64,
+    pub sequence_count: SequenceCount,
+    pub counter: SegmentCounter,
 }
 
 pub trait Calls {
     fn name(&self) -> &'static str;
+    fn next_sequence_count(&self, sequence_count: SequenceCount) -> Result<SequenceCount, Refusal>;
+    fn after_packet(&self, sender: Sender) -> Result<Sender, Refusal>;
+    fn after_segment(&self, sender: Sender) -> Result<Sender, Refusal>;
     fn read(&self, t: u64, packet: &[u8]) -> Reading;
     fn write(&self, t: u64, header: &Header, numbers: Numbers, body: &[u8], out: &mut [u8]) -> Written;
     fn cut_count(&self, t: u64, p: u64, header: &Header, body_length: u64, sender: Sender) -> Cut;
@@ -23,7 +29,7 @@ pub trait Calls {
     fn take(&self, t: u64, store: &mut [u8], out: &mut [u8]) -> Taken;
     fn join(&self, t: u64, store: &mut [u8], packet: &[u8], out: &mut [u8]) -> Joined;
     fn view<'a>(&self, packet: &'a [u8], joined: &'a [u8], which: Which, place: u64, length: u64) -> &'a [u8];
-    fn join_recording(&self, recording: &[u8]) -> Vec<u8>;
+    fn join_recording(&self, recording: &[u8], out: &mut [u8]) -> Recording;
 }
 
 /// The proved library, through its wrappers.
@@ -34,12 +40,24 @@ impl Calls for Library {
         "the library"
     }
 
+    fn next_sequence_count(&self, sequence_count: SequenceCount) -> Result<SequenceCount, Refusal> {
+        orlyukan::next_sequence_count(sequence_count)
+    }
+
+    fn after_packet(&self, sender: Sender) -> Result<Sender, Refusal> {
+        orlyukan::after_packet(sender)
+    }
+
+    fn after_segment(&self, sender: Sender) -> Result<Sender, Refusal> {
+        orlyukan::after_segment(sender)
+    }
+
     fn read(&self, t: u64, packet: &[u8]) -> Reading {
         orlyukan::read(t, packet)
     }
 
     fn write(&self, t: u64, header: &Header, n: Numbers, body: &[u8], out: &mut [u8]) -> Written {
-        orlyukan::write(t, header, n.flags, n.seq, n.counter, body, out)
+        orlyukan::write(t, header, n.flags, n.sequence_count, n.counter, body, out)
     }
 
     fn cut_count(&self, t: u64, p: u64, header: &Header, body_length: u64, sender: Sender) -> Cut {
@@ -70,8 +88,8 @@ impl Calls for Library {
         orlyukan::view(packet, joined, which, place, length)
     }
 
-    fn join_recording(&self, recording: &[u8]) -> Vec<u8> {
-        orlyukan::join_recording(recording)
+    fn join_recording(&self, recording: &[u8], out: &mut [u8]) -> Recording {
+        orlyukan::join_recording(recording, out)
     }
 }
 
@@ -83,7 +101,7 @@ fn model_sender(sender: Sender) -> model::Sender {
         Next::At(SegmentCounter(counter)) => Some(counter),
         Next::NoneLeft => None,
     };
-    model::Sender { seq: sender.seq.0, counter }
+    model::Sender { sequence_count: sender.sequence_count.0, counter }
 }
 
 impl Calls for Model {
@@ -91,12 +109,24 @@ impl Calls for Model {
         "the model"
     }
 
+    fn next_sequence_count(&self, sequence_count: SequenceCount) -> Result<SequenceCount, Refusal> {
+        model::next_sequence_count(sequence_count.0).map(SequenceCount).map_err(told::refusal)
+    }
+
+    fn after_packet(&self, sender: Sender) -> Result<Sender, Refusal> {
+        model::after_packet(model_sender(sender)).map(told::sender).map_err(told::refusal)
+    }
+
+    fn after_segment(&self, sender: Sender) -> Result<Sender, Refusal> {
+        model::after_segment(model_sender(sender)).map(told::sender).map_err(told::refusal)
+    }
+
     fn read(&self, t: u64, packet: &[u8]) -> Reading {
         told::reading(t, model::read(t, packet))
     }
 
     fn write(&self, t: u64, header: &Header, n: Numbers, body: &[u8], out: &mut [u8]) -> Written {
-        told::written(model::write(t, &told::values(header), n.flags, n.seq, n.counter, body, out))
+        told::written(model::write(t, &told::values(header), n.flags, n.sequence_count.0, n.counter.0, body, out))
     }
 
     fn cut_count(&self, t: u64, p: u64, header: &Header, body_length: u64, sender: Sender) -> Cut {
@@ -133,7 +163,12 @@ impl Calls for Model {
         model::view(packet, joined, which, place, length)
     }
 
-    fn join_recording(&self, recording: &[u8]) -> Vec<u8> {
-        model::join_recording(recording)
+    fn join_recording(&self, recording: &[u8], out: &mut [u8]) -> Recording {
+        if out.len() < recording.len() {
+            return Recording { refusal: 21, written: 0, place: 0, stop: None };
+        }
+        let messages = model::join_recording(recording);
+        out[..messages.len()].copy_from_slice(&messages);
+        told::recording(messages.len(), model::recording_end(recording))
     }
 }

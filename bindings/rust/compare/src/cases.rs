@@ -9,7 +9,7 @@ use orlyukan::{
     SequenceCount, Taken, Which, Written,
 };
 
-/// The cases of a call, or nothing, with a word, where the folder is missing.
+/// The cases of a call, or nothing, with a word, if the folder is missing.
 pub fn load(call: &str) -> Option<Vec<Json>> {
     let here = PathBuf::from(env!("CARGO_MANIFEST_DIR"));
     let folder = env::var_os("ORLYUKAN_VECTORS").map_or_else(|| here.join("../../../../shared/vectors"), PathBuf::from);
@@ -89,7 +89,8 @@ fn place(json: &Json) -> Place {
 }
 
 pub fn numbers(case: &Json) -> Numbers {
-    Numbers { flags: case.number("flags"), seq: case.number("seq"), counter: case.number("counter") }
+    let (sequence_count, counter) = (SequenceCount(case.number("seq")), SegmentCounter(case.number("counter")));
+    Numbers { flags: case.number("flags"), sequence_count, counter }
 }
 
 pub fn sender(json: &Json) -> Sender {
@@ -97,7 +98,7 @@ pub fn sender(json: &Json) -> Sender {
         Json::Null => Next::NoneLeft,
         number => Next::At(SegmentCounter(number.as_number())),
     };
-    Sender { seq: SequenceCount(json.number("seq")), counter }
+    Sender { sequence_count: SequenceCount(json.number("seq")), counter }
 }
 
 /// What a reading says; the length of a timestamp is T.
@@ -112,7 +113,7 @@ pub fn reading(t: u64, json: &Json) -> Reading {
         packet_type: n("packet_type"),
         apid: Apid(n("apid")),
         flags: n("flags"),
-        seq: SequenceCount(n("seq")),
+        sequence_count: SequenceCount(n("seq")),
         sdu: n("sdu"),
         area: n("area"),
         service: n("service"),
@@ -173,8 +174,8 @@ pub fn arrived(json: &Json) -> Arrived {
 }
 
 pub fn taken(json: &Json) -> Taken {
-    let c = SegmentCounter(json.number("c"));
-    Taken { refusal: json.number("refusal"), h: json.number("H"), b: json.number("B"), c }
+    let counter = SegmentCounter(json.number("c"));
+    Taken { refusal: json.number("refusal"), h: json.number("H"), b: json.number("B"), counter }
 }
 
 pub fn which(name: &str) -> Which {
@@ -189,6 +190,14 @@ pub fn which(name: &str) -> Which {
 }
 
 pub fn joined(json: &Json) -> Joined {
-    let Taken { refusal, h, b, c } = taken(json);
-    Joined { refusal, which: which(json.text("which")), place: json.number("place"), length: json.number("length"), h, b, c }
+    let Taken { refusal, h, b, counter } = taken(json);
+    Joined {
+        refusal,
+        which: which(json.text("which")),
+        place: json.number("place"),
+        length: json.number("length"),
+        h,
+        b,
+        counter,
+    }
 }

@@ -53,7 +53,7 @@ impl Owned {
         }
     }
 
-    /// H by the octets of a packet that the model writes; nothing where it refuses.
+    /// H by the octets of a packet that the model writes; nothing if it refuses.
     pub fn h(&self, t: u64) -> Option<usize> {
         let mut out = vec![0; 70_000];
         let size = model::write(t, &crate::told::values(&self.header()), 3, 0, 0, &[], &mut out).ok()?;

@@ -53,7 +53,7 @@ pub fn parse(text: &str) -> Json {
     let mut reader = Reader { text: text.as_bytes(), at: 0 };
     let value = reader.value();
     reader.space();
-    assert_eq!(reader.at, text.len(), "something stands behind the value");
+    assert_eq!(reader.at, text.len(), "something stands after the value");
     value
 }
 

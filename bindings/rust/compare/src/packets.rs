@@ -4,10 +4,10 @@ use crate::headers::{self, Owned};
 use crate::random::Random;
 use crate::told;
 
-/// The octets of a packet of these values; nothing where they can't be written.
-pub fn packet_of(t: u64, o: &Owned, flags: u64, seq: u64, counter: u64, body: &[u8]) -> Option<Vec<u8>> {
+/// The octets of a packet of these values; nothing if they can't be written.
+pub fn packet_of(t: u64, o: &Owned, flags: u64, sequence_count: u64, counter: u64, body: &[u8]) -> Option<Vec<u8>> {
     let mut out = vec![0; 600 + body.len()];
-    let size = model::write(t, &told::values(&o.header()), flags, seq, counter, body, &mut out).ok()?;
+    let size = model::write(t, &told::values(&o.header()), flags, sequence_count, counter, body, &mut out).ok()?;
     out.truncate(size);
     Some(out)
 }
@@ -34,7 +34,7 @@ pub fn set_length(packet: &mut [u8]) {
     }
 }
 
-/// Octets behind the fixed part that only look like fields: Varints of every sort, presence octets, lengths.
+/// Octets after the fixed part that only look like fields: Varints of every sort, presence octets, lengths.
 fn seeming(r: &mut Random) -> Vec<u8> {
     let mut packet = vec![0x18, 0x05, 0xc0, 0, 0, 0];
     packet[2] = r.pick(&[0xc0, 0x40, 0x00, 0x80]);

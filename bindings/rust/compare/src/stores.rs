@@ -52,15 +52,15 @@ pub fn message(r: &mut Random, t: u64) -> Message {
 }
 
 /// The same segments with a key that differs in one bit: of the transaction id, the packet type, the APID, another field of the fixed
-/// part, or of what stands behind the counter.
+/// part, or of what stands after the counter.
 pub fn near(r: &mut Random, t: u64, of: &Message) -> Message {
     let mut bits = vec![(25, 1), (18, 0x80), (0, 0x10), (1, 2), (7, 1), (16, 1), (14, 0x20), (15, 1), (13, 1)];
     if let Ok(read) = model::read(t, &of.packets[0]) {
         let stamp = model::Span { place: read.timestamp, length: u32::from(read.has(3)) };
         let texts = [stamp, read.zone, read.session_name, read.domain[0], read.authentication];
-        let behind: Vec<_> = texts.iter().filter(|text| text.length > 0).map(|text| (text.place as usize, 1)).collect();
-        if !behind.is_empty() && r.once_in(2) {
-            bits = behind;
+        let after: Vec<_> = texts.iter().filter(|text| text.length > 0).map(|text| (text.place as usize, 1)).collect();
+        if !after.is_empty() && r.once_in(2) {
+            bits = after;
         }
     }
     let (at, mask) = r.pick(&bits);

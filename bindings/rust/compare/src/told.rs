@@ -2,8 +2,8 @@
 
 use model::Refusal;
 use orlyukan::{
-    Apid, Arrived, Cut, CutPacket, Header, Joined, Kind, Next, Order, Place, Reading, SecondaryApid, SegmentCounter, Sender,
-    SequenceCount, Taken, Which, Written,
+    Apid, Arrived, Cut, CutPacket, Header, Joined, Kind, Next, Order, Place, Reading, Recording, SecondaryApid, SegmentCounter,
+    Sender, SequenceCount, Stop, Taken, Which, Written,
 };
 
 fn place(span: model::Span) -> Place {
@@ -56,7 +56,7 @@ pub fn reading(t: u64, answer: Result<model::Reading, Refusal>) -> Reading {
         packet_type: r.packet_type.into(),
         apid: Apid(r.apid.into()),
         flags: r.flags.into(),
-        seq: SequenceCount(r.seq.into()),
+        sequence_count: SequenceCount(r.sequence_count.into()),
         sdu: r.sdu.into(),
         area: r.area.into(),
         service: r.service.into(),
@@ -98,12 +98,18 @@ pub fn written(answer: Result<usize, Refusal>) -> Written {
     }
 }
 
+pub fn refusal(refused: Refusal) -> orlyukan::Refusal {
+    orlyukan::Refusal(refused.0.into())
+}
+
+pub fn sender(sender: model::Sender) -> Sender {
+    let counter = sender.counter.map_or(Next::NoneLeft, |counter| Next::At(SegmentCounter(counter)));
+    Sender { sequence_count: SequenceCount(sender.sequence_count), counter }
+}
+
 pub fn cut(given: Sender, answer: Result<(u64, model::Sender), Refusal>) -> Cut {
     match answer {
-        Ok((count, after)) => {
-            let counter = after.counter.map_or(Next::NoneLeft, |counter| Next::At(SegmentCounter(counter)));
-            Cut { refusal: 0, count, sender: Sender { seq: SequenceCount(after.seq), counter } }
-        }
+        Ok((count, after)) => Cut { refusal: 0, count, sender: sender(after) },
         Err(Refusal(number)) => Cut { refusal: number.into(), count: 0, sender: given },
     }
 }
@@ -131,7 +137,9 @@ pub fn arrived(answer: Result<model::Kind, Refusal>) -> Arrived {
 
 pub fn taken(answer: Result<model::Taken, Refusal>) -> Taken {
     match answer {
-        Ok(model::Taken { h, b, c }) => Taken { refusal: 0, h: h as u64, b: b as u64, c: SegmentCounter(c.into()) },
+        Ok(model::Taken { h, b, counter }) => {
+            Taken { refusal: 0, h: h as u64, b: b as u64, counter: SegmentCounter(counter.into()) }
+        }
         Err(Refusal(number)) => Taken { refusal: number.into(), ..Taken::default() },
     }
 }
@@ -146,6 +154,15 @@ pub fn joined(answer: Result<model::Joined, Refusal>) -> Joined {
         model::Which::Packet => Which::Packet,
         model::Which::Joined => Which::Joined,
     };
-    let c = SegmentCounter(j.c.into());
-    Joined { refusal: 0, which, place: j.place as u64, length: j.length as u64, h: j.h as u64, b: j.b as u64, c }
+    let counter = SegmentCounter(j.counter.into());
+    Joined { refusal: 0, which, place: j.place as u64, length: j.length as u64, h: j.h as u64, b: j.b as u64, counter }
+}
+
+pub fn recording(written: usize, (place, stop): (usize, model::Stop)) -> Recording {
+    let stop = match stop {
+        model::Stop::Ended => Stop::Ended,
+        model::Stop::Unmarked => Stop::Unmarked,
+        model::Stop::Torn => Stop::Torn,
+    };
+    Recording { refusal: 0, written: written as u64, place: place as u64, stop: Some(stop) }
 }

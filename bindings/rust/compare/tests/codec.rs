@@ -48,11 +48,11 @@ fn header(r: &mut Random, t: u64) -> Owned {
 fn numbers(r: &mut Random) -> Numbers {
     let flags = r.pick(&[0, 1, 2, 3, 3, 3]);
     let counter = if flags == 3 && !r.once_in(30) { 0 } else { r.bits(32) };
-    let mut n = Numbers { flags, seq: r.bits(14), counter };
+    let mut n = Numbers { flags, sequence_count: SequenceCount(r.bits(14)), counter: SegmentCounter(counter) };
     match r.below(60) {
         0 => n.flags = r.too_wide(4),
-        1 => n.seq = r.too_wide(16_384),
-        2 => n.counter = r.too_wide(1 << 32),
+        1 => n.sequence_count = SequenceCount(r.too_wide(16_384)),
+        2 => n.counter = SegmentCounter(r.too_wide(1 << 32)),
         _ => {}
     }
     n
@@ -120,8 +120,8 @@ fn message(r: &mut Random) -> Message {
         5 => Next::At(SegmentCounter(if r.once_in(3) { r.too_wide(1 << 32) } else { r.bits(32) })),
         _ => Next::At(SegmentCounter(r.bits(32))),
     };
-    let seq = if r.once_in(60) { r.too_wide(16_384) } else { r.bits(14) };
-    Message { t, p, owned, body, sender: Sender { seq: SequenceCount(seq), counter } }
+    let sequence_count = if r.once_in(60) { r.too_wide(16_384) } else { r.bits(14) };
+    Message { t, p, owned, body, sender: Sender { sequence_count: SequenceCount(sequence_count), counter } }
 }
 
 #[test]

@@ -1,4 +1,4 @@
-//! The packets of document 01's figures 7 to 12 and 14, each octet changed to every other value, cut off and lengthened: reading by the
+//! The packets of SPEC's figures 7 to 12 and 14, each octet changed to every other value, cut off and lengthened: reading by the
 //! library and by the model.
 
 use compare::calls::{Calls, Library, Model};

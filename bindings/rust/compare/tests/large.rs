@@ -1,8 +1,8 @@
 //! Stores of up to 4,096 cells, with keys that differ in little.
 
-use compare::calls::{Calls, Library, Model};
+use compare::calls::{Calls, Library, Model, Numbers};
 use compare::random::Random;
-use orlyukan::{Apid, Header, CELL, CELLS};
+use orlyukan::{Apid, Header, SegmentCounter, SequenceCount, CELL, CELLS};
 
 const T: u64 = 8;
 
@@ -11,7 +11,7 @@ fn segment(transaction: u64, flags: u64, counter: u64) -> Vec<u8> {
     let header = Header { apid: Apid(5), transaction, ..Header::default() };
     let body = [transaction.to_be_bytes(), counter.to_be_bytes()].concat();
     let mut out = vec![0; 64];
-    let n = compare::calls::Numbers { flags, seq: counter % 16_384, counter };
+    let n = Numbers { flags, sequence_count: SequenceCount(counter % 16_384), counter: SegmentCounter(counter) };
     let size = Model.write(T, &header, n, &body, &mut out).length;
     out.truncate(size as usize);
     out

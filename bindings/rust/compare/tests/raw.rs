@@ -3,7 +3,7 @@
 
 use std::mem::MaybeUninit;
 
-use compare::calls::{Calls, Library};
+use compare::calls::{Calls, Library, Numbers};
 use compare::packets;
 use compare::random::Random;
 use compare::stores;
@@ -43,14 +43,15 @@ fn answers_are_filled() {
         let mut taken: RawTaken = spoiled();
         unsafe { raw::orl_take(t, one.as_mut_ptr(), one.len(), out.as_mut_ptr(), out.len(), &mut taken) };
         let answer = Library.take(t, &mut other, &mut second);
-        assert_eq!(taken, RawTaken { refusal: answer.refusal, h: answer.h, b: answer.b, c: answer.c.0 });
+        assert_eq!(taken, RawTaken { refusal: answer.refusal, h: answer.h, b: answer.b, counter: answer.counter.0 });
 
         let mut joined: RawJoined = spoiled();
         let (to, room) = (out.as_mut_ptr(), out.len());
         unsafe { raw::orl_join(t, one.as_mut_ptr(), one.len(), packet.as_ptr(), packet.len(), to, room, &mut joined) };
         let a = Library.join(t, &mut other, &packet, &mut second);
         let which = a.which as u64;
-        let expected = RawJoined { refusal: a.refusal, which, place: a.place, length: a.length, h: a.h, b: a.b, c: a.c.0 };
+        let expected =
+            RawJoined { refusal: a.refusal, which, place: a.place, length: a.length, h: a.h, b: a.b, counter: a.counter.0 };
         assert_eq!(joined, expected, "case {case}");
         assert!(one == other && out == second, "case {case}: buffers differ");
 
@@ -102,12 +103,12 @@ fn raw_packet(sender: RawSender, i: u64, out: &mut [u8]) -> RawCut {
 /// A sender is out of range by its sequence count, its counter, its flag, or a counter beside a flag that says that none is left.
 #[test]
 fn senders() {
-    let fits = |s: RawSender| s.seq < 16_384 && s.counter <= u64::from(u32::MAX) && s.has_counter <= 1;
+    let fits = |s: RawSender| s.sequence_count < 16_384 && s.counter <= u64::from(u32::MAX) && s.has_counter <= 1;
     let (mut met, mut out) = ([0u64; 32], vec![0; 64]);
-    for seq in [0, 16_382, 16_383, 16_384, 65_535, 65_536, 1 << 32, u64::MAX] {
+    for sequence_count in [0, 16_382, 16_383, 16_384, 65_535, 65_536, 1 << 32, u64::MAX] {
         for has_counter in [0, 1, 2, 256, u64::MAX] {
             for counter in [0, 1, 4_294_967_293, 4_294_967_294, 4_294_967_295, 1 << 32, u64::MAX] {
-                let given = RawSender { seq, has_counter, counter };
+                let given = RawSender { sequence_count, has_counter, counter };
                 let plain = fits(given) && (has_counter == 1 || counter == 0);
                 let counted = raw_count(given);
                 let written = raw_packet(given, 0, &mut out);
@@ -118,7 +119,11 @@ fn senders() {
                     RawCut { refusal: 25, number: 0, sender: given }
                 } else {
                     let left = u64::from(counter < 4_294_967_294);
-                    let after = RawSender { seq: (seq + 2) % 16_384, has_counter: left, counter: left * (counter + 2) };
+                    let after = RawSender {
+                        sequence_count: (sequence_count + 2) % 16_384,
+                        has_counter: left,
+                        counter: left * (counter + 2),
+                    };
                     RawCut { refusal: 0, number: 2, sender: after }
                 };
                 assert_eq!(counted, expected, "{given:?}");
@@ -135,17 +140,17 @@ fn senders() {
 fn moving_on() {
     let mut r = Random::new(32);
     for _ in 0..100_000 {
-        let seq = if r.once_in(5) { r.too_wide(16_384) } else { r.bits(17) };
-        let next = if seq >= 16_383 { 0 } else { seq + 1 };
+        let sequence_count = if r.once_in(5) { r.too_wide(16_384) } else { r.bits(17) };
+        let next = if sequence_count >= 16_383 { 0 } else { sequence_count + 1 };
         let mut answer: RawNumber = spoiled();
-        unsafe { raw::orl_next_sequence_count(seq, &mut answer) };
-        let wide = seq > 65_535;
+        unsafe { raw::orl_next_sequence_count(sequence_count, &mut answer) };
+        let wide = sequence_count > 65_535;
         assert_eq!(answer, if wide { RawNumber { refusal: 22, number: 0 } } else { RawNumber { refusal: 0, number: next } });
 
         let counter = if r.once_in(9) { r.too_wide(1 << 32) } else { r.bits(32) };
         let has_counter = r.pick(&[0, 1, 1, 1, 2]);
         let counter = if has_counter == 0 && !r.once_in(8) { 0 } else { counter };
-        let given = RawSender { seq, has_counter, counter };
+        let given = RawSender { sequence_count, has_counter, counter };
         let bad = wide || has_counter > 1 || counter > u64::from(u32::MAX) || (has_counter == 0 && counter != 0);
         let last = counter == u64::from(u32::MAX);
         let (mut packet, mut segment): (RawAfter, RawAfter) = (spoiled(), spoiled());
@@ -157,14 +162,14 @@ fn moving_on() {
             assert_eq!([packet, segment], [RawAfter { refusal: 22, sender: given }; 2]);
             continue;
         }
-        assert_eq!(packet, RawAfter { refusal: 0, sender: RawSender { seq: next, has_counter, counter } });
+        assert_eq!(packet, RawAfter { refusal: 0, sender: RawSender { sequence_count: next, has_counter, counter } });
         let left = has_counter * u64::from(!last);
-        let after = RawSender { seq: next, has_counter: left, counter: left * (counter + 1) };
+        let after = RawSender { sequence_count: next, has_counter: left, counter: left * (counter + 1) };
         assert_eq!(segment, RawAfter { refusal: 0, sender: after }, "{given:?}");
     }
 }
 
-/// A buffer's number above 2 is 22; place and length are told only where they lie inside.
+/// A buffer's number above 2 is 22; place and length are told only if they lie inside.
 #[test]
 fn views() {
     let (packet, joined) = ([1u8; 5], [2u8; 9]);
@@ -183,23 +188,24 @@ fn views() {
     }
 }
 
-/// 21 where the output is shorter than the recording; and why a recording stopped.
+/// 21 if the output is shorter than the recording; and why a recording stopped.
 #[test]
 fn recordings() {
     let header = Header { packet_type: 1, ..Header::default() };
     let mut packet = vec![0; 100];
-    let size = Library.write(8, &header, compare::calls::Numbers { flags: 3, seq: 0, counter: 0 }, b"tile", &mut packet).length;
+    let numbers = Numbers { flags: 3, sequence_count: SequenceCount(0), counter: SegmentCounter(0) };
+    let size = Library.write(8, &header, numbers, b"tile", &mut packet).length;
     let whole = [b"MP", &packet[..size as usize]].concat();
     let n = whole.len();
     let cases: [(Vec<u8>, usize, u64); 8] = [
-        (whole.clone(), n, 1),
-        (vec![], 0, 1),
-        ([&whole[..], b"x"].concat(), n, 2),
-        ([&whole[..], b"MS", &whole].concat(), n, 2),
-        ([&whole[..], b"M"].concat(), n, 3),
-        ([&whole[..], b"MP"].concat(), n, 3),
-        ([&whole[..], &whole[..n - 1]].concat(), n, 3),
-        ([&whole[..], &whole[..7]].concat(), n, 3),
+        (whole.clone(), n, raw::ORL_ENDED),
+        (vec![], 0, raw::ORL_ENDED),
+        ([&whole[..], b"x"].concat(), n, raw::ORL_UNMARKED),
+        ([&whole[..], b"MS", &whole].concat(), n, raw::ORL_UNMARKED),
+        ([&whole[..], b"M"].concat(), n, raw::ORL_TORN),
+        ([&whole[..], b"MP"].concat(), n, raw::ORL_TORN),
+        ([&whole[..], &whole[..n - 1]].concat(), n, raw::ORL_TORN),
+        ([&whole[..], &whole[..7]].concat(), n, raw::ORL_TORN),
     ];
     for (recording, place, stop) in cases {
         let mut out = vec![0xee; recording.len() + 3];
@@ -207,7 +213,7 @@ fn recordings() {
         unsafe { raw::orl_join_recording(recording.as_ptr(), recording.len(), out.as_mut_ptr(), recording.len(), &mut answer) };
         let written = if recording.is_empty() { 0 } else { n as u64 };
         assert_eq!(answer, RawRecording { refusal: 0, written, place: place as u64, stop }, "{recording:02x?}");
-        assert!(out[written as usize..].iter().all(|octet| *octet == 0xee), "octets behind the output changed");
+        assert!(out[written as usize..].iter().all(|octet| *octet == 0xee), "octets after the output changed");
         if let Some(short) = recording.len().checked_sub(1) {
             let mut out = vec![0xee; short];
             unsafe { raw::orl_join_recording(recording.as_ptr(), recording.len(), out.as_mut_ptr(), short, &mut answer) };
@@ -221,8 +227,13 @@ fn recordings() {
 #[test]
 fn wrapped_senders() {
     let at = |counter| Next::At(SegmentCounter(counter));
-    let sender = |seq, counter| Sender { seq: SequenceCount(seq), counter };
-    assert_eq!(orlyukan::next_sequence_count(SequenceCount(16_383)), SequenceCount(0));
+    let sender = |sequence_count, counter| Sender { sequence_count: SequenceCount(sequence_count), counter };
+    assert_eq!(orlyukan::next_sequence_count(SequenceCount(0)), Ok(SequenceCount(1)));
+    assert_eq!(orlyukan::next_sequence_count(SequenceCount(16_383)), Ok(SequenceCount(0)));
+    assert_eq!(orlyukan::next_sequence_count(SequenceCount(65_535)), Ok(SequenceCount(0)));
+    for too_wide in [65_536, 65_537, 1 << 32, u64::MAX] {
+        assert_eq!(orlyukan::next_sequence_count(SequenceCount(too_wide)), Err(orlyukan::Refusal(22)));
+    }
     assert_eq!(orlyukan::after_packet(sender(7, at(5))), Ok(sender(8, at(5))));
     assert_eq!(orlyukan::after_segment(sender(16_383, at(4_294_967_295))), Ok(sender(0, Next::NoneLeft)));
     assert_eq!(orlyukan::after_segment(sender(1, Next::NoneLeft)), Ok(sender(2, Next::NoneLeft)));

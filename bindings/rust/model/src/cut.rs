@@ -2,12 +2,10 @@
 
 use crate::values::{hold, test_timestamp, Refusal, Sender, Values};
 use crate::write::{header_size, lay, test_values, Sequence};
-use crate::{CONTINUATION, FIRST, HEADER_LIMIT, LAST, PACKET_LIMIT, PRIMARY, SEQUENCE_COUNTS, UNSEGMENTED};
+use crate::{CONTINUATION, FIRST, HEADER_LIMIT, LAST, LAST_COUNTER, PACKET_LIMIT, PRIMARY, SEQUENCE_COUNTS, UNSEGMENTED};
 
 /// The largest message body.
 const BODY_LIMIT: u64 = 1_048_576;
-/// The last counter.
-const LAST_COUNTER: u64 = u32::MAX as u64;
 
 /// How a message is cut.
 struct Plan {
@@ -22,7 +20,7 @@ struct Plan {
 fn plan(t: u64, p: u64, v: &Values, body: u64, sender: Sender) -> Result<Plan, Refusal> {
     let t = test_timestamp(t)?;
     hold((27..=PACKET_LIMIT as u64).contains(&p), 15)?;
-    hold(sender.seq < SEQUENCE_COUNTS && sender.counter.unwrap_or(0) <= LAST_COUNTER, 22)?;
+    hold(sender.sequence_count < SEQUENCE_COUNTS && sender.counter.unwrap_or(0) <= LAST_COUNTER, 22)?;
     test_values(t, v)?;
     hold(body <= BODY_LIMIT, 23)?;
     let header = header_size(v);
@@ -38,13 +36,13 @@ fn plan(t: u64, p: u64, v: &Values, body: u64, sender: Sender) -> Result<Plan, R
     Ok(Plan { header, count, carried })
 }
 
-/// How many packets a message takes, and the sender's two numbers behind it.
+/// How many packets a message takes, and the sender's two numbers after it.
 pub fn count(t: u64, p: u64, v: &Values, body: u64, sender: Sender) -> Result<(u64, Sender), Refusal> {
     let plan = plan(t, p, v, body, sender)?;
     let segments = if plan.count == 1 { 0 } else { plan.count };
     let counter = sender.counter.map(|start| start + segments).filter(|next| *next <= LAST_COUNTER);
-    let seq = (sender.seq + plan.count) % SEQUENCE_COUNTS;
-    Ok((plan.count, Sender { seq, counter }))
+    let sequence_count = (sender.sequence_count + plan.count) % SEQUENCE_COUNTS;
+    Ok((plan.count, Sender { sequence_count, counter }))
 }
 
 /// Writes packet number i of a message over the front of an output: the octets it took.
@@ -62,8 +60,8 @@ pub fn packet(t: u64, p: u64, v: &Values, body: &[u8], sender: Sender, i: u64, o
     let counted = if flags == UNSEGMENTED { 0 } else { 4 };
     let size = PRIMARY + plan.header + counted + (to - from);
     let out = out.get_mut(..size).ok_or(Refusal(21))?;
-    let seq = ((sender.seq + i) % SEQUENCE_COUNTS) as u16;
+    let sequence_count = ((sender.sequence_count + i) % SEQUENCE_COUNTS) as u16;
     let counter = (sender.counter.unwrap_or(0) + i) as u32;
-    lay(v, Sequence { flags, seq, counter }, &body[from..to], out);
+    lay(v, Sequence { flags, sequence_count, counter }, &body[from..to], out);
     Ok(size)
 }

@@ -20,21 +20,21 @@ pub struct Joined {
     pub length: usize,
     pub h: usize,
     pub b: usize,
-    pub c: u32,
+    pub counter: u32,
 }
 
-/// Arrival, and where the packet did not come whole, taking.
+/// Arrival, and if the packet did not come whole, taking.
 pub fn join(t: u64, store: &mut [u8], packet: &[u8], out: &mut [u8]) -> Result<Joined, Refusal> {
     if arrive(t, store, packet)? == Kind::Whole {
         let body = read(t, packet)?.body;
         let (place, length) = (body.place as usize, body.length as usize);
-        return Ok(Joined { which: Which::Packet, place, length, h: 0, b: 0, c: 0 });
+        return Ok(Joined { which: Which::Packet, place, length, h: 0, b: 0, counter: 0 });
     }
     let taken = take(t, store, out)?;
-    Ok(Joined { which: Which::Joined, place: 2 + taken.h, length: taken.b, h: taken.h, b: taken.b, c: taken.c })
+    Ok(Joined { which: Which::Joined, place: 2 + taken.h, length: taken.b, h: taken.h, b: taken.b, counter: taken.counter })
 }
 
-/// A part of the named buffer, empty where place and length do not lie inside.
+/// A part of the named buffer, empty if place and length do not lie inside.
 pub fn view<'a>(packet: &'a [u8], joined: &'a [u8], which: Which, place: u64, length: u64) -> &'a [u8] {
     let buffer = match which {
         Which::Nothing => &[],

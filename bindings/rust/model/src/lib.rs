@@ -1,7 +1,7 @@
-//! A second program for document 01, written from its sentences alone, to compare the proved one with.
+//! A second program for docs/SPEC.md, written from the rules alone, to compare the proved one with.
 //!
-//! Each call answers `Ok` with its whole answer, or `Err` with the one refusal that comes first. Lent octets change only as document
-//! 01 says. Nothing here is proved; that two programs of different making agree on many inputs is what the comparison is worth.
+//! Each call answers `Ok` with its whole answer, or `Err` with the one refusal that comes first. Lent octets change only as SPEC
+//! says. Nothing here is proved; that two programs of different making agree on many inputs is what the comparison is worth.
 
 mod cut;
 mod hash;
@@ -9,6 +9,7 @@ mod join;
 mod read;
 mod recording;
 mod segment;
+mod sender;
 mod store;
 mod values;
 mod varint;
@@ -18,6 +19,7 @@ pub use cut::{count, packet};
 pub use join::{join, view, Joined, Which};
 pub use read::{read, Reading, Span};
 pub use recording::{join_recording, join_recording_into, recording_end, Stop};
+pub use sender::{after_packet, after_segment, next_sequence_count};
 pub use store::{arrive, in_order, take, Kind, Order, Taken, CELL, CELLS};
 pub use values::{Refusal, Sender, Values};
 pub use varint::{read_varint, write_varint};
@@ -38,3 +40,5 @@ pub const LAST: u8 = 2;
 pub const CONTINUATION: u8 = 0;
 /// How many sequence counts there are: 0 follows the last of them.
 pub const SEQUENCE_COUNTS: u64 = 16_384;
+/// The last counter.
+pub const LAST_COUNTER: u64 = u32::MAX as u64;

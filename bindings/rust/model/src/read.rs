@@ -17,7 +17,7 @@ pub struct Reading {
     pub packet_type: u8,
     pub apid: u16,
     pub flags: u8,
-    pub seq: u16,
+    pub sequence_count: u16,
     pub sdu: u8,
     pub area: u16,
     pub service: u16,
@@ -48,19 +48,19 @@ pub struct Reading {
 }
 
 impl Reading {
-    /// Whether field number k behind the fixed part is there: 0 source id, 1 destination id, and so on to 7, authentication id.
+    /// Whether field number k after the fixed part is there: 0 source id, 1 destination id, and so on to 7, authentication id.
     pub fn has(&self, k: u32) -> bool {
         self.presence & (0x80 >> k) != 0
     }
 }
 
-/// The data field behind the fixed part, walked from left to right.
+/// The data field after the fixed part, walked from left to right.
 struct Walk<'a> {
     packet: &'a [u8],
     at: usize,
 }
 
-/// The place behind the last octet that a secondary header may have.
+/// The place after the last octet that a secondary header may have.
 const LIMIT: usize = PRIMARY + HEADER_LIMIT;
 
 impl Walk<'_> {
@@ -134,7 +134,7 @@ fn read_primary(packet: &[u8], r: &mut Reading) -> Result<(), Refusal> {
     r.packet_type = (id >> 12 & 1) as u8;
     r.apid = id & 0x07ff;
     r.flags = (sequence >> 14) as u8;
-    r.seq = sequence & 0x3fff;
+    r.sequence_count = sequence & 0x3fff;
     Ok(())
 }
 
@@ -165,7 +165,7 @@ fn read_fixed(data: &[u8], r: &mut Reading) -> Result<(), Refusal> {
     Ok(())
 }
 
-/// What stands behind the fixed part, each field only if present.
+/// What stands after the fixed part, each field only if present.
 fn read_optional(t: usize, walk: &mut Walk, r: &mut Reading) -> Result<(), Refusal> {
     if r.has(0) {
         r.source = walk.octet()?;

@@ -48,7 +48,7 @@ impl<'a> Rooms<'a> {
         counter.and_then(|counter| self.find(s, counter))
     }
 
-    /// From a segment on, up to the last or down to the first of its run: its rooms, or nothing where one is missing.
+    /// From a segment on, up to the last or down to the first of its run: its rooms, or nothing if one is missing.
     fn side(&self, from: Segment<'a>, up: bool) -> Option<Vec<usize>> {
         let (end, other) = if up { (LAST, FIRST) } else { (FIRST, LAST) };
         let (mut rooms, mut s) = (Vec::new(), from);
@@ -82,11 +82,11 @@ impl<'a> Rooms<'a> {
     fn hand_out(&mut self, rooms: &[usize], out: &mut Vec<u8>) {
         let first = self.held(rooms[0]);
         let body: usize = rooms.iter().map(|room| self.held(*room).body().len()).sum();
-        let (before, behind) = first.header();
+        let (before, after) = first.header();
         begin(2 + first.h() + body, out);
         out.extend_from_slice(first.id());
         out.extend_from_slice(before);
-        out.extend_from_slice(behind);
+        out.extend_from_slice(after);
         for room in rooms {
             out.extend_from_slice(self.held(*room).body());
             self.held[*room] = None;
@@ -100,11 +100,11 @@ fn begin(length: usize, out: &mut Vec<u8>) {
     out.extend_from_slice(&(length as u32).to_be_bytes());
 }
 
-/// The next packet of a recording and what stands behind it, while a whole mark and packet follow.
+/// The next packet of a recording and what stands after it, while a whole mark and packet follow.
 fn next_packet(recording: &[u8]) -> Option<(&[u8], &[u8])> {
-    let behind = recording.strip_prefix(&PACKET_MARK)?;
-    let primary: &[u8; 6] = behind.first_chunk()?;
-    behind.split_at_checked(usize::from(u16::from_be_bytes([primary[4], primary[5]])) + 7)
+    let after = recording.strip_prefix(&PACKET_MARK)?;
+    let primary: &[u8; 6] = after.first_chunk()?;
+    after.split_at_checked(usize::from(u16::from_be_bytes([primary[4], primary[5]])) + 7)
 }
 
 /// All messages of a recording, each after its mark and its length.
@@ -114,12 +114,12 @@ pub fn join_recording(recording: &[u8]) -> Vec<u8> {
     out
 }
 
-/// The same, behind what stands in the output already.
+/// The same, after what stands in the output already.
 pub fn join_recording_into(recording: &[u8], out: &mut Vec<u8>) {
     let mut rooms = Rooms { held: [None; ROOMS], counters: [0; ROOMS] };
     let mut rest = recording;
-    while let Some((packet, behind)) = next_packet(rest) {
-        rest = behind;
+    while let Some((packet, after)) = next_packet(rest) {
+        rest = after;
         if packet.len() > MOST {
             continue;
         }
@@ -154,8 +154,8 @@ pub enum Stop {
 /// Where the last whole packet of a recording ends, and why no other follows.
 pub fn recording_end(recording: &[u8]) -> (usize, Stop) {
     let mut rest = recording;
-    while let Some((_, behind)) = next_packet(rest) {
-        rest = behind;
+    while let Some((_, after)) = next_packet(rest) {
+        rest = after;
     }
     let begins = rest.iter().zip(PACKET_MARK).all(|(octet, mark)| *octet == mark);
     let stop = match rest {

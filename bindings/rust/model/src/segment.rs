@@ -21,7 +21,7 @@ impl<'a> Segment<'a> {
         Segment { packet, flags: r.flags, counter: r.counter, counter_at: 27 + ids, body_at: r.body.place as u16 }
     }
 
-    /// The header octets before the counter, and those behind it.
+    /// The header octets before the counter, and those after it.
     pub fn header(&self) -> (&'a [u8], &'a [u8]) {
         let at = usize::from(self.counter_at);
         (&self.packet[PRIMARY..at], &self.packet[at + 4..usize::from(self.body_at)])
@@ -66,10 +66,10 @@ impl Eq for Segment<'_> {}
 
 impl Hash for Segment<'_> {
     fn hash<S: Hasher>(&self, state: &mut S) {
-        let (before, behind) = self.header();
+        let (before, after) = self.header();
         state.write_u32(self.counter);
         state.write(self.id());
         state.write(before);
-        state.write(behind);
+        state.write(after);
     }
 }

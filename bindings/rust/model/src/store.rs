@@ -12,7 +12,7 @@ use crate::{CONTINUATION, FIRST, LAST, PRIMARY, UNSEGMENTED};
 pub const CELL: usize = 1024;
 /// The most cells of a store.
 pub const CELLS: usize = 4096;
-/// The octets of the mark before a record, and of the largest packet behind it.
+/// The octets of the mark before a record, and of the largest packet after it.
 const MARK: usize = 2;
 const HELD: [u8; MARK] = [0x4d, 0x53];
 const ROOM: usize = CELL - MARK;
@@ -31,7 +31,7 @@ pub enum Kind {
 pub struct Taken {
     pub h: usize,
     pub b: usize,
-    pub c: u32,
+    pub counter: u32,
 }
 
 /// A store in order has so many cells, and holds so many segments.
@@ -105,7 +105,7 @@ impl<'a> Index<'a> {
         false
     }
 
-    /// The cells of the complete message whose first lies in the lowest cell.
+    /// The cells of the complete message with its first in the lowest cell.
     fn complete(&self) -> Option<Vec<usize>> {
         let mut run = Vec::new();
         let firsts = self.cells.iter().enumerate().filter(|(_, held)| held.is_some_and(|s| s.flags == FIRST));
@@ -118,7 +118,7 @@ impl<'a> Index<'a> {
     }
 }
 
-/// Whether a store is in order: 15 or 16 where it is not.
+/// Whether a store is in order: 15 or 16 if it is not.
 pub fn in_order(t: u64, store: &[u8]) -> Result<Order, Refusal> {
     test_timestamp(t)?;
     let index = Index::new(t, store)?;
@@ -146,20 +146,20 @@ pub fn arrive(t: u64, store: &mut [u8], packet: &[u8]) -> Result<Kind, Refusal> 
     Ok(Kind::Stored)
 }
 
-/// Takes the complete message whose first lies in the lowest cell out of the store.
+/// Takes the complete message with its first in the lowest cell out of the store.
 pub fn take(t: u64, store: &mut [u8], out: &mut [u8]) -> Result<Taken, Refusal> {
     test_timestamp(t)?;
     let index = Index::new(t, store)?;
     let run = index.complete().ok_or(Refusal(20))?;
     let first = index.held(run[0]);
     let b = run.iter().map(|cell| index.held(*cell).body().len()).sum();
-    let taken = Taken { h: first.h(), b, c: first.counter };
+    let taken = Taken { h: first.h(), b, counter: first.counter };
     let out = out.get_mut(..2 + taken.h + taken.b).ok_or(Refusal(21))?;
     let (front, mut body) = out.split_at_mut(2 + taken.h);
-    let (before, behind) = first.header();
+    let (before, after) = first.header();
     front[..2].copy_from_slice(first.id());
     front[2..2 + before.len()].copy_from_slice(before);
-    front[2 + before.len()..].copy_from_slice(behind);
+    front[2 + before.len()..].copy_from_slice(after);
     for cell in &run {
         let piece = index.held(*cell).body();
         body[..piece.len()].copy_from_slice(piece);

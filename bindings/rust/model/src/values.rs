@@ -1,6 +1,6 @@
 //! What is lent to the writing calls, and what all calls answer on a refusal.
 
-/// The number of a refusal, from document 01's table.
+/// The number of a refusal, from SPEC's table.
 #[derive(Clone, Copy, Debug, PartialEq, Eq)]
 pub struct Refusal(pub u8);
 
@@ -39,10 +39,10 @@ pub struct Values<'a> {
     pub authentication: &'a [u8],
 }
 
-/// A sender's two running numbers. The counter is `None` where none is left.
+/// A sender's two running numbers. The counter is `None` if none is left.
 #[derive(Clone, Copy, Debug, PartialEq, Eq)]
 pub struct Sender {
-    pub seq: u64,
+    pub sequence_count: u64,
     pub counter: Option<u64>,
 }
 

@@ -1,4 +1,4 @@
-//! Varints of at most 32 bits: seven bits an octet, the lowest group first, the high bit set where more follow.
+//! Varints of at most 32 bits: seven bits an octet, the lowest group first, the high bit set if more follow.
 
 use crate::values::{hold, Refusal};
 
@@ -20,7 +20,7 @@ pub(crate) fn varint_step(value: u32, k: u32, octet: u8) -> Result<(u32, bool), 
     Ok((value | u32::from(octet & 0x7f) << (7 * k), octet < 0x80))
 }
 
-/// Reads a Varint at a place of some octets: its value and the place behind it. 6 where the octets end inside.
+/// Reads a Varint at a place of some octets: its value and the place after it. 6 if the octets end inside.
 pub fn read_varint(octets: &[u8], at: usize) -> Result<(u32, usize), Refusal> {
     let mut value = 0;
     for k in 0.. {
@@ -35,7 +35,7 @@ pub fn read_varint(octets: &[u8], at: usize) -> Result<(u32, usize), Refusal> {
     unreachable!("a fifth octet ends a Varint or is refused")
 }
 
-/// Lays a Varint over the front of an output: the octets it took. 22 where the number is too wide, 21 where there is no room.
+/// Lays a Varint over the front of an output: the octets it took. 22 if the number is too wide, 21 if there is no room.
 pub fn write_varint(value: u64, out: &mut [u8]) -> Result<usize, Refusal> {
     let value = u32::try_from(value).map_err(|_| Refusal(22))?;
     let length = varint_length(value);

@@ -11,7 +11,7 @@ const TEXT_LIMIT: usize = 65_535;
 #[derive(Clone, Copy)]
 pub(crate) struct Sequence {
     pub flags: u8,
-    pub seq: u16,
+    pub sequence_count: u16,
     pub counter: u32,
 }
 
@@ -86,7 +86,7 @@ pub(crate) fn header_size(v: &Values) -> usize {
         + text_size(v.has_authentication, v.authentication)
 }
 
-/// The octets of a packet, laid one behind the other.
+/// The octets of a packet, laid one after the other.
 struct Pen<'a> {
     out: &'a mut [u8],
     at: usize,
@@ -139,7 +139,7 @@ fn front(v: &Values, s: Sequence, size: usize) -> [u8; 27] {
         | v.has_domain << 1
         | v.has_authentication;
     front[0..2].copy_from_slice(&id.to_be_bytes());
-    front[2..4].copy_from_slice(&(u16::from(s.flags) << 14 | s.seq).to_be_bytes());
+    front[2..4].copy_from_slice(&(u16::from(s.flags) << 14 | s.sequence_count).to_be_bytes());
     front[4..6].copy_from_slice(&((size - 7) as u16).to_be_bytes());
     front[6] = v.sdu as u8;
     front[7..9].copy_from_slice(&(v.area as u16).to_be_bytes());
@@ -179,11 +179,19 @@ pub(crate) fn lay(v: &Values, s: Sequence, body: &[u8], out: &mut [u8]) {
 }
 
 /// Writes one packet over the front of an output: the octets it took.
-pub fn write(t: u64, v: &Values, flags: u64, seq: u64, counter: u64, body: &[u8], out: &mut [u8]) -> Result<usize, Refusal> {
+pub fn write(
+    t: u64,
+    v: &Values,
+    flags: u64,
+    sequence_count: u64,
+    counter: u64,
+    body: &[u8],
+    out: &mut [u8],
+) -> Result<usize, Refusal> {
     let t = test_timestamp(t)?;
     let segmented = flags != u64::from(UNSEGMENTED);
     let counted = counter <= if segmented { u64::from(u32::MAX) } else { 0 };
-    hold(flags <= 3 && seq < SEQUENCE_COUNTS && counted, 22)?;
+    hold(flags <= 3 && sequence_count < SEQUENCE_COUNTS && counted, 22)?;
     test_values(t, v)?;
     let header = header_size(v) + if segmented { 4 } else { 0 };
     let size = PRIMARY + header + body.len();
@@ -191,6 +199,6 @@ pub fn write(t: u64, v: &Values, flags: u64, seq: u64, counter: u64, body: &[u8]
     hold(header <= HEADER_LIMIT, 12)?;
     hold(!segmented || !body.is_empty(), 14)?;
     let out = out.get_mut(..size).ok_or(Refusal(21))?;
-    lay(v, Sequence { flags: flags as u8, seq: seq as u16, counter: counter as u32 }, body, out);
+    lay(v, Sequence { flags: flags as u8, sequence_count: sequence_count as u16, counter: counter as u32 }, body, out);
     Ok(size)
 }

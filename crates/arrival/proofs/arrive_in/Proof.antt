@@ -1,31 +1,57 @@
--- `arrival::arrive_in` meets its contract: the zero cell is tested, and then the arrival itself.
+-- `arrival::arrive_in` meets its contract: a segment that fits goes by the cell that the search tells, any other packet by its reading.
 -- Assumes nothing.
+use mathlib.Core.Path.{ap, _∙_}
 use denote.Ref.{now}
-use Rattle.messages.proofs.Blank.{zero-told}
-use Rattle.arrival.proofs.Beside.{arrives-on, arrives-other}
+use lib.ListN.{length}
+use Rattle.arrival.specs.Told.{arrivalOf}
+use Rattle.arrival.specs.Arriving.{storeWith}
+use Rattle.arrival.proofs.Arrivals.{unstored-store, told-asked, told-fits, told-segment, told-other}
 use borrow.Author.Needs.{needs}
 use Rattle.arrival.proofs.arrive_in.Statement.{statement}
 use Rattle.arrival.proofs.arrive_in.Tie as tie
 
-zeros-requires : tie.Need-zeros-requires
-zeros-requires c κs = search needs
+read-requires : tie.Need-read-requires
+read-requires c κs = search needs
 
-refused-requires : tie.Need-refused-requires
-refused-requires c κs = search needs
+is-segment-requires : tie.Need-is-segment-requires
+is-segment-requires c κs = search needs
+
+unstored-requires : tie.Need-unstored-requires
+unstored-requires c κs = search needs
 
 returns : tie.Need-returns
-returns c = arrives-other _ _ _ _ (c .before .before .zeros .ensures) _ (c .before .if1 .taken) (c .refused .ensures)
+returns c =
+    let g = c .before .before .before in
+    let a = g .before .before .before .before .args in
+    let e = told-other _ _ (now (a .store)) _ (a .n) (g .read .ensures .0) (c .before .before .is-segment .ensures) (c .before .if1 .taken) in
+    (c .unstored .ensures ∙ ap arrivalOf e, unstored-store _ _ _ _ ∙ ap (storeWith _ _ _) e)
 
-arrive-on-requires : tie.Need-arrive-on-requires
-arrive-on-requires c κs = zero-told _ (c .before .before .zeros .ensures) (c .before .if1 .left)
+find-requires : tie.Need-find-requires
+find-requires c κs =
+    let g = c .before .before .before .before .before in
+    let k = g .before .before .before .before in
+    let a = told-asked _ (length (now (k .args .zero))) (now (k .args .store)) _ (k .args .n) (g .read .ensures .0) (c .before .before .before .before .is-segment .ensures)
+    (c .before .before .before .if1 .left) (λ i. g .before .shared-slice-known2 .given i .fits) in
+    (k .pre, a)
+
+store-found-requires : tie.Need-store-found-requires
+store-found-requires c κs =
+    let g = c .before .before .before .before .before .before .before in
+    let k = g .before .before .before .before in
+    let l = told-fits _ _ (now (k .args .store)) _ (k .args .n) (g .read .ensures .0) (c .before .before .before .before .before .before .is-segment .ensures)
+    (c .before .before .before .before .before .if1 .left) in
+    (k .pre, (l, c .before .find .ensures))
 
 same-length : tie.Need-same-length
 same-length c = search needs
 
 returns-2 : tie.Need-returns-2
 returns-2 c =
-    arrives-on _ _ _ _ (c .before .before .before .before .before .zeros .ensures) _ (c .before .before .before .before .if1 .left)
-    (c .before .before .arrive-on .ensures)
+    let f = c .before .before in
+    let g = f .before .before .before .before .before .before in
+    let e = told-segment _ _ _ _ _ (g .before .before .read .ensures .0) (g .before .is-segment .ensures) (g .if1 .left) in
+    (f .store-found .ensures .0 ∙ ap arrivalOf e, f .store-found .ensures .1 ∙ ap (storeWith _ _ _) e)
 
 pub arrive-in-spec : {M : Type 1} → statement M
-arrive-in-spec = tie.close (tie.spec zeros-requires refused-requires returns arrive-on-requires same-length returns-2)
+arrive-in-spec =
+    tie.close (tie.spec read-requires is-segment-requires unstored-requires returns find-requires store-found-requires same-length returns-2)

@@ -4,9 +4,6 @@ use borrow.Author.Needs.{needs}
 use Rattle.cells.proofs.chain.Statement.{statement}
 use Rattle.cells.proofs.chain.Tie as tie
 
-cast-mix-in : tie.Need-cast-mix-in
-cast-mix-in c = search needs
-
 mix-in-requires : tie.Need-mix-in-requires
 mix-in-requires c κs = search needs
 
@@ -20,4 +17,4 @@ returns : tie.Need-returns
 returns c = simp (c .mix-in .ensures)
 
 pub chain-spec : {M : Type 1} → statement M
-chain-spec = tie.close (tie.spec cast-mix-in mix-in-requires cast-x add-result returns)
+chain-spec = tie.close (tie.spec mix-in-requires cast-x add-result returns)

@@ -24,9 +24,6 @@ packet-in-requires c κs = search needs
 counter-in-requires : tie.Need-counter-in-requires
 counter-in-requires c κs = search needs
 
-cast-c : tie.Need-cast-c
-cast-c c = search needs
-
 bucket-requires : tie.Need-bucket-requires
 bucket-requires c κs = search needs
 
@@ -62,4 +59,4 @@ returns-2 c =
     )
 
 pub enter-spec : {M : Type 1} → statement M
-enter-spec = tie.close (tie.spec returns row-requires packet-in-requires counter-in-requires cast-c bucket-requires is-new-requires push-requires returns-2)
+enter-spec = tie.close (tie.spec returns row-requires packet-in-requires counter-in-requires bucket-requires is-new-requires push-requires returns-2)

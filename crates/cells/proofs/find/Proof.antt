@@ -15,10 +15,10 @@ use Rattle.cells.proofs.find.Statement.{statement}
 use Rattle.cells.proofs.find.Tie as tie
 
 abbrev Inv-loop : tie.InvT-loop
-Inv-loop s store n zero q stop c z j₀ j = Seeking (λ k. carriesIn (keyOf q (readPacket s q)) c (cellAt s (length zero) store k)) n j
+Inv-loop s store n zero q body-at c z j₀ j = Seeking (λ k. carriesIn (keyOf q (readPacket s q)) (c .0) (cellAt s (length zero) store k)) n j
 
 abbrev μ-loop : tie.MeasureT-loop
-μ-loop s store n zero q stop c z j₀ j = n - j
+μ-loop s store n zero q body-at c z j₀ j = n - j
 
 loop-holds : tie.Need-loop-holds Inv-loop μ-loop
 loop-holds c = seeking-first _ _
@@ -34,7 +34,7 @@ unfolding foundIn
 returns c =
     let g = c .before .before .before .before .before .before .before .before .args in
     seeking-found (c .before .before .before .before .loop .inv) (c .before .before .before .loop-test .taken)
-    (sym (c .before .carries-at .ensures ∙ ap (λ (r : List ℕ). carriesIn (keyOf (now (g .q)) (readPacket (g .s) (now (g .q)))) (g .c)
+    (sym (c .before .carries-at .ensures ∙ ap (λ (r : List ℕ). carriesIn (keyOf (now (g .q)) (readPacket (g .s) (now (g .q)))) (g .c .0)
     (cellOf (g .s) (length (now (g .zero))) r)) (c .before .before .row .ensures)) ∙ c .if1 .taken)
 
 add-j : tie.Need-add-j Inv-loop μ-loop
@@ -47,7 +47,7 @@ loop-again : tie.Need-loop-again Inv-loop μ-loop
 loop-again c =
     let g = c .before .before .before .before .before .before .before .before .args in
     seeking-turn (c .before .before .before .before .loop .inv) (c .before .before .before .loop-test .taken)
-    (sym (c .before .carries-at .ensures ∙ ap (λ (r : List ℕ). carriesIn (keyOf (now (g .q)) (readPacket (g .s) (now (g .q)))) (g .c)
+    (sym (c .before .carries-at .ensures ∙ ap (λ (r : List ℕ). carriesIn (keyOf (now (g .q)) (readPacket (g .s) (now (g .q)))) (g .c .0)
     (cellOf (g .s) (length (now (g .zero))) r)) (c .before .before .row .ensures)) ∙ c .if1 .left)
 
 returns-2 : tie.Need-returns-2 Inv-loop μ-loop

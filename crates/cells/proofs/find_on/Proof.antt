@@ -10,10 +10,10 @@ use Rattle.cells.proofs.find_on.Statement.{statement}
 use Rattle.cells.proofs.find_on.Tie as tie
 
 abbrev Inv-loop : tie.InvT-loop
-Inv-loop s store n zero q stop c b heads links z best₀ cur₀ best cur = Finding s store (length zero) q c n b cur best
+Inv-loop s store n zero q body-at c b heads links z best₀ cur₀ best cur = Finding s store (length zero) q (c .0) n b cur best
 
 abbrev μ-loop : tie.MeasureT-loop
-μ-loop s store n zero q stop c b heads links z best₀ cur₀ best cur = cur
+μ-loop s store n zero q body-at c b heads links z best₀ cur₀ best cur = cur
 
 mul-cur : tie.Need-mul-cur Inv-loop μ-loop
 mul-cur c =

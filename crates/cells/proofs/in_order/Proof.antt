@@ -1,45 +1,16 @@
--- `cells::in_order` meets its contract: first the length, then the cells, of which at first none is on a chain.
+-- `cells::in_order` meets its contract: at first no cell is on a chain.
 -- Assumes nothing.
 use Prim.Native.Nat.{ℕ}
-use borrow.Author.Needs.{needs}
-use denote.Ref.{now}
-use mathlib.Core.Path.{sym, _∙_}
-use lib.ListN.{length, length-replicate}
+use lib.ListN.{length-replicate}
 use Rattle.cells.proofs.Chaining.{chained-none}
-use Rattle.cells.proofs.Ordered.{order-length, cells-most, order-fault, order-held}
 use Rattle.cells.proofs.in_order.Statement.{statement}
 use Rattle.cells.proofs.in_order.Tie as tie
 
-count-requires : tie.Need-count-requires
-count-requires c κs = search needs
+in-order-by-requires : tie.Need-in-order-by-requires
+in-order-by-requires c κs = (c .before .before .before .before .pre, chained-none _ _ (length-replicate {A = ℕ} 4096 0))
 
 returns : tie.Need-returns
-returns c =
-    let g = c .before .before .before .before .args in
-    order-length (g .s) _ _ (c .before .count .ensures) (c .if1 .taken)
-
-order-by-requires : tie.Need-order-by-requires
-order-by-requires c κs =
-    let g = c .before .before .before .before .before .before .args in
-    let most = cells-most (g .s) _ (now (g .store)) (c .before .before .before .count .ensures) (c .before .before .if1 .left) in
-    (c .before .before .before .before .before .before .pre, (most, chained-none _ _ (length-replicate {A = ℕ} 4096 0)))
-
-both-requires : tie.Need-both-requires
-both-requires c κs = search needs
-
-returns-2 : tie.Need-returns-2
-returns-2 c =
-    let h = c .before .before .before .before .before in
-    let g = h .before .before .before .before .args in
-    let o = c .before .before .order-by .ensures in
-    order-held (g .s) _ _ (h .before .count .ensures) (h .if1 .left) (o .0) (o .1 .0) (sym (c .before .both .ensures) ∙ c .if2 .taken)
-
-returns-3 : tie.Need-returns-3
-returns-3 c =
-    let h = c .before .before .before .before .before in
-    let g = h .before .before .before .before .args in
-    let o = c .before .before .order-by .ensures in
-    order-fault (g .s) _ _ (h .before .count .ensures) (h .if1 .left) (o .0) (o .1 .0) (sym (c .before .both .ensures) ∙ c .if2 .left)
+returns c = c .in-order-by .ensures .0
 
 pub in-order-spec : {M : Type 1} → statement M
-in-order-spec = tie.close (tie.spec count-requires returns order-by-requires both-requires returns-2 returns-3)
+in-order-spec = tie.close (tie.spec in-order-by-requires returns)

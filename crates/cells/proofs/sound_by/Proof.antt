@@ -25,16 +25,17 @@ judge-requires c κs = c .before .before .before .before .before .pre .0
 
 cast-bodies : tie.Need-cast-bodies Inv-loop μ-loop
 cast-bodies c =
-    record {
-      fits = place-small (c .before .before .before .before .loop .inv) (c .before .before .row .ensures) (c .before .judge .ensures)
-          (λ j. c .before .before .before .before .before .before .shared-slice-known .given j .fits);
-    }
+    let o = c .before .before .before .before .before .before .shared-slice-known in
+    record { fits = place-small (c .before .before .before .before .loop .inv) (c .before .before .row .ensures) (c .before .judge .ensures) (λ j. o .given j .fits) }
 
 mul-bodies : tie.Need-mul-bodies Inv-loop μ-loop
 mul-bodies c = omega (arith, c .before .before .before .loop-test .taken, c .before .before .before .before .before .before .before .pre .1)
 
 element-write-bodies : tie.Need-element-write-bodies Inv-loop μ-loop
 element-write-bodies c = omega (arith, c .before .before .before .loop-test .taken, c .before .before .before .before .before .before .before .pre .1)
+
+is-sound-requires : tie.Need-is-sound-requires Inv-loop μ-loop
+is-sound-requires c κs = search needs
 
 both-requires : tie.Need-both-requires Inv-loop μ-loop
 both-requires c κs = search needs
@@ -47,13 +48,14 @@ loop-less c = search needs
 
 loop-again : tie.Need-loop-again Inv-loop μ-loop
 loop-again c =
-    let g = c .before .before .before in
-    sounding-turn (g .before .before .before .loop .inv) (g .before .row .ensures) (g .judge .ensures) (g .before .before .loop-test .taken) (c .both .ensures)
+    let u = c .before .before .before in
+    let v = u .before .before .before in
+    sounding-turn (v .loop .inv) (u .before .row .ensures) (u .judge .ensures) (u .before .before .loop-test .taken) (c .before .is-sound .ensures) (c .both .ensures)
 
 returns : tie.Need-returns Inv-loop μ-loop
 returns c = (sounding-sound (c .before .loop .inv) (c .loop-test .left), sounding-bodies (c .before .loop .inv) (c .loop-test .left))
 
 pub sound-by-spec : {M : Type 1} → statement M
 sound-by-spec =
-    tie.close (tie.spec Inv-loop μ-loop loop-holds row-requires judge-requires cast-bodies mul-bodies element-write-bodies both-requires add-i loop-less
-    loop-again returns)
+    tie.close (tie.spec Inv-loop μ-loop loop-holds row-requires judge-requires cast-bodies mul-bodies element-write-bodies is-sound-requires both-requires add-i
+    loop-less loop-again returns)

@@ -2,7 +2,7 @@
 -- Assumes nothing.
 use borrow.Author.Needs.{needs}
 use denote.Ref.{now}
-use Rattle.cut.proofs.Plans.{refused-count, small-count, made-count}
+use Rattle.cut.proofs.Plans.{refused-count, made-count}
 use Rattle.cut.proofs.count.Statement.{statement}
 use Rattle.cut.proofs.count.Tie as tie
 use Rattle.write.specs.Given.{lent}
@@ -23,19 +23,18 @@ returns c =
     refused-count (g .s) (g .p) (g .v) _ (g .body) _ (h .before .before .test-message .ensures) (h .before .header-size .ensures) (h .plan-of .ensures)
     (c .if1 .taken)
 
-moved-on-requires : tie.Need-moved-on-requires
-moved-on-requires c κs =
-    let h = c .before .before .before in
-    let g = h .before .before .before .before .before .before .before .before .before .args in
-    small-count (g .s) (g .p) (g .v) _ (g .body) _ (h .before .before .test-message .ensures) (h .before .header-size .ensures) (h .plan-of .ensures)
-    (c .if1 .left)
+sent-as-requires : tie.Need-sent-as-requires
+sent-as-requires c κs = search needs
+
+after-message-requires : tie.Need-after-message-requires
+after-message-requires c κs = search needs
 
 returns-2 : tie.Need-returns-2
 returns-2 c =
-    let h = c .before .before .before .before in
+    let h = c .before .before .before .before .before in
     let g = h .before .before .before .before .before .before .before .before .before .args in
     made-count (g .s) (g .p) (g .v) _ (g .body) _ (h .before .before .test-message .ensures) (h .before .header-size .ensures) (h .plan-of .ensures)
-    (c .before .if1 .left) (c .moved-on .ensures)
+    (c .before .before .if1 .left) (c .before .sent-as .ensures) (c .after-message .ensures)
 
 pub count-spec : {M : Type 1} → statement M
 count-spec =
@@ -45,5 +44,6 @@ count-spec =
     header-size-requires
     plan-of-requires
     returns
-    moved-on-requires
+    sent-as-requires
+    after-message-requires
     returns-2)

@@ -1,52 +1,32 @@
 -- `cut::counter_at` meets its contract, case by case.
 -- Assumes nothing.
 use borrow.Author.Needs.{needs}
-use native.Mathlib.Omega.{arith}
-use Rattle.cut.proofs.Counting.{counter-single, counter-fits, counter-over, counter-none}
+use Rattle.cut.proofs.Counting.{counter-is, counter-none}
 use Rattle.cut.proofs.counter_at.Statement.{statement}
 use Rattle.cut.proofs.counter_at.Tie as tie
 
-enum-known-next : tie.Need-enum-known-next
-enum-known-next c = search needs
-
-sub-left : tie.Need-sub-left
-sub-left c = search needs
-
-cast-left : tie.Need-cast-left
-cast-left c = search needs
-
 returns : tie.Need-returns
-returns c = counter-single (c .before .before .next .given .1) _ _ (c .if1 .taken)
+returns c = search needs
 
-cast-t11 : tie.Need-cast-t11
-cast-t11 c = search needs
+after-requires : tie.Need-after-requires
+after-requires c κs = search needs
 
-add-t12 : tie.Need-add-t12
-add-t12 c = search needs
-
-returns-2 : tie.Need-returns-2
-returns-2 c = counter-fits (c .before .before .before .next .given .1) _ _ (c .before .if1 .left) (omega arith)
+enum-known-c : tie.Need-enum-known-c
+enum-known-c c = search needs
 
 enum-told : tie.Need-enum-told
 enum-told c = search needs
 
-returns-3 : tie.Need-returns-3
-returns-3 c = counter-over (c .before .before .before .next .given .1) _ _ (c .before .if1 .left) (omega arith)
+returns-2 : tie.Need-returns-2
+returns-2 c =
+    let h = c .before .before .before in
+    rw (h .before .if1 .left) (counter-is _ _ (h .after .ensures) (c .before .c .given .1))
 
-returns-4 : tie.Need-returns-4
-returns-4 c = counter-none (c .enum-told .given .1) _ _
+returns-3 : tie.Need-returns-3
+returns-3 c =
+    let h = c .before .before in
+    rw (h .before .if1 .left) (counter-none _ _ (h .after .ensures) (c .enum-told .given .1))
 
 pub counter-at-spec : {M : Type 1} → statement M
 counter-at-spec =
-    tie.close
-    (tie.spec
-    enum-known-next
-    sub-left
-    cast-left
-    returns
-    cast-t11
-    add-t12
-    returns-2
-    enum-told
-    returns-3
-    returns-4)
+    tie.close (tie.spec returns after-requires enum-known-c enum-told returns-2 returns-3)

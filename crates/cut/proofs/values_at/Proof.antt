@@ -8,8 +8,8 @@ use Rattle.cut.specs.Inner.{valuesOf}
 flags-at-requires : tie.Need-flags-at-requires
 flags-at-requires c κs = search needs
 
-count-after-requires : tie.Need-count-after-requires
-count-after-requires c κs = search needs
+sequence-count-after-requires : tie.Need-sequence-count-after-requires
+sequence-count-after-requires c κs = search needs
 
 counter-at-requires : tie.Need-counter-at-requires
 counter-at-requires c κs = search needs
@@ -19,10 +19,11 @@ unfolding valuesOf
 returns c =
     λ j. record {
       flags = c .before .before .flags-at .ensures j;
-      count = record { 0 = c .before .count-after .ensures j };
+      «sequence_count» = c .before .sequence-count-after .ensures j;
       counter = record { 0 = c .counter-at .ensures j };
     }
 
 pub values-at-spec : {M : Type 1} → statement M
 values-at-spec =
-    tie.close (tie.spec flags-at-requires count-after-requires counter-at-requires returns)
+    tie.close
+    (tie.spec flags-at-requires sequence-count-after-requires counter-at-requires returns)

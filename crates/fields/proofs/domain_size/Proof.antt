@@ -51,7 +51,8 @@ loop-less : tie.Need-loop-less Inv-loop μ-loop
 loop-less c = search needs
 
 loop-again : tie.Need-loop-again Inv-loop μ-loop
-loop-again c = sizing-turn (c .before .before .before .before .before .before .loop .inv) (c .before .before .before .before .before .loop-test .taken) (c .before .before .before .within .ensures) (c .before .before .text-size .ensures) (c .before .plus2 .ensures) (c .plus3 .ensures)
+loop-again c = sizing-turn (c .before .before .before .before .before .before .loop .inv)
+    (c .before .before .before .before .before .loop-test .taken) (c .before .before .before .within .ensures) (c .before .before .text-size .ensures) (c .before .plus2 .ensures) (c .plus3 .ensures)
 
 returns : tie.Need-returns Inv-loop μ-loop
 returns c = sizing-done (c .before .loop .inv) (c .loop-test .left)

@@ -4,14 +4,14 @@ use borrow.Author.Needs.{needs}
 use Rattle.fields.proofs.number_if.Statement.{statement}
 use Rattle.fields.proofs.number_if.Tie as tie
 
-read-number-requires : tie.Need-read-number-requires
-read-number-requires c κs = search needs
+read-uinteger-requires : tie.Need-read-uinteger-requires
+read-uinteger-requires c κs = search needs
 
 returns : tie.Need-returns
-returns c = simp (c .before .if1 .taken) (c .read-number .ensures)
+returns c = simp (c .before .if1 .taken) (c .read-uinteger .ensures)
 
 returns-2 : tie.Need-returns-2
 returns-2 c = simp (c .if1 .left)
 
 pub number-if-spec : {M : Type 1} → statement M
-number-if-spec = tie.close (tie.spec read-number-requires returns returns-2)
+number-if-spec = tie.close (tie.spec read-uinteger-requires returns returns-2)

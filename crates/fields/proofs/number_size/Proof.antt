@@ -3,13 +3,13 @@
 use borrow.Author.Needs.{needs}
 use Rattle.fields.proofs.number_size.Statement.{statement}
 use Rattle.fields.proofs.number_size.Tie as tie
-use Rattle.fields.specs.Form.{numberOctets}
+use Rattle.fields.specs.Form.{uintegerOctets}
 
 size-requires : tie.Need-size-requires
 size-requires c κs = search needs
 
 returns : tie.Need-returns
-unfolding numberOctets
+unfolding uintegerOctets
 returns c = c .size .ensures
 
 pub number-size-spec : {M : Type 1} → statement M

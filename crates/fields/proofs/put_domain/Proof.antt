@@ -19,7 +19,9 @@ same-length c = search needs
 
 returns : tie.Need-returns
 unfolding domainPieces
-returns c = rw (length-split (now (c .before .before .before .before .before .before .before .before .before .before .before .args .lengths)) (now (c .before .before .before .before .before .before .before .before .before .before .before .args .x))) (lays-both (c .before .before .before .before .before .before .put-number .ensures) (c .before .before .put-parts .ensures))
+returns c = rw (length-split (now (c .before .before .before .before .before .before .before .before .before .before .before .args .lengths))
+    (now (c .before .before .before .before .before .before .before .before .before .before .before .args .x)))
+    (lays-both (c .before .before .before .before .before .before .put-number .ensures) (c .before .before .put-parts .ensures))
 
 pub put-domain-spec : {M : Type 1} → statement M
 put-domain-spec = tie.close (tie.spec put-number-requires put-parts-requires same-length returns)

@@ -5,8 +5,8 @@ use Rattle.fields.proofs.read_blob.Statement.{statement}
 use Rattle.fields.proofs.read_blob.Tie as tie
 use Rattle.fields.specs.Fields.{blob}
 
-read-number-requires : tie.Need-read-number-requires
-read-number-requires c κs = search needs
+read-uinteger-requires : tie.Need-read-uinteger-requires
+read-uinteger-requires c κs = search needs
 
 cast-length : tie.Need-cast-length
 cast-length c = search needs
@@ -19,8 +19,8 @@ cast-t9 c = search needs
 
 returns : tie.Need-returns
 unfolding blob
-returns c = simp (c .before .octets .ensures, c .before .before .before .before .read-number .ensures)
+returns c = simp (c .before .octets .ensures, c .before .before .before .before .read-uinteger .ensures)
 
 pub read-blob-spec : {M : Type 1} → statement M
 read-blob-spec =
-    tie.close (tie.spec read-number-requires cast-length octets-requires cast-t9 returns)
+    tie.close (tie.spec read-uinteger-requires cast-length octets-requires cast-t9 returns)

@@ -1,7 +1,7 @@
 -- `flat::counter_number` meets its contract, case by case.
 -- Assumes nothing.
 use borrow.Author.Needs.{needs}
-use Rattle.flat.specs.Told.{counterNumber}
+use Rattle.sender.specs.Sending.{counterNumber}
 use Rattle.flat.proofs.counter_number.Statement.{statement}
 use Rattle.flat.proofs.counter_number.Tie as tie
 

@@ -10,7 +10,7 @@ use Rattle.flat.proofs.next_sequence_count.Tie as tie
 
 returns : tie.Need-returns
 unfolding nextNumbers
-returns c = rw (lt-leb (c .before .args .seq) most16 (omega arith))
+returns c = rw (lt-leb (c .before .args .sequence-count) most16 (omega arith))
 
 cast-t4 : tie.Need-cast-t4
 cast-t4 c = search needs
@@ -23,7 +23,7 @@ cast-t6 c = search needs
 
 returns-2 : tie.Need-returns-2
 unfolding nextNumbers
-returns-2 c = rw (le-leb (c .before .before .before .args .seq) most16 (omega arith), c .before .next-sequence-count .ensures)
+returns-2 c = rw (le-leb (c .before .before .before .args .sequence-count) most16 (omega arith), c .before .next-sequence-count .ensures)
 
 pub next-sequence-count-spec : {M : Type 1} → statement M
 next-sequence-count-spec =

@@ -4,8 +4,7 @@ use mathlib.Core.Path.{ap, sym, _∙_}
 use Prim.Native.Nat.{ℕ}
 use mathlib.Core.List.{[], _∷_}
 use Rattle.arrival.specs.declared.Arrival.{Arrival}
-use Rattle.arrival.specs.Told.{said}
-use Rattle.flat_store.specs.Numbers.{saidNumbers}
+use Rattle.flat_store.specs.Numbers.{arrivalNumbers}
 use borrow.Author.Needs.{needs}
 use Rattle.flat_store.proofs.arrival_numbers.Statement.{statement}
 use Rattle.flat_store.proofs.arrival_numbers.Tie as tie
@@ -23,10 +22,10 @@ cast-t6 : tie.Need-cast-t6
 cast-t6 c = search needs
 
 returns : tie.Need-returns
-returns c = ap (λ (k : ℕ). 0 ∷ k ∷ []) (c .kind-number .ensures) ∙ sym (ap (λ (a : Arrival). saidNumbers (said a)) (c .before .before .a .given .1))
+returns c = ap (λ (k : ℕ). 0 ∷ k ∷ []) (c .kind-number .ensures) ∙ sym (ap (λ (a : Arrival). arrivalNumbers a) (c .before .before .a .given .1))
 
 returns-2 : tie.Need-returns-2
-returns-2 c = sym (ap (λ (a : Arrival). saidNumbers (said a)) (c .before .before .a2 .given .1))
+returns-2 c = sym (ap (λ (a : Arrival). arrivalNumbers a) (c .before .before .a2 .given .1))
 
 pub arrival-numbers-spec : {M : Type 1} → statement M
 arrival-numbers-spec =

@@ -2,8 +2,7 @@
 -- Assumes nothing.
 use mathlib.Core.Path.{ap, _∙_}
 use Rattle.join.specs.declared.Joined.{Joined}
-use Rattle.join.specs.Told.{said}
-use Rattle.flat_store.specs.Numbers.{saysNumbers}
+use Rattle.flat_store.specs.Numbers.{joinedNumbers}
 use borrow.Author.Needs.{needs}
 use Rattle.flat_store.proofs.join.Statement.{statement}
 use Rattle.flat_store.proofs.join.Tie as tie
@@ -21,7 +20,10 @@ same-length-2 : tie.Need-same-length-2
 same-length-2 c = search needs
 
 returns : tie.Need-returns
-returns c = (c .joined-numbers .ensures ∙ ap (λ (a : Joined). saysNumbers (said a)) (c .before .before .before .before .before .join .ensures .0), (c .before .before .before .before .before .join .ensures .1 .0, c .before .before .before .before .before .join .ensures .1 .1))
+returns c = (
+  c .joined-numbers .ensures ∙ ap (λ (a : Joined). joinedNumbers a) (c .before .before .before .before .before .join .ensures .0),
+  (c .before .before .before .before .before .join .ensures .1 .0, c .before .before .before .before .before .join .ensures .1 .1),
+)
 
 pub join-spec : {M : Type 1} → statement M
 join-spec =

@@ -20,7 +20,10 @@ same-length-2 : tie.Need-same-length-2
 same-length-2 c = search needs
 
 returns : tie.Need-returns
-returns c = (c .taken-numbers .ensures ∙ ap (λ (a : Taken). takenNumbers a) (c .before .before .before .before .before .take .ensures .0), (c .before .before .before .before .before .take .ensures .1 .0, c .before .before .before .before .before .take .ensures .1 .1))
+returns c = (
+  c .taken-numbers .ensures ∙ ap (λ (a : Taken). takenNumbers a) (c .before .before .before .before .before .take .ensures .0),
+  (c .before .before .before .before .before .take .ensures .1 .0, c .before .before .before .before .before .take .ensures .1 .1),
+)
 
 pub take-spec : {M : Type 1} → statement M
 take-spec =

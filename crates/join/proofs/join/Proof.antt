@@ -2,9 +2,8 @@
 -- Assumes nothing.
 use mathlib.Core.Path.{_∙_, refl}
 use denote.Ref.{now}
-use Rattle.opening.proofs.Gate.{opened-number, opened-gate, opened-cells}
+use Rattle.cells.proofs.Gate.{opened-number, opened-gate, opened-cells}
 use Rattle.join.proofs.Joins.{join-shut}
-use Rattle.join.proofs.Beside.{joins-within}
 use Rattle.join.proofs.Inner.{joins-open}
 use borrow.Author.Needs.{needs}
 use Rattle.join.proofs.join.Statement.{statement}
@@ -31,7 +30,7 @@ slice-aggregate-join-in : tie.Need-slice-aggregate-join-in
 slice-aggregate-join-in c = search needs
 
 join-in-requires : tie.Need-join-in-requires
-join-in-requires c κs = search needs
+join-in-requires c κs = refl
 
 same-length-2 : tie.Need-same-length-2
 same-length-2 c = search needs
@@ -44,7 +43,7 @@ returns-2 c =
     let g = c .before .before .before .before .before .before .before .before in
     joins-open _ 1024 _ _ (opened-gate _ 1024 _ (g .before .before .before .check .ensures) (g .if1 .left))
     (opened-cells _ 1024 _ (g .before .before .before .check .ensures) (g .if1 .left)) _
-    (joins-within _ _ _ _ _ _ refl (c .before .before .before .before .join-in .ensures))
+    (c .before .before .before .before .join-in .ensures)
 
 pub join-spec : {M : Type 1} → statement M
 join-spec =

@@ -3,8 +3,7 @@
 use Prim.Native.Nat.{ℕ}
 use mathlib.Core.Path.{refl, sym, _∙_}
 use lib.ListN.{length-replicate}
-use Rattle.recording.proofs.Beginning.{spare-begins}
-use Rattle.join_recording.proofs.Turns.{begins-zero, begins-order, begins-cells}
+use Rattle.join_recording.proofs.Turns.{begins-zero, begins-order, begins-cells, begins-spare}
 use borrow.Author.Needs.{needs}
 use Rattle.join_recording.proofs.join.Statement.{statement}
 use Rattle.join_recording.proofs.join.Tie as tie
@@ -16,13 +15,13 @@ slice-aggregate-run-2 : tie.Need-slice-aggregate-run-2
 slice-aggregate-run-2 c = sym (length-replicate {A = ℕ} 1024 0)
 
 slice-aggregate-run-3 : tie.Need-slice-aggregate-run-3
-slice-aggregate-run-3 c = sym (length-replicate {A = ℕ} 131072 0)
+slice-aggregate-run-3 c = sym (length-replicate {A = ℕ} 196608 0)
 
 slice-aggregate-run-4 : tie.Need-slice-aggregate-run-4
-slice-aggregate-run-4 c = sym (length-replicate {A = ℕ} 65542 0)
+slice-aggregate-run-4 c = sym (length-replicate {A = ℕ} 262144 0)
 
 run-requires : tie.Need-run-requires
-run-requires c κs = (begins-zero refl, (begins-order refl refl, (begins-cells refl refl, spare-begins refl)))
+run-requires c κs = (begins-zero refl, (begins-order refl refl, (begins-cells refl refl, begins-spare refl)))
 
 slice-aggregate-end : tie.Need-slice-aggregate-end
 slice-aggregate-end c = sym (c .before .before .before .before .run .kept .1 .0 ∙ length-replicate {A = ℕ} 32768 0)

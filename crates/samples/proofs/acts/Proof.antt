@@ -52,4 +52,5 @@ returns : tie.Need-returns Inv-loop μ-loop
 returns c = search needs
 
 pub acts-spec : {M : Type 1} → statement M
-acts-spec = tie.close (tie.spec Inv-loop μ-loop loop-holds octet-requires octet-after-requires octet-after-requires-2 octet-after-requires-3 act-requires within-requires sub-left loop-less loop-again same-length same-length-2 returns)
+acts-spec = tie.close (tie.spec Inv-loop μ-loop loop-holds octet-requires octet-after-requires octet-after-requires-2 octet-after-requires-3
+    act-requires within-requires sub-left loop-less loop-again same-length same-length-2 returns)

@@ -15,17 +15,17 @@ use Rattle.steps.proofs.join_behind.Tie as tie
 add-to : tie.Need-add-to
 add-to c = search needs
 
-sub-join-on : tie.Need-sub-join-on
-sub-join-on c = search needs
+sub-join-in : tie.Need-sub-join-in
+sub-join-in c = search needs
 
-part-join-on-start : tie.Need-part-join-on-start
-part-join-on-start c = search needs
+part-join-in-start : tie.Need-part-join-in-start
+part-join-in-start c = search needs
 
-part-join-on-end : tie.Need-part-join-on-end
-part-join-on-end c = search needs
+part-join-in-end : tie.Need-part-join-in-end
+part-join-in-end c = search needs
 
-join-on-requires : tie.Need-join-on-requires
-join-on-requires c κs = c .before .before .before .before .before .before .pre .0
+join-in-requires : tie.Need-join-in-requires
+join-in-requires c κs = c .before .before .before .before .before .before .pre .0
 
 same-length : tie.Need-same-length
 same-length c = search needs
@@ -36,7 +36,7 @@ same-length-2 c = search needs
 returns : tie.Need-returns
 returns c =
     let g = c .before .before .before .before .before .before .before .before .before .before .before in
-    let h = c .before .before .before .before .join-on .ensures in
+    let h = c .before .before .before .before .join-in .ensures in
     let k = g .pre .1 in
     let l = lent-long (g .args .s) (length (now (g .args .zero))) (now (g .args .store)) (now (g .args .p)) (now (g .args .out)) (k .1 .1) in (
       h .0 ∙ ap joinedOf (joining-open _ _ _ _ (k .0) (k .1 .0) _ ∙ ap
@@ -49,4 +49,4 @@ returns c =
     )
 
 pub join-behind-spec : {M : Type 1} → statement M
-join-behind-spec = tie.close (tie.spec add-to sub-join-on part-join-on-start part-join-on-end join-on-requires same-length same-length-2 returns)
+join-behind-spec = tie.close (tie.spec add-to sub-join-in part-join-in-start part-join-in-end join-in-requires same-length same-length-2 returns)

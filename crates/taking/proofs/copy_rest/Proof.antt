@@ -1,31 +1,48 @@
--- `taking::copy_rest` meets its contract. The loop's invariant: what is left of the run, laid behind what is laid, is the whole.
+-- `taking::copy_rest` meets its contract. The loop's invariant: what is left of the run, laid after what is laid, is the whole.
 -- Assumes nothing.
+use Prim.Native.Nat.{suc, _+_}
+use mathlib.Core.Path.{_≡_}
 use denote.Ref.{now}
 use lib.ListN.{length}
 use native.Mathlib.Omega.{arith}
 use Rattle.packet.specs.Key.{keyOf}
 use Rattle.packet.specs.Reading.{readPacket}
+use Rattle.cells.specs.Messages.{top}
 use Rattle.taking.specs.Follow.{placesFrom}
 use Rattle.taking.proofs.Pieces.{piece-found}
+use Rattle.taking.proofs.Past.{past-none}
 use Rattle.taking.proofs.Bodies.{Copying, copying-inside, copying-first, copying-ended, copying-room, copying-long, copying-last, copying-turn}
 use borrow.Author.Needs.{needs}
 use Rattle.taking.proofs.copy_rest.Statement.{statement}
 use Rattle.taking.proofs.copy_rest.Tie as tie
 
 abbrev Inv-loop : tie.InvT-loop
-Inv-loop s store n zero q stop start out₀ place chained heads links z c₀ left₀ at₀ out c left at =
-    Copying s (length zero) store n (keyOf q (readPacket s q)) (placesFrom s (length zero) store n (keyOf q (readPacket s q)) start) place out₀ start out c
-    left at
+Inv-loop s store n zero q bodyAt out₀ place chained heads links z c₀ left₀ steps₀ at₀ out c left steps at =
+    Copying suc top s (length zero) store n (keyOf q (readPacket s q))
+    (placesFrom suc top s (length zero) store n (keyOf q (readPacket s q)) (suc (c₀ .0))) place out₀ (c₀ .0) out (c .0) left steps at
+    × (c .0 + left ≡ top)
 
 abbrev μ-loop : tie.MeasureT-loop
-μ-loop s store n zero q stop start out₀ place chained heads links z c₀ left₀ at₀ out c left at = left
+μ-loop s store n zero q bodyAt out₀ place chained heads links z c₀ left₀ steps₀ at₀ out c left steps at = left
+
+further-requires : tie.Need-further-requires Inv-loop μ-loop
+further-requires c κs = search needs
 
 loop-holds : tie.Need-loop-holds Inv-loop μ-loop
-loop-holds c = copying-first _ _ _ _ _ _ _ _ (c .before .before .before .before .pre .1 .1 .0) (c .before .before .before .before .pre .1 .1 .1)
+loop-holds c = (
+  copying-first _ _ _ _ _ _ _ _ _ _ _ (c .further .ensures) (omega (arith, c .further .ensures)) (c .before .before .before .before .before .pre .1 .1),
+  omega (arith, c .further .ensures),
+)
+
+next-requires : tie.Need-next-requires Inv-loop μ-loop
+next-requires c κs = omega (arith, c .before .loop .inv .1, c .loop-test .taken)
+
+add-steps : tie.Need-add-steps Inv-loop μ-loop
+add-steps c = omega (arith, c .before .before .loop .inv .0 .count, c .before .loop-test .taken)
 
 find-by-requires : tie.Need-find-by-requires Inv-loop μ-loop
 find-by-requires c κs =
-    let g = c .before .before .before .before .before .before .pre in
+    let g = c .before .before .before .before .before .before .before .before .pre in
     (g .0 .1, (g .1 .0, g .0 .0))
 
 row-requires : tie.Need-row-requires Inv-loop μ-loop
@@ -36,65 +53,74 @@ piece-with-requires c κs = search needs
 
 put-body-requires : tie.Need-put-body-requires Inv-loop μ-loop
 put-body-requires c κs =
-    let g = c .before .before .before in
-    copying-room (g .before .before .loop .inv) (g .before .loop-test .taken) (g .find-by .ensures) (c .before .before .row .ensures)
-    (piece-found _ _ _ _ _ _ _ (g .before .before .before .before .before .before .before .pre .1 .0)
-    (λ i. g .before .before .before .before .before .before .shared-slice-known .given i .fits) (g .find-by .ensures)
-    (copying-inside (g .before .before .loop .inv) (g .before .loop-test .taken) (g .find-by .ensures)) (c .before .before .row .ensures)
-    (c .before .piece-with .ensures))
-
-add-result : tie.Need-add-result Inv-loop μ-loop
-add-result c = omega (arith, c .before .before .before .before .before .before .before .before .before .before .loop .inv .count)
+    let u = c .before .before .before in
+    let v = u .before .before .before in
+    let w = v .before .before .before .before .before in
+    let h = u .find-by .ensures in
+    let r = c .before .before .row .ensures in
+    let d = u .before .next .ensures in
+    let i = v .loop .inv .0 in
+    let l = u .before .before .loop-test .taken in
+    let p = piece-found _ _ _ _ _ _ _ (w .before .pre .1 .0) (λ j. w .shared-slice-known .given j .fits) h (copying-inside i l d h) r (c .before .piece-with .ensures) in
+    copying-room i l d h r p
 
 same-length : tie.Need-same-length Inv-loop μ-loop
 same-length c =
-    let g = c .before .before .before .before .before .before .before in
-    let h = g .before .before in
-    let k = c .before .before .before .before in
-    copying-long (h .before .loop .inv) (h .loop-test .taken) (g .before .find-by .ensures) (g .row .ensures)
-    (piece-found _ _ _ _ _ _ _ (h .before .before .before .before .before .before .pre .1 .0)
-    (λ i. h .before .before .before .before .before .shared-slice-known .given i .fits) (g .before .find-by .ensures)
-    (copying-inside (h .before .loop .inv) (h .loop-test .taken) (g .before .find-by .ensures)) (g .row .ensures) (k .before .before .piece-with .ensures))
-    (k .put-body .ensures .0) (k .put-body .ensures .1)
+    let u = c .before .before .before .before in
+    let v = u .before .before .before in
+    let w = v .before .before .before in
+    let x = w .before .before .before .before .before .before in
+    let h = v .before .find-by .ensures in
+    let r = v .row .ensures in
+    let d = v .before .before .next .ensures in
+    let i = w .before .loop .inv .0 in
+    let l = w .loop-test .taken in
+    let p = piece-found _ _ _ _ _ _ _ (x .before .pre .1 .0) (λ j. x .shared-slice-known .given j .fits) h (copying-inside i l d h) r (u .before .before .piece-with .ensures) in
+    copying-long i l d h r p (u .put-body .ensures .0) (u .put-body .ensures .1)
 
 returns : tie.Need-returns Inv-loop μ-loop
 returns c =
-    let g = c .before .before .before .before .before .before .before in
-    let h = g .before .before in
-    let k = c .before .before .before .before in
-    copying-last (h .before .loop .inv) (h .loop-test .taken) (g .before .find-by .ensures) (g .row .ensures)
-    (piece-found _ _ _ _ _ _ _ (h .before .before .before .before .before .before .pre .1 .0)
-    (λ i. h .before .before .before .before .before .shared-slice-known .given i .fits) (g .before .find-by .ensures)
-    (copying-inside (h .before .loop .inv) (h .loop-test .taken) (g .before .find-by .ensures)) (g .row .ensures) (k .before .before .piece-with .ensures))
-    (k .put-body .ensures .0) (k .put-body .ensures .1) (c .if1 .taken)
-
-add-c : tie.Need-add-c Inv-loop μ-loop
-add-c c = omega (arith, c .before .before .before .before .before .before .before .before .before .before .loop .inv .count)
+    let u = c .before .before .before .before in
+    let v = u .before .before .before in
+    let w = v .before .before .before in
+    let x = w .before .before .before .before .before .before in
+    let h = v .before .find-by .ensures in
+    let r = v .row .ensures in
+    let d = v .before .before .next .ensures in
+    let i = w .before .loop .inv .0 in
+    let l = w .loop-test .taken in
+    let p = piece-found _ _ _ _ _ _ _ (x .before .pre .1 .0) (λ j. x .shared-slice-known .given j .fits) h (copying-inside i l d h) r (u .before .before .piece-with .ensures) in
+    copying-last i l d h r p (u .put-body .ensures .0) (u .put-body .ensures .1) (c .if1 .taken)
 
 sub-left : tie.Need-sub-left Inv-loop μ-loop
-sub-left c = c .before .before .before .before .before .before .before .before .before .loop-test .taken
+sub-left c = c .before .before .before .before .before .before .before .before .before .before .loop-test .taken
 
 loop-less : tie.Need-loop-less Inv-loop μ-loop
-loop-less c = omega (arith, c .before .before .before .before .before .before .before .before .before .loop-test .taken)
+loop-less c = omega (arith, c .before .before .before .before .before .before .before .before .before .before .loop-test .taken)
 
 loop-again : tie.Need-loop-again Inv-loop μ-loop
 loop-again c =
-    let g = c .before .before .before .before .before .before .before in
-    let h = g .before .before in
-    let k = c .before .before .before .before in
-    copying-turn (h .before .loop .inv) (h .loop-test .taken) (g .before .find-by .ensures) (g .row .ensures)
-    (piece-found _ _ _ _ _ _ _ (h .before .before .before .before .before .before .pre .1 .0)
-    (λ i. h .before .before .before .before .before .shared-slice-known .given i .fits) (g .before .find-by .ensures)
-    (copying-inside (h .before .loop .inv) (h .loop-test .taken) (g .before .find-by .ensures)) (g .row .ensures) (k .before .before .piece-with .ensures))
-    (k .put-body .ensures .0) (k .put-body .ensures .1) (c .if1 .left)
+    let u = c .before .before .before .before in
+    let v = u .before .before .before in
+    let w = v .before .before .before in
+    let x = w .before .before .before .before .before .before in
+    let h = v .before .find-by .ensures in
+    let r = v .row .ensures in
+    let d = v .before .before .next .ensures in
+    let i = w .before .loop .inv .0 in
+    let l = w .loop-test .taken in
+    let p = piece-found _ _ _ _ _ _ _ (x .before .pre .1 .0) (λ j. x .shared-slice-known .given j .fits) h (copying-inside i l d h) r (u .before .before .piece-with .ensures) in
+    (copying-turn i l d h r p (u .put-body .ensures .0) (u .put-body .ensures .1) (c .if1 .left), omega (arith, w .before .loop .inv .1, l, d))
 
 same-length-2 : tie.Need-same-length-2 Inv-loop μ-loop
-same-length-2 c = c .before .loop .inv .long
+same-length-2 c = c .before .loop .inv .0 .long
 
 returns-2 : tie.Need-returns-2 Inv-loop μ-loop
-returns-2 c = absurd (copying-ended (c .before .loop .inv) (c .loop-test .left))
+returns-2 c =
+    absurd (copying-ended (c .before .loop .inv .0) (c .loop-test .left)
+    (past-none _ _ _ (λ i. c .before .before .before .before .before .before .shared-slice-known .given i .fits) _ _ _ (omega (arith, c .before .loop .inv .1, c .loop-test .left)) _))
 
 pub copy-rest-spec : {M : Type 1} → statement M
 copy-rest-spec =
-    tie.close (tie.spec Inv-loop μ-loop loop-holds find-by-requires row-requires piece-with-requires put-body-requires add-result same-length returns add-c
-    sub-left loop-less loop-again same-length-2 returns-2)
+    tie.close (tie.spec Inv-loop μ-loop further-requires loop-holds next-requires add-steps find-by-requires row-requires piece-with-requires
+    put-body-requires same-length returns sub-left loop-less loop-again same-length-2 returns-2)

@@ -21,22 +21,19 @@ copy-message-requires c κs =
 
 add-span : tie.Need-add-span
 add-span c =
-    let g = c .before .before .before .before .before .before .before .before .before .before in
+    let g = c .before .before .before .before .before .before .before .before .before .before .before in
+    let h = g .pre .1 in
     omega (
       arith,
-      draw-header _ _ _ (now (g .before .args .out)) _ (g .before .args .i) (g .before .args .b) (g .before .pre .1 .0)
-          (g .before .pre .1 .1 .0 .0) (g .before .pre .1 .1 .0 .1) (g .before .pre .1 .1 .1) (λ j. g .slice-known .given j .fits)
-          (c .before .before .before .before .before .copy-message .ensures .0),
+      draw-header _ _ _ (now (g .args .out)) _ (g .args .i) (g .args .b) (h .0) (h .1 .0 .0) (h .1 .0 .1) (h .1 .1)
+          (λ j. c .before .before .before .before .before .before .before .before .before .before .slice-known .given j .fits) (c .before .before .before .before .before .copy-message .ensures .0),
     )
 
 span-requires : tie.Need-span-requires
 span-requires c κs = search needs
 
-cast-clear : tie.Need-cast-clear
-cast-clear c = search needs
-
 clear-requires : tie.Need-clear-requires
-clear-requires c κs = c .before .before .before .before .before .before .before .before .before .before .before .before .before .before .pre .0 .1
+clear-requires c κs = c .before .before .before .before .before .before .before .before .before .before .before .before .before .pre .0 .1
 
 same-length : tie.Need-same-length
 same-length c = search needs
@@ -46,16 +43,19 @@ same-length-2 c = search needs
 
 returns : tie.Need-returns
 returns c =
-    let g = c .before .before .before .before .before .before .before .before .before .before .before .before .before .before .before .before in
-    let h = c .before .before .before .before .before .before .before .before .before .before .before .copy-message .ensures in
-    let k = g .before .pre .1 in (
-      draw-told _ _ _ (now (g .before .args .out)) _ _ _ (k .0) (k .1 .0 .0) (k .1 .0 .1) (k .1 .1) (h .0),
+    let u = c .before .before .before .before in
+    let v = u .before .before .before .before .before .before in
+    let w = v .before .before .before .before .before in
+    let g = w .before in
+    let h = v .copy-message .ensures in
+    let k = g .pre .1 in (
+      draw-told _ _ _ (now (g .args .out)) _ _ _ (k .0) (k .1 .0 .0) (k .1 .0 .1) (k .1 .1) (h .0),
       (
         draw-out _ _ _ _ _ _ _ (k .0) (k .1 .0 .0) (k .1 .0 .1) (k .1 .1) (h .1),
-        draw-store _ _ _ _ _ _ _ (k .0) (k .1 .0 .0) (k .1 .0 .1) (k .1 .1)
-            (λ j. g .slice-known .given j .fits) (h .0) (h .1) (c .before .before .before .before .before .span .ensures) (c .before .before .clear .ensures),
+        draw-store _ _ _ _ _ _ _ (k .0) (k .1 .0 .0) (k .1 .0 .1) (k .1 .1) (λ j. w .slice-known .given j .fits) (h .0) (h .1) (u .span .ensures)
+            (c .before .before .clear .ensures),
       ),
     )
 
 pub draw-spec : {M : Type 1} → statement M
-draw-spec = tie.close (tie.spec copy-message-requires add-span span-requires cast-clear clear-requires same-length same-length-2 returns)
+draw-spec = tie.close (tie.spec copy-message-requires add-span span-requires clear-requires same-length same-length-2 returns)

@@ -1,18 +1,15 @@
--- `taking::take_by` meets its contract: 20, then 21, and else the message is drawn.
+-- `taking::take_by` meets its contract: without a last segment no message is complete, and else the chains lent lead through all cells.
 -- Assumes nothing.
-use native.Mathlib.Omega.{arith}
 use mathlib.Core.Path.{ap, sym, _∙_}
-use denote.Ref.{now}
-use lib.ListN.{length}
 use Rattle.taking.specs.Told.{takenOf}
 use Rattle.taking.specs.Taking.{outWith, storeLess}
-use Rattle.taking.proofs.Takings.{cell-is, taking-none, taking-least, taking-below, taking-body, taking-short, taking-room}
+use Rattle.taking.proofs.Takings.{took-nothing}
 use borrow.Author.Needs.{needs}
 use Rattle.taking.proofs.take_by.Statement.{statement}
 use Rattle.taking.proofs.take_by.Tie as tie
 
-pick-message-requires : tie.Need-pick-message-requires
-pick-message-requires c κs = c .before .before .before .before .pre
+lowest-last-requires : tie.Need-lowest-last-requires
+lowest-last-requires c κs = search needs
 
 not-taken-requires : tie.Need-not-taken-requires
 not-taken-requires c κs = search needs
@@ -23,123 +20,23 @@ same-length c = search needs
 returns : tie.Need-returns
 unfolding outWith storeLess
 returns c =
-    let e = taking-none _ _ _ _ (c .before .before .before .pick-message .ensures) _ (c .before .if1 .taken) in
+    let e = took-nothing _ _ _ _ _ (c .before .before .lowest-last .ensures) (c .before .if1 .taken) in
     (c .not-taken .ensures ∙ ap takenOf (sym e), (ap (outWith _) (sym e), ap (storeLess _ _ _ _) (sym e)))
 
-sub-b : tie.Need-sub-b
-sub-b c = taking-least _ _ _ _ (c .before .before .before .pick-message .ensures) (c .before .if1 .left)
-
-row-requires : tie.Need-row-requires
-row-requires c κs = search needs
-
-packet-in-requires : tie.Need-packet-in-requires
-packet-in-requires c κs = search needs
-
-read-requires : tie.Need-read-requires
-read-requires c κs = search needs
-
-not-taken-requires-2 : tie.Need-not-taken-requires-2
-not-taken-requires-2 c κs = search needs
+take-lowest-requires : tie.Need-take-lowest-requires
+take-lowest-requires c κs =
+    let g = c .before .before .before .before .before .before .before .before .pre in
+    ((λ e. g .1), g .0)
 
 same-length-2 : tie.Need-same-length-2
 same-length-2 c = search needs
 
-returns-2 : tie.Need-returns-2
-unfolding outWith storeLess
-returns-2 c =
-    let g = c .before .before .before .before .before .before .before .before .before .before .before .before .before in
-    let h = c .before .before .before in
-    let k = g .before .args in
-    let e = taking-short _ _ _ _ (h .before .before .before .before .before .before .pick-message .ensures) (h .before .before .before .before .if1 .left)
-    (λ i. g .slice-known .given i .fits) (h .before .row .ensures) (h .packet-in .ensures) (c .before .before .read .ensures .0) (length (now (k .out)))
-    (omega (arith, c .before .if2 .taken)) in (
-      c .not-taken2 .ensures ∙ ap takenOf (sym e),
-      (
-        ap (outWith (now (k .out))) (sym e),
-        ap (storeLess (k .s) (length (now (k .zero))) (now (k .store)) (k .n)) (sym e),
-      ),
-    )
-
-not-taken-requires-3 : tie.Need-not-taken-requires-3
-not-taken-requires-3 c κs = search needs
-
 same-length-3 : tie.Need-same-length-3
 same-length-3 c = search needs
 
-returns-3 : tie.Need-returns-3
-unfolding outWith storeLess
-returns-3 c =
-    let g = c .before .before .before .before .before .before .before .before .before .before .before .before .before .before .before in
-    let h = c .before .before .before .before in
-    let k = g .before .args in
-    let e = taking-short _ _ _ _ (h .before .before .before .before .before .before .before .pick-message .ensures)
-    (h .before .before .before .before .before .if1 .left) (λ i. g .slice-known .given i .fits) (h .before .before .row .ensures)
-    (h .before .packet-in .ensures) (h .read .ensures .0) (length (now (k .out)))
-    (omega (arith, c .before .before .before .if2 .left, c .before .if3 .taken)) in (
-      c .not-taken3 .ensures ∙ ap takenOf (sym e),
-      (
-        ap (outWith (now (k .out))) (sym e),
-        ap (storeLess (k .s) (length (now (k .zero))) (now (k .store)) (k .n)) (sym e),
-      ),
-    )
-
-sub-if4 : tie.Need-sub-if4
-sub-if4 c = search needs
-
-not-taken-requires-4 : tie.Need-not-taken-requires-4
-not-taken-requires-4 c κs = search needs
-
-same-length-4 : tie.Need-same-length-4
-same-length-4 c = search needs
-
-returns-4 : tie.Need-returns-4
-unfolding outWith storeLess
-returns-4 c =
-    let g = c .before .before .before .before .before .before .before .before .before .before .before .before .before .before .before .before .before in
-    let h = c .before .before .before .before .before in
-    let k = g .before .args in
-    let e = taking-short _ _ _ _ (h .before .before .before .before .before .before .before .before .pick-message .ensures)
-    (h .before .before .before .before .before .before .if1 .left) (λ i. g .slice-known .given i .fits) (h .before .before .before .row .ensures)
-    (h .before .before .packet-in .ensures) (h .before .read .ensures .0) (length (now (k .out)))
-    (omega (arith, h .if2 .left, c .before .before .before .if3 .left, c .before .if4 .taken)) in (
-      c .not-taken4 .ensures ∙ ap takenOf (sym e),
-      (
-        ap (outWith (now (k .out))) (sym e),
-        ap (storeLess (k .s) (length (now (k .zero))) (now (k .store)) (k .n)) (sym e),
-      ),
-    )
-
-draw-requires : tie.Need-draw-requires
-draw-requires c κs =
-    let g = c .before .before .before .before .before .before .before .before .before .before .before .before in
-    let h = c .before .before .before .before .before .before in
-    let k = g .before .before .pick-message .ensures in (
-      g .before .before .before .before .before .before .before .pre,
-      (
-        cell-is _ _ _ _ k,
-        (
-          (taking-below _ _ _ _ k (g .if1 .left), taking-body _ _ _ _ k (g .if1 .left)),
-          taking-room _ _ _ _ k (g .if1 .left)
-              (λ i. g .before .before .before .before .before .before .slice-known .given i .fits) (h .before .before .before .row .ensures)
-              (h .before .before .packet-in .ensures) (h .before .read .ensures .0) _
-              (omega (arith, h .if2 .left, c .before .before .before .before .if3 .left, c .before .before .if4 .left)),
-        ),
-      ),
-    )
-
-same-length-5 : tie.Need-same-length-5
-same-length-5 c = search needs
-
-same-length-6 : tie.Need-same-length-6
-same-length-6 c = search needs
-
-returns-5 : tie.Need-returns-5
-returns-5 c =
-    let g = c .before .before .before .before .draw .ensures in
-    (g .0, (g .1 .0, g .1 .1))
+returns-2 : tie.Need-returns-2
+returns-2 c = search needs
 
 pub take-by-spec : {M : Type 1} → statement M
 take-by-spec =
-    tie.close (tie.spec pick-message-requires not-taken-requires same-length returns sub-b row-requires packet-in-requires read-requires not-taken-requires-2
-    same-length-2 returns-2 not-taken-requires-3 same-length-3 returns-3 sub-if4 not-taken-requires-4 same-length-4 returns-4 draw-requires same-length-5
-    same-length-6 returns-5)
+    tie.close (tie.spec lowest-last-requires not-taken-requires same-length returns take-lowest-requires same-length-2 same-length-3 returns-2)

@@ -16,8 +16,8 @@ order-by-requires c κs = (
   ),
 )
 
-take-by-requires : tie.Need-take-by-requires
-take-by-requires c κs = (
+take-lowest-requires : tie.Need-take-lowest-requires
+take-lowest-requires c κs = (
   (λ e. c .before .before .before .before .order-by .ensures .1 .1),
   c .before .before .before .before .before .before .before .before .before .before .before .pre .0,
 )
@@ -32,4 +32,4 @@ returns : tie.Need-returns
 returns c = search needs
 
 pub take-chained-spec : {M : Type 1} → statement M
-take-chained-spec = tie.close (tie.spec order-by-requires take-by-requires same-length same-length-2 returns)
+take-chained-spec = tie.close (tie.spec order-by-requires take-lowest-requires same-length same-length-2 returns)

@@ -7,8 +7,8 @@ use borrow.Author.Needs.{needs}
 use Rattle.taking.proofs.take_plain.Statement.{statement}
 use Rattle.taking.proofs.take_plain.Tie as tie
 
-take-by-requires : tie.Need-take-by-requires
-take-by-requires c κs = ((λ e. let z : _≡_ {A = ℕ} 0 1 = cc in absurd (omega arith)), c .before .before .before .before .before .before .before .pre)
+take-lowest-requires : tie.Need-take-lowest-requires
+take-lowest-requires c κs = ((λ e. let z : _≡_ {A = ℕ} 0 1 = cc in absurd (omega arith)), c .before .before .before .before .before .before .before .pre)
 
 same-length : tie.Need-same-length
 same-length c = search needs
@@ -20,4 +20,4 @@ returns : tie.Need-returns
 returns c = search needs
 
 pub take-plain-spec : {M : Type 1} → statement M
-take-plain-spec = tie.close (tie.spec take-by-requires same-length same-length-2 returns)
+take-plain-spec = tie.close (tie.spec take-lowest-requires same-length same-length-2 returns)

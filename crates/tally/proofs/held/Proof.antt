@@ -1,6 +1,7 @@
 -- `tally::held` meets its contract: what is judged of a row tells it.
 -- Assumes nothing.
 use borrow.Author.Needs.{needs}
+use mathlib.Core.Path.{_∙_}
 use denote.Ref.{now}
 use lib.ListN.{length}
 use Rattle.cells.specs.Rows.{cellOf}
@@ -12,8 +13,12 @@ use Rattle.tally.proofs.held.Tie as tie
 judge-requires : tie.Need-judge-requires
 judge-requires c κs = search needs
 
+is-held-requires : tie.Need-is-held-requires
+is-held-requires c κs = search needs
+
 returns : tie.Need-returns
-returns c = held-told (bodyIn _ (length (now (c .before .before .before .before .args .zero))) _) (cellOf _ _ _) (c .before .judge .ensures)
+returns c =
+    c .is-held .ensures ∙ held-told (bodyIn _ (length (now (c .before .before .before .before .args .zero))) _) (cellOf _ _ _) (c .before .judge .ensures)
 
 pub held-spec : {M : Type 1} → statement M
-held-spec = tie.close (tie.spec judge-requires returns)
+held-spec = tie.close (tie.spec judge-requires is-held-requires returns)

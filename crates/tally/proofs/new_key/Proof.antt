@@ -16,10 +16,10 @@ use Rattle.tally.proofs.new_key.Statement.{statement}
 use Rattle.tally.proofs.new_key.Tie as tie
 
 abbrev Inv-loop : tie.InvT-loop
-Inv-loop s store n zero q stop z is-new₀ j₀ is-new j = Tested (λ k. keyed (keyOf q (readPacket s q)) (cellAt s (length zero) store k)) n is-new j
+Inv-loop s store n zero q body-at z is-new₀ j₀ is-new j = Tested (λ k. keyed (keyOf q (readPacket s q)) (cellAt s (length zero) store k)) n is-new j
 
 abbrev μ-loop : tie.MeasureT-loop
-μ-loop s store n zero q stop z is-new₀ j₀ is-new j = n - j
+μ-loop s store n zero q body-at z is-new₀ j₀ is-new j = n - j
 
 loop-holds : tie.Need-loop-holds Inv-loop μ-loop
 loop-holds c = tested-first _ _

@@ -33,13 +33,25 @@ returns : tie.Need-returns Inv-loop μ-loop
 returns c = search needs
 
 add-done : tie.Need-add-done Inv-loop μ-loop
-add-done c = omega (arith, c .before .write-some .ensures, length-take (length (now (c .before .before .before .before .before .before .args .x)) - c .before .before .before .before .loop .done) (drop (c .before .before .before .before .loop .done) (now (c .before .before .before .before .before .before .args .x))), length-drop (c .before .before .before .before .loop .done) (now (c .before .before .before .before .before .before .args .x)))
+add-done c =
+    let l = c .before .before .before .before in
+    let x = now (l .before .before .args .x) in
+    let d = l .loop .done in
+    omega (arith, c .before .write-some .ensures, length-take (length x - d) (drop d x), length-drop d x)
 
 loop-less : tie.Need-loop-less Inv-loop μ-loop
-loop-less c = omega (arith, c .before .write-some .ensures, length-take (length (now (c .before .before .before .before .before .before .args .x)) - c .before .before .before .before .loop .done) (drop (c .before .before .before .before .loop .done) (now (c .before .before .before .before .before .before .args .x))), length-drop (c .before .before .before .before .loop .done) (now (c .before .before .before .before .before .before .args .x)))
+loop-less c =
+    let l = c .before .before .before .before in
+    let x = now (l .before .before .args .x) in
+    let d = l .loop .done in
+    omega (arith, c .before .write-some .ensures, length-take (length x - d) (drop d x), length-drop d x)
 
 loop-again : tie.Need-loop-again Inv-loop μ-loop
-loop-again c = omega (arith, c .before .write-some .ensures, length-take (length (now (c .before .before .before .before .before .before .args .x)) - c .before .before .before .before .loop .done) (drop (c .before .before .before .before .loop .done) (now (c .before .before .before .before .before .before .args .x))), length-drop (c .before .before .before .before .loop .done) (now (c .before .before .before .before .before .before .args .x)))
+loop-again c =
+    let l = c .before .before .before .before in
+    let x = now (l .before .before .args .x) in
+    let d = l .loop .done in
+    omega (arith, c .before .write-some .ensures, length-take (length x - d) (drop d x), length-drop d x)
 
 returns-2 : tie.Need-returns-2 Inv-loop μ-loop
 returns-2 c = search needs

@@ -18,8 +18,8 @@ loop-holds c = search needs
 line-end-requires : tie.Need-line-end-requires Inv-loop μ-loop
 line-end-requires c κs = search needs
 
-behind-requires : tie.Need-behind-requires Inv-loop μ-loop
-behind-requires c κs = search needs
+after-requires : tie.Need-after-requires Inv-loop μ-loop
+after-requires c κs = search needs
 
 sub-left : tie.Need-sub-left Inv-loop μ-loop
 sub-left c = search needs
@@ -34,4 +34,4 @@ returns : tie.Need-returns Inv-loop μ-loop
 returns c = search needs
 
 pub begins-spec : {M : Type 1} → statement M
-begins-spec = tie.close (tie.spec Inv-loop μ-loop loop-holds line-end-requires behind-requires sub-left loop-less loop-again returns)
+begins-spec = tie.close (tie.spec Inv-loop μ-loop loop-holds line-end-requires after-requires sub-left loop-less loop-again returns)

@@ -1,0 +1,209 @@
+-- C-7 over the generated contracts: if `cut::count` answers n and no refusal, then `cut::packet` refuses none of the numbers below n if
+-- the output has P octets, and what it wrote, read by `packet::read`, is the message delivered. So a `cut::packet` that refuses what
+-- was counted does not meet its contract.
+-- Assumes nothing.
+use Prim.Native.Nat.{ℕ, _≤_, _<_}
+use mathlib.Core.Path.{_≡_, ap, ap₂, sym, _∙_, subst}
+use mathlib.Core.Logic.{⊎-elim}
+use mathlib.Core.Bool.{true, false}
+use mathlib.Core.List.{List}
+use native.Mathlib.Omega.{arith}
+use contract.Lifetimes as L
+use lib.ListN.{length, take}
+use lib.Dec.{leb, ltb}
+use borrow.Author.Tests.{le-leb, lt-ltb}
+use Rattle.octets.proofs.Lists.{bool}
+use Rattle.walk.specs.declared.Settings.{Settings}
+use Rattle.walk.specs.declared.Refusal.{Refusal}
+use Rattle.fields.specs.Form.{joined}
+use Rattle.packet.specs.declared.Header.{Header}
+use Rattle.packet.specs.Reading.{readPacket}
+use Rattle.packet.proofs.read.Reads as reads
+use Rattle.packet.proofs.Arguments.{ReadCall, read-call}
+use Rattle.sender.specs.declared.Sender.{Sender}
+use Rattle.write.specs.declared.HeaderValues.{HeaderValues}
+use Rattle.write.specs.Given.{Lent}
+use Rattle.write.specs.Lending.{Lends}
+use Rattle.write.proofs.Tests.{unless-true}
+use Rattle.format.specs.Told.{content, valuesOf}
+use Rattle.cut.specs.declared.Cut.{Cut}
+use Rattle.cut.specs.Cutting.{single, packets, headerLength, countRefusal, packetRefusal, packetAnswer, packetOutput}
+use Rattle.cut.proofs.count.Reads as counts
+use Rattle.cut.proofs.packet.Reads as cuts
+use Rattle.cut.proofs.Arguments.{CountCall, count-call, CutCall, cut-call, cut-output}
+use Rattle.cut.proofs.Packets.{packet-most}
+use Rattle.fewest.specs.Carrying.{bodyOf}
+use Rattle.fewest.specs.Cutting.{number, octetsAt, AllBack}
+use Rattle.fewest.specs.Delivering.{Delivered, Delivers}
+use Rattle.fewest.proofs.Lists.{first-same, joined-first}
+use Rattle.fewest.proofs.Parts.{packets-one, two-at-least}
+use Rattle.fewest.proofs.Numbers.{cuts-well, room}
+use Rattle.fewest.proofs.ReadBack.{packets-read-back}
+use Rattle.fewest.proofs.Calls.{plain-counts, plain-wrote}
+
+-- ---- over plain values
+
+module _ (s : Settings) (P : ℕ) (v : HeaderValues) (t : Lent) (body : List ℕ) (d : Sender) (z : countRefusal s P v t (length body) d .number ≡ 0) where
+  abbrev H : ℕ
+  H = headerLength s v t
+
+  abbrev n : ℕ
+  n = number s P v t body d
+
+  pub not-refused : (i room : ℕ) → i < n → P ≤ room → packetRefusal s P v t body d i room .number ≡ 0
+  unfolding packetRefusal
+  not-refused i room l m =
+      let p = packet-most s P v t body d i (cuts-well s P v t body d z .some) in
+      ap (λ (r : Refusal). r .number)
+      (unless-true (leb (length (octetsAt s P v t body d i)) room) 21 _ (le-leb (length (octetsAt s P v t body d i)) room (omega (arith, p)))
+      ∙ unless-true (ltb i n) 26 (countRefusal s P v t (length body) d) (lt-ltb i n l))
+      ∙ z
+
+  some-packet : 1 ≤ n
+  some-packet =
+      ⊎-elim (λ e. omega (arith, packets-one P H (length body) e))
+      (λ e. omega (arith, two-at-least P H (length body) e (room s P v t body d z e)))
+      (bool (single P H (length body)))
+
+  one-enough : AllBack s P v t body d → n ≡ 1 → single P H (length body) ≡ true
+  one-enough k e = ⊎-elim (λ b. b) (λ b. absurd (omega (arith, k .two b))) (bool (single P H (length body)))
+
+  cut-needed : 2 ≤ n → single P H (length body) ≡ false
+  cut-needed e = ⊎-elim (λ b. absurd (omega (arith, packets-one P H (length body) b))) (λ b. b) (bool (single P H (length body)))
+
+  delivered : AllBack s P v t body d → (i : ℕ) → i < n → Delivered s P v t d n i (octetsAt s P v t body d i) (readPacket s (octetsAt s P v t body d i))
+  unfolding valuesOf
+  delivered a i l =
+      let b = a .each i l in
+      record {
+        limit = b .limit;
+        accepted = b .accepted;
+        key = b .key;
+        count = b .count-wraps;
+        whole = λ e. b .whole (one-enough a e) .1;
+        first = λ e. b .segment (cut-needed e) .first;
+        last = λ e. b .segment (cut-needed e) .last;
+        between = λ e. b .segment (cut-needed e) .between;
+        counter = λ e. let g = b .segment (cut-needed e) in (g .start, g .starts, g .counter);
+      }
+
+  -- packets that are octet for octet these, and what reading answers of them
+  delivers :
+      Lends v t body → (p : ℕ → List ℕ) (h : ℕ → Header) → ((i : ℕ) → i < n → p i ≡ octetsAt s P v t body d i) →
+      ((i : ℕ) → i < n → h i ≡ readPacket s (p i)) → Delivers s P v t d n body p h
+  delivers w p h e f =
+      let a = packets-read-back s P v t body d w z in
+      let g : (i : ℕ) → i < n → h i ≡ readPacket s (octetsAt s P v t body d i) = λ i l. f i l ∙ ap (readPacket s) (e i l) in
+      record {
+        some = a .some;
+        each =
+            λ i l.
+            subst (λ (x : Header). Delivered s P v t d n i (p i) x) (sym (g i l))
+            (subst (λ (x : List ℕ). Delivered s P v t d n i x (readPacket s (octetsAt s P v t body d i))) (sym (e i l)) (delivered a i l));
+        bodies =
+            ap (joined (λ (x : List ℕ). x))
+            (first-same (λ (i : ℕ). content (p i) (h i .body)) (λ (i : ℕ). bodyOf s (octetsAt s P v t body d i)) n
+            (λ i l. ap₂ (λ (x : List ℕ) (y : Header). content x (y .body)) (e i l) (g i l)))
+            ∙ sym (joined-first (bodyOf s) (octetsAt s P v t body d) n)
+            ∙ a .bodies;
+      }
+
+-- ---- the calls
+
+-- what `cut::packet` is asked for packet number i of the message that was counted
+abbrev pub asked : CountCall → List ℕ → ℕ → List ℕ → CutCall
+asked c body i out =
+    record {
+      settings = c .settings;
+      limit = c .limit;
+      header = c .header;
+      texts = c .texts;
+      body = body;
+      sender = c .sender;
+      index = i;
+      output = out;
+    }
+
+-- what `packet::read` is asked
+abbrev pub asked-read : Settings → List ℕ → ReadCall
+asked-read s p = record { settings = s; packet = p }
+
+-- what the contract of `cut::packet` says, by the arguments' names
+abbrev Answers : CutCall → Cut → Type 0
+Answers c q = q ≡ packetAnswer (c .settings) (c .limit) (c .header) (c .texts) (c .body) (c .sender) (c .index) (length (c .output))
+
+abbrev Leaves : CutCall → List ℕ → Type 0
+Leaves c l = l ≡ packetOutput (c .settings) (c .limit) (c .header) (c .texts) (c .body) (c .sender) (c .index) (c .output)
+
+abbrev Known : CutCall → Type 0
+Known c = Lends (c .header) (c .texts) (c .body)
+
+module _
+    (κs : L.Lfts 6)
+    (a : _)
+    (r : _)
+    (x : _)
+    (k : counts.Post κs a r x)
+    (z : r .refusal .number ≡ 0)
+    (body : List ℕ)
+    (m : length body ≡ count-call κs a .long)
+    (λs : ℕ → L.Lfts 8)
+    (b : (i : ℕ) → _)
+    (q : ℕ → Cut)
+    (y : (i : ℕ) → _)
+    (out : ℕ → List ℕ)
+    (j : (i : ℕ) → i < r .count → cuts.Post (λs i) (b i) (q i) (y i))
+    (e : (i : ℕ) → i < r .count → cut-call (λs i) (b i) ≡ asked (count-call κs a) body i (out i))
+    (g : (i : ℕ) → i < r .count → count-call κs a .limit ≤ length (out i)) where
+  abbrev c : CountCall
+  c = count-call κs a
+
+  counted : countRefusal (c .settings) (c .limit) (c .header) (c .texts) (length body) (c .sender) .number ≡ 0
+  counted =
+      ap (λ (B : ℕ). countRefusal (c .settings) (c .limit) (c .header) (c .texts) B (c .sender) .number) m
+      ∙ plain-counts (c .settings) (c .limit) (c .header) (c .texts) (c .long) (c .sender) r k z .no-refusal
+
+  many : r .count ≡ number (c .settings) (c .limit) (c .header) (c .texts) body (c .sender)
+  many =
+      plain-counts (c .settings) (c .limit) (c .header) (c .texts) (c .long) (c .sender) r k z .count
+      ∙ ap (packets (c .limit) (headerLength (c .settings) (c .header) (c .texts))) (sym m)
+
+  answers : (i : ℕ) (l : i < r .count) → Answers (asked c body i (out i)) (q i)
+  answers i l = subst (λ (w : CutCall). Answers w (q i)) (e i l) (j i l .0)
+
+  leaves : (i : ℕ) (l : i < r .count) → Leaves (asked c body i (out i)) (cut-output (λs i) (y i))
+  leaves i l = subst (λ (w : CutCall). Leaves w (cut-output (λs i) (y i))) (e i l) (j i l .1 .0)
+
+  known : (i : ℕ) (l : i < r .count) → Lends (c .header) (c .texts) body
+  known i l = subst Known (e i l) (j i l .1 .1)
+
+  -- no packet below the count is refused
+  pub cut-not-refused : (i : ℕ) → i < r .count → q i .refusal .number ≡ 0
+  unfolding packetAnswer
+  cut-not-refused i l =
+      ap (λ (w : Cut). w .refusal .number) (answers i l)
+      ∙ not-refused (c .settings) (c .limit) (c .header) (c .texts) body (c .sender) counted i (length (out i)) (omega (arith, many)) (g i l)
+
+  -- and the outputs, as many octets of each as its call answers, read by `packet::read`, are the message delivered
+  pub cut-delivers :
+      (μs : ℕ → L.Lfts 1) (f : (i : ℕ) → _) (h : ℕ → Header) (u : (i : ℕ) → _) →
+      ((i : ℕ) → i < r .count → reads.Post (μs i) (f i) (h i) (u i)) →
+      ((i : ℕ) → i < r .count → read-call (μs i) (f i) ≡ asked-read (c .settings) (take (q i .length) (cut-output (λs i) (y i)))) →
+      Delivers (c .settings) (c .limit) (c .header) (c .texts) (c .sender) (r .count) body (λ (i : ℕ). read-call (μs i) (f i) .packet) h
+  cut-delivers μs f h u o w =
+      let s = c .settings in
+      let P = c .limit in
+      let v = c .header in
+      let t = c .texts in
+      let d = c .sender in
+      let p : ℕ → List ℕ = λ i. read-call (μs i) (f i) .packet in
+      let some : 0 < r .count = omega (arith, many, some-packet s P v t body d counted) in
+      subst (λ (n : ℕ). Delivers s P v t d n body p h) (sym many)
+      (delivers s P v t body d counted (known 0 some) p h
+      (λ i l.
+      let l′ : i < r .count = omega (arith, many) in
+      ap (λ (x : ReadCall). x .packet) (w i l′)
+      ∙ plain-wrote s P v t body d i (q i) (out i) (cut-output (λs i) (y i)) (answers i l′) (leaves i l′) (cut-not-refused i l′) .octets)
+      (λ i l.
+      let l′ : i < r .count = omega (arith, many) in
+      subst (λ (x : ReadCall). h i ≡ readPacket (x .settings) (p i)) (w i l′) (o i l′ .0)))

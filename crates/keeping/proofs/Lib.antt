@@ -1,6 +1,0 @@
-pub mod Putting
-pub mod After
-pub mod Finds
-pub mod Untouched
-pub mod Zeroed
-pub mod Repeats

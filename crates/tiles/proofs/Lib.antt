@@ -1,0 +1,10 @@
+pub mod Framing
+pub mod Joinings
+pub mod Comes
+pub mod Delivered
+pub mod Recordings
+pub mod Marks
+pub mod Unsegmented
+pub mod Rooms
+pub mod DayRecording
+pub mod Calls

@@ -1,0 +1,100 @@
+-- What a recording of messages comes to: the messages are in it as demand 3 has them, and are in what is written.
+-- Assumes nothing: these are definitions.
+use Prim.Native.Nat.{ℕ, _+_, _≤_, _<_}
+use mathlib.Core.Path.{_≡_}
+use mathlib.Core.Logic.{_≢_, _⊎_, _↔_}
+use mathlib.Core.Bool.{true, false}
+use mathlib.Core.Option.{none}
+use mathlib.Core.List.{List, _∷_, _++_, map, List·Memᴰ}
+use lib.ListN.{length}
+use Rattle.octets.specs.Octets.{Octets}
+use Rattle.octets.specs.Laying.{together}
+use Rattle.packet.specs.Reading.{readPacket, segmented}
+use Rattle.cells.specs.Segments.{segOf}
+use Rattle.cells.specs.Rows.{Cell}
+use Rattle.cells.specs.Order.{cellSize}
+use Rattle.cells.specs.Messages.{look}
+use Rattle.demand3.specs.Cells.{hasFree}
+use Rattle.demand3.specs.Sendings.{Sending, ReadsAs, wholeBody, manyOf, segmentAt, identificationOf, headerOf, keyIn, startOf, IsCut}
+use Rattle.demand3.specs.Presupposed.{MayCome, cellsIn}
+use Rattle.steps.specs.Stepping.{foundIn, longest, framed}
+use Rattle.recording.specs.Recording.{settings, cellCount, recorded}
+use Rattle.recording.specs.Ending.{past}
+use Rattle.tiles.specs.Along.{packetsOf, marked, Sized, storeAlong, Frame, wholePacket, joined, frameOctets, framesOf}
+
+-- ---- a recording of messages
+
+-- all segments of a message are in a recording: of each, a packet that reads as it, whatever its sequence count
+abbrev pub AllIn : Sending → List ℕ → Type 0
+AllIn m x = (i : ℕ) → i < manyOf settings m → (p : List ℕ) × List·Memᴰ p (packetsOf x) × ReadsAs settings p (segmentAt settings m i)
+
+-- x is a recording of the messages ms, with T 8
+pub record RecordingOf (ms : List Sending) (x : List ℕ) : Type 0 where
+  -- the recording is octets, as its type says
+  pub octets : Octets x
+  -- a message has two or more segments; each is a packet of the format, its values in range, and has at most 1,022 octets
+  pub cut : (m : Sending) → List·Memᴰ m ms → IsCut settings cellSize m
+  -- any two messages differ in key, or no segment of one has the counter of a segment of the other
+  pub apart : (m w : Sending) → List·Memᴰ m ms → List·Memᴰ w ms →
+      (m ≡ w) ⊎ (keyIn settings m ≢ keyIn settings w) ⊎
+      ((i j : ℕ) → i < manyOf settings m → j < manyOf settings w → segmentAt settings m i .counter ≢ segmentAt settings w j .counter)
+  -- a packet is a segment of a message, in any order and any number of times; or unsegmented; or refused by reading; or too long for a
+  -- cell, as all above 32,768 octets are; or of a key that no message has
+  pub packets : (p : List ℕ) → List·Memᴰ p (packetsOf x) → MayCome settings cellSize ms p
+
+-- the packets of a recording are those that were laid into it, each after its mark, up to a rest with which it stops
+abbrev pub RecordingPackets : Type 0
+RecordingPackets = (ps : List (List ℕ)) (rest : List ℕ) → ((p : List ℕ) → List·Memᴰ p ps → Sized p) → past (foundIn rest) ≡ 0 →
+    packetsOf (marked ps ++ rest) ≡ ps
+
+-- the 32 cells of the store after some of its packets
+abbrev pub cellsAlong : List (List ℕ) → List Cell
+cellsAlong ps = cellsIn settings cellSize cellCount (storeAlong ps)
+
+-- if a packet comes that is a segment, fits a cell, and has a key and counter that no cell has, one of the 32 cells is free
+abbrev pub RoomAlong : List ℕ → Type 0
+RoomAlong x = (before after : List (List ℕ)) (p : List ℕ) → packetsOf x ≡ before ++ p ∷ after →
+    readPacket settings p .refusal .number ≡ 0 → segmented p ≡ true → 2 + length p ≤ cellSize →
+    look (cellsAlong before) (segOf p (readPacket settings p) .key) (segOf p (readPacket settings p) .counter) ≡ none →
+    hasFree (cellsAlong before) ≡ true
+
+-- a recording of at most 32 packets always has room
+abbrev pub RecordingRoom : Type 0
+RecordingRoom = (x : List ℕ) → length (packetsOf x) ≤ cellCount → RoomAlong x
+
+-- ---- what is written
+
+-- a message's own frame: 4D 4D, the length, then its identification, header and body
+abbrev pub frameOf : Sending → Frame
+frameOf m = joined (keyIn settings m) (startOf settings m) (wholeBody m)
+
+-- some octets stand in others, in one piece
+abbrev pub Stands : List ℕ → List ℕ → Type 0
+Stands w y = (before : List ℕ) × (after : List ℕ) × (y ≡ before ++ (w ++ after))
+
+-- what is written is its frames, one after the other, and nothing else; whatever the recording
+abbrev pub RecordingFrames : Type 0
+RecordingFrames = (x : List ℕ) → recorded x ≡ together (map frameOctets (framesOf x))
+
+-- every message all of whose segments are in the recording is written, whole, at least once. Two messages with the same key and body
+-- have two frames: their first counters differ
+abbrev pub RecordingDelivers : Type 0
+RecordingDelivers = (ms : List Sending) (x : List ℕ) → RecordingOf ms x → RoomAlong x → (m : Sending) → List·Memᴰ m ms → AllIn m x →
+    List·Memᴰ (frameOf m) (framesOf x)
+
+-- the same of the octets: somewhere in what is written stand 4D 4D, the length, then identification, header and body
+abbrev pub RecordingHas : Type 0
+RecordingHas = (ms : List Sending) (x : List ℕ) → RecordingOf ms x → RoomAlong x → (m : Sending) → List·Memᴰ m ms → AllIn m x →
+    Stands (framed (identificationOf settings m ++ headerOf settings m ++ wholeBody m)) (recorded x)
+
+-- whatever is joined and written under a message's key is one of the messages of that key, whole, and all its segments are in the
+-- recording; with room or without
+abbrev pub RecordingGenuine : Type 0
+RecordingGenuine = (ms : List Sending) (x : List ℕ) → RecordingOf ms x → (k : List ℕ) (c : ℕ) (b : List ℕ) →
+    List·Memᴰ (joined k c b) (framesOf x) → (m : Sending) → List·Memᴰ m ms → k ≡ keyIn settings m →
+    (w : Sending) × List·Memᴰ w ms × (joined k c b ≡ frameOf w) × AllIn w x
+
+-- the other frames are just those of the unsegmented packets that reading accepts, of at most 32,768 octets; whatever the recording
+abbrev pub RecordingWhole : Type 0
+RecordingWhole = (x p : List ℕ) → List·Memᴰ (wholePacket p) (framesOf x) ↔
+    (List·Memᴰ p (packetsOf x) × (length p ≤ longest) × (readPacket settings p .refusal .number ≡ 0) × (segmented p ≡ false))

@@ -1,0 +1,8 @@
+pub mod Tests
+pub mod Forms
+pub mod Encoding
+pub mod Decoding
+pub mod Laws
+mod Passing
+mod Blocks
+mod Judging

@@ -1,0 +1,4 @@
+pub mod Text
+pub mod Test
+pub mod Places
+pub mod Samples

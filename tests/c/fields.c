@@ -1,0 +1,254 @@
+/*
+ * One packet with every field, each of another value, written, cut, read, stored and taken: every field compared by its name, and
+ * the octets with those that are laid here one by one. A field that has only two values is told from its neighbours by further
+ * packets, each with one presence flag alone. Compiled and run as calls.c is.
+ */
+#include "expect.h"
+
+#define T 7
+#define PARTS 16
+#define P 228      /* so that a segment carries four octets of body */
+#define HEADER 214 /* octets of the secondary header without its counter */
+#define BODY 10    /* octets of the message's body, cut into 4, 4 and 2 */
+#define COUNT 0x1A2B
+#define COUNTER 0x81828384u
+
+static const uint8_t timestamp[T] = {0x91, 0x92, 0x93, 0x94, 0x95, 0x96, 0x97};
+static const uint8_t zone[2] = {0xB1, 0xB2};
+static const uint8_t session_name[3] = {0xC1, 0xC2, 0xC3};
+static const uint8_t authentication[5] = {0xD1, 0xD2, 0xD3, 0xD4, 0xD5};
+static const uint8_t body[BODY] = {0xE0, 0xE1, 0xE2, 0xE3, 0xE4, 0xE5, 0xE6, 0xE7, 0xE8, 0xE9};
+
+/* The domain: part k has k + 1 octets 0xA0 + k. */
+static uint8_t domain[PARTS * (PARTS + 1) / 2];
+static uint64_t domain_lengths[PARTS];
+
+static void fill_domain(void) {
+    size_t at = 0;
+    for (size_t k = 0; k < PARTS; k++) {
+        memset(domain + at, (int)(0xA0 + k), k + 1);
+        domain_lengths[k] = k + 1;
+        at += k + 1;
+    }
+}
+
+#define TEXTS                                                                                                                  \
+    timestamp, sizeof timestamp, zone, sizeof zone, session_name, sizeof session_name, domain, sizeof domain, domain_lengths,  \
+        PARTS, authentication, sizeof authentication
+
+/* The presence flags by their bits, source first. */
+static void set_present(struct orl_header *h, unsigned octet) {
+    h->has_source = octet >> 7 & 1;
+    h->has_destination = octet >> 6 & 1;
+    h->has_priority = octet >> 5 & 1;
+    h->has_timestamp = octet >> 4 & 1;
+    h->has_zone = octet >> 3 & 1;
+    h->has_session_name = octet >> 2 & 1;
+    h->has_domain = octet >> 1 & 1;
+    h->has_authentication = octet & 1;
+}
+
+static void expect_present(const struct orl_read_answer *a, unsigned octet) {
+    expect("has source", a->has_source, octet >> 7 & 1);
+    expect("has destination", a->has_destination, octet >> 6 & 1);
+    expect("has priority", a->has_priority, octet >> 5 & 1);
+    expect("has timestamp", a->has_timestamp, octet >> 4 & 1);
+    expect("has zone", a->has_zone, octet >> 3 & 1);
+    expect("has session name", a->has_session_name, octet >> 2 & 1);
+    expect("has domain", a->has_domain, octet >> 1 & 1);
+    expect("has authentication", a->has_authentication, octet & 1);
+}
+
+/* The header: what stands in `front` below. */
+static struct orl_header every_header(void) {
+    struct orl_header h;
+    memset(&h, 0, sizeof h);
+    h.packet_type = 1;
+    h.apid = 0x123;
+    h.sdu = 17;
+    h.area = 0x1112;
+    h.service = 0x2122;
+    h.operation = 0x3132;
+    h.area_version = 0x41;
+    h.error = 0;
+    h.qos = 3;
+    h.session = 2;
+    h.secondary_apid = 0x345;
+    h.qualifier = 0x5152;
+    h.transaction = 0x6162636465666768u;
+    set_present(&h, 0xFF);
+    h.source = 0x71;
+    h.destination = 0x72;
+    h.priority = 300;
+    return h;
+}
+
+/* Segment i of the message, by hand: its octets. */
+static size_t segment(unsigned i, uint8_t *out) {
+    static const uint8_t front[50] = {0x19, 0x23, 0x5A, 0x2B, 0x00, 0xDD, 0x11, 0x11, 0x12, 0x21, 0x22, 0x31, 0x32,
+                                      0x41, 0x73, 0x45, 0x51, 0x52, 0x61, 0x62, 0x63, 0x64, 0x65, 0x66, 0x67, 0x68,
+                                      0xFF, 0x71, 0x72, 0x81, 0x82, 0x83, 0x84, 0xAC, 0x02, 0x91, 0x92, 0x93, 0x94,
+                                      0x95, 0x96, 0x97, 0x02, 0xB1, 0xB2, 0x03, 0xC1, 0xC2, 0xC3, 0x10};
+    static const uint8_t flags[3] = {0x40, 0x00, 0x80};
+    size_t at = sizeof front, carried = i < 2 ? 4 : 2;
+    memcpy(out, front, sizeof front);
+    out[2] = (uint8_t)(flags[i] | 0x1A);
+    out[3] = (uint8_t)(0x2B + i);
+    out[5] = (uint8_t)(0xD9 + carried);
+    out[32] = (uint8_t)(0x84 + i);
+    for (size_t k = 0; k < PARTS; k++) {
+        out[at] = 1;
+        out[at + 1] = (uint8_t)(k + 1);
+        memset(out + at + 2, (int)(0xA0 + k), k + 1);
+        at += k + 3;
+    }
+    out[at] = sizeof authentication;
+    memcpy(out + at + 1, authentication, sizeof authentication);
+    at += 1 + sizeof authentication;
+    memcpy(out + at, body + 4 * i, carried);
+    return at + carried;
+}
+
+static void expect_place(const char *what, struct orl_place got, uint64_t place, uint64_t length) {
+    expect(what, got.place, place);
+    expect(what, got.length, length);
+}
+
+/* What reading tells of segment i, but for its presence flags. */
+static void expect_segment(unsigned i, const struct orl_read_answer *a) {
+    static const uint64_t flags[3] = {1, 0, 2};
+    expect("read", a->refusal, 0);
+    expect("packet type", a->packet_type, 1);
+    expect("APID", a->apid, 0x123);
+    expect("flags", a->flags, flags[i]);
+    expect("sequence count", a->sequence_count, COUNT + i);
+    expect("SDU type", a->sdu, 17);
+    expect("area", a->area, 0x1112);
+    expect("service", a->service, 0x2122);
+    expect("operation", a->operation, 0x3132);
+    expect("area version", a->area_version, 0x41);
+    expect("error", a->error, 0);
+    expect("QoS level", a->qos, 3);
+    expect("session", a->session, 2);
+    expect("secondary APID", a->secondary_apid, 0x345);
+    expect("qualifier", a->qualifier, 0x5152);
+    expect("transaction id", a->transaction, 0x6162636465666768u);
+    expect("source", a->source, 0x71);
+    expect("destination", a->destination, 0x72);
+    expect("counter", a->counter, COUNTER + i);
+    expect("priority", a->priority, 300);
+    expect_place("timestamp", a->timestamp, 35, T);
+    expect_place("zone", a->zone, 43, 2);
+    expect_place("session name", a->session_name, 46, 3);
+    expect("domain count", a->domain_count, PARTS);
+    for (size_t k = 0; k < PARTS; k++) {
+        expect_place("domain", a->domain[k], 52 + k * (k + 1) / 2 + 2 * k, k + 1);
+    }
+    expect_place("authentication", a->authentication, 219, 5);
+    expect("H", a->H, HEADER);
+    expect_place("body", a->body, 224, i < 2 ? 4 : 2);
+}
+
+static void writing(void) {
+    struct orl_header h = every_header();
+    struct orl_write_answer a;
+    uint8_t out[P], want[P];
+    orl_write(T, &h, TEXTS, 1, COUNT, COUNTER, body, 4, out, sizeof out, &a);
+    expect("write", a.refusal, 0);
+    expect("written", a.length, segment(0, want));
+    expect_octets("the packet", out, want, sizeof want);
+}
+
+/* Packet i of the message, cut, read, and put into a store. */
+static void cutting(unsigned i, uint8_t *store, size_t store_length) {
+    struct orl_header h = every_header();
+    struct orl_sender s = sender(COUNT, 1, COUNTER);
+    struct orl_cut_packet_answer a;
+    struct orl_read_answer r;
+    struct orl_arrive_answer v;
+    uint8_t out[P], want[P];
+    size_t length = segment(i, want);
+    orl_cut_packet(T, P, &h, TEXTS, body, BODY, &s, i, out, sizeof out, &a);
+    expect("cut", a.refusal, 0);
+    expect("its length", a.length, length);
+    expect_sender("the sender stays", a.sender, s);
+    expect_octets("the packet", out, want, length);
+    orl_read(T, out, length, &r);
+    expect_segment(i, &r);
+    expect_present(&r, 0xFF);
+    orl_arrive(T, store, store_length, out, length, &v);
+    expect("arrives", v.refusal, 0);
+    expect("stored", v.kind, ORL_STORED);
+}
+
+/* The whole message through a store. */
+static void message(void) {
+    static uint8_t store[4096];
+    struct orl_header h = every_header();
+    struct orl_sender s = sender(COUNT, 1, COUNTER);
+    struct orl_cut_count_answer c;
+    struct orl_take_answer t;
+    uint8_t out[2 + HEADER + BODY], first[P];
+    orl_cut_count(T, P, &h, TEXTS, BODY, &s, &c);
+    expect("cut", c.refusal, 0);
+    expect("count", c.count, 3);
+    expect_sender("the sender after it", c.sender, sender(COUNT + 3, 1, COUNTER + 3));
+    for (unsigned i = 0; i < 3; i++) {
+        cutting(i, store, sizeof store);
+    }
+    segment(0, first);
+    orl_take(T, store, sizeof store, out, sizeof out, &t);
+    expect("taken", t.refusal, 0);
+    expect("H", t.H, HEADER);
+    expect("B", t.B, BODY);
+    expect("counter", t.counter, COUNTER);
+    expect_octets("packet identification", out, first, 2);
+    expect_octets("header before the counter", out + 2, first + 6, 23);
+    expect_octets("header after the counter", out + 25, first + 33, HEADER - 23);
+    expect_octets("body", out + 2 + HEADER, body, BODY);
+}
+
+/* One optional field alone, of one octet, or of none for a domain; a telemetry packet that is an error. */
+static void one_field(unsigned present) {
+    struct orl_header h = every_header();
+    struct orl_write_answer w;
+    struct orl_read_answer r;
+    uint8_t out[40];
+    h.packet_type = 0;
+    h.error = 1;
+    set_present(&h, present);
+    h.source = h.has_source * 0x71;
+    h.destination = h.has_destination * 0x72;
+    h.priority = h.has_priority * 0x73;
+    orl_write(1, &h, timestamp, (size_t)h.has_timestamp, zone, (size_t)h.has_zone, session_name, (size_t)h.has_session_name, domain,
+              0, domain_lengths, 0, authentication, (size_t)h.has_authentication, 3, COUNT, 0, body, 1, out, sizeof out, &w);
+    expect("write", w.refusal, 0);
+    expect("packet identification", out[0], 0x09);
+    expect("error, QoS level and session", out[14], 0xF3);
+    expect("presence", out[26], present);
+    orl_read(1, out, (size_t)w.length, &r);
+    expect("read", r.refusal, 0);
+    expect("packet type", r.packet_type, 0);
+    expect("error", r.error, 1);
+    expect("source", r.source, h.source);
+    expect("destination", r.destination, h.destination);
+    expect("priority", r.priority, h.priority);
+    expect("no counter", r.counter, 0);
+    expect_present(&r, present);
+    expect_place("timestamp", r.timestamp, h.has_timestamp * 27, h.has_timestamp);
+    expect_place("zone", r.zone, h.has_zone * 28, h.has_zone);
+    expect_place("session name", r.session_name, h.has_session_name * 28, h.has_session_name);
+    expect("domain count", r.domain_count, 0);
+    expect_place("authentication", r.authentication, h.has_authentication * 28, h.has_authentication);
+}
+
+int main(void) {
+    fill_domain();
+    writing();
+    message();
+    one_field(0);
+    for (unsigned bit = 0; bit < 8; bit++) {
+        one_field(1u << bit);
+    }
+    return told("fields");
+}
