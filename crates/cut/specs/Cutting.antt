@@ -70,6 +70,10 @@ limitTest s P r = unless (leb P packetMost) 15 (unless (leb limitLeast P) 15 (se
 unfoldable pub valueTests : Settings → HeaderValues → Lent → Sender → Refusal → Refusal
 valueTests s v t d r = unless (leb (d .«sequence_count» .0) countMost) 22 (unlessAll (headerChecks s v t) 22 r)
 
+-- 15, 22, 13: the tests on the values alone
+abbrev pub valueRefusal : Settings → ℕ → HeaderValues → Lent → Sender → Refusal
+valueRefusal s P v t d = partsTest t (valueTests s v t d (limitTest s P noRefusal))
+
 -- 23: the body; 12: the header; 24: C below 1; 25: the counters
 unfoldable pub messageTests : ℕ → ℕ → ℕ → Sender → Refusal → Refusal
 messageTests P H B d r =
@@ -83,8 +87,7 @@ headerLength s v t = length (headerOctets s (headOf v t))
 
 -- 15, 22, 13, 23, 12, 24, 25
 unfoldable pub countRefusal : Settings → ℕ → HeaderValues → Lent → ℕ → Sender → Refusal
-countRefusal s P v t B d =
-    messageTests P (headerLength s v t) B d (partsTest t (valueTests s v t d (limitTest s P noRefusal)))
+countRefusal s P v t B d = messageTests P (headerLength s v t) B d (valueRefusal s P v t d)
 
 -- ---- the count and the numbers moved on
 

@@ -16,10 +16,8 @@ ghost use Rattle.walk.specs.Walk.{unless};
 ghost use Rattle.write.specs.Given.{lent};
 ghost use Rattle.write.specs.Lending.{Lends};
 ghost use Rattle.sender.specs.declared.Sent.the-variants.{Whole, Segments};
-ghost use Rattle.cut.specs.Cutting.{countersFit, limitTest, valueTests, chunk as chunkOf, rounded, countAnswer, packetAnswer, packetOutput};
+ghost use Rattle.cut.specs.Cutting.{countersFit, limitTest, valueRefusal, chunk as chunkOf, rounded, countAnswer, packetAnswer, packetOutput};
 ghost use Rattle.cut.specs.Inner.{packetsOf, planOf, counterOf, fromOf, toOf, valuesOf};
-ghost use Rattle.write.specs.Writing.{partsTest};
-ghost use Rattle.walk.specs.Walk.{noRefusal};
 use packet::SegmentCounter;
 use sender::Next;
 use sender::Sender;
@@ -87,10 +85,8 @@ fn test_message(
     id: &[u8],
     sender: Sender,
 ) -> Refusal
-    ensures { λ q. ⌜ q ≡ partsTest (lent (now (time .entry)) (now (zone .entry)) (now (name .entry)) (now (domain .entry))
-        (now (lengths .entry)) (now (id .entry))) (valueTests s v
-        (lent (now (time .entry)) (now (zone .entry)) (now (name .entry)) (now (domain .entry)) (now (lengths .entry)) (now (id .entry)))
-        sender (limitTest s p noRefusal)) ⌝ }
+    ensures { λ q. ⌜ q ≡ valueRefusal s p v (lent (now (time .entry)) (now (zone .entry)) (now (name .entry)) (now (domain .entry))
+        (now (lengths .entry)) (now (id .entry))) sender ⌝ }
 {
     let none = Refusal { number: 0 };
     let sequence_count = sender.sequence_count;
@@ -323,14 +319,11 @@ pub fn packet(
     i: usize,
     out: &mut [u8],
 ) -> Cut
-    ensures answer { λ r. ⌜ r ≡ packetAnswer s p v (lent (now (time .entry)) (now (zone .entry)) (now (name .entry)) (now (domain .entry))
-        (now (lengths .entry)) (now (id .entry))) (now (body .entry)) sender i (length (now (out .entry))) ⌝ }
-    ensures octets { λ r. ⌜ now (out .exit) ≡ packetOutput s p v
-        (lent (now (time .entry)) (now (zone .entry)) (now (name .entry)) (now (domain .entry)) (now (lengths .entry)) (now (id .entry)))
-        (now (body .entry)) sender i (now (out .entry)) ⌝ }
-    ensures lends { λ r. ⌜ Lends v
-        (lent (now (time .entry)) (now (zone .entry)) (now (name .entry)) (now (domain .entry)) (now (lengths .entry)) (now (id .entry)))
-        (now (body .entry)) ⌝ }
+    ensures { λ r. ⌜ (let t = lent (now (time .entry)) (now (zone .entry)) (now (name .entry)) (now (domain .entry)) (now (lengths .entry))
+        (now (id .entry)) in
+        (r ≡ packetAnswer s p v t (now (body .entry)) sender i (length (now (out .entry))))
+        × (now (out .exit) ≡ packetOutput s p v t (now (body .entry)) sender i (now (out .entry)))
+        × Lends v t (now (body .entry))) ⌝ }
 {
     let values = test_message(s, p, v, time, zone, name, domain, lengths, id, sender);
     let h = write::header_size(s, v, time, zone, name, domain, lengths, id);

@@ -600,14 +600,11 @@ pub fn write(
     body: &[u8],
     out: &mut [u8],
 ) -> Written
-    ensures answer { λ r. ⌜ r ≡ writeAnswer s v o (lent (now (time .entry)) (now (zone .entry)) (now (name .entry)) (now (domain .entry))
-        (now (lengths .entry)) (now (id .entry))) (now (body .entry)) (length (now (out .entry))) ⌝ }
-    ensures octets { λ r. ⌜ now (out .exit) ≡ writeOutput s v o
-        (lent (now (time .entry)) (now (zone .entry)) (now (name .entry)) (now (domain .entry)) (now (lengths .entry)) (now (id .entry)))
-        (now (body .entry)) (now (out .entry)) ⌝ }
-    ensures lends { λ r. ⌜ Lends v
-        (lent (now (time .entry)) (now (zone .entry)) (now (name .entry)) (now (domain .entry)) (now (lengths .entry)) (now (id .entry)))
-        (now (body .entry)) ⌝ }
+    ensures { λ r. ⌜ (let t = lent (now (time .entry)) (now (zone .entry)) (now (name .entry)) (now (domain .entry)) (now (lengths .entry))
+        (now (id .entry)) in
+        (r ≡ writeAnswer s v o t (now (body .entry)) (length (now (out .entry))))
+        × (now (out .exit) ≡ writeOutput s v o t (now (body .entry)) (now (out .entry)))
+        × Lends v t (now (body .entry))) ⌝ }
 {
     let values = test_values(s, v, o, time, zone, name, domain, lengths, id);
     let h = header_size(s, v, time, zone, name, domain, lengths, id);
