@@ -30,15 +30,22 @@ limitLeast = 27
 abbrev pub bodyMost : ℕ
 bodyMost = 1048576
 
+-- the octets of the primary header and of a segment counter
+abbrev pub primarySize : ℕ
+primarySize = 6
+
+abbrev pub counterWidth : ℕ
+counterWidth = 4
+
 -- ---- the formula
 
 -- one unsegmented packet is enough
 abbrev pub single : ℕ → ℕ → ℕ → Bool
-single P H B = leb (6 + H + B) P
+single P H B = leb (primarySize + H + B) P
 
 -- the body octets of a packet where cutting is needed
 abbrev pub chunk : ℕ → ℕ → ℕ
-chunk P H = P - H - 10
+chunk P H = P - H - (primarySize + counterWidth)
 
 -- B / C rounded up. (Where C is 0 this is 0, and 24 is given.)
 unfoldable pub rounded : ℕ → ℕ → ℕ
@@ -79,7 +86,7 @@ unfoldable pub messageTests : ℕ → ℕ → ℕ → Sender → Refusal → Ref
 messageTests P H B d r =
     unless (pick (single P H B) true (countersFit (d .next) (packets P H B))) 25
     (unless (pick (single P H B) true (leb 1 (chunk P H))) 24
-    (unless (leb (pick (single P H B) H (H + 4)) headerMost) 12 (unless (leb B bodyMost) 23 r)))
+    (unless (leb (pick (single P H B) H (H + counterWidth)) headerMost) 12 (unless (leb B bodyMost) 23 r)))
 
 -- H of the values given
 abbrev pub headerLength : Settings → HeaderValues → Lent → ℕ

@@ -16,7 +16,7 @@ ghost use Rattle.walk.specs.Walk.{unless};
 ghost use Rattle.write.specs.Given.{lent};
 ghost use Rattle.write.specs.Lending.{Lends};
 ghost use Rattle.sender.specs.declared.Sent.the-variants.{Whole, Segments};
-ghost use Rattle.cut.specs.Cutting.{countersFit, limitTest, valueRefusal, chunk as chunkOf, rounded, countAnswer, packetAnswer, packetOutput};
+ghost use Rattle.cut.specs.Cutting.{counterWidth, countersFit, limitTest, valueRefusal, chunk as chunkOf, rounded, countAnswer, packetAnswer, packetOutput};
 ghost use Rattle.cut.specs.Inner.{packetsOf, planOf, counterOf, fromOf, toOf, valuesOf};
 use packet::SegmentCounter;
 use sender::Next;
@@ -38,6 +38,9 @@ use write::PacketValues;
 pub const LIMIT_LEAST: usize = 27;
 
 pub const BODY_MOST: usize = 1048576;
+
+// What a segment has beside H and its part of the body: the primary header and the counter.
+const AROUND: usize = 10;
 
 // What the count answers: a refusal, or the number of packets; and the sender.
 pub struct Counted {
@@ -100,7 +103,7 @@ fn test_message(
 fn chunk_of(p: usize, h: usize) -> usize
     ensures { λ r. ⌜ r ≡ chunkOf p h ⌝ }
 {
-    octets::less(octets::less(p, h), 10)
+    octets::less(octets::less(p, h), AROUND)
 }
 
 // B / C rounded up, 0 where C is.
@@ -131,7 +134,7 @@ fn counters_fit(next: Next, n: usize) -> bool
 {
     match next {
         Next::At(c) => {
-            let left = 4294967296 - c.0 as u64;
+            let left = sender::COUNTERS - c.0 as u64;
             n as u64 <= left
         }
         Next::NoneLeft => false,
@@ -140,12 +143,12 @@ fn counters_fit(next: Next, n: usize) -> bool
 
 // The secondary header as it will stand in a packet.
 fn header_of(single: bool, h: usize) -> usize
-    ensures { λ r. ⌜ r ≡ pick single h (capped (h + 4)) ⌝ }
+    ensures { λ r. ⌜ r ≡ pick single h (capped (h + counterWidth)) ⌝ }
 {
     if single {
         return h;
     }
-    fields::plus(h, 4)
+    fields::plus(h, write::COUNTER)
 }
 
 // 23, 12, 24, 25, and the numbers that they are judged on.
