@@ -37,8 +37,8 @@ spansAlike p at-p q at-q =
     (alike (part p (placeIn p + 4) (at-p - (placeIn p + 4))) (part q (placeIn q + 4) (at-q - (placeIn q + 4))))))
 
 -- where the body begins in the packet of a row, by reading it
-abbrev pub bodyIn : Settings → ℕ → List ℕ → ℕ
-bodyIn s Z r = readPacket s (packetIn r) .body .at
+abbrev pub bodyIn : Settings → List ℕ → ℕ
+bodyIn s r = readPacket s (packetIn r) .body .at
 
 -- what is told of a cell, with the place of its body
 abbrev pub judgedOf : ℕ → Cell → Judged
@@ -79,7 +79,7 @@ pub record Asked (s : Settings) (q : List ℕ) (body-at : ℕ) : Type 0 where
 
 -- where the body of the segment in cell i begins; 0 where the cell holds none
 unfoldable pub bodyAt : Settings → ℕ → List ℕ → ℕ → ℕ
-bodyAt s Z st i = judgedOf (bodyIn s Z (rowAt Z st i)) (cellAt s Z st i) .at
+bodyAt s Z st i = judgedOf (bodyIn s (rowAt Z st i)) (cellAt s Z st i) .at
 
 -- those of the first n cells put into a table, each at its cell's number
 unfoldable pub bodiesTo : Settings → ℕ → List ℕ → ℕ → List ℕ → List ℕ

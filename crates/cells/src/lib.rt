@@ -172,7 +172,7 @@ fn is_free(row: &[u8], zero: &[u8]) -> bool
 // What a row is, beside a zero cell, by one reading of its packet. A row of another length is broken.
 pub fn judge(s: Settings, row: &[u8], zero: &[u8]) -> Judged
     requires { ⌜ now zero ≡ zeroRow (length (now zero)) ⌝ }
-    ensures { λ r. ⌜ r ≡ judgedOf (bodyIn s (length (now (zero .entry))) (now (row .entry))) (cellOf s (length (now (zero .entry))) (now (row .entry))) ⌝ }
+    ensures { λ r. ⌜ r ≡ judgedOf (bodyIn s (now (row .entry))) (cellOf s (length (now (zero .entry))) (now (row .entry))) ⌝ }
 {
     if is_free(row, zero) {
         return Judged {

@@ -23,7 +23,7 @@ use Rattle.cells.specs.Pieces.{segIn}
 
 -- the segment in cell j, where it holds one
 abbrev pub segAt : Settings → ℕ → List ℕ → ℕ → Seg
-segAt s Z st j = segIn s Z (rowAt Z st j)
+segAt s Z st j = segIn s (rowAt Z st j)
 
 -- ---- the places of a run
 

@@ -18,7 +18,7 @@ is-held-requires c κs = search needs
 
 returns : tie.Need-returns
 returns c =
-    c .is-held .ensures ∙ held-told (bodyIn _ (length (now (c .before .before .before .before .args .zero))) _) (cellOf _ _ _) (c .before .judge .ensures)
+    c .is-held .ensures ∙ held-told (bodyIn _ _) (cellOf _ _ _) (c .before .judge .ensures)
 
 pub held-spec : {M : Type 1} → statement M
 held-spec = tie.close (tie.spec judge-requires is-held-requires returns)
