@@ -2,8 +2,6 @@
 -- Assumes nothing.
 use borrow.Author.Needs.{needs}
 use mathlib.Core.Path.{_∙_}
-use denote.Ref.{now}
-use lib.ListN.{length}
 use Rattle.cells.specs.Rows.{cellOf}
 use Rattle.cells.specs.Inner.{bodyIn}
 use Rattle.tally.proofs.Judging.{held-told}
