@@ -91,7 +91,7 @@ pub record Asked (s : Settings) (q : List ℕ) (body-at : ℕ) : Type 0 where
   pub segment : segmented q ≡ true
   pub body : body-at ≡ readPacket s q .body .at
 
--- where the body of the segment in cell i begins; 0 where the cell holds none
+-- where the body of the segment in cell i begins; 0 if the cell holds none
 unfoldable pub bodyAt : Settings → ℕ → List ℕ → ℕ → ℕ
 bodyAt s Z st i = judgedOf (bodyIn s (rowAt Z st i)) (cellAt s Z st i) .at
 

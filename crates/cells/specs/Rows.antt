@@ -58,7 +58,7 @@ sizeIn r = number 2 r (markSize + 4) + 7
 abbrev pub packetIn : List ℕ → List ℕ
 packetIn r = part r markSize (sizeIn r)
 
--- a packet that may be held: reading accepts it, it is segmented, and fits the cell behind the mark
+-- a packet that may be held: reading accepts it, it is segmented, and fits the cell after the mark
 unfoldable pub mayHold : Settings → ℕ → List ℕ → Bool
 mayHold s Z p = both (leb (markSize + length p) Z) (both (eqb (readPacket s p .refusal .number) 0) (segmented p))
 

@@ -236,7 +236,7 @@ pub fn judge(s: Settings, row: &[u8], zero: &[u8]) -> Judged
     }
 }
 
-// The lowest free cell of the first n; n where there is none.
+// The lowest free cell of the first n; n if there is none.
 pub fn lowest_free(store: &[u8], n: usize, zero: &[u8]) -> usize
     ensures { λ r. ⌜ r ≡ lowest (λ j. alike (rowAt (length (now (zero .entry))) (now (store .entry)) j) (now (zero .entry))) n 0 ⌝ }
 {
@@ -251,7 +251,7 @@ pub fn lowest_free(store: &[u8], n: usize, zero: &[u8]) -> usize
     n
 }
 
-// How many cells a store of this length has, 0 where its length does not fit.
+// How many cells a store of this length has, 0 if its length does not fit.
 pub fn count(len: usize, z: usize) -> usize
     ensures { λ r. ⌜ r ≡ pick (lengthFits z len) (len / z) 0 ⌝ }
 {
@@ -272,7 +272,7 @@ pub fn count(len: usize, z: usize) -> usize
 }
 
 // Whether a cell holds a segment with the key and counter of the one that is looked for. The cheap tests come first: the row is judged
-// only where counter and transaction id agree.
+// only if counter and transaction id agree.
 pub fn carries_at(
     s: Settings,
     row: &[u8],
@@ -354,7 +354,7 @@ pub fn is_within(
     is_key(k, p, t.at)
 }
 
-// The lowest of the first n cells that carries the key and counter of the one that is looked for; n where there is none.
+// The lowest of the first n cells that carries the key and counter of the one that is looked for; n if there is none.
 pub fn find(
     s: Settings,
     store: &[u8],
@@ -398,7 +398,7 @@ pub fn same_rest(
     )
 }
 
-// The mark and a packet into cell i, where they lie inside the store.
+// The mark and a packet into cell i, if they lie inside the store.
 pub fn put_cell(store: &mut [u8], z: usize, i: usize, p: &[u8])
     requires { ⌜ i * z + (markSize + length (now p)) ≤ length (now store) ⌝ }
     ensures { λ r. ⌜ now (store .exit) ≡ sets (now (store .entry)) (i * z) (markFirst ∷ markSecond ∷ now (p .entry)) ⌝ }
@@ -482,7 +482,7 @@ fn find_on(
     best
 }
 
-// The same as `find`, by a walk along one chain where the cells stand on chains.
+// The same as `find`, by a walk along one chain if the cells stand on chains.
 pub fn find_by(
     s: Settings,
     store: &[u8],
@@ -518,7 +518,7 @@ fn push(i: usize, b: usize, heads: &mut [u16; CHAINS], links: &mut [u16; CELLS_M
     heads[b] = (i + 1) as u16;
 }
 
-// Whether no cell below i has the key and counter of the one that is looked for, where those below are apart so far.
+// Whether no cell below i has the key and counter of the one that is looked for, if those below are apart so far.
 fn is_new(
     s: Settings,
     store: &[u8],
@@ -659,7 +659,7 @@ pub fn order_by(
     }
 }
 
-// How many cells a store in order has; 0 where it is not in order. The tables lent, which chain no cell yet, then chain all of its cells.
+// How many cells a store in order has; 0 if it is not in order. The tables lent, which chain no cell yet, then chain all of its cells.
 pub fn in_order_by(
     s: Settings,
     store: &[u8],

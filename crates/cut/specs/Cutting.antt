@@ -43,11 +43,11 @@ counterWidth = 4
 abbrev pub single : ℕ → ℕ → ℕ → Bool
 single P H B = leb (primarySize + H + B) P
 
--- the body octets of a packet where cutting is needed
+-- the body octets of a packet if cutting is needed
 abbrev pub chunk : ℕ → ℕ → ℕ
 chunk P H = P - H - (primarySize + counterWidth)
 
--- B / C rounded up. (Where C is 0 this is 0, and 24 is given.)
+-- B / C rounded up. (If C is 0 this is 0, and 24 is given.)
 unfoldable pub rounded : ℕ → ℕ → ℕ
 rounded B C = (B + (C - 1)) / C
 
@@ -101,7 +101,7 @@ countRefusal s P v t B d = messageTests P (headerLength s v t) B d (valueRefusal
 unfoldable pub senderAfter : ℕ → ℕ → ℕ → Sender → Sender
 senderAfter P H B d = pick (single P H B) (afterPacket d) (afterSegments (packets P H B) d)
 
--- the number of packets and the sender's numbers behind the message; or the refusal, 0 and the sender as it was
+-- the number of packets and the sender's numbers after the message; or the refusal, 0 and the sender as it was
 unfoldable pub countAnswer : Settings → ℕ → HeaderValues → Lent → ℕ → Sender → Counted
 countAnswer s P v t B d =
     record {

@@ -37,7 +37,7 @@ planOf P h B d r =
       count = packetsOf (singleOf P h B) B (chunk P h);
     }
 
--- the counter of segment i where it fits, else 0
+-- the counter of segment i if it fits, else 0
 abbrev pub counterOf : Bool → Next → ℕ → ℕ
 counterOf one n i = pick one 0 (counterNumber (counterAfter i n))
 

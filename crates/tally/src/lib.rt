@@ -24,7 +24,7 @@ pub struct Tallied {
     pub keys: usize,
 }
 
-// One more where a test holds.
+// One more if a test holds.
 fn more(n: usize, one: bool) -> usize
     requires { ⌜ n < cellsMost ⌝ }
     ensures { λ r. ⌜ r ≡ n + pick one 1 0 ⌝ }

@@ -1,4 +1,4 @@
--- `flat_recording::join_recording` meets its contract.
+-- `flat_store::recordings::join_recording` meets its contract.
 -- Assumes nothing.
 use mathlib.Core.Path.{ap, _∙_}
 use Rattle.recording.specs.declared.Recorded.{Recorded}
