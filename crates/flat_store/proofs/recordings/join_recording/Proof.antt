@@ -17,7 +17,10 @@ same-length : tie.Need-same-length
 same-length c = search needs
 
 returns : tie.Need-returns
-returns c = (c .recorded-numbers .ensures ∙ ap (λ (a : Recorded). recordedNumbers a) (c .before .before .before .join-all .ensures .0), c .before .before .before .join-all .ensures .1)
+returns c = (
+  c .recorded-numbers .ensures ∙ ap (λ (a : Recorded). recordedNumbers a) (c .before .before .before .join-all .ensures .0),
+  c .before .before .before .join-all .ensures .1,
+)
 
 pub join-recording-spec : {M : Type 1} → statement M
 join-recording-spec =
