@@ -89,17 +89,17 @@ module _ (s : Settings) (st z p : List ℕ) (n flags at long c : ℕ) (ez : z �
         ap₂ (λ (o : Option Seg) (i : ℕ). beside o t (placed n i)) (look-none (cellAt s Z st) k c n 0 m) free-low
 
     module _ (h : j < n) where
-      pub segment-beside : segmentArrived s Z st n t ≡ pick (sameRest (segIn s Z (rowAt Z st j)) t) again (refused 18)
+      pub segment-beside : segmentArrived s Z st n t ≡ pick (sameRest (segIn s (rowAt Z st j)) t) again (refused 18)
       unfolding segmentArrived segWith foundIn
       segment-beside =
           let m : foundIn s Z st n k c < 0 + n = omega arith in
-          let o = look-found (cellAt s Z st) k c n 0 (segIn s Z (rowAt Z st j)) m (ap (cellAt s Z st) (sym e) ∙ found-held s Z st n k c e h .cell) in
+          let o = look-found (cellAt s Z st) k c n 0 (segIn s (rowAt Z st j)) m (ap (cellAt s Z st) (sym e) ∙ found-held s Z st n k c e h .cell) in
           ap (λ (x : Option Seg). beside x t (placed n (lowestFree s Z st n))) o
 
-      module _ {x : List ℕ} {b : Bool} (ex : x ≡ rowAt Z st j) (eb : b ≡ sameRest (segIn s 0 x) (segWith s p flags at long 0)) where
-        told : b ≡ sameRest (segIn s Z (rowAt Z st j)) t
+      module _ {x : List ℕ} {b : Bool} (ex : x ≡ rowAt Z st j) (eb : b ≡ sameRest (segIn s x) (segWith s p flags at long 0)) where
+        told : b ≡ sameRest (segIn s (rowAt Z st j)) t
         unfolding sameRest segWith
-        told = eb ∙ ap (λ (y : List ℕ). sameRest (segIn s Z y) t) ex
+        told = eb ∙ ap (λ (y : List ℕ). sameRest (segIn s y) t) ex
 
         pub segment-same : b ≡ true → segmentArrived s Z st n t ≡ again
         segment-same y = segment-beside ∙ ap (λ (w : Bool). pick w again (refused 18)) (sym told ∙ y)
@@ -110,7 +110,7 @@ module _ (s : Settings) (st z p : List ℕ) (n flags at long c : ℕ) (ez : z �
 -- flags and body compared as they stand in two packets
 pub rest-same :
     (s : Settings) (r p : List ℕ) (flags at long : ℕ) {q : List ℕ} {u : Piece} {b : Bool} → q ≡ packetIn r → u ≡ pieceOf (readPacket s (packetIn r)) →
-    b ≡ both (eqb (u .flags) flags) (alike (part q (u .at) (u .length)) (part p at long)) → b ≡ sameRest (segIn s 0 r) (segWith s p flags at long 0)
+    b ≡ both (eqb (u .flags) flags) (alike (part q (u .at) (u .length)) (part p at long)) → b ≡ sameRest (segIn s r) (segWith s p flags at long 0)
 unfolding sameRest segOf segWith pieceOf
 rest-same s r p flags at long eq eu eb =
     eb

@@ -23,7 +23,7 @@ pub data Arrived : Type 0 where
   again : Arrived
   refused : ℕ → Arrived
 
--- the cell that a new segment goes to, of n: 19 where none is free
+-- the cell that a new segment goes to, of n: 19 if none is free
 unfoldable pub placed : ℕ → ℕ → Arrived
 placed n i = pick (ltb i n) (stored i) (refused 19)
 
@@ -52,7 +52,7 @@ arrivedIn s Z st n p =
 unfoldable pub arrived : Settings → ℕ → List ℕ → List ℕ → Arrived
 arrived s Z st p = through (gate s Z st) (arrivedIn s Z st (countIn Z st) p) refused
 
--- the store behind it: a new segment's cell is written, and nothing else
+-- the store after it: a new segment's cell is written, and nothing else
 unfoldable pub storeWith : ℕ → List ℕ → List ℕ → Arrived → List ℕ
 storeWith Z st p whole = st
 storeWith Z st p (stored i) = sets st (i * Z) (heldRow Z p)

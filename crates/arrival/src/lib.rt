@@ -45,7 +45,7 @@ fn refused(k: u8) -> Arrival
 
 // Whether the segment of a held cell has these flags and this body.
 fn is_same(s: Settings, row: &[u8], p: &[u8], flags: u8, at: usize, long: usize) -> bool
-    ensures { λ r. ⌜ r ≡ sameRest (segIn s 0 (now (row .entry))) (segWith s (now (p .entry)) flags at long 0) ⌝ }
+    ensures { λ r. ⌜ r ≡ sameRest (segIn s (now (row .entry))) (segWith s (now (p .entry)) flags at long 0) ⌝ }
 {
     let q = cells::packet_in(row);
     let t = cells::messages::piece_in(s, row);

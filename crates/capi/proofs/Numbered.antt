@@ -5,7 +5,6 @@ use Prim.Native.Nat.{ℕ}
 use mathlib.Core.Path.{_≡_, refl, ap, sym, _∙_, subst}
 use mathlib.Core.List.{List, [], _∷_}
 use contract.Lifetimes as L
-use denote.Ref.{now}
 use lib.ListN.{length}
 use lib.Dec.{leb, eqb}
 use Rattle.octets.specs.Octets.{octetAt as numberAt}
@@ -17,7 +16,7 @@ use Rattle.cut.specs.Cutting.{countAnswer, packetAnswer}
 use Rattle.flat.specs.Told.{readNumbers}
 use Rattle.flat.specs.Given.{senderFits}
 use Rattle.flat.specs.Answers.{nextNumbers, writeFits, writeNumbers, afterPacketNumbers, afterSegmentNumbers, cutFits, countNumbers, packetNumbers}
-use Rattle.cells.specs.Order.{gate}
+use Rattle.cells.specs.Order.{cellSize, gate}
 use Rattle.flat_store.specs.Numbers.{orderNumbers}
 use Rattle.flat_store.specs.Views.{insideNumbers, viewNumbers}
 use Rattle.numbers.specs.Lists.{Numbered, ofReading, ofArrival, ofTaking, ofJoining, ofRecording, ofOrder, ofWidths, ofWriting, ofCount, ofCutting}
@@ -25,6 +24,8 @@ use Rattle.numbers.proofs.Among.{among, picked}
 use Rattle.numbers.proofs.Reading.{reading}
 use Rattle.numbers.proofs.Sending.{writing, write-wide, count, count-wide, cutting, cut-wide}
 use Rattle.numbers.proofs.Store.{arrival, taking, join, order, all}
+use Rattle.capi.proofs.Buffers.{next-answer, read-answer, write-answer, after-packet-answer, after-segment-answer, cut-count-answer, cut-packet-answer}
+use Rattle.capi.proofs.Buffers.{arrive-answer, take-answer, join-answer, view-answer, in-order-answer, recording-answer}
 use Rattle.capi.proofs.orl_next_sequence_count.Reads as nexts
 use Rattle.capi.proofs.orl_read.Reads as reads
 use Rattle.capi.proofs.orl_write.Reads as writes
@@ -90,53 +91,53 @@ view w p j place long =
     (picked (Refuses ofWidths) (eqb w 1) _ _ (inside (length p) place long)
     (picked (Refuses ofWidths) (eqb w 2) _ _ (inside (length j) place long) (among (0 ∷ ofWidths) 22 refl)))
 
-in-order : (t : ℕ) (st : List ℕ) → Refuses ofOrder (orderNumbers (settingsOf t) 1024 st)
+in-order : (t : ℕ) (st : List ℕ) → Refuses ofOrder (orderNumbers (settingsOf t) cellSize st)
 unfolding orderNumbers
 in-order t st =
-    picked (Refuses ofOrder) (eqb (gate (settingsOf t) 1024 st) 0) _ _ (among (0 ∷ ofOrder) 0 refl) (order (settingsOf t) 1024 st)
+    picked (Refuses ofOrder) (eqb (gate (settingsOf t) cellSize st) 0) _ _ (among (0 ∷ ofOrder) 0 refl) (order (settingsOf t) cellSize st)
 
 -- ---- the exports, in the order of the header
 
 pub next-sequence-count-numbered :
-    (κs : L.Lfts 1) (a : _) (r : _) (x : _) → nexts.Post κs a r x → Refuses ofWidths (now (x .1 .0))
+    (κs : L.Lfts 1) (a : _) (r : _) (x : _) → nexts.Post κs a r x → Refuses ofWidths (next-answer κs x)
 next-sequence-count-numbered κs a r x k = subst (Refuses ofWidths) (sym k) (next _)
 
-pub read-numbered : (κs : L.Lfts 2) (a : _) (r : _) (x : _) → reads.Post κs a r x → Refuses ofReading (now (x .1 .1 .0))
+pub read-numbered : (κs : L.Lfts 2) (a : _) (r : _) (x : _) → reads.Post κs a r x → Refuses ofReading (read-answer κs x)
 read-numbered κs a r x k = subst (Refuses ofReading) (sym k) (read _ _)
 
 pub write-numbered :
-    (κs : L.Lfts 10) (a : _) (r : _) (x : _) → writes.Post κs a r x → Refuses ofWriting (now (x .1 .1 .1 .1 .1 .1 .1 .1 .1 .1 .1 .1 .1 .0))
+    (κs : L.Lfts 10) (a : _) (r : _) (x : _) → writes.Post κs a r x → Refuses ofWriting (write-answer κs x)
 write-numbered κs a r x k = subst (Refuses ofWriting) (sym (k .0)) (write _ _ _ _ _ _ _ _)
 
-pub after-packet-numbered : (κs : L.Lfts 2) (a : _) (r : _) (x : _) → packeted.Post κs a r x → Refuses ofWidths (now (x .1 .0))
+pub after-packet-numbered : (κs : L.Lfts 2) (a : _) (r : _) (x : _) → packeted.Post κs a r x → Refuses ofWidths (after-packet-answer κs x)
 after-packet-numbered κs a r x k = subst (Refuses ofWidths) (sym k) (after-packet _)
 
-pub after-segment-numbered : (κs : L.Lfts 2) (a : _) (r : _) (x : _) → segmented.Post κs a r x → Refuses ofWidths (now (x .1 .0))
+pub after-segment-numbered : (κs : L.Lfts 2) (a : _) (r : _) (x : _) → segmented.Post κs a r x → Refuses ofWidths (after-segment-answer κs x)
 after-segment-numbered κs a r x k = subst (Refuses ofWidths) (sym k) (after-segment _)
 
 pub cut-count-numbered :
-    (κs : L.Lfts 9) (a : _) (r : _) (x : _) → counts.Post κs a r x → Refuses ofCount (now (x .1 .1 .1 .1 .1 .1 .1 .1 .1 .1 .1 .0))
+    (κs : L.Lfts 9) (a : _) (r : _) (x : _) → counts.Post κs a r x → Refuses ofCount (cut-count-answer κs x)
 cut-count-numbered κs a r x k = subst (Refuses ofCount) (sym k) (cut-count _ _ _ _ _ _)
 
 pub cut-packet-numbered :
-    (κs : L.Lfts 11) (a : _) (r : _) (x : _) → cuts.Post κs a r x → Refuses ofCutting (now (x .1 .1 .1 .1 .1 .1 .1 .1 .1 .1 .1 .1 .1 .0))
+    (κs : L.Lfts 11) (a : _) (r : _) (x : _) → cuts.Post κs a r x → Refuses ofCutting (cut-packet-answer κs x)
 cut-packet-numbered κs a r x k = subst (Refuses ofCutting) (sym (k .0)) (cut-packet _ _ _ _ _ _ _ _)
 
-pub arrive-numbered : (κs : L.Lfts 3) (a : _) (r : _) (x : _) → arrives.Post κs a r x → Refuses ofArrival (now (x .1 .1 .1 .0))
+pub arrive-numbered : (κs : L.Lfts 3) (a : _) (r : _) (x : _) → arrives.Post κs a r x → Refuses ofArrival (arrive-answer κs x)
 arrive-numbered κs a r x k = subst (Refuses ofArrival) (sym (k .0)) (arrival _ _ _ _)
 
-pub take-numbered : (κs : L.Lfts 3) (a : _) (r : _) (x : _) → takes.Post κs a r x → Refuses ofTaking (now (x .1 .1 .1 .0))
+pub take-numbered : (κs : L.Lfts 3) (a : _) (r : _) (x : _) → takes.Post κs a r x → Refuses ofTaking (take-answer κs x)
 take-numbered κs a r x k = subst (Refuses ofTaking) (sym (k .0)) (taking _ _ _ _)
 
-pub join-numbered : (κs : L.Lfts 4) (a : _) (r : _) (x : _) → joins.Post κs a r x → Refuses ofJoining (now (x .1 .1 .1 .1 .0))
+pub join-numbered : (κs : L.Lfts 4) (a : _) (r : _) (x : _) → joins.Post κs a r x → Refuses ofJoining (join-answer κs x)
 join-numbered κs a r x k = subst (Refuses ofJoining) (sym (k .0)) (join _ _ _ _ _)
 
-pub view-numbered : (κs : L.Lfts 3) (a : _) (r : _) (x : _) → views.Post κs a r x → Refuses ofWidths (now (x .1 .1 .1 .1 .1 .0))
+pub view-numbered : (κs : L.Lfts 3) (a : _) (r : _) (x : _) → views.Post κs a r x → Refuses ofWidths (view-answer κs x)
 view-numbered κs a r x k = subst (Refuses ofWidths) (sym k) (view _ _ _ _ _)
 
-pub in-order-numbered : (κs : L.Lfts 2) (a : _) (r : _) (x : _) → orders.Post κs a r x → Refuses ofOrder (now (x .1 .1 .0))
+pub in-order-numbered : (κs : L.Lfts 2) (a : _) (r : _) (x : _) → orders.Post κs a r x → Refuses ofOrder (in-order-answer κs x)
 in-order-numbered κs a r x k = subst (Refuses ofOrder) (sym k) (in-order _ _)
 
 pub join-recording-numbered :
-    (κs : L.Lfts 3) (a : _) (r : _) (x : _) → recordings.Post κs a r x → Refuses ofRecording (now (x .1 .1 .0))
+    (κs : L.Lfts 3) (a : _) (r : _) (x : _) → recordings.Post κs a r x → Refuses ofRecording (recording-answer κs x)
 join-recording-numbered κs a r x k = subst (Refuses ofRecording) (sym (k .0)) (all _ _)

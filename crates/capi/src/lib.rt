@@ -1,7 +1,7 @@
 // The calls for programs in other languages. `include/orlyukan.h` declares them for C and says what each number means.
 //
-// Each export hands its numbers and slices to a call of crate `flat`, or in `stored` of `flat_store` and `flat_recording`, and puts
-// what it answers into the lent array, the refusal first.
+// Each export hands its numbers and slices to a call of crate `flat`, or in `stored` of `flat_store`, and puts what it answers into
+// the lent array, the refusal first.
 // A slice is a pointer and a length, an array is one pointer; no struct goes by value and no reference comes back.
 mod stored;
 
@@ -47,12 +47,10 @@ pub extern "C" fn orl_write(
     out: &mut [u8],
     answer: &mut [u64; 2],
 )
-    ensures { λ r. ⌜ now (answer .exit) ≡ writeNumbers t (now (header .entry))
-        (lent (now (timestamp .entry)) (now (zone .entry)) (now (name .entry)) (now (domain .entry)) (now (lengths .entry))
-        (now (authentication .entry))) flags «sequence_count» counter (now (body .entry)) (length (now (out .entry))) ⌝ }
-    ensures { λ r. ⌜ now (out .exit) ≡ writeOut t (now (header .entry))
-        (lent (now (timestamp .entry)) (now (zone .entry)) (now (name .entry)) (now (domain .entry)) (now (lengths .entry))
-        (now (authentication .entry))) flags «sequence_count» counter (now (body .entry)) (now (out .entry)) ⌝ }
+    ensures { λ r. ⌜ (let x = lent (now (timestamp .entry)) (now (zone .entry)) (now (name .entry)) (now (domain .entry)) (now (lengths .entry))
+        (now (authentication .entry)) in
+        (now (answer .exit) ≡ writeNumbers t (now (header .entry)) x flags «sequence_count» counter (now (body .entry)) (length (now (out .entry))))
+        × (now (out .exit) ≡ writeOut t (now (header .entry)) x flags «sequence_count» counter (now (body .entry)) (now (out .entry)))) ⌝ }
 {
     *answer = flat::write(
         t,
@@ -140,12 +138,10 @@ pub extern "C" fn orl_cut_packet(
     out: &mut [u8],
     answer: &mut [u64; 5],
 )
-    ensures { λ r. ⌜ now (answer .exit) ≡ packetNumbers t p (now (header .entry))
-        (lent (now (timestamp .entry)) (now (zone .entry)) (now (name .entry)) (now (domain .entry)) (now (lengths .entry))
-        (now (authentication .entry))) (now (body .entry)) (now (sender .entry)) i (length (now (out .entry))) ⌝ }
-    ensures { λ r. ⌜ now (out .exit) ≡ packetOut t p (now (header .entry))
-        (lent (now (timestamp .entry)) (now (zone .entry)) (now (name .entry)) (now (domain .entry)) (now (lengths .entry))
-        (now (authentication .entry))) (now (body .entry)) (now (sender .entry)) i (now (out .entry)) ⌝ }
+    ensures { λ r. ⌜ (let x = lent (now (timestamp .entry)) (now (zone .entry)) (now (name .entry)) (now (domain .entry)) (now (lengths .entry))
+        (now (authentication .entry)) in
+        (now (answer .exit) ≡ packetNumbers t p (now (header .entry)) x (now (body .entry)) (now (sender .entry)) i (length (now (out .entry))))
+        × (now (out .exit) ≡ packetOut t p (now (header .entry)) x (now (body .entry)) (now (sender .entry)) i (now (out .entry)))) ⌝ }
 {
     *answer = flat::cut_packet(
         t,

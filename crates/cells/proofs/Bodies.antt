@@ -33,19 +33,19 @@ module _ (s : Settings) (Z : ℕ) (st : List ℕ) (i : ℕ) where
   p = packetIn r
 
   -- as it is judged
-  pub body-judged : {x : List ℕ} {t : Judged} → x ≡ r → t ≡ judgedOf (bodyIn s Z x) (cellOf s Z x) → t .at ≡ bodyAt s Z st i
+  pub body-judged : {x : List ℕ} {t : Judged} → x ≡ r → t ≡ judgedOf (bodyIn s x) (cellOf s Z x) → t .at ≡ bodyAt s Z st i
   unfolding bodyAt
-  body-judged ex et = ap (λ (t : Judged). t .at) (et ∙ ap (λ (y : List ℕ). judgedOf (bodyIn s Z y) (cellOf s Z y)) ex)
+  body-judged ex et = ap (λ (t : Judged). t .at) (et ∙ ap (λ (y : List ℕ). judgedOf (bodyIn s y) (cellOf s Z y)) ex)
 
-  body-of : {d : Cell} → cellAt s Z st i ≡ d → bodyAt s Z st i ≡ judgedOf (bodyIn s Z r) d .at
+  body-of : {d : Cell} → cellAt s Z st i ≡ d → bodyAt s Z st i ≡ judgedOf (bodyIn s r) d .at
   unfolding bodyAt
-  body-of e = ap (λ (d : Cell). judgedOf (bodyIn s Z r) d .at) e
+  body-of e = ap (λ (d : Cell). judgedOf (bodyIn s r) d .at) e
 
   pub body-held : Holding s Z r → bodyAt s Z st i ≡ readPacket s p .body .at
   body-held h = body-of (h .cell)
 
   body-none : segmentIn (cellAt s Z st i) ≡ none → bodyAt s Z st i ≡ 0
-  body-none n = body-of refl ∙ judged-none (bodyIn s Z r) (cellAt s Z st i) n .1
+  body-none n = body-of refl ∙ judged-none (bodyIn s r) (cellAt s Z st i) n .1
 
   -- 0 is none
   pub body-some : (bodyAt s Z st i ≡ 0 → ⊥) → Holding s Z r

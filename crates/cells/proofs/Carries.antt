@@ -96,17 +96,17 @@ held-told t = toldHeld (t .content)
 pub not-held : {b : Bool} → b ≡ true → b ≡ false → ⊥
 not-held e f = let z : _≡_ {A = ℕ} 0 1 = cc in omega arith
 
-pub judged-one : (s : Settings) (Z : ℕ) (r : List ℕ) {t : Judged} → t ≡ judgedOf (bodyIn s Z r) (cellOf s Z r) → toldHeld (t .content) ≡ true → Holding s Z r
+pub judged-one : (s : Settings) (Z : ℕ) (r : List ℕ) {t : Judged} → t ≡ judgedOf (bodyIn s r) (cellOf s Z r) → toldHeld (t .content) ≡ true → Holding s Z r
 judged-one s Z r {t} e h =
-    ⊎-elim (λ w. w) (λ n. absurd (not-held (ap held-told (sym e) ∙ h) (judged-none (bodyIn s Z r) (cellOf s Z r) n .0))) (kinds s Z r)
+    ⊎-elim (λ w. w) (λ n. absurd (not-held (ap held-told (sym e) ∙ h) (judged-none (bodyIn s r) (cellOf s Z r) n .0))) (kinds s Z r)
 
 -- and tells where its body begins, and its counter
 pub judged-at :
-    (s : Settings) (Z : ℕ) (r : List ℕ) {t : Judged} → t ≡ judgedOf (bodyIn s Z r) (cellOf s Z r) → Holding s Z r →
+    (s : Settings) (Z : ℕ) (r : List ℕ) {t : Judged} → t ≡ judgedOf (bodyIn s r) (cellOf s Z r) → Holding s Z r →
     (toldHeld (t .content) ≡ true) × ((t .at ≡ readPacket s (packetIn r) .body .at) × (t .counter .0 ≡ readPacket s (packetIn r) .ids .counter .0))
 unfolding segOf
 judged-at s Z r {t} e h =
-    let f = e ∙ ap (judgedOf (bodyIn s Z r)) (h .cell) in
+    let f = e ∙ ap (judgedOf (bodyIn s r)) (h .cell) in
     (ap held-told f, (ap (λ (x : Judged). x .at) f, ap (λ (x : Judged). x .counter .0) f))
 
 -- the counter of a segment that is held stands where its presence octet says
@@ -164,7 +164,7 @@ module _ (s : Settings) (r z q : List ℕ) (body-at c : ℕ) (o : Octets r) (a :
       ∙ ap (both (eqb c (counterIn p))) (other-key there (λ y. h (e ∙ y ∙ sym en)))
       ∙ pick-false (eqb c (counterIn p))))
 
-  module _ {t : Judged} (et : t ≡ judgedOf (bodyIn s (length z) r) (cellOf s (length z) r)) where
+  module _ {t : Judged} (et : t ≡ judgedOf (bodyIn s r) (cellOf s (length z) r)) where
     pub carries-not : toldHeld (t .content) ≡ false → false ≡ carriesIn k c (cellOf s (length z) r)
     carries-not h = unless-held s (length z) r k c (λ there. absurd (not-held (judged-at s (length z) r et there .0) h))
 

@@ -46,7 +46,7 @@ asked-held s Z r o h eq es =
 
 -- ---- a row that is judged held
 
-module _ (s : Settings) (st : List ℕ) (Z i : ℕ) {r : List ℕ} (er : r ≡ rowAt Z st i) {t : Judged} (et : t ≡ judgedOf (bodyIn s Z r) (cellOf s Z r))
+module _ (s : Settings) (st : List ℕ) (Z i : ℕ) {r : List ℕ} (er : r ≡ rowAt Z st i) {t : Judged} (et : t ≡ judgedOf (bodyIn s r) (cellOf s Z r))
     (o : Octets st) (one : toldHeld (t .content) ≡ true) where
   there : Holding s Z r
   there = judged-one s Z r et one

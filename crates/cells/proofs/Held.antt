@@ -155,16 +155,16 @@ module _ (s : Settings) (Z : ℕ) (r : List ℕ) where
       (bool (eqb (length r) Z))
 
   -- what the row is
-  pub judged-free : alike r (zeroRow Z) ≡ true → record { content = Free; at = 0; counter = record { 0 = 0 } } ≡ judgedOf (bodyIn s Z r) (cellOf s Z r)
+  pub judged-free : alike r (zeroRow Z) ≡ true → record { content = Free; at = 0; counter = record { 0 = 0 } } ≡ judgedOf (bodyIn s r) (cellOf s Z r)
   unfolding cellOf
   judged-free e = rw e refl
 
   module _ (no : alike r (zeroRow Z) ≡ false) where
-    pub judged-held : holds s Z r ≡ true → noted (readPacket s p) ≡ judgedOf (bodyIn s Z r) (cellOf s Z r)
+    pub judged-held : holds s Z r ≡ true → noted (readPacket s p) ≡ judgedOf (bodyIn s r) (cellOf s Z r)
     unfolding cellOf segOf
     judged-held e = rw (no, e) refl
 
-    pub judged-broken : holds s Z r ≡ false → record { content = Broken; at = 0; counter = record { 0 = 0 } } ≡ judgedOf (bodyIn s Z r) (cellOf s Z r)
+    pub judged-broken : holds s Z r ≡ false → record { content = Broken; at = 0; counter = record { 0 = 0 } } ≡ judgedOf (bodyIn s r) (cellOf s Z r)
     unfolding cellOf
     judged-broken e = rw (no, e) refl
 
@@ -190,7 +190,7 @@ pub part-room : (r : List ℕ) (k : ℕ) {n : ℕ} → n ≡ length (part r 2 k)
 part-room r k e h = omega (arith, length-take k (drop 2 r), length-drop 2 r)
 
 module _ (s : Settings) (r z : List ℕ) (ez : z ≡ zeroRow (length z)) where
-  pub told-free : {b : Bool} → b ≡ alike r z → b ≡ true → record { content = Free; at = 0; counter = record { 0 = 0 } } ≡ judgedOf (bodyIn s (length z) r) (cellOf s (length z) r)
+  pub told-free : {b : Bool} → b ≡ alike r z → b ≡ true → record { content = Free; at = 0; counter = record { 0 = 0 } } ≡ judgedOf (bodyIn s r) (cellOf s (length z) r)
   told-free e t = judged-free s (length z) r (ap (alike r) (sym ez) ∙ sym e ∙ t)
 
   module _ {b m t : Bool} {p : List ℕ} {h : Header} (eb : b ≡ alike r z) (no : b ≡ false) (ep : p ≡ part r 2 (number 2 r 6 + 7)) (eh : h ≡ readPacket s p)
@@ -211,10 +211,10 @@ module _ (s : Settings) (r z : List ℕ) (ez : z ≡ zeroRow (length z)) where
         ep
         ∙ holds-same s (length z) r
 
-    pub told-held : t ≡ true → noted h ≡ judgedOf (bodyIn s (length z) r) (cellOf s (length z) r)
+    pub told-held : t ≡ true → noted h ≡ judgedOf (bodyIn s r) (cellOf s (length z) r)
     told-held e = ap noted (eh ∙ ap (readPacket s) ep) ∙ judged-held s (length z) r row-free (sym row-holds ∙ e)
 
-    pub told-broken : t ≡ false → record { content = Broken; at = 0; counter = record { 0 = 0 } } ≡ judgedOf (bodyIn s (length z) r) (cellOf s (length z) r)
+    pub told-broken : t ≡ false → record { content = Broken; at = 0; counter = record { 0 = 0 } } ≡ judgedOf (bodyIn s r) (cellOf s (length z) r)
     told-broken e = judged-broken s (length z) r row-free (sym row-holds ∙ e)
 
 -- a counter's place is one of three

@@ -33,11 +33,11 @@ module _ {s : Settings} {Z : ℕ} {st : List ℕ} {n : ℕ} {first : List ℕ} w
   sounding-first = record { most = omega arith; so-far = refl; bodies = refl }
 
   module _ {table : List ℕ} {a : Bool} {i : ℕ} (p : Sounding s Z st n first table a i) where
-    module _ {r : List ℕ} {t : Judged} (er : r ≡ rowAt Z st i) (et : t ≡ judgedOf (bodyIn s Z r) (cellOf s Z r)) where
+    module _ {r : List ℕ} {t : Judged} (er : r ≡ rowAt Z st i) (et : t ≡ judgedOf (bodyIn s r) (cellOf s Z r)) where
       is-sound : toldSound (t .content) ≡ isSound (cellAt s Z st i)
       is-sound =
           ap (λ (x : Judged). toldSound (x .content)) et
-          ∙ sound-told (bodyIn s Z r) (cellOf s Z r)
+          ∙ sound-told (bodyIn s r) (cellOf s Z r)
           ∙ ap (λ (x : List ℕ). isSound (cellOf s Z x)) er
 
       -- the place is small

@@ -92,7 +92,7 @@ module _ (s : Settings) (r z k : List ℕ) (first steps : ℕ) (o : Octets r) wh
     pub within-out : {a : Bool} → a ≡ reaches suc steps first n → a ≡ false → false ≡ withinIn suc k first steps here
     within-out e h = unless-held (λ there. sym (by-counter (sym h ∙ e) there))
 
-    module _ {t : Judged} (et : t ≡ judgedOf (bodyIn s (length z) r) here) where
+    module _ {t : Judged} (et : t ≡ judgedOf (bodyIn s r) here) where
       pub within-not : toldHeld (t .content) ≡ false → false ≡ withinIn suc k first steps here
       within-not h = unless-held (λ there. absurd (not-held (judged-at s (length z) r et there .0) h))
 

@@ -9,7 +9,7 @@ use Rattle.octets.specs.Octets.{part}
 use Rattle.walk.specs.declared.Settings.{Settings}
 use Rattle.cells.specs.Rows.{Cell, segmentIn, bySegment}
 use Rattle.cells.specs.Order.{cellsMost, cellAt}
-use Rattle.cells.specs.Inner.{placeIn}
+use Rattle.cells.specs.Inner.{secondaryAt, counterWidth, placeIn}
 
 -- how many chains there are
 abbrev pub chainsAll : ℕ
@@ -50,7 +50,9 @@ bucketOf k c = chainIn (mixIn (mixed mixStart k) c)
 
 -- the key of a segment by its octets, told where its body begins
 unfoldable pub keyIn : List ℕ → ℕ → List ℕ
-keyIn p body-at = part p 0 2 ++ (part p 6 (placeIn p - 6) ++ part p (placeIn p + 4) (body-at - (placeIn p + 4)))
+keyIn p body-at =
+    part p 0 2
+    ++ (part p secondaryAt (placeIn p - secondaryAt) ++ part p (placeIn p + counterWidth) (body-at - (placeIn p + counterWidth)))
 
 -- ---- the chains
 

@@ -13,32 +13,46 @@ use Rattle.cells.specs.Segments.{Seg, both}
 use Rattle.cells.specs.declared.Content.{Content}
 use Rattle.cells.specs.declared.Content.the-variants.{Free, Held, Broken}
 use Rattle.cells.specs.declared.Judged.{Judged}
-use Rattle.cells.specs.Rows.{Cell, free, held, broken, segmentIn, bySegment, rowAt, packetIn}
+use Rattle.cells.specs.Rows.{Cell, free, held, broken, segmentIn, bySegment, markFirst, markSecond, rowAt, packetIn}
 use Rattle.cells.specs.Order.{cellAt}
 
 -- a row begins with the mark, and from n on is as the zero cell
 unfoldable pub heldRowTest : List ℕ → ℕ → List ℕ → Bool
 heldRowTest r n z =
-    both (eqb (octetAt r 0) 0x4d) (both (eqb (octetAt r 1) 0x53) (both (eqb (length r) (length z)) (alike (drop n r) (drop n z))))
+    both (eqb (octetAt r 0) markFirst) (both (eqb (octetAt r 1) markSecond) (both (eqb (length r) (length z)) (alike (drop n r) (drop n z))))
+
+-- places in a packet: the secondary header, its presence octet, and what comes after that; and the octets of a segment counter
+abbrev pub secondaryAt : ℕ
+secondaryAt = 6
+
+abbrev pub presenceAt : ℕ
+presenceAt = 26
+
+abbrev pub optionalAt : ℕ
+optionalAt = 27
+
+abbrev pub counterWidth : ℕ
+counterWidth = 4
 
 -- where a packet's segment counter stands, by its presence octet, and the counter
 unfoldable pub placeIn : List ℕ → ℕ
-placeIn p = 27 + (octetAt p 26 / 128 % 2 + octetAt p 26 / 64 % 2)
+placeIn p = optionalAt + (octetAt p presenceAt / 128 % 2 + octetAt p presenceAt / 64 % 2)
 
 unfoldable pub counterIn : List ℕ → ℕ
-counterIn p = number 4 p (placeIn p)
+counterIn p = number counterWidth p (placeIn p)
 
 -- two packets agree around their counters, told where their bodies begin
 unfoldable pub spansAlike : List ℕ → ℕ → List ℕ → ℕ → Bool
 spansAlike p at-p q at-q =
     both (both (eqb (placeIn p) (placeIn q)) (eqb at-p at-q))
     (both (alike (part p 0 2) (part q 0 2))
-    (both (alike (part p 6 (placeIn p - 6)) (part q 6 (placeIn q - 6)))
-    (alike (part p (placeIn p + 4) (at-p - (placeIn p + 4))) (part q (placeIn q + 4) (at-q - (placeIn q + 4))))))
+    (both (alike (part p secondaryAt (placeIn p - secondaryAt)) (part q secondaryAt (placeIn q - secondaryAt)))
+    (alike (part p (placeIn p + counterWidth) (at-p - (placeIn p + counterWidth)))
+    (part q (placeIn q + counterWidth) (at-q - (placeIn q + counterWidth))))))
 
 -- where the body begins in the packet of a row, by reading it
-abbrev pub bodyIn : Settings → ℕ → List ℕ → ℕ
-bodyIn s Z r = readPacket s (packetIn r) .body .at
+abbrev pub bodyIn : Settings → List ℕ → ℕ
+bodyIn s r = readPacket s (packetIn r) .body .at
 
 -- what is told of a cell, with the place of its body
 abbrev pub judgedOf : ℕ → Cell → Judged
@@ -77,9 +91,9 @@ pub record Asked (s : Settings) (q : List ℕ) (body-at : ℕ) : Type 0 where
   pub segment : segmented q ≡ true
   pub body : body-at ≡ readPacket s q .body .at
 
--- where the body of the segment in cell i begins; 0 where the cell holds none
+-- where the body of the segment in cell i begins; 0 if the cell holds none
 unfoldable pub bodyAt : Settings → ℕ → List ℕ → ℕ → ℕ
-bodyAt s Z st i = judgedOf (bodyIn s Z (rowAt Z st i)) (cellAt s Z st i) .at
+bodyAt s Z st i = judgedOf (bodyIn s (rowAt Z st i)) (cellAt s Z st i) .at
 
 -- those of the first n cells put into a table, each at its cell's number
 unfoldable pub bodiesTo : Settings → ℕ → List ℕ → ℕ → List ℕ → List ℕ

@@ -33,7 +33,7 @@ abbrev pub orElse : {A : Type 0} → Option A → Option A → Option A
 orElse none b = b
 orElse (some a) b = some a
 
--- the segment in a cell, where it has this key and counter
+-- the segment in a cell, if it has this key and counter
 abbrev pub heldAs : List ℕ → ℕ → Cell → Option Seg
 heldAs k c x = bySegment none (λ t. pick (carries k c t) (some t) none) (segmentIn x)
 

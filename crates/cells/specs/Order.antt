@@ -42,7 +42,7 @@ isSound broken = false
 abbrev pub carriesIn : List ℕ → ℕ → Cell → Bool
 carriesIn k c x = bySegment false (carries k c) (segmentIn x)
 
--- the lowest of n numbers, from i on, of which a test holds: n + i where there is none
+-- the lowest of n numbers, from i on, of which a test holds: n + i if there is none
 unfoldable pub lowest : (ℕ → Bool) → ℕ → ℕ → ℕ
 lowest f zero i = i
 lowest f (suc n) i = pick (f i) i (lowest f n (suc i))
@@ -81,6 +81,6 @@ gate s Z st = pick (eqb (begun s .refusal .number) 0) (pick (inOrder s Z st) 0 1
 abbrev pub through : {A : Type 0} → ℕ → A → (ℕ → A) → A
 through g a refuse = pick (eqb g 0) a (refuse g)
 
--- the lowest of the first n cells with this key and counter; n where there is none
+-- the lowest of the first n cells with this key and counter; n if there is none
 unfoldable pub foundIn : Settings → ℕ → List ℕ → ℕ → List ℕ → ℕ → ℕ
 foundIn s Z st n k c = lowest (λ j. carriesIn k c (cellAt s Z st j)) n 0

@@ -14,5 +14,5 @@ unfoldable pub pieceOf : Header → Piece
 pieceOf h = record { flags = h .primary .flags; at = h .body .at; length = h .body .length }
 
 -- the segment in a row that holds one
-abbrev pub segIn : Settings → ℕ → List ℕ → Seg
-segIn s Z r = segOf (packetIn r) (readPacket s (packetIn r))
+abbrev pub segIn : Settings → List ℕ → Seg
+segIn s r = segOf (packetIn r) (readPacket s (packetIn r))

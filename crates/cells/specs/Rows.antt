@@ -36,20 +36,31 @@ rowAt Z st i = part st (i * Z) Z
 abbrev pub zeroRow : ℕ → List ℕ
 zeroRow Z = replicate Z 0
 
+-- SPEC S-3: the two octets of the mark
+abbrev pub markFirst : ℕ
+markFirst = 0x4d
+
+abbrev pub markSecond : ℕ
+markSecond = 0x53
+
+-- how many they are
+abbrev pub markSize : ℕ
+markSize = 2
+
 -- the mark, the packet and zeros
 abbrev pub heldRow : ℕ → List ℕ → List ℕ
-heldRow Z p = 0x4d ∷ 0x53 ∷ p ++ replicate (Z - (2 + length p)) 0
+heldRow Z p = markFirst ∷ markSecond ∷ p ++ replicate (Z - (markSize + length p)) 0
 
--- how long the packet in a row is, its length field says
+-- how long the packet in a row is: its length field, four octets after the mark, says how many there are past the seventh
 abbrev pub sizeIn : List ℕ → ℕ
-sizeIn r = number 2 r 6 + 7
+sizeIn r = number 2 r (markSize + 4) + 7
 
 abbrev pub packetIn : List ℕ → List ℕ
-packetIn r = part r 2 (sizeIn r)
+packetIn r = part r markSize (sizeIn r)
 
--- a packet that may be held: reading accepts it, it is segmented, and fits the cell behind the mark
+-- a packet that may be held: reading accepts it, it is segmented, and fits the cell after the mark
 unfoldable pub mayHold : Settings → ℕ → List ℕ → Bool
-mayHold s Z p = both (leb (2 + length p) Z) (both (eqb (readPacket s p .refusal .number) 0) (segmented p))
+mayHold s Z p = both (leb (markSize + length p) Z) (both (eqb (readPacket s p .refusal .number) 0) (segmented p))
 
 -- a row that holds one, just as it arrived
 unfoldable pub holds : Settings → ℕ → List ℕ → Bool

@@ -15,10 +15,10 @@ ghost use Prim.Native.Nat.{suc, _+_, _*_, _/_, _≤_, _<_};
 ghost use lib.ListN.{length, getD, drop, set};
 ghost use lib.Seq.{sets};
 ghost use mathlib.Core.List.{_∷_};
-ghost use Rattle.octets.specs.Octets.{pick, part, number, alike};
+ghost use Rattle.octets.specs.Octets.{pick, part, alike};
 ghost use lib.Dec.{eqb};
 ghost use Rattle.cells.specs.Segments.{both};
-ghost use Rattle.cells.specs.Rows.{rowAt, zeroRow, cellOf};
+ghost use Rattle.cells.specs.Rows.{rowAt, zeroRow, cellOf, markFirst, markSecond, markSize, packetIn};
 ghost use Rattle.cells.specs.Inner.{heldRowTest, judgedOf, toldHeld, toldSound, bodyIn, placeIn, counterIn, spansAlike, reaches};
 ghost use Rattle.cells.specs.Inner.{withinIn, Asked, bodyAt, bodiesTo, Bodies};
 ghost use mathlib.Core.Bool.{true};
@@ -40,6 +40,33 @@ pub const CELLS_MOST: usize = 4096;
 pub const CHAINS: usize = 4096;
 
 const MIX_START: u32 = 2166136261;
+
+const MIX_FACTOR: u64 = 16777619;
+
+const MIX_ALL: u64 = 4294967296;
+
+const MIX_HALF: usize = 65536;
+
+// The mark of a held cell, its two octets, and how many they are.
+const MARK: u64 = 0x4d53;
+
+const MARK_FIRST: u8 = 0x4d;
+
+const MARK_SECOND: u8 = 0x53;
+
+pub const MARK_SIZE: usize = 2;
+
+// The octets of a packet's identification, and of a segment counter.
+pub const IDENTIFICATION: usize = 2;
+
+pub const COUNTER: usize = 4;
+
+// Places in a packet: the secondary header, its presence octet, and what comes after that.
+pub const SECONDARY_AT: usize = 6;
+
+const PRESENCE_AT: usize = 26;
+
+const OPTIONAL_AT: usize = 27;
 
 // Where the transaction id of a packet stands.
 const TRANSACTION_PLACE: usize = 18;
@@ -64,18 +91,18 @@ pub fn span(x: &[u8], at: usize, n: usize) -> &[u8]
 
 // The packet that a row holds, by its length field, as far as it is there.
 pub fn packet_in(row: &[u8]) -> &[u8]
-    ensures { λ r. ⌜ now r ≡ part (now (row .entry)) 2 (number 2 (now (row .entry)) 6 + 7) ⌝ }
+    ensures { λ r. ⌜ now r ≡ packetIn (now (row .entry)) ⌝ }
 {
     let size = octets::be16(row, 6) as usize + 7;
-    span(row, 2, size)
+    span(row, MARK_SIZE, size)
 }
 
 // Where the segment counter of a packet stands, by its presence octet.
 pub fn counter_place(p: &[u8]) -> usize
     ensures { λ r. ⌜ r ≡ placeIn (now (p .entry)) ⌝ }
 {
-    let f = octets::octet(p, 26);
-    27 + (f / 128 % 2) as usize + (f / 64 % 2) as usize
+    let f = octets::octet(p, PRESENCE_AT);
+    OPTIONAL_AT + (f / 128 % 2) as usize + (f / 64 % 2) as usize
 }
 
 // The segment counter that stands there.
@@ -92,11 +119,14 @@ pub fn same_key(p: &[u8], body_at: usize, q: &[u8], q_body_at: usize) -> bool
     let c = counter_place(p);
     let d = counter_place(q);
     let long = octets::both(c == d, body_at == q_body_at);
-    let ids = octets::same(span(p, 0, 2), span(q, 0, 2));
-    let fore = octets::same(span(p, 6, c - 6), span(q, 6, d - 6));
+    let ids = octets::same(span(p, 0, IDENTIFICATION), span(q, 0, IDENTIFICATION));
+    let fore = octets::same(
+        span(p, SECONDARY_AT, c - SECONDARY_AT),
+        span(q, SECONDARY_AT, d - SECONDARY_AT),
+    );
     let aft = octets::same(
-        span(p, c + 4, octets::less(body_at, c + 4)),
-        span(q, d + 4, octets::less(q_body_at, d + 4)),
+        span(p, c + COUNTER, octets::less(body_at, c + COUNTER)),
+        span(q, d + COUNTER, octets::less(q_body_at, d + COUNTER)),
     );
     octets::both(long, octets::both(ids, octets::both(fore, aft)))
 }
@@ -114,8 +144,8 @@ fn tail(x: &[u8], n: usize) -> &[u8]
 fn is_held_row(row: &[u8], n: usize, zero: &[u8]) -> bool
     ensures { λ r. ⌜ r ≡ heldRowTest (now (row .entry)) n (now (zero .entry)) ⌝ }
 {
-    let first = octets::octet(row, 0) == 0x4d;
-    let second = octets::octet(row, 1) == 0x53;
+    let first = octets::octet(row, 0) == MARK_FIRST;
+    let second = octets::octet(row, 1) == MARK_SECOND;
     let long = row.len() == zero.len();
     let rest = octets::same(tail(row, n), tail(zero, n));
     octets::both(first, octets::both(second, octets::both(long, rest)))
@@ -172,7 +202,7 @@ fn is_free(row: &[u8], zero: &[u8]) -> bool
 // What a row is, beside a zero cell, by one reading of its packet. A row of another length is broken.
 pub fn judge(s: Settings, row: &[u8], zero: &[u8]) -> Judged
     requires { ⌜ now zero ≡ zeroRow (length (now zero)) ⌝ }
-    ensures { λ r. ⌜ r ≡ judgedOf (bodyIn s (length (now (zero .entry))) (now (row .entry))) (cellOf s (length (now (zero .entry))) (now (row .entry))) ⌝ }
+    ensures { λ r. ⌜ r ≡ judgedOf (bodyIn s (now (row .entry))) (cellOf s (length (now (zero .entry))) (now (row .entry))) ⌝ }
 {
     if is_free(row, zero) {
         return Judged {
@@ -188,7 +218,7 @@ pub fn judge(s: Settings, row: &[u8], zero: &[u8]) -> Judged
     let body = h.body;
     let ids = h.ids;
     let counter = ids.counter;
-    let marked = is_held_row(row, 2 + p.len(), zero);
+    let marked = is_held_row(row, MARK_SIZE + p.len(), zero);
     if octets::both(
         marked,
         octets::both(refusal.number == 0, primary.flags != UNSEGMENTED),
@@ -206,7 +236,7 @@ pub fn judge(s: Settings, row: &[u8], zero: &[u8]) -> Judged
     }
 }
 
-// The lowest free cell of the first n; n where there is none.
+// The lowest free cell of the first n; n if there is none.
 pub fn lowest_free(store: &[u8], n: usize, zero: &[u8]) -> usize
     ensures { λ r. ⌜ r ≡ lowest (λ j. alike (rowAt (length (now (zero .entry))) (now (store .entry)) j) (now (zero .entry))) n 0 ⌝ }
 {
@@ -221,7 +251,7 @@ pub fn lowest_free(store: &[u8], n: usize, zero: &[u8]) -> usize
     n
 }
 
-// How many cells a store of this length has, 0 where its length does not fit.
+// How many cells a store of this length has, 0 if its length does not fit.
 pub fn count(len: usize, z: usize) -> usize
     ensures { λ r. ⌜ r ≡ pick (lengthFits z len) (len / z) 0 ⌝ }
 {
@@ -242,7 +272,7 @@ pub fn count(len: usize, z: usize) -> usize
 }
 
 // Whether a cell holds a segment with the key and counter of the one that is looked for. The cheap tests come first: the row is judged
-// only where counter and transaction id agree.
+// only if counter and transaction id agree.
 pub fn carries_at(
     s: Settings,
     row: &[u8],
@@ -279,9 +309,9 @@ fn is_key(k: &[u8], p: &[u8], body_at: usize) -> bool
     ensures { λ r. ⌜ r ≡ alike (now (k .entry)) (keyIn (now (p .entry)) «body_at») ⌝ }
 {
     let c = counter_place(p);
-    let ids = span(p, 0, 2);
-    let fore = span(p, 6, c - 6);
-    let aft = span(p, c + 4, octets::less(body_at, c + 4));
+    let ids = span(p, 0, IDENTIFICATION);
+    let fore = span(p, SECONDARY_AT, c - SECONDARY_AT);
+    let aft = span(p, c + COUNTER, octets::less(body_at, c + COUNTER));
     let first = octets::same(span(k, 0, ids.len()), ids);
     let second = octets::same(span(k, ids.len(), fore.len()), fore);
     let third = octets::same(tail(k, ids.len() + fore.len()), aft);
@@ -324,7 +354,7 @@ pub fn is_within(
     is_key(k, p, t.at)
 }
 
-// The lowest of the first n cells that carries the key and counter of the one that is looked for; n where there is none.
+// The lowest of the first n cells that carries the key and counter of the one that is looked for; n if there is none.
 pub fn find(
     s: Settings,
     store: &[u8],
@@ -368,13 +398,13 @@ pub fn same_rest(
     )
 }
 
-// The mark and a packet into cell i, where they lie inside the store.
+// The mark and a packet into cell i, if they lie inside the store.
 pub fn put_cell(store: &mut [u8], z: usize, i: usize, p: &[u8])
-    requires { ⌜ i * z + (2 + length (now p)) ≤ length (now store) ⌝ }
-    ensures { λ r. ⌜ now (store .exit) ≡ sets (now (store .entry)) (i * z) (0x4d ∷ 0x53 ∷ now (p .entry)) ⌝ }
+    requires { ⌜ i * z + (markSize + length (now p)) ≤ length (now store) ⌝ }
+    ensures { λ r. ⌜ now (store .exit) ≡ sets (now (store .entry)) (i * z) (markFirst ∷ markSecond ∷ now (p .entry)) ⌝ }
 {
     let at = octets::place(store.len(), z, i);
-    let behind = octets::lay_number(store, at, 2, 0x4d53);
+    let behind = octets::lay_number(store, at, MARK_SIZE, MARK);
     octets::lay(store, behind, p);
 }
 
@@ -382,7 +412,7 @@ pub fn put_cell(store: &mut [u8], z: usize, i: usize, p: &[u8])
 fn mix_in(m: u32, x: u32) -> u32
     ensures { λ r. ⌜ r ≡ mixIn m x ⌝ }
 {
-    ((m as u64 * 16777619 + x as u64) % 4294967296) as u32
+    ((m as u64 * MIX_FACTOR + x as u64) % MIX_ALL) as u32
 }
 
 // The octets of a slice mixed into a number, one after the other.
@@ -403,7 +433,7 @@ fn chain(m: u32, c: SegmentCounter) -> usize
     ensures { λ r. ⌜ r ≡ chainIn (mixIn m (c .0)) ⌝ }
 {
     let x = mix_in(m, c.0) as usize;
-    (x / 65536 + x) % CHAINS
+    (x / MIX_HALF + x) % CHAINS
 }
 
 // The chain of the key of a segment, told where its body begins, beside a counter.
@@ -411,9 +441,12 @@ pub fn bucket(q: &[u8], body_at: usize, c: SegmentCounter) -> usize
     ensures { λ r. ⌜ r ≡ bucketOf (keyIn (now (q .entry)) «body_at») (c .0) ⌝ }
 {
     let d = counter_place(q);
-    let ids = mix(MIX_START, span(q, 0, 2));
-    let fore = mix(ids, span(q, 6, d - 6));
-    let aft = mix(fore, span(q, d + 4, octets::less(body_at, d + 4)));
+    let ids = mix(MIX_START, span(q, 0, IDENTIFICATION));
+    let fore = mix(ids, span(q, SECONDARY_AT, d - SECONDARY_AT));
+    let aft = mix(
+        fore,
+        span(q, d + COUNTER, octets::less(body_at, d + COUNTER)),
+    );
     chain(aft, c)
 }
 
@@ -449,7 +482,7 @@ fn find_on(
     best
 }
 
-// The same as `find`, by a walk along one chain where the cells stand on chains.
+// The same as `find`, by a walk along one chain if the cells stand on chains.
 pub fn find_by(
     s: Settings,
     store: &[u8],
@@ -485,7 +518,7 @@ fn push(i: usize, b: usize, heads: &mut [u16; CHAINS], links: &mut [u16; CELLS_M
     heads[b] = (i + 1) as u16;
 }
 
-// Whether no cell below i has the key and counter of the one that is looked for, where those below are apart so far.
+// Whether no cell below i has the key and counter of the one that is looked for, if those below are apart so far.
 fn is_new(
     s: Settings,
     store: &[u8],
@@ -626,7 +659,7 @@ pub fn order_by(
     }
 }
 
-// How many cells a store in order has; 0 where it is not in order. The tables lent, which chain no cell yet, then chain all of its cells.
+// How many cells a store in order has; 0 if it is not in order. The tables lent, which chain no cell yet, then chain all of its cells.
 pub fn in_order_by(
     s: Settings,
     store: &[u8],

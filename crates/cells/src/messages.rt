@@ -9,9 +9,6 @@ ghost use Rattle.cells.specs.Pieces.{pieceOf};
 use packet::SegmentCounter;
 use walk::Settings;
 
-// The highest segment counter.
-pub const COUNTER_MOST: u32 = 4294967295;
-
 // A segment in its cell: its flags, and where its body stands in its packet.
 pub struct Piece {
     pub flags: u8,
@@ -42,9 +39,9 @@ pub fn next(c: SegmentCounter) -> SegmentCounter
     SegmentCounter(c.0 + 1)
 }
 
-// How many counters follow one.
+// How many counters follow one. The highest is the largest number of its type.
 pub fn further(c: SegmentCounter) -> u32
     ensures { λ r. ⌜ r + c .0 ≡ top ⌝ }
 {
-    COUNTER_MOST - c.0
+    u32::MAX - c.0
 }

@@ -30,17 +30,24 @@ limitLeast = 27
 abbrev pub bodyMost : ℕ
 bodyMost = 1048576
 
+-- the octets of the primary header and of a segment counter
+abbrev pub primarySize : ℕ
+primarySize = 6
+
+abbrev pub counterWidth : ℕ
+counterWidth = 4
+
 -- ---- the formula
 
 -- one unsegmented packet is enough
 abbrev pub single : ℕ → ℕ → ℕ → Bool
-single P H B = leb (6 + H + B) P
+single P H B = leb (primarySize + H + B) P
 
--- the body octets of a packet where cutting is needed
+-- the body octets of a packet if cutting is needed
 abbrev pub chunk : ℕ → ℕ → ℕ
-chunk P H = P - H - 10
+chunk P H = P - H - (primarySize + counterWidth)
 
--- B / C rounded up. (Where C is 0 this is 0, and 24 is given.)
+-- B / C rounded up. (If C is 0 this is 0, and 24 is given.)
 unfoldable pub rounded : ℕ → ℕ → ℕ
 rounded B C = (B + (C - 1)) / C
 
@@ -70,12 +77,16 @@ limitTest s P r = unless (leb P packetMost) 15 (unless (leb limitLeast P) 15 (se
 unfoldable pub valueTests : Settings → HeaderValues → Lent → Sender → Refusal → Refusal
 valueTests s v t d r = unless (leb (d .«sequence_count» .0) countMost) 22 (unlessAll (headerChecks s v t) 22 r)
 
+-- 15, 22, 13: the tests on the values alone
+abbrev pub valueRefusal : Settings → ℕ → HeaderValues → Lent → Sender → Refusal
+valueRefusal s P v t d = partsTest t (valueTests s v t d (limitTest s P noRefusal))
+
 -- 23: the body; 12: the header; 24: C below 1; 25: the counters
 unfoldable pub messageTests : ℕ → ℕ → ℕ → Sender → Refusal → Refusal
 messageTests P H B d r =
     unless (pick (single P H B) true (countersFit (d .next) (packets P H B))) 25
     (unless (pick (single P H B) true (leb 1 (chunk P H))) 24
-    (unless (leb (pick (single P H B) H (H + 4)) headerMost) 12 (unless (leb B bodyMost) 23 r)))
+    (unless (leb (pick (single P H B) H (H + counterWidth)) headerMost) 12 (unless (leb B bodyMost) 23 r)))
 
 -- H of the values given
 abbrev pub headerLength : Settings → HeaderValues → Lent → ℕ
@@ -83,15 +94,14 @@ headerLength s v t = length (headerOctets s (headOf v t))
 
 -- 15, 22, 13, 23, 12, 24, 25
 unfoldable pub countRefusal : Settings → ℕ → HeaderValues → Lent → ℕ → Sender → Refusal
-countRefusal s P v t B d =
-    messageTests P (headerLength s v t) B d (partsTest t (valueTests s v t d (limitTest s P noRefusal)))
+countRefusal s P v t B d = messageTests P (headerLength s v t) B d (valueRefusal s P v t d)
 
 -- ---- the count and the numbers moved on
 
 unfoldable pub senderAfter : ℕ → ℕ → ℕ → Sender → Sender
 senderAfter P H B d = pick (single P H B) (afterPacket d) (afterSegments (packets P H B) d)
 
--- the number of packets and the sender's numbers behind the message; or the refusal, 0 and the sender as it was
+-- the number of packets and the sender's numbers after the message; or the refusal, 0 and the sender as it was
 unfoldable pub countAnswer : Settings → ℕ → HeaderValues → Lent → ℕ → Sender → Counted
 countAnswer s P v t B d =
     record {

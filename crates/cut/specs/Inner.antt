@@ -14,10 +14,10 @@ use Rattle.sender.specs.declared.Next.{Next}
 use Rattle.sender.specs.Sending.{counterNumber, counterAfter}
 use Rattle.write.specs.declared.PacketValues.{PacketValues}
 use Rattle.cut.specs.declared.Plan.{Plan}
-use Rattle.cut.specs.Cutting.{countersFit, bodyMost, chunk, rounded}
+use Rattle.cut.specs.Cutting.{primarySize, counterWidth, countersFit, bodyMost, chunk, rounded}
 
 abbrev pub singleOf : ℕ → ℕ → ℕ → Bool
-singleOf P h B = leb (capped (6 + h + B)) P
+singleOf P h B = leb (capped (primarySize + h + B)) P
 
 abbrev pub packetsOf : Bool → ℕ → ℕ → ℕ
 packetsOf one B C = pick one 1 (rounded B C)
@@ -26,7 +26,7 @@ unfoldable pub planRefusal : Bool → ℕ → ℕ → ℕ → Sender → Refusal
 planRefusal one h B C d r =
     unless (pick one true (countersFit (d .next) (packetsOf one B C))) 25
     (unless (pick one true (leb 1 C)) 24
-    (unless (leb (pick one h (capped (h + 4))) headerMost) 12 (unless (leb B bodyMost) 23 r)))
+    (unless (leb (pick one h (capped (h + counterWidth))) headerMost) 12 (unless (leb B bodyMost) 23 r)))
 
 unfoldable pub planOf : ℕ → ℕ → ℕ → Sender → Refusal → Plan
 planOf P h B d r =
@@ -37,7 +37,7 @@ planOf P h B d r =
       count = packetsOf (singleOf P h B) B (chunk P h);
     }
 
--- the counter of segment i where it fits, else 0
+-- the counter of segment i if it fits, else 0
 abbrev pub counterOf : Bool → Next → ℕ → ℕ
 counterOf one n i = pick one 0 (counterNumber (counterAfter i n))
 

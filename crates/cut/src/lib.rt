@@ -16,10 +16,9 @@ ghost use Rattle.walk.specs.Walk.{unless};
 ghost use Rattle.write.specs.Given.{lent};
 ghost use Rattle.write.specs.Lending.{Lends};
 ghost use Rattle.sender.specs.declared.Sent.the-variants.{Whole, Segments};
-ghost use Rattle.cut.specs.Cutting.{countersFit, limitTest, valueTests, chunk as chunkOf, rounded, countAnswer, packetAnswer, packetOutput};
+ghost use Rattle.cut.specs.Cutting.{counterWidth, countersFit, limitTest, valueRefusal, chunk as chunkOf, rounded};
+ghost use Rattle.cut.specs.Cutting.{countAnswer, packetAnswer, packetOutput};
 ghost use Rattle.cut.specs.Inner.{packetsOf, planOf, counterOf, fromOf, toOf, valuesOf};
-ghost use Rattle.write.specs.Writing.{partsTest};
-ghost use Rattle.walk.specs.Walk.{noRefusal};
 use packet::SegmentCounter;
 use sender::Next;
 use sender::Sender;
@@ -40,6 +39,9 @@ use write::PacketValues;
 pub const LIMIT_LEAST: usize = 27;
 
 pub const BODY_MOST: usize = 1048576;
+
+// What a segment has beside H and its part of the body: the primary header and the counter.
+const AROUND: usize = 10;
 
 // What the count answers: a refusal, or the number of packets; and the sender.
 pub struct Counted {
@@ -87,10 +89,8 @@ fn test_message(
     id: &[u8],
     sender: Sender,
 ) -> Refusal
-    ensures { λ q. ⌜ q ≡ partsTest (lent (now (time .entry)) (now (zone .entry)) (now (name .entry)) (now (domain .entry))
-        (now (lengths .entry)) (now (id .entry))) (valueTests s v
-        (lent (now (time .entry)) (now (zone .entry)) (now (name .entry)) (now (domain .entry)) (now (lengths .entry)) (now (id .entry)))
-        sender (limitTest s p noRefusal)) ⌝ }
+    ensures { λ q. ⌜ q ≡ valueRefusal s p v (lent (now (time .entry)) (now (zone .entry)) (now (name .entry)) (now (domain .entry))
+        (now (lengths .entry)) (now (id .entry))) sender ⌝ }
 {
     let none = Refusal { number: 0 };
     let sequence_count = sender.sequence_count;
@@ -104,7 +104,7 @@ fn test_message(
 fn chunk_of(p: usize, h: usize) -> usize
     ensures { λ r. ⌜ r ≡ chunkOf p h ⌝ }
 {
-    octets::less(octets::less(p, h), 10)
+    octets::less(octets::less(p, h), AROUND)
 }
 
 // B / C rounded up, 0 where C is.
@@ -135,7 +135,7 @@ fn counters_fit(next: Next, n: usize) -> bool
 {
     match next {
         Next::At(c) => {
-            let left = 4294967296 - c.0 as u64;
+            let left = sender::COUNTERS - c.0 as u64;
             n as u64 <= left
         }
         Next::NoneLeft => false,
@@ -144,12 +144,12 @@ fn counters_fit(next: Next, n: usize) -> bool
 
 // The secondary header as it will stand in a packet.
 fn header_of(single: bool, h: usize) -> usize
-    ensures { λ r. ⌜ r ≡ pick single h (capped (h + 4)) ⌝ }
+    ensures { λ r. ⌜ r ≡ pick single h (capped (h + counterWidth)) ⌝ }
 {
     if single {
         return h;
     }
-    fields::plus(h, 4)
+    fields::plus(h, write::COUNTER)
 }
 
 // 23, 12, 24, 25, and the numbers that they are judged on.
@@ -323,14 +323,11 @@ pub fn packet(
     i: usize,
     out: &mut [u8],
 ) -> Cut
-    ensures answer { λ r. ⌜ r ≡ packetAnswer s p v (lent (now (time .entry)) (now (zone .entry)) (now (name .entry)) (now (domain .entry))
-        (now (lengths .entry)) (now (id .entry))) (now (body .entry)) sender i (length (now (out .entry))) ⌝ }
-    ensures octets { λ r. ⌜ now (out .exit) ≡ packetOutput s p v
-        (lent (now (time .entry)) (now (zone .entry)) (now (name .entry)) (now (domain .entry)) (now (lengths .entry)) (now (id .entry)))
-        (now (body .entry)) sender i (now (out .entry)) ⌝ }
-    ensures lends { λ r. ⌜ Lends v
-        (lent (now (time .entry)) (now (zone .entry)) (now (name .entry)) (now (domain .entry)) (now (lengths .entry)) (now (id .entry)))
-        (now (body .entry)) ⌝ }
+    ensures { λ r. ⌜ (let t = lent (now (time .entry)) (now (zone .entry)) (now (name .entry)) (now (domain .entry)) (now (lengths .entry))
+        (now (id .entry)) in
+        (r ≡ packetAnswer s p v t (now (body .entry)) sender i (length (now (out .entry))))
+        × (now (out .exit) ≡ packetOutput s p v t (now (body .entry)) sender i (now (out .entry)))
+        × Lends v t (now (body .entry))) ⌝ }
 {
     let values = test_message(s, p, v, time, zone, name, domain, lengths, id, sender);
     let h = write::header_size(s, v, time, zone, name, domain, lengths, id);

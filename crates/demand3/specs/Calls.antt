@@ -50,17 +50,17 @@ goesOn again = true
 goesOn (refused k) = false
 
 module _ (s : Settings) (Z : ℕ) where
-  -- the store behind an arrival
+  -- the store after an arrival
   abbrev pub arrivedStore : List ℕ → List ℕ → List ℕ
   arrivedStore st p = storeWith Z st p (arrived s Z st p)
 
-  -- whether a call takes, where it finds this store
+  -- whether a call takes, if it finds this store
   abbrev pub draws : List ℕ → Call → Bool
   draws st (arrival p) = false
   draws st (taking out) = true
   draws st (joining p out) = goesOn (arrived s Z st p)
 
-  -- the store before its taking: behind its arrival
+  -- the store before its taking: after its arrival
   abbrev pub storeAt : List ℕ → Call → List ℕ
   storeAt st (arrival p) = arrivedStore st p
   storeAt st (taking out) = st
@@ -70,7 +70,7 @@ module _ (s : Settings) (Z : ℕ) where
   unfoldable pub tookBy : List ℕ → Call → Option Took
   tookBy st c = pick (draws st c) (some (took s Z (storeAt st c) (length (outOf c)))) none
 
-  -- the store behind a call
+  -- the store after a call
   unfoldable pub storeBy : List ℕ → Call → List ℕ
   storeBy st (arrival p) = arrivedStore st p
   storeBy st (taking out) = lessTaken s Z st (length out)
@@ -82,7 +82,7 @@ module _ (s : Settings) (Z : ℕ) where
   outBy st (taking out) = outWith out (took s Z st (length out))
   outBy st (joining p out) = outJoined s Z st p out
 
-  -- the store behind a list of calls
+  -- the store after a list of calls
   unfoldable pub storeAfter : List ℕ → List Call → List ℕ
   storeAfter st [] = st
   storeAfter st (c ∷ cs) = storeAfter (storeBy st c) cs

@@ -100,7 +100,7 @@ module _ (s : Settings) (Z n : ℕ) where
     retaken : (x : List Call) (c : Call) → TakesIt s Z m (storeBehind x) c → Anew m (x ++ c ∷ [])
 
   -- a free cell just before each new segment (DEMANDS 3.5), by an arrival or a joining: a packet that reading accepts, segmented,
-  -- that fits a cell, and whose key and counter no cell has just before; where `run` tells the store behind some calls
+  -- that fits a cell, and whose key and counter no cell has just before; where `run` tells the store after some calls
   abbrev pub RoomIn : (List Call → List ℕ) → List Call → Type 0
   RoomIn run cs = (x y : List Call) (c : Call) (p : List ℕ) → cs ≡ x ++ c ∷ y → Brings p c →
       readPacket s p .refusal .number ≡ 0 → segmented p ≡ true → 2 + length p ≤ Z →

@@ -102,7 +102,7 @@ module _ (next : ℕ → ℕ) (span : ℕ) where
       Anew cells m before → Untaken m (after next span (empty cells) before) since →
       Promise (Done m) cells m since (after next span (empty cells) (before ++ since))
 
-  -- without the room, also where segments were refused since no cell was free: a message is complete only when all its segments have
+  -- without the room, also if segments were refused since no cell was free: a message is complete only when all its segments have
   -- arrived, and its taking gives the original
   abbrev pub Soundness : Type 0
   Soundness = (cells : ℕ) (ms : List Sent) (before since : List Event) → Traffic next span ms (before ++ since) →

@@ -33,7 +33,7 @@ bodyIn m = together (m .one ∷ m .two ∷ m .more)
 abbrev pub stepsIn : Sent → ℕ
 stepsIn m = suc (length (m .more))
 
--- the sequence flags of a segment after the first: 10 the last, 00 where others follow
+-- the sequence flags of a segment after the first: 10 the last, 00 if others follow
 abbrev pub flagsBefore : List (List ℕ) → ℕ
 flagsBefore [] = 2
 flagsBefore (p ∷ ps) = 0

@@ -58,7 +58,7 @@ module _ (s : Settings) (Z n : ℕ) where
         (i : ℕ) → i < manyOf s m → r .head .counter ≡ segmentAt s m i .counter → Delivers m st c
     -- an output that is long enough: if it picks the message, 2 + H + B octets are enough
     pub enough : Picks m st c → 2 + headerSize s m + bodySize s m ≤ length (outOf c) → Delivers m st c
-    -- and fewer are refused by 21, with no octet changed behind the arrival
+    -- and fewer are refused by 21, with no octet changed after the arrival
     pub short : Picks m st c → length (outOf c) < 2 + headerSize s m + bodySize s m →
         (tookBy s Z st c ≡ some (unable 21)) × (storeBy s Z st c ≡ storeAt s Z st c) × (outBy s Z st c ≡ outOf c)
 
@@ -104,7 +104,7 @@ WholeDemand3 Z = (s : Settings) (n : ℕ) → InUse s n → (ms : List Sending) 
 abbrev pub WholeRoom : ℕ → Type 0
 WholeRoom Z = (s : Settings) (n : ℕ) → InUse s n → (cs : List Call) → packetsIn cs ≤ n → Room s Z n cs
 
--- without the room, also where segments were refused since no cell was free: a message is complete only when all its segments have
+-- without the room, also if segments were refused since no cell was free: a message is complete only when all its segments have
 -- arrived, and its taking gives the original
 abbrev pub WholeSoundness : ℕ → Type 0
 WholeSoundness Z = (s : Settings) (n : ℕ) → InUse s n → (ms : List Sending) (before since : List Call) → Traffic s Z ms (before ++ since) →

@@ -118,7 +118,7 @@ pub packet-wrote :
     (κs : L.Lfts 8) (a : _) (r : _) (x : _) → cuts.Post κs a r x → r .refusal .number ≡ 0 →
     Wrote (cut-call κs a .settings) (cut-call κs a .limit) (cut-call κs a .header) (cut-call κs a .texts) (cut-call κs a .body)
     (cut-call κs a .sender) (cut-call κs a .index) r (cut-call κs a .output) (cut-output κs x)
-packet-wrote κs a r x k z = plain-wrote _ _ _ _ _ _ _ r _ _ (k .0) (k .1 .0) z
+packet-wrote κs a r x k z = plain-wrote _ _ _ _ _ _ _ r _ _ (k .0) (k .1) z
 
 -- what it wrote reads back as packet number i
 pub packet-back :
@@ -127,7 +127,7 @@ pub packet-back :
     (cut-call κs a .sender) (cut-call κs a .index) (take (r .length) (cut-output κs x))
 packet-back κs a r x k z =
     let b = cut-call κs a in
-    plain-back (b .settings) (b .limit) (b .header) _ _ _ _ r _ _ (k .0) (k .1 .0) z (k .1 .1)
+    plain-back (b .settings) (b .limit) (b .header) _ _ _ _ r _ _ (k .0) (k .1) z (k .2)
 
 -- ---- the same arguments, the same answer and the same output
 
@@ -139,4 +139,4 @@ packet-same-answer κs a r q s t k j = k .0 ∙ sym (j .0)
 
 pub packet-same-lent :
     (κs : L.Lfts 8) (a : _) (r q : _) (s t : _) → cuts.Post κs a r s → cuts.Post κs a q t → cut-output κs s ≡ cut-output κs t
-packet-same-lent κs a r q s t k j = k .1 .0 ∙ sym (j .1 .0)
+packet-same-lent κs a r q s t k j = k .1 ∙ sym (j .1)

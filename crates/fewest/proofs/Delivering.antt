@@ -172,10 +172,10 @@ module _
   answers i l = subst (λ (w : CutCall). Answers w (q i)) (e i l) (j i l .0)
 
   leaves : (i : ℕ) (l : i < r .count) → Leaves (asked c body i (out i)) (cut-output (λs i) (y i))
-  leaves i l = subst (λ (w : CutCall). Leaves w (cut-output (λs i) (y i))) (e i l) (j i l .1 .0)
+  leaves i l = subst (λ (w : CutCall). Leaves w (cut-output (λs i) (y i))) (e i l) (j i l .1)
 
   known : (i : ℕ) (l : i < r .count) → Lends (c .header) (c .texts) body
-  known i l = subst Known (e i l) (j i l .1 .1)
+  known i l = subst Known (e i l) (j i l .2)
 
   -- no packet below the count is refused
   pub cut-not-refused : (i : ℕ) → i < r .count → q i .refusal .number ≡ 0

@@ -30,7 +30,7 @@ pub record Wrote (s : Settings) (P : ℕ) (v : HeaderValues) (t : Lent) (body : 
   pub below : i < number s P v t body d
   -- its octets are those of packet number i
   pub octets : take (r .length) after ≡ octetsAt s P v t body d i
-  -- behind it the output is as it was
+  -- after it the output is as it was
   pub rest : drop (r .length) after ≡ drop (r .length) out
   -- the sender is as it was
   pub sender : r .sender ≡ d

@@ -35,7 +35,7 @@ module _ (s : Settings) (P : ℕ) (v : HeaderValues) (t : Lent) (body : List ℕ
   abbrev pub number : ℕ
   number = packets P (headerLength s v t) (length body)
 
-  -- the body octets of a packet where cutting is needed
+  -- the body octets of a packet if cutting is needed
   abbrev pub full : ℕ
   full = chunk P (headerLength s v t)
 
@@ -47,7 +47,7 @@ module _ (s : Settings) (P : ℕ) (v : HeaderValues) (t : Lent) (body : List ℕ
   abbrev pub allPackets : List (List ℕ)
   allPackets = firstOf octetsAt number
 
-  -- packet number i, where cutting is needed
+  -- packet number i, if cutting is needed
   pub record Segment (i : ℕ) (p : List ℕ) : Type 0 where
     -- it is a segment
     pub is-segment : segmented p ≡ true
@@ -91,9 +91,9 @@ module _ (s : Settings) (P : ℕ) (v : HeaderValues) (t : Lent) (body : List ℕ
     pub count-wraps : told s p .sequence-count ≡ (d .«sequence_count» .0 + i) % suc countMost
     -- it has at most P octets
     pub limit : length p ≤ P
-    -- where one packet is enough: unsegmented, flags 11
+    -- if one packet is enough: unsegmented, flags 11
     pub whole : oneEnough ≡ true → (segmented p ≡ false) × (told s p .flags ≡ 3)
-    -- where cutting is needed
+    -- if cutting is needed
     pub segment : oneEnough ≡ false → Segment i p
 
   -- all of a message's packets, read back
@@ -102,11 +102,11 @@ module _ (s : Settings) (P : ℕ) (v : HeaderValues) (t : Lent) (body : List ℕ
     pub each : (i : ℕ) → i < number → Back i (octetsAt i)
     -- there is at least one
     pub some : 1 ≤ number
-    -- and where cutting is needed at least two, so that the first is not the last
+    -- and if cutting is needed at least two, so that the first is not the last
     pub two : oneEnough ≡ false → 2 ≤ number
     -- from one to the next the sequence count goes up by one, and 0 follows 16,383
     pub counts : (i : ℕ) → suc i < number → told s (octetsAt (suc i)) .sequence-count ≡ nextCount (told s (octetsAt i) .sequence-count)
-    -- and where cutting is needed the counter goes up by one
+    -- and if cutting is needed the counter goes up by one
     pub counters : oneEnough ≡ false → (i : ℕ) → suc i < number → told s (octetsAt (suc i)) .counter ≡ suc (told s (octetsAt i) .counter)
     -- their bodies joined are the message's
     pub bodies : joined (bodyOf s) allPackets ≡ body

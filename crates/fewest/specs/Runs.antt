@@ -36,7 +36,7 @@ abbrev pub packetsOf : Sender → Message → List Values
 packetsOf d m =
     firstOf (givenAt (m .settings) (m .limit) (m .values) (m .texts) (m .body) d) (counted d m .count)
 
--- the sender behind a run
+-- the sender after a run
 unfoldable pub afterRun : Sender → List Message → Sender
 afterRun d [] = d
 afterRun d (m ∷ ms) = afterRun (counted d m .sender) ms
@@ -67,15 +67,15 @@ abbrev pub Bits32 : Next → Type 0
 Bits32 (At c) = c .0 ≤ most32
 Bits32 NoneLeft = Unit {0}
 
--- what a list of packets, sent between a sender and the one behind them, has
+-- what a list of packets, sent between a sender and the one after them, has
 pub record Goes (d : Sender) (l : List Values) (e : Sender) : Type 0 where
   -- the sequence counts go on by one for each packet, from the sender's, with the wrap
   pub counts : countsOf l ≡ firstOf (countAt (d .«sequence_count» .0)) (length l)
-  -- and the sender behind has the next
+  -- and the sender after them has the next
   pub count : e .«sequence_count» .0 ≡ countAt (d .«sequence_count» .0) (length l)
   -- the counters of the segments go on by one for each segment, from the sender's
   pub counters : countersOf l ≡ firstOf (λ (i : ℕ). stepsOf suc i (place (d .next))) (length (countersOf l))
-  -- the sender behind has the next, or none is left
+  -- the sender after them has the next, or none is left
   pub next : place (e .next) ≡ stepsOf suc (length (countersOf l)) (place (d .next))
   pub bits : Bits32 (e .next)
   -- none passes 4,294,967,295

@@ -1,5 +1,6 @@
 -- SPEC's figures, F-1 to F-14, as one table: what the calls' definitions come to, and what SPEC says; last, what it says of a
--- recording of figure 14 alone. T is 8. Figures 7 to 13 are asked of figure 14's header and of a body of so many zeros.
+-- recording of figure 14 alone. T is 8. Figures 7 to 13 are asked of figure 14's header and of a body of so many zeros. A figure's own
+-- numbers stand here as SPEC has them, and not by the names of the definitions that they are held against.
 -- Assumes nothing: these are definitions.
 use Prim.Native.Nat.{ℕ, _*_}
 use mathlib.Core.List.{List, [], _∷_}
@@ -12,6 +13,7 @@ use Rattle.packet.specs.Reading.{readPacket}
 use Rattle.write.specs.Writing.{fine, writeOutput}
 use Rattle.cut.specs.declared.Counted.{Counted}
 use Rattle.cut.specs.Cutting.{headerLength, countAnswer, packetAnswer, packetOutput}
+use Rattle.cells.specs.Order.{cellSize}
 use Rattle.arrival.specs.Arriving.{arrived, storeWith}
 use Rattle.taking.specs.Taking.{Took, message, unable, writing, took}
 use Rattle.packet.specs.Figure14.{settings, zeros, packet as fourteen, header as told}
@@ -70,13 +72,13 @@ body p = is (readPacket settings p .body .length)
 
 -- ---- taking
 
--- the store behind the arrival of a packet
+-- the store after the arrival of a packet
 abbrev pub with : List ℕ → List ℕ → List ℕ
-with p st = storeWith 1024 st p (arrived settings 1024 st p)
+with p st = storeWith cellSize st p (arrived settings cellSize st p)
 
 -- two cells with the message of 8
 abbrev pub eight : List ℕ
-eight = with (packet 64 38 1 36) (with (packet 64 38 0 64) (zeros (2 * 1024)))
+eight = with (packet 64 38 1 36) (with (packet 64 38 0 64) (zeros (2 * cellSize)))
 
 -- how many octets a taking writes
 abbrev pub written : Took → Said
@@ -84,7 +86,7 @@ written (message r) = is (length (writing r))
 written (unable k) = gives k
 
 abbrev pub taken : List ℕ → ℕ → Said
-taken st room = written (took settings 1024 st room)
+taken st room = written (took settings cellSize st room)
 
 -- ---- the table
 

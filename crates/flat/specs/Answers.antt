@@ -1,5 +1,5 @@
--- What each call over plain numbers answers, and what it writes. Where all numbers fit it is the call's own answer, as numbers. Where
--- one does not, it is 22, or 15 where T or P is out of range, since 15 comes first; a sender's numbers stay as given, the output too.
+-- What each call over plain numbers answers, and what it writes. If all numbers fit it is the call's own answer, as numbers. If
+-- one does not, it is 22, or 15 if T or P is out of range, since 15 comes first; a sender's numbers stay as given, the output too.
 -- Assumes nothing: these are definitions.
 use Prim.Native.Nat.{ℕ}
 use mathlib.Core.Bool.{Bool, false}

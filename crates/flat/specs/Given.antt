@@ -80,7 +80,7 @@ packetFits flags count counter = fitsTo 3 (flags ∷ count ∷ counter ∷ []) p
 abbrev pub packetOf : ℕ → ℕ → ℕ → PacketValues
 packetOf flags count counter = record { flags = flags; «sequence_count» = record { 0 = count }; counter = record { 0 = counter } }
 
--- ---- a sender: sequence count, whether a counter is left (1) or none (0), and the counter, 0 where none is left
+-- ---- a sender: sequence count, whether a counter is left (1) or none (0), and the counter, 0 if none is left
 
 abbrev pub senderWidths : List ℕ
 senderWidths = most16 ∷ 1 ∷ most32 ∷ []

@@ -43,7 +43,6 @@ use write::Written;
 // How many numbers reading answers.
 pub const READ: usize = 72;
 
-// The largest number of 16 and of 32 bits.
 // How many numbers a sender has, and how many its calls and those of cutting answer.
 pub const SENDER: usize = 3;
 
@@ -413,12 +412,10 @@ pub fn write(
     body: &[u8],
     out: &mut [u8],
 ) -> [u64; 2]
-    ensures answer { λ r. ⌜ r ≡ writeNumbers t (now (header .entry))
-        (lent (now (timestamp .entry)) (now (zone .entry)) (now (name .entry)) (now (domain .entry)) (now (lengths .entry))
-        (now (authentication .entry))) flags «sequence_count» counter (now (body .entry)) (length (now (out .entry))) ⌝ }
-    ensures octets { λ r. ⌜ now (out .exit) ≡ writeOut t (now (header .entry))
-        (lent (now (timestamp .entry)) (now (zone .entry)) (now (name .entry)) (now (domain .entry)) (now (lengths .entry))
-        (now (authentication .entry))) flags «sequence_count» counter (now (body .entry)) (now (out .entry)) ⌝ }
+    ensures { λ r. ⌜ (let x = lent (now (timestamp .entry)) (now (zone .entry)) (now (name .entry)) (now (domain .entry)) (now (lengths .entry))
+        (now (authentication .entry)) in
+        (r ≡ writeNumbers t (now (header .entry)) x flags «sequence_count» counter (now (body .entry)) (length (now (out .entry))))
+        × (now (out .exit) ≡ writeOut t (now (header .entry)) x flags «sequence_count» counter (now (body .entry)) (now (out .entry)))) ⌝ }
 {
     let s = Settings { t: t as usize };
     let ok = octets::both(
@@ -528,12 +525,10 @@ pub fn cut_packet(
     i: u64,
     out: &mut [u8],
 ) -> [u64; CUT]
-    ensures answer { λ r. ⌜ r ≡ packetNumbers t p (now (header .entry))
-        (lent (now (timestamp .entry)) (now (zone .entry)) (now (name .entry)) (now (domain .entry)) (now (lengths .entry))
-        (now (authentication .entry))) (now (body .entry)) (now (sender .entry)) i (length (now (out .entry))) ⌝ }
-    ensures octets { λ r. ⌜ now (out .exit) ≡ packetOut t p (now (header .entry))
-        (lent (now (timestamp .entry)) (now (zone .entry)) (now (name .entry)) (now (domain .entry)) (now (lengths .entry))
-        (now (authentication .entry))) (now (body .entry)) (now (sender .entry)) i (now (out .entry)) ⌝ }
+    ensures { λ r. ⌜ (let x = lent (now (timestamp .entry)) (now (zone .entry)) (now (name .entry)) (now (domain .entry)) (now (lengths .entry))
+        (now (authentication .entry)) in
+        (r ≡ packetNumbers t p (now (header .entry)) x (now (body .entry)) (now (sender .entry)) i (length (now (out .entry))))
+        × (now (out .exit) ≡ packetOut t p (now (header .entry)) x (now (body .entry)) (now (sender .entry)) i (now (out .entry)))) ⌝ }
 {
     let s = Settings { t: t as usize };
     let ok = octets::both(header_fits(header), sender_fits(sender));

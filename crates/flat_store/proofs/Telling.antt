@@ -64,11 +64,11 @@ module _ (s : Settings) (Z : ℕ) (st : List ℕ) where
 
   -- T out of range
   pub order-15 : (begun s .refusal .number ≡ 0 → ⊥) → 15 ∷ 0 ∷ [] ≡ orderNumbers s Z st
-  order-15 h = by-gate (gate-15 s Z st (ne-eqb (begun s .refusal .number) 0 h))
+  order-15 h = by-gate (gate-15 s Z st (ne-eqb _ 0 h))
 
   module _ {n : ℕ} (e : n ≡ pick (inOrder s Z st) (countIn Z st) 0) (t : begun s .refusal .number ≡ 0) where
     fine : eqb (begun s .refusal .number) 0 ≡ true
-    fine = eq-eqb (begun s .refusal .number) 0 t
+    fine = eq-eqb _ 0 t
 
     cells-some : inOrder s Z st ≡ true → (n ≡ countIn Z st) × (1 ≤ n)
     cells-some h =
@@ -80,10 +80,10 @@ module _ (s : Settings) (Z : ℕ) (st : List ℕ) where
 
     -- not in order
     pub order-16 : n ≡ 0 → 16 ∷ 0 ∷ [] ≡ orderNumbers s Z st
-    order-16 z = ⊎-elim (λ h. absurd (omega (arith, cells-some h .1))) (λ h. by-gate (gate-by s Z st fine h)) (bool (inOrder s Z st))
+    order-16 z = ⊎-elim (λ h. absurd (omega (arith, cells-some h .1))) (λ h. by-gate (gate-by s Z st fine h)) (bool _)
 
     -- in order
     pub order-some : (n ≡ 0 → ⊥) → 0 ∷ n ∷ [] ≡ orderNumbers s Z st
     order-some z =
         ⊎-elim (λ h. ap (λ (k : ℕ). 0 ∷ k ∷ []) (cells-some h .0) ∙ by-gate (gate-by s Z st fine h)) (λ h. absurd (z (cells-none h)))
-        (bool (inOrder s Z st))
+        (bool _)

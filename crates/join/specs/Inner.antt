@@ -55,7 +55,7 @@ outInBy s Z st n p out (stored i) = outWith out (tookIn s Z (storeWith Z st p (s
 outInBy s Z st n p out again = outWith out (tookIn s Z (storeWith Z st p again) n (length out))
 outInBy s Z st n p out (refused k) = out
 
--- what it comes to, the store and the output behind it
+-- what it comes to, the store and the output after it
 unfoldable pub joiningIn : Settings → ℕ → List ℕ → ℕ → List ℕ → ℕ → Joining
 joiningIn s Z st n p long = joinedInBy s Z st n p long (arrivedIn s Z st n p)
 

@@ -19,7 +19,7 @@ pub data Joining : Type 0 where
   inOutput : Run → Joining
   unjoined : ℕ → Joining
 
--- where the body of a packet begins that came whole: behind the primary header and the H octets of the secondary one
+-- where the body of a packet begins that came whole: after the primary header and the H octets of the secondary one
 abbrev pub bodyFrom : Settings → List ℕ → ℕ
 bodyFrom s p = 6 + readPacket s p .h
 
@@ -28,11 +28,11 @@ abbrev pub tookAs : Took → Joining
 tookAs (message r) = inOutput r
 tookAs (unable k) = unjoined k
 
--- the store behind a taking from any octets
+-- the store after a taking from any octets
 abbrev pub lessTaken : Settings → ℕ → List ℕ → ℕ → List ℕ
 lessTaken s Z x long = storeLess s Z x (countIn Z x) (took s Z x long)
 
--- by what the arrival comes to: after "stored" and "held" there is a taking from the store behind the arrival; `long` is the
+-- by what the arrival comes to: after "stored" and "held" there is a taking from the store after the arrival; `long` is the
 -- length of the output
 abbrev pub joinedBy : Settings → ℕ → List ℕ → List ℕ → ℕ → Arrived → Joining
 joinedBy s Z st p long whole = inPacket (bodyFrom s p) (length p - bodyFrom s p)
@@ -58,10 +58,10 @@ outBy s Z st p out (refused k) = out
 unfoldable pub joining : Settings → ℕ → List ℕ → List ℕ → ℕ → Joining
 joining s Z st p long = joinedBy s Z st p long (arrived s Z st p)
 
--- the store behind it
+-- the store after it
 unfoldable pub storeJoined : Settings → ℕ → List ℕ → List ℕ → ℕ → List ℕ
 storeJoined s Z st p long = storeBy s Z st p long (arrived s Z st p)
 
--- the output behind it
+-- the output after it
 unfoldable pub outJoined : Settings → ℕ → List ℕ → List ℕ → List ℕ → List ℕ
 outJoined s Z st p out = outBy s Z st p out (arrived s Z st p)

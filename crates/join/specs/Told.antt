@@ -21,7 +21,7 @@ bufferNumber InJoined = 2
 abbrev pub noCounter : SegmentCounter
 noCounter = record { 0 = 0 }
 
--- a message with this H, B and c: its body stands in the output behind the two octets of identification and the header
+-- a message with this H, B and c: its body stands in the output after the two octets of identification and the header
 abbrev pub taken : Taken → Joined
 taken t =
     record {

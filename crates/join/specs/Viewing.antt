@@ -9,7 +9,7 @@ use Rattle.octets.specs.Octets.{pick, part}
 use Rattle.join.specs.declared.Which.{Which}
 use Rattle.join.specs.declared.Which.the-variants.{Packet, Joined, Nothing}
 
--- the part of a buffer at a place, empty where place and length are not inside
+-- the part of a buffer at a place, empty if place and length are not inside
 unfoldable pub inside : List ℕ → ℕ → ℕ → List ℕ
 inside b place long = pick (leb (place + long) (length b)) (part b place long) []
 

@@ -3,7 +3,7 @@
 use Prim.Native.Nat.{ℕ}
 use mathlib.Core.List.{List, [], _∷_, _++_, List·Memᴰ}
 
--- a call's number: 0 where it is not refused, or one of its list
+-- a call's number: 0 if it is not refused, or one of its list
 abbrev pub Numbered : List ℕ → ℕ → Type 0
 Numbered l n = List·Memᴰ n (0 ∷ l)
 

@@ -50,6 +50,6 @@ recordedOf long x =
     pick (leb (length x) long) (record { refusal = refusal 0; why = whyOf x; place = reach x; written = length (recorded x) })
     (record { refusal = refusal 21; why = Unsaid; place = 0; written = 0 })
 
--- the output behind it
+-- the output after it
 unfoldable pub outRecorded : List ℕ → List ℕ → List ℕ
 outRecorded out x = pick (leb (length x) (length out)) (sets out 0 (recorded x)) out

@@ -1,6 +1,6 @@
 -- A recording handed over in pieces.
 -- At each step some octets from the place reached on are in hand, as many as the caller has got; that the recording ends with them is
--- told by a caller who knows it, and only where it is so.
+-- told by a caller who knows it, and only if it is so.
 -- Assumes nothing: these are definitions.
 use Prim.Native.Nat.{ℕ}
 use mathlib.Core.Bool.{Bool, true, false}
@@ -27,7 +27,7 @@ pub record Outcome : Type 0 where
   pub stopped : Bool
   pub output : List ℕ
 
--- a step that wants more is made again with the next hand; a stop is the last; any other step goes on behind what it used up
+-- a step that wants more is made again with the next hand; a stop is the last; any other step goes on after what it used up
 abbrev pub onward : Stepped → Outcome → Outcome
 onward wanting r = r
 onward ended r = record { stopped = true; output = [] }

@@ -11,7 +11,7 @@ ghost use Prim.Native.Nat.{_≤_};
 
 const OUTPUT: i32 = 1;
 
-// In place of an octet's place: the packet goes unharmed; or it is torn, behind four times as many octets as the value says.
+// In place of an octet's place: the packet goes unharmed; or it is torn, after four times as many octets as the value says.
 const WELL: u8 = 255;
 
 const TORN: u8 = 254;

@@ -11,6 +11,9 @@ use packet::SequenceCount;
 // The largest counter.
 pub const COUNTER_MOST: u32 = 4294967295;
 
+// How many counters there are.
+pub const COUNTERS: u64 = COUNTER_MOST as u64 + 1;
+
 // The counter that the next segment gets, or that none is left.
 pub enum Next {
     At(SegmentCounter),

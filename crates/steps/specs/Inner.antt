@@ -26,10 +26,10 @@ leftAs k n =
     pick (eqb k 20) (record { what = Kept; refusal = refusal 0; used = n; written = 0 })
     (record { what = Refused; refusal = refusal k; used = n; written = 0 })
 
--- a step that writes a message of n octets behind its mark and length
+-- a step that writes a message of n octets after its mark and length
 abbrev pub framedAs : What → Refusal → ℕ → ℕ → Done
 framedAs w r used n = record { what = w; refusal = r; used = used; written = 6 + n }
 
--- where the recording ends the stop is final
+-- if the recording ends the stop is final
 unfoldable pub stopAs : Bool → What → Done
 stopAs e w = pick e (still w) (still More)

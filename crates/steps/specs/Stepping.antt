@@ -21,7 +21,7 @@ abbrev pub packetMark : List ℕ
 packetMark = 0x4d ∷ 0x50 ∷ []
 
 -- what stands where a recording, or a part of one, begins: no octet; other octets than the mark; a mark and a packet that are not
--- whole; or a packet behind its mark
+-- whole; or a packet after its mark
 pub data Found : Type 0 where
   nothing : Found
   other : Found
@@ -64,7 +64,7 @@ cameBy (unjoined k) = pick (eqb k 20) kept (refused k)
 unfoldable pub cameOf : Settings → ℕ → List ℕ → List ℕ → Came
 cameOf s Z st p = pick (leb (length p) longest) (cameBy (joining s Z st p room)) over
 
--- the store behind it
+-- the store after it
 unfoldable pub storeAfter : Settings → ℕ → List ℕ → List ℕ → List ℕ
 storeAfter s Z st p = pick (leb (length p) longest) (storeJoined s Z st p room) st
 

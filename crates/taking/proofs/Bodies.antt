@@ -87,11 +87,11 @@ module _ (s : Settings) (Z : ℕ) (st : List ℕ) (j : ℕ) {r : List ℕ} {t : 
   pub body-there : part (packetIn r) (t .at) (t .length) ≡ segAt s Z st j .body
   unfolding segOf pieceOf
   body-there =
-      ap (λ (u : Piece). part (packetIn r) (u .at) (u .length)) et ∙ ap (λ (x : List ℕ). segIn s Z x .body) er
+      ap (λ (u : Piece). part (packetIn r) (u .at) (u .length)) et ∙ ap (λ (x : List ℕ). segIn s x .body) er
 
   pub flags-there : t .flags ≡ segAt s Z st j .flags
   unfolding segOf pieceOf
-  flags-there = ap (λ (u : Piece). u .flags) et ∙ ap (λ (x : List ℕ). segIn s Z x .flags) er
+  flags-there = ap (λ (u : Piece). u .flags) et ∙ ap (λ (x : List ℕ). segIn s x .flags) er
 
 bodies-first : (s : Settings) (Z : ℕ) (st : List ℕ) (j : ℕ) (js ks : List ℕ) {x : List ℕ} → ks ≡ j ∷ js → x ≡ segAt s Z st j .body → bodiesAt s Z st
     ks ≡ x ++ bodiesAt s Z st js

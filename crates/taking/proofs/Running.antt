@@ -80,9 +80,9 @@ module _ (next : ℕ → ℕ) (span : ℕ) (s : Settings) (Z : ℕ) (st : List �
         (λ y. ne (flags-row ∙ sym (flags-told s Z st i h) ∙ role-of-first (t .flags) y)))))
 
   -- nor does one that is not judged held
-  module _ {u : Judged} (eu : u ≡ judgedOf (bodyIn s Z r) (cellOf s Z r)) where
-    judged-there : u ≡ judgedOf (bodyIn s Z (rowAt Z st i)) (cellOf s Z (rowAt Z st i))
-    judged-there = eu ∙ ap (λ (y : List ℕ). judgedOf (bodyIn s Z y) (cellOf s Z y)) er
+  module _ {u : Judged} (eu : u ≡ judgedOf (bodyIn s r) (cellOf s Z r)) where
+    judged-there : u ≡ judgedOf (bodyIn s (rowAt Z st i)) (cellOf s Z (rowAt Z st i))
+    judged-there = eu ∙ ap (λ (y : List ℕ). judgedOf (bodyIn s y) (cellOf s Z y)) er
 
     pub run-other : toldHeld (u .content) ≡ false → Incomplete ≡ answer (runIn next span cs (cellAt s Z st i))
     run-other ne = unless-held (λ h. absurd (not-held (judged-at s Z (rowAt Z st i) judged-there h .0) ne))

@@ -21,9 +21,9 @@ use Rattle.taking.specs.declared.Copied.{Copied}
 use Rattle.cells.specs.Messages.{roleOf, linkBy, Run, bodyOf, cellsOf, runIn, picked}
 use Rattle.cells.specs.Pieces.{segIn}
 
--- the segment in cell j, where it holds one
+-- the segment in cell j, if it holds one
 abbrev pub segAt : Settings → ℕ → List ℕ → ℕ → Seg
-segAt s Z st j = segIn s Z (rowAt Z st j)
+segAt s Z st j = segIn s (rowAt Z st j)
 
 -- ---- the places of a run
 
@@ -69,7 +69,7 @@ endsAt Z st i = eqb (octetAt (rowAt Z st i) 4 / 64) 2
 unfoldable pub copiedOf : Seg → ℕ → Copied
 copiedOf t m = record { header = length (t .key) - 2; counter = record { 0 = t .counter }; steps = m }
 
--- what a search is lent: tables that chain the first n cells where it goes by chains, and a zero cell
+-- what a search is lent: tables that chain the first n cells if it goes by chains, and a zero cell
 abbrev pub Lent : Settings → List ℕ → List ℕ → ℕ → Bool → List ℕ → List ℕ → Type 0
 Lent s z st n chained heads links =
     (chained ≡ true → Chained (bucketAt s (length z) st) heads links n) × (z ≡ zeroRow (length z))

@@ -36,12 +36,12 @@ tookIn s Z st n long = drawn (picked suc top (cellsOf s Z st n)) long
 unfoldable pub took : Settings → ℕ → List ℕ → ℕ → Took
 took s Z st long = through (gate s Z st) (tookIn s Z st (countIn Z st) long) unable
 
--- the output behind it
+-- the output after it
 unfoldable pub outWith : List ℕ → Took → List ℕ
 outWith out (message r) = sets out 0 (writing r)
 outWith out (unable k) = out
 
--- the store behind it: just the message's cells are zero
+-- the store after it: just the message's cells are zero
 unfoldable pub storeLess : Settings → ℕ → List ℕ → ℕ → Took → List ℕ
 storeLess s Z st n (message r) = clearedTo (λ i. zeroIf Z (amongIn (segments r) (cellAt s Z st i))) Z n st
 storeLess s Z st n (unable k) = st

@@ -61,26 +61,26 @@ module _ (at : ℕ) (d : Cell) {t : Judged} (e : t ≡ judgedOf at d) where
 
 -- ---- a row
 
-module _ (s : Settings) (Z : ℕ) (r : List ℕ) {t : Judged} (et : t ≡ judgedOf (bodyIn s Z r) (cellOf s Z r)) where
+module _ (s : Settings) (Z : ℕ) (r : List ℕ) {t : Judged} (et : t ≡ judgedOf (bodyIn s r) (cellOf s Z r)) where
   pub key-none : (k : List ℕ) → toldHeld (t .content) ≡ false → false ≡ keyed k (cellOf s Z r)
-  key-none k h = other-key (bodyIn s Z r) (cellOf s Z r) et k h
+  key-none k h = other-key (bodyIn s r) (cellOf s Z r) et k h
 
   module _ (one : toldHeld (t .content) ≡ true) where
     not-free : alike r (zeroRow Z) ≡ false
     not-free =
         ⊎-elim
-        (λ e. absurd (not-held one (ap told et ∙ ap (λ (d : Cell). told (judgedOf (bodyIn s Z r) d)) (free-cell s Z r e))))
+        (λ e. absurd (not-held one (ap told et ∙ ap (λ (d : Cell). told (judgedOf (bodyIn s r) d)) (free-cell s Z r e))))
         (λ e. e)
         (bool (alike r (zeroRow Z)))
 
     pub there : Holding s Z r
-    there = holding s Z r (is-sound (bodyIn s Z r) (cellOf s Z r) et one) not-free
+    there = holding s Z r (is-sound (bodyIn s r) (cellOf s Z r) et one) not-free
 
     abbrev p : List ℕ
     p = packetIn r
 
     body-is : t .at ≡ readPacket s p .body .at
-    body-is = ap (λ (x : Judged). x .at) (et ∙ ap (judgedOf (bodyIn s Z r)) (there .cell))
+    body-is = ap (λ (x : Judged). x .at) (et ∙ ap (judgedOf (bodyIn s r)) (there .cell))
 
     pub key-told :
         (o : Octets r) {q x : List ℕ} {body-at : ℕ} {b : Bool} → Asked s q body-at → x ≡ p → b ≡ spansAlike q body-at x (t .at) →
@@ -116,15 +116,15 @@ told-fields s Z st i q eh ek = ap₂ tellings eh ek
 
 -- ---- cell i of a store
 
-module _ (s : Settings) (st : List ℕ) (Z i : ℕ) {r : List ℕ} (er : r ≡ rowAt Z st i) {t : Judged} (et : t ≡ judgedOf (bodyIn s Z r) (cellOf s Z r)) where
+module _ (s : Settings) (st : List ℕ) (Z i : ℕ) {r : List ℕ} (er : r ≡ rowAt Z st i) {t : Judged} (et : t ≡ judgedOf (bodyIn s r) (cellOf s Z r)) where
   cell-is : cellAt s Z st i ≡ cellOf s Z r
   cell-is = ap (cellOf s Z) (sym er)
 
   pub first-none : toldHeld (t .content) ≡ false → false ≡ newKeyIn s Z st i (cellAt s Z st i)
-  first-none h = other-first (bodyIn s Z r) (cellOf s Z r) et s Z st i h ∙ ap (newKeyIn s Z st i) (sym cell-is)
+  first-none h = other-first (bodyIn s r) (cellOf s Z r) et s Z st i h ∙ ap (newKeyIn s Z st i) (sym cell-is)
 
   pub told-none : toldHeld (t .content) ≡ false → untold ≡ toldAt s Z st i
-  told-none h = other-told (bodyIn s Z r) (cellOf s Z r) et s Z st i h ∙ ap (toldIn s Z st i) (sym cell-is)
+  told-none h = other-told (bodyIn s r) (cellOf s Z r) et s Z st i h ∙ ap (toldIn s Z st i) (sym cell-is)
 
   module _ (one : toldHeld (t .content) ≡ true) {q : List ℕ} (eq : q ≡ packetIn r) where
     pub first-asked : Octets st → Asked s q (t .at)

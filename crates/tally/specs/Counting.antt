@@ -38,7 +38,7 @@ segmentsIn s Z st n = countTo (λ i. isHeld (cellAt s Z st i)) n
 unfoldable pub keysIn : Settings → ℕ → List ℕ → ℕ → ℕ
 keysIn s Z st n = countTo (λ i. newKeyIn s Z st i (cellAt s Z st i)) n
 
--- the cells of a store: none where its length does not fit
+-- the cells of a store: none if its length does not fit
 abbrev pub cellsIn : ℕ → List ℕ → ℕ
 cellsIn Z st = pick (lengthFits Z (length st)) (countIn Z st) 0
 

@@ -24,7 +24,7 @@ pub struct Tallied {
     pub keys: usize,
 }
 
-// One more where a test holds.
+// One more if a test holds.
 fn more(n: usize, one: bool) -> usize
     requires { ⌜ n < cellsMost ⌝ }
     ensures { λ r. ⌜ r ≡ n + pick one 1 0 ⌝ }
@@ -144,16 +144,16 @@ pub struct Told {
     pub counter: u32,
 }
 
-// The lowest of the first n cells that holds a segment with the key of q, whose body begins at stop; n if there is none.
-fn key_at(s: Settings, store: &[u8], n: usize, zero: &[u8], q: &[u8], stop: usize) -> usize
+// The lowest of the first n cells that holds a segment with the key of q, whose body begins at `body_at`; n if there is none.
+fn key_at(s: Settings, store: &[u8], n: usize, zero: &[u8], q: &[u8], body_at: usize) -> usize
     requires { ⌜ now zero ≡ zeroRow (length (now zero)) ⌝ }
-    requires { ⌜ Asked s (now q) stop ⌝ }
+    requires { ⌜ Asked s (now q) «body_at» ⌝ }
     ensures { λ r. ⌜ r ≡ keyAt s (length (now (zero .entry))) (now (store .entry)) n (keyOf (now (q .entry)) (readPacket s (now (q .entry)))) ⌝ }
 {
     let z = zero.len();
     let mut j: usize = 0;
     while j < n {
-        if keyed(s, cells::row(store, z, j), zero, q, stop) {
+        if keyed(s, cells::row(store, z, j), zero, q, body_at) {
             return j;
         }
         j += 1;
@@ -162,9 +162,9 @@ fn key_at(s: Settings, store: &[u8], n: usize, zero: &[u8], q: &[u8], stop: usiz
 }
 
 // What a segment in cell i tells.
-fn told_of(s: Settings, store: &[u8], i: usize, zero: &[u8], q: &[u8], stop: usize) -> Told
+fn told_of(s: Settings, store: &[u8], i: usize, zero: &[u8], q: &[u8], body_at: usize) -> Told
     requires { ⌜ now zero ≡ zeroRow (length (now zero)) ⌝ }
-    requires { ⌜ Asked s (now q) stop ⌝ }
+    requires { ⌜ Asked s (now q) «body_at» ⌝ }
     ensures { λ r. ⌜ r ≡ toldBy s (length (now (zero .entry))) (now (store .entry)) i (readPacket s (now (q .entry)))
         (segOf (now (q .entry)) (readPacket s (now (q .entry)))) ⌝ }
 {
@@ -174,7 +174,7 @@ fn told_of(s: Settings, store: &[u8], i: usize, zero: &[u8], q: &[u8], stop: usi
     let ids = h.ids;
     let apid = primary.apid;
     let counter = ids.counter;
-    let key = key_at(s, store, i, zero, q, stop);
+    let key = key_at(s, store, i, zero, q, body_at);
     Told {
         held: true,
         key: key,
@@ -211,7 +211,7 @@ fn told_at(s: Settings, store: &[u8], i: usize, zero: &[u8]) -> Told
 
 // What cell i of a store tells, for any octets.
 pub fn cell(s: Settings, store: &[u8], i: usize) -> Told
-    ensures { λ r. ⌜ r ≡ toldAt s 1024 (now (store .entry)) i ⌝ }
+    ensures { λ r. ⌜ r ≡ toldAt s cellSize (now (store .entry)) i ⌝ }
 {
     let zero = [0u8; cells::CELL];
     told_at(s, store, i, &zero)

@@ -91,8 +91,8 @@ pub write-back :
     SameRead (read-call λs b .packet) h (write-call κs a .header) (write-call κs a .own) (write-call κs a .texts) (write-call κs a .body)
 write-back κs a r x λs b h y k j n m z =
     let w = write-call κs a in
-    plain-back (w .settings) (w .header) (w .own) (w .texts) (w .body) (w .output) (write-output κs x) r (k .0) (k .1 .0)
-    (read-call λs b .settings) (read-call λs b .packet) h (j .0) (j .1) n m z (k .1 .1 .transaction)
+    plain-back (w .settings) (w .header) (w .own) (w .texts) (w .body) (w .output) (write-output κs x) r (k .0) (k .1)
+    (read-call λs b .settings) (read-call λs b .packet) h (j .0) (j .1) n m z (k .2 .transaction)
 
 -- what `read` accepted, `write` writes: given the values told, texts from their places, the same settings and room, that very slice
 pub read-forth :
@@ -111,7 +111,7 @@ read-forth κs a h x λs b r y k j z e f g t d l =
     let q =
     given-again s (w .settings) (againHeader h) (w .header) (againPacket h) (w .own) (againTexts p h) (w .texts) (againBody p h) (w .body)
     (w .output) e f g t d in
-    (j .0 ∙ q .0 ∙ u .0, j .1 .0 ∙ q .1 ∙ u .1)
+    (j .0 ∙ q .0 ∙ u .0, j .1 ∙ q .1 ∙ u .1)
 
 -- `read` accepts a slice exactly if the writer could have written it
 pub read-exactly :
@@ -128,4 +128,4 @@ write-same-answer κs a r q s t k j = k .0 ∙ sym (j .0)
 
 pub write-same-lent :
     (κs : L.Lfts 8) (a : _) (r q : _) (s t : _) → writes.Post κs a r s → writes.Post κs a q t → write-output κs s ≡ write-output κs t
-write-same-lent κs a r q s t k j = k .1 .0 ∙ sym (j .1 .0)
+write-same-lent κs a r q s t k j = k .1 ∙ sym (j .1)

@@ -2,7 +2,7 @@
 ghost use Prim.Native.Nat.{_≤_};
 ghost use lib.ListN.{length};
 
-// The octets of the next case to the front of a buffer. At the input's end, and where they are too many, the buffer stays as it is.
+// The octets of the next case to the front of a buffer. At the input's end, and if they are too many, the buffer stays as it is.
 pub fn next(buf: &mut [u8]) {
     let mut long = [0u8; 4];
     io::read_full(0, &mut long);
@@ -12,7 +12,7 @@ pub fn next(buf: &mut [u8]) {
     }
 }
 
-// Part k of the octets, none where there is no such part.
+// Part k of the octets, none if there is no such part.
 pub fn part(s: &[u8], k: u8) -> &[u8] {
     let at = 4 * (k as usize);
     let from = octets::be32(s, at) as usize;
@@ -25,7 +25,7 @@ pub fn part(s: &[u8], k: u8) -> &[u8] {
     &s[0..0]
 }
 
-// An octet n times from a place on, as far as there is room, and the place behind.
+// An octet n times from a place on, as far as there is room, and the place after it.
 fn repeated(to: &mut [u8], at: usize, n: u8, x: u8) -> usize
     requires { ⌜ at ≤ length (now to) ⌝ }
     ensures { λ r. ⌜ r ≤ length (now (to .entry)) ⌝ }

@@ -4,14 +4,14 @@
 //
 // A case is its length, 4 octets, and three parts: what is given, the store and the output, each packed into pairs, how often and
 // which octet. What is given has parts again: its numbers, 8 octets each and the call's the first, then what its call says. Parts
-// stand one after another, behind a table, 4 octets each, of where every one begins and the last ends. All numbers have their most
+// stand one after another, after a table, 4 octets each, of where every one begins and the last ends. All numbers have their most
 // significant octet first.
 //
-// Each case prints a line: the numbers of its answer in decimal, each with a blank behind it, and of a view also the octets of its
+// Each case prints a line: the numbers of its answer in decimal, each with a blank after it, and of a view also the octets of its
 // part; then the store, a bar and the output, as they are after the call. Octets are in hex, two or more equal ones as `xx*n,`. Where
 // there is no such call the line has no numbers. The run ends with the input, or at a case that is too long for the buffer.
 //
-// Module case reads a case, print writes; the others have the calls, most of them by way of `flat`, `flat_store` and `flat_recording`,
+// Module case reads a case, print writes; the others have the calls, most of them by way of `flat` and `flat_store`,
 // whose answers are lists of numbers. A new call is a function beside the others, and a line of the function here that has its buffers.
 mod case;
 mod joins;
@@ -150,7 +150,7 @@ fn run(c: &[u8], store: &mut [u8], out: &mut [u8]) {
     end(tag, store, out);
 }
 
-// How many turns are left behind one in which so many octets were given: none where there was no case.
+// How many turns are left after one in which so many octets were given: none if there was no case.
 fn fewer(left: u64, given: usize) -> u64
     requires { ⌜ 0 < left ⌝ }
     ensures { λ r. ⌜ r < left ⌝ }

@@ -24,7 +24,7 @@ fn put(text: &mut [u8], used: usize, x: u8) -> usize {
     used
 }
 
-// A number in decimal, and a mark behind it.
+// A number in decimal, and a mark after it.
 fn decimal(text: &mut [u8], used: usize, v: u64, mark: u8) -> usize {
     let mut digits = [0u8; 20];
     let k = io::decimal(v, &mut digits);
@@ -46,7 +46,7 @@ fn write(text: &[u8], used: usize) {
     }
 }
 
-// Numbers, each with a blank behind it.
+// Numbers, each with a blank after it.
 fn listed(text: &mut [u8], list: &[u64]) -> usize {
     let mut used: usize = 0;
     let mut i: usize = 0;
@@ -102,7 +102,7 @@ fn runs(text: &mut [u8], s: &[u8]) -> usize {
     used
 }
 
-// The octets of a buffer, and a mark behind them.
+// The octets of a buffer, and a mark after them.
 pub fn buffer(s: &[u8], mark: u8) {
     let mut text = [0u8; TEXT];
     let used = runs(&mut text, s);

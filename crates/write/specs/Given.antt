@@ -70,6 +70,28 @@ packetOf h o body = record { head = h; flags = o .flags; sequence-count = o .«s
 
 -- ---- the checks behind 22
 
+-- the largest values of fields that SPEC P-3 to P-6 limit below their types: packet type and error are one bit, APID 2047 is idle
+abbrev pub bitMost : ℕ
+bitMost = 1
+
+abbrev pub apidIdle : ℕ
+apidIdle = 2047
+
+abbrev pub sduMost : ℕ
+sduMost = 21
+
+abbrev pub qosMost : ℕ
+qosMost = 3
+
+abbrev pub sessionMost : ℕ
+sessionMost = 2
+
+abbrev pub secondaryApidMost : ℕ
+secondaryApidMost = 2047
+
+abbrev pub flagsMost : ℕ
+flagsMost = 3
+
 -- a number at most so large if it is there, and 0 if it is not
 abbrev pub numberFits : Bool → ℕ → ℕ → Bool
 numberFits there x most = pick there (leb x most) (eqb x 0)
@@ -93,14 +115,17 @@ lengthsFit there ns n = pick there (eqb (sum ns) n) (eqb (length ns) 0)
 -- packet type, APID and SDU type to area version
 unfoldable pub nameChecks : HeaderValues → List Bool
 nameChecks v =
-    leb (v .«packet_type») 1 ∷ ltb (v .apid .0) 2047 ∷ leb (v .sdu) 21 ∷ leb (v .area) most16 ∷ leb (v .service) most16 ∷ leb (v .operation) most16
+    leb (v .«packet_type») bitMost ∷ ltb (v .apid .0) apidIdle ∷ leb (v .sdu) sduMost ∷ leb (v .area) most16 ∷ leb (v .service) most16
+    ∷ leb (v .operation) most16
     ∷ leb (v .version) most8
     ∷ []
 
 -- error to qualifier. A transaction id of 64 bits always fits
 unfoldable pub routingChecks : HeaderValues → List Bool
 routingChecks v =
-    leb (v .error) 1 ∷ leb (v .qos) 3 ∷ leb (v .session) 2 ∷ leb (v .«secondary_apid» .0) 2047 ∷ leb (v .qualifier) most16 ∷ []
+    leb (v .error) bitMost ∷ leb (v .qos) qosMost ∷ leb (v .session) sessionMost ∷ leb (v .«secondary_apid» .0) secondaryApidMost
+    ∷ leb (v .qualifier) most16
+    ∷ []
 
 -- source id, destination id, priority
 unfoldable pub idChecks : HeaderValues → List Bool
@@ -126,7 +151,7 @@ headerChecks s v t = nameChecks v ++ (routingChecks v ++ (idChecks v ++ textChec
 -- and of a packet's own values: sequence flags, sequence count, and with flags 11 no counter
 unfoldable pub packetChecks : PacketValues → List Bool
 packetChecks o =
-    leb (o .flags) 3 ∷ leb (o .«sequence_count» .0) countMost ∷ numberFits (segment (o .flags)) (o .counter .0) most32 ∷ []
+    leb (o .flags) flagsMost ∷ leb (o .«sequence_count» .0) countMost ∷ numberFits (segment (o .flags)) (o .counter .0) most32 ∷ []
 
 -- the refusal k unless all of them hold
 unfoldable pub unlessAll : List Bool → ℕ → Refusal → Refusal

@@ -13,10 +13,30 @@ use Rattle.write.specs.declared.HeaderValues.{HeaderValues}
 use Rattle.write.specs.declared.PacketValues.{PacketValues}
 use Rattle.write.specs.Given.{Lent}
 
+-- what a one of a field counts for, in two octets that fields share: packet type and the flag of the secondary header beside the APID;
+-- sequence flags beside the count; error, QoS level and session beside the secondary APID
+abbrev pub typeUnit : ℕ
+typeUnit = 4096
+
+abbrev pub secondaryFlag : ℕ
+secondaryFlag = 2048
+
+abbrev pub flagsUnit : ℕ
+flagsUnit = 16384
+
+abbrev pub errorUnit : ℕ
+errorUnit = 32768
+
+abbrev pub qosUnit : ℕ
+qosUnit = 8192
+
+abbrev pub sessionUnit : ℕ
+sessionUnit = 2048
+
 -- identification; sequence flags and count; length field
 unfoldable pub primaryPieces : HeaderValues → PacketValues → ℕ → List (List ℕ)
 primaryPieces v o n =
-    wide 2 (v .«packet_type» * 4096 + 2048 + v .apid .0) ∷ wide 2 (o .flags * 16384 + o .«sequence_count» .0) ∷ wide 2 n ∷ []
+    wide 2 (v .«packet_type» * typeUnit + secondaryFlag + v .apid .0) ∷ wide 2 (o .flags * flagsUnit + o .«sequence_count» .0) ∷ wide 2 n ∷ []
 
 unfoldable pub namePieces : HeaderValues → List (List ℕ)
 namePieces v = wide 1 (v .sdu) ∷ wide 2 (v .area) ∷ wide 2 (v .service) ∷ wide 2 (v .operation) ∷ wide 1 (v .version) ∷ []
@@ -31,7 +51,8 @@ presentOctet has =
 
 unfoldable pub routingPieces : HeaderValues → List (List ℕ)
 routingPieces v =
-    wide 2 (v .error * 32768 + v .qos * 8192 + v .session * 2048 + v .«secondary_apid» .0) ∷ wide 2 (v .qualifier) ∷ wide 8 (v .transaction)
+    wide 2 (v .error * errorUnit + v .qos * qosUnit + v .session * sessionUnit + v .«secondary_apid» .0) ∷ wide 2 (v .qualifier)
+    ∷ wide 8 (v .transaction)
     ∷ wide 1 (presentOctet (v .has))
     ∷ []
 

@@ -51,6 +51,41 @@ const MOST_8: u64 = 255;
 
 const MOST_16: u32 = 65535;
 
+// The largest values of fields that SPEC limits below their types; APID 2047 is idle.
+const BIT_MOST: u8 = 1;
+
+const APID_IDLE: u16 = 2047;
+
+const SDU_MOST: u8 = 21;
+
+const VERSION_MOST: u16 = 255;
+
+const QOS_MOST: u8 = 3;
+
+const SESSION_MOST: u8 = 2;
+
+const SECONDARY_APID_MOST: u16 = 2047;
+
+// What a one of a field counts for, in two octets that fields share.
+const TYPE_UNIT: u64 = 4096;
+
+const SECONDARY_FLAG: u64 = 2048;
+
+const FLAGS_UNIT: u64 = 16384;
+
+const ERROR_UNIT: u64 = 32768;
+
+const QOS_UNIT: u64 = 8192;
+
+const SESSION_UNIT: u64 = 2048;
+
+// Octets of the primary header, of the fixed part of the secondary one, of the segment counter.
+const PRIMARY: usize = 6;
+
+const FIXED: usize = 21;
+
+pub const COUNTER: usize = 4;
+
 // The values that all packets of a message share, but for its texts.
 pub struct HeaderValues {
     pub packet_type: u8,
@@ -151,23 +186,23 @@ fn test_names(v: HeaderValues, r: Refusal) -> Refusal
     ensures { λ q. ⌜ q ≡ unlessAll (nameChecks v) 22 r ⌝ }
 {
     let apid = v.apid;
-    let a = walk::unless(r, v.packet_type <= 1, REFUSED_VALUE);
-    let b = walk::unless(a, apid.0 < 2047, REFUSED_VALUE);
-    let c = walk::unless(b, v.sdu <= 21, REFUSED_VALUE);
+    let a = walk::unless(r, v.packet_type <= BIT_MOST, REFUSED_VALUE);
+    let b = walk::unless(a, apid.0 < APID_IDLE, REFUSED_VALUE);
+    let c = walk::unless(b, v.sdu <= SDU_MOST, REFUSED_VALUE);
     let d = walk::unless(c, v.area <= MOST_16, REFUSED_VALUE);
     let e = walk::unless(d, v.service <= MOST_16, REFUSED_VALUE);
     let f = walk::unless(e, v.operation <= MOST_16, REFUSED_VALUE);
-    walk::unless(f, v.version <= 255, REFUSED_VALUE)
+    walk::unless(f, v.version <= VERSION_MOST, REFUSED_VALUE)
 }
 
 fn test_routing(v: HeaderValues, r: Refusal) -> Refusal
     ensures { λ q. ⌜ q ≡ unlessAll (routingChecks v) 22 r ⌝ }
 {
     let secondary_apid = v.secondary_apid;
-    let a = walk::unless(r, v.error <= 1, REFUSED_VALUE);
-    let b = walk::unless(a, v.qos <= 3, REFUSED_VALUE);
-    let c = walk::unless(b, v.session <= 2, REFUSED_VALUE);
-    let d = walk::unless(c, secondary_apid.0 <= 2047, REFUSED_VALUE);
+    let a = walk::unless(r, v.error <= BIT_MOST, REFUSED_VALUE);
+    let b = walk::unless(a, v.qos <= QOS_MOST, REFUSED_VALUE);
+    let c = walk::unless(b, v.session <= SESSION_MOST, REFUSED_VALUE);
+    let d = walk::unless(c, secondary_apid.0 <= SECONDARY_APID_MOST, REFUSED_VALUE);
     walk::unless(d, v.qualifier <= MOST_16, REFUSED_VALUE)
 }
 
@@ -256,7 +291,7 @@ fn test_packet(o: PacketValues, r: Refusal) -> Refusal
     walk::unless(
         b,
         number_fits(segmented(o.flags), counter.0 as u64, MOST_32),
-        22,
+        REFUSED_VALUE,
     )
 }
 
@@ -329,7 +364,7 @@ pub fn header_size(
         (lent (now (time .entry)) (now (zone .entry)) (now (name .entry)) (now (domain .entry)) (now (lengths .entry)) (now (id .entry)))))) ⌝ }
 {
     let has = v.has;
-    let a = 21 + front_size(has);
+    let a = FIXED + front_size(has);
     let b = middle_size(s, v, time.len(), zone.len());
     let c = end_size(s, has, name.len(), domain, lengths, id.len());
     fields::plus(a, fields::plus(b, c))
@@ -342,8 +377,8 @@ fn put_primary(out: &mut [u8], v: HeaderValues, o: PacketValues, n: usize) -> us
 {
     let apid = v.apid;
     let sequence_count = o.sequence_count;
-    let id = v.packet_type as u64 * 4096 + 2048 + apid.0 as u64;
-    let sequence = o.flags as u64 * 16384 + sequence_count.0 as u64;
+    let id = v.packet_type as u64 * TYPE_UNIT + SECONDARY_FLAG + apid.0 as u64;
+    let sequence = o.flags as u64 * FLAGS_UNIT + sequence_count.0 as u64;
     let a = octets::lay_number(out, 0, 2, id);
     let b = octets::lay_number(out, a, 2, sequence);
     octets::lay_number(out, b, 2, n as u64)
@@ -377,8 +412,8 @@ fn put_routing(out: &mut [u8], at: usize, v: HeaderValues) -> usize
 {
     let secondary_apid = v.secondary_apid;
     let has = v.has;
-    let high = v.error as u64 * 32768 + v.qos as u64 * 8192;
-    let low = v.session as u64 * 2048 + secondary_apid.0 as u64;
+    let high = v.error as u64 * ERROR_UNIT + v.qos as u64 * QOS_UNIT;
+    let low = v.session as u64 * SESSION_UNIT + secondary_apid.0 as u64;
     let a = octets::lay_number(out, at, 2, high + low);
     let b = octets::lay_number(out, a, 2, v.qualifier as u64);
     let c = octets::lay_number(out, b, 8, v.transaction);
@@ -403,7 +438,7 @@ fn put_front(out: &mut [u8], at: usize, v: HeaderValues, o: PacketValues) -> usi
     let counter = o.counter;
     let a = wide_if(has.source, out, at, 1, v.source as u64);
     let b = wide_if(has.destination, out, a, 1, v.destination as u64);
-    wide_if(segmented(o.flags), out, b, 4, counter.0 as u64)
+    wide_if(segmented(o.flags), out, b, COUNTER, counter.0 as u64)
 }
 
 fn number_if(there: bool, s: Settings, out: &mut [u8], at: usize, n: u64) -> usize
@@ -527,14 +562,14 @@ pub fn put_packet(
 pub fn secondary_size(h: usize, flags: u8) -> usize
     ensures { λ r. ⌜ r ≡ capped (h + pick (segment flags) 4 0) ⌝ }
 {
-    fields::plus(h, size_if(segmented(flags), 4))
+    fields::plus(h, size_if(segmented(flags), COUNTER))
 }
 
 // A packet with this secondary header and body, told up to the limit.
 pub fn packet_size(secondary: usize, body: usize) -> usize
     ensures { λ r. ⌜ r ≡ capped (6 + secondary + body) ⌝ }
 {
-    fields::plus(fields::plus(6, secondary), body)
+    fields::plus(fields::plus(PRIMARY, secondary), body)
 }
 
 fn body_fits(flags: u8, n: usize) -> bool
@@ -600,14 +635,11 @@ pub fn write(
     body: &[u8],
     out: &mut [u8],
 ) -> Written
-    ensures answer { λ r. ⌜ r ≡ writeAnswer s v o (lent (now (time .entry)) (now (zone .entry)) (now (name .entry)) (now (domain .entry))
-        (now (lengths .entry)) (now (id .entry))) (now (body .entry)) (length (now (out .entry))) ⌝ }
-    ensures octets { λ r. ⌜ now (out .exit) ≡ writeOutput s v o
-        (lent (now (time .entry)) (now (zone .entry)) (now (name .entry)) (now (domain .entry)) (now (lengths .entry)) (now (id .entry)))
-        (now (body .entry)) (now (out .entry)) ⌝ }
-    ensures lends { λ r. ⌜ Lends v
-        (lent (now (time .entry)) (now (zone .entry)) (now (name .entry)) (now (domain .entry)) (now (lengths .entry)) (now (id .entry)))
-        (now (body .entry)) ⌝ }
+    ensures { λ r. ⌜ (let t = lent (now (time .entry)) (now (zone .entry)) (now (name .entry)) (now (domain .entry)) (now (lengths .entry))
+        (now (id .entry)) in
+        (r ≡ writeAnswer s v o t (now (body .entry)) (length (now (out .entry))))
+        × (now (out .exit) ≡ writeOutput s v o t (now (body .entry)) (now (out .entry)))
+        × Lends v t (now (body .entry))) ⌝ }
 {
     let values = test_values(s, v, o, time, zone, name, domain, lengths, id);
     let h = header_size(s, v, time, zone, name, domain, lengths, id);

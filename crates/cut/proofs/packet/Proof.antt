@@ -74,23 +74,21 @@ returns c =
           (l .plan-of .ensures) (h .before .before .values-at .ensures) (h .before .from-of .ensures) (h .to-of .ensures)
           (k .before .before .before .before .secondary-size .ensures) (k .before .before .before .packet-size .ensures) _ (k .before .unless .ensures)
           (k .unless2 .ensures) (c .before .if1 .taken)),
-      (
-        refused-output (g .s) (g .p) (g .v) _ _ _ (g .i) (l .before .before .test-message .ensures) (l .before .header-size .ensures) (l .plan-of .ensures)
-            (h .before .before .values-at .ensures) (h .before .from-of .ensures) (h .to-of .ensures) (k .before .before .before .before .secondary-size .ensures)
-            (k .before .before .before .packet-size .ensures) _ (k .before .unless .ensures) (k .unless2 .ensures) (c .before .if1 .taken),
-        record {
-          octets =
-              record {
-                timestamp = λ j. a .shared-slice-known .given j .fits;
-                zone = λ j. e .before .before .before .before .before .shared-slice-known2 .given j .fits;
-                session-name = λ j. e .before .before .before .before .shared-slice-known3 .given j .fits;
-                domain = λ j. e .before .before .before .shared-slice-known4 .given j .fits;
-                authentication = λ j. e .before .shared-slice-known6 .given j .fits;
-                body = λ j. e .shared-slice-known7 .given j .fits;
-              };
-          transaction = a .before .good .1 .1 .0 .1 .1 .1 .1 .1 .1 .1 .1 .1 .1 .1 .1 .1 .1 .0 .1;
-        },
-      ),
+      refused-output (g .s) (g .p) (g .v) _ _ _ (g .i) (l .before .before .test-message .ensures) (l .before .header-size .ensures) (l .plan-of .ensures)
+          (h .before .before .values-at .ensures) (h .before .from-of .ensures) (h .to-of .ensures) (k .before .before .before .before .secondary-size .ensures)
+          (k .before .before .before .packet-size .ensures) _ (k .before .unless .ensures) (k .unless2 .ensures) (c .before .if1 .taken),
+      record {
+        octets =
+            record {
+              timestamp = λ j. a .shared-slice-known .given j .fits;
+              zone = λ j. e .before .before .before .before .before .shared-slice-known2 .given j .fits;
+              session-name = λ j. e .before .before .before .before .shared-slice-known3 .given j .fits;
+              domain = λ j. e .before .before .before .shared-slice-known4 .given j .fits;
+              authentication = λ j. e .before .shared-slice-known6 .given j .fits;
+              body = λ j. e .shared-slice-known7 .given j .fits;
+            };
+        transaction = a .before .good .1 .1 .0 .1 .1 .1 .1 .1 .1 .1 .1 .1 .1 .1 .1 .1 .1 .0 .1;
+      },
     )
 
 sub-n : tie.Need-sub-n
@@ -124,24 +122,22 @@ returns-2 c =
           (k .before .before .plan-of .ensures) (k .before .values-at .ensures) (k .from-of .ensures) (h .before .before .before .to-of .ensures)
           (h .before .secondary-size .ensures) (h .packet-size .ensures) _ (l .before .before .before .unless .ensures) (l .before .before .unless2 .ensures)
           (l .if1 .left),
-      (
-        made-output (g .s) (g .p) (g .v) _ _ _ (g .i) (k .before .before .before .before .test-message .ensures)
-            (k .before .before .before .header-size .ensures) (k .before .before .plan-of .ensures) (k .before .values-at .ensures) (k .from-of .ensures)
-            (h .before .before .before .to-of .ensures) (h .before .secondary-size .ensures) (h .packet-size .ensures) _
-            (l .before .before .before .unless .ensures) (l .before .before .unless2 .ensures) (l .if1 .left) (c .before .before .put-packet .ensures),
-        record {
-          octets =
-              record {
-                timestamp = λ j. a .shared-slice-known .given j .fits;
-                zone = λ j. e .before .before .before .before .before .shared-slice-known2 .given j .fits;
-                session-name = λ j. e .before .before .before .before .shared-slice-known3 .given j .fits;
-                domain = λ j. e .before .before .before .shared-slice-known4 .given j .fits;
-                authentication = λ j. e .before .shared-slice-known6 .given j .fits;
-                body = λ j. e .shared-slice-known7 .given j .fits;
-              };
-          transaction = a .before .good .1 .1 .0 .1 .1 .1 .1 .1 .1 .1 .1 .1 .1 .1 .1 .1 .1 .0 .1;
-        },
-      ),
+      made-output (g .s) (g .p) (g .v) _ _ _ (g .i) (k .before .before .before .before .test-message .ensures)
+          (k .before .before .before .header-size .ensures) (k .before .before .plan-of .ensures) (k .before .values-at .ensures) (k .from-of .ensures)
+          (h .before .before .before .to-of .ensures) (h .before .secondary-size .ensures) (h .packet-size .ensures) _
+          (l .before .before .before .unless .ensures) (l .before .before .unless2 .ensures) (l .if1 .left) (c .before .before .put-packet .ensures),
+      record {
+        octets =
+            record {
+              timestamp = λ j. a .shared-slice-known .given j .fits;
+              zone = λ j. e .before .before .before .before .before .shared-slice-known2 .given j .fits;
+              session-name = λ j. e .before .before .before .before .shared-slice-known3 .given j .fits;
+              domain = λ j. e .before .before .before .shared-slice-known4 .given j .fits;
+              authentication = λ j. e .before .shared-slice-known6 .given j .fits;
+              body = λ j. e .shared-slice-known7 .given j .fits;
+            };
+        transaction = a .before .good .1 .1 .0 .1 .1 .1 .1 .1 .1 .1 .1 .1 .1 .1 .1 .1 .1 .0 .1;
+      },
     )
 
 pub packet-spec : {M : Type 1} → statement M

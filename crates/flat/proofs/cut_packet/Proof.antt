@@ -54,7 +54,7 @@ returns-2 c =
     let d = g .sender-of .ensures in
     let w = c .before .before .before .packet .ensures in (
       packet-told _ _ _ _ _ _ e f _ _ v d _ _ _ _ _ (w .0) (c .cut-numbers .ensures),
-      packet-laid _ _ _ _ _ _ e f _ _ v d _ _ _ _ (w .1 .0),
+      packet-laid _ _ _ _ _ _ e f _ _ v d _ _ _ _ (w .1),
     )
 
 pub cut-packet-spec : {M : Type 1} → statement M

@@ -63,7 +63,7 @@ returns-2 c =
     let o = g .packet-of .ensures in
     let w = c .before .before .before .write .ensures in (
       write-told _ _ _ _ _ _ _ _ e f _ _ v o _ _ _ (w .0) (c .written-numbers .ensures),
-      write-laid _ _ _ _ _ _ _ _ e f _ _ v o _ _ (w .1 .0),
+      write-laid _ _ _ _ _ _ _ _ e f _ _ v o _ _ (w .1),
     )
 
 pub write-spec : {M : Type 1} → statement M

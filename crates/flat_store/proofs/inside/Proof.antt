@@ -5,13 +5,13 @@ use Rattle.flat_store.proofs.inside.Statement.{statement}
 use Rattle.flat_store.proofs.inside.Tie as tie
 
 returns : tie.Need-returns
-returns c = inside-behind (c .before .args .n) (c .before .args .place) (c .before .args .long) (c .if1 .taken)
+returns c = inside-behind _ _ _ (c .if1 .taken)
 
 returns-2 : tie.Need-returns-2
-returns-2 c = inside-short (c .before .before .args .n) (c .before .before .args .place) (c .before .before .args .long) (c .before .if1 .left) (c .if2 .taken)
+returns-2 c = inside-short _ _ _ (c .before .if1 .left) (c .if2 .taken)
 
 returns-3 : tie.Need-returns-3
-returns-3 c = inside-there (c .before .before .args .n) (c .before .before .args .place) (c .before .before .args .long) (c .before .if1 .left) (c .if2 .left)
+returns-3 c = inside-there _ _ _ (c .before .if1 .left) (c .if2 .left)
 
 pub inside-spec : {M : Type 1} → statement M
 inside-spec =

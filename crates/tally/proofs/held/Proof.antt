@@ -2,8 +2,6 @@
 -- Assumes nothing.
 use borrow.Author.Needs.{needs}
 use mathlib.Core.Path.{_∙_}
-use denote.Ref.{now}
-use lib.ListN.{length}
 use Rattle.cells.specs.Rows.{cellOf}
 use Rattle.cells.specs.Inner.{bodyIn}
 use Rattle.tally.proofs.Judging.{held-told}
@@ -18,7 +16,7 @@ is-held-requires c κs = search needs
 
 returns : tie.Need-returns
 returns c =
-    c .is-held .ensures ∙ held-told (bodyIn _ (length (now (c .before .before .before .before .args .zero))) _) (cellOf _ _ _) (c .before .judge .ensures)
+    c .is-held .ensures ∙ held-told (bodyIn _ _) (cellOf _ _ _) (c .before .judge .ensures)
 
 pub held-spec : {M : Type 1} → statement M
 held-spec = tie.close (tie.spec judge-requires is-held-requires returns)

@@ -33,22 +33,20 @@ returns c =
     let g = a .before .args in (
       refused-answer (g .s) (g .v) (g .o) _ _ (k .header-size .ensures) (h .before .secondary-size .ensures) (h .packet-size .ensures) _
           (k .before .test-values .ensures) (c .before .before .test-sizes .ensures) (c .if1 .taken),
-      (
-        refused-output (g .s) (g .v) (g .o) _ _ (k .header-size .ensures) (h .before .secondary-size .ensures) (h .packet-size .ensures) _
-            (k .before .test-values .ensures) (c .before .before .test-sizes .ensures) (c .if1 .taken),
-        record {
-          octets =
-              record {
-                timestamp = λ j. a .shared-slice-known .given j .fits;
-                zone = λ j. e .before .before .before .before .before .shared-slice-known2 .given j .fits;
-                session-name = λ j. e .before .before .before .before .shared-slice-known3 .given j .fits;
-                domain = λ j. e .before .before .before .shared-slice-known4 .given j .fits;
-                authentication = λ j. e .before .shared-slice-known6 .given j .fits;
-                body = λ j. e .shared-slice-known7 .given j .fits;
-              };
-          transaction = a .before .good .1 .0 .1 .1 .1 .1 .1 .1 .1 .1 .1 .1 .1 .1 .1 .1 .0 .1;
-        },
-      ),
+      refused-output (g .s) (g .v) (g .o) _ _ (k .header-size .ensures) (h .before .secondary-size .ensures) (h .packet-size .ensures) _
+          (k .before .test-values .ensures) (c .before .before .test-sizes .ensures) (c .if1 .taken),
+      record {
+        octets =
+            record {
+              timestamp = λ j. a .shared-slice-known .given j .fits;
+              zone = λ j. e .before .before .before .before .before .shared-slice-known2 .given j .fits;
+              session-name = λ j. e .before .before .before .before .shared-slice-known3 .given j .fits;
+              domain = λ j. e .before .before .before .shared-slice-known4 .given j .fits;
+              authentication = λ j. e .before .shared-slice-known6 .given j .fits;
+              body = λ j. e .shared-slice-known7 .given j .fits;
+            };
+        transaction = a .before .good .1 .0 .1 .1 .1 .1 .1 .1 .1 .1 .1 .1 .1 .1 .1 .1 .0 .1;
+      },
     )
 
 sub-n : tie.Need-sub-n
@@ -76,23 +74,21 @@ returns-2 c =
     let g = a .before .args in (
       written-answer (g .s) (g .v) (g .o) _ _ (k .before .header-size .ensures) (k .secondary-size .ensures) (h .before .packet-size .ensures) _
           (k .before .before .test-values .ensures) (h .test-sizes .ensures) (c .before .before .before .before .if1 .left),
-      (
-        written-output (g .s) (g .v) (g .o) _ _ (k .before .header-size .ensures) (k .secondary-size .ensures) (h .before .packet-size .ensures) _
-            (k .before .before .test-values .ensures) (h .test-sizes .ensures) (c .before .before .before .before .if1 .left)
-            (c .before .before .put-packet .ensures),
-        record {
-          octets =
-              record {
-                timestamp = λ j. a .shared-slice-known .given j .fits;
-                zone = λ j. e .before .before .before .before .before .shared-slice-known2 .given j .fits;
-                session-name = λ j. e .before .before .before .before .shared-slice-known3 .given j .fits;
-                domain = λ j. e .before .before .before .shared-slice-known4 .given j .fits;
-                authentication = λ j. e .before .shared-slice-known6 .given j .fits;
-                body = λ j. e .shared-slice-known7 .given j .fits;
-              };
-          transaction = a .before .good .1 .0 .1 .1 .1 .1 .1 .1 .1 .1 .1 .1 .1 .1 .1 .1 .0 .1;
-        },
-      ),
+      written-output (g .s) (g .v) (g .o) _ _ (k .before .header-size .ensures) (k .secondary-size .ensures) (h .before .packet-size .ensures) _
+          (k .before .before .test-values .ensures) (h .test-sizes .ensures) (c .before .before .before .before .if1 .left)
+          (c .before .before .put-packet .ensures),
+      record {
+        octets =
+            record {
+              timestamp = λ j. a .shared-slice-known .given j .fits;
+              zone = λ j. e .before .before .before .before .before .shared-slice-known2 .given j .fits;
+              session-name = λ j. e .before .before .before .before .shared-slice-known3 .given j .fits;
+              domain = λ j. e .before .before .before .shared-slice-known4 .given j .fits;
+              authentication = λ j. e .before .shared-slice-known6 .given j .fits;
+              body = λ j. e .shared-slice-known7 .given j .fits;
+            };
+        transaction = a .before .good .1 .0 .1 .1 .1 .1 .1 .1 .1 .1 .1 .1 .1 .1 .1 .1 .0 .1;
+      },
     )
 
 pub write-spec : {M : Type 1} → statement M

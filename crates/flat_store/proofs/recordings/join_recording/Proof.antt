@@ -1,4 +1,4 @@
--- `flat_recording::join_recording` meets its contract.
+-- `flat_store::recordings::join_recording` meets its contract.
 -- Assumes nothing.
 use mathlib.Core.Path.{ap, _∙_}
 use Rattle.recording.specs.declared.Recorded.{Recorded}
@@ -17,7 +17,10 @@ same-length : tie.Need-same-length
 same-length c = search needs
 
 returns : tie.Need-returns
-returns c = (c .recorded-numbers .ensures ∙ ap (λ (a : Recorded). recordedNumbers a) (c .before .before .before .join-all .ensures .0), c .before .before .before .join-all .ensures .1)
+returns c = (
+  c .recorded-numbers .ensures ∙ ap (λ (a : Recorded). recordedNumbers a) (c .before .before .before .join-all .ensures .0),
+  c .before .before .before .join-all .ensures .1,
+)
 
 pub join-recording-spec : {M : Type 1} → statement M
 join-recording-spec =
