@@ -131,14 +131,21 @@ fn store_found(
     refused(REFUSED_CONTRADICTS)
 }
 
-// A packet at the first n cells of any octets, beside a zero cell.
-pub fn arrive_in(s: Settings, store: &mut [u8], n: usize, zero: &[u8], p: &[u8]) -> Arrival
+// A packet, with what reading answered of it, at the first n cells of any octets, beside a zero cell.
+pub fn arrive_in(
+    s: Settings,
+    store: &mut [u8],
+    n: usize,
+    zero: &[u8],
+    p: &[u8],
+    h: Header,
+) -> Arrival
     requires { ⌜ now zero ≡ zeroRow (length (now zero)) ⌝ }
+    requires { ⌜ h ≡ readPacket s (now p) ⌝ }
     ensures { λ r. ⌜ r ≡ arrivalOf (arrivedIn s (length (now (zero .entry))) (now (store .entry)) n (now (p .entry))) ⌝ }
     ensures { λ r. ⌜ now (store .exit) ≡ storeWith (length (now (zero .entry))) (now (store .entry)) (now (p .entry))
         (arrivedIn s (length (now (zero .entry))) (now (store .entry)) n (now (p .entry))) ⌝ }
 {
-    let h = packet::read(s, p);
     if !is_segment(h, p, zero) {
         return unstored(h);
     }
@@ -148,7 +155,7 @@ pub fn arrive_in(s: Settings, store: &mut [u8], n: usize, zero: &[u8], p: &[u8])
     store_found(s, store, n, zero, p, h, j)
 }
 
-// The same by chains that lead through these cells.
+// The same by chains that lead through these cells; the packet is read here.
 pub fn arrive_by(
     s: Settings,
     store: &mut [u8],

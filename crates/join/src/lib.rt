@@ -7,7 +7,6 @@
 ghost use mathlib.Core.Path.{_≡_};
 ghost use Prim.Native.Nat.{_<_};
 ghost use lib.ListN.{length};
-ghost use Rattle.packet.specs.Reading.{readPacket};
 ghost use Rattle.cells.specs.Rows.{zeroRow};
 ghost use Rattle.cells.specs.Order.{cellSize};
 ghost use Rattle.join.specs.Viewing.{inside, viewed};
@@ -17,6 +16,7 @@ ghost use Rattle.join.specs.Inner.{refusalIn, bodyIn, takenAs, joiningIn
 use arrival::Arrival;
 use arrival::Kind;
 use cells::CELL;
+use packet::Header;
 use packet::SegmentCounter;
 use taking::Taken;
 use walk::Refusal;
@@ -97,11 +97,10 @@ fn refusal_of(a: Arrival) -> Refusal
     }
 }
 
-// The body of a packet that came whole, where it stands.
-fn in_packet(s: Settings, p: &[u8]) -> Joined
-    ensures { λ r. ⌜ r ≡ bodyIn (readPacket s (now (p .entry))) ⌝ }
+// The body of a packet that came whole, where reading told that it stands.
+fn in_packet(h: Header) -> Joined
+    ensures { λ r. ⌜ r ≡ bodyIn h ⌝ }
 {
-    let h = packet::read(s, p);
     let body = h.body;
     Joined {
         refusal: Refusal { number: 0 },
@@ -149,12 +148,13 @@ pub fn join_in(
     ensures { λ r. ⌜ now (store .exit) ≡ storeJoinedIn s (length (now (zero .entry))) (now (store .entry)) n (now (p .entry)) (length (now (out .entry))) ⌝ }
     ensures { λ r. ⌜ now (out .exit) ≡ outJoinedIn s (length (now (zero .entry))) (now (store .entry)) n (now (p .entry)) (now (out .entry)) ⌝ }
 {
-    let got = arrival::arrive_in(s, store, n, zero, p);
+    let h = packet::read(s, p);
+    let got = arrival::arrive_in(s, store, n, zero, p, h);
     let Arrival::Answer(kind) = got else {
         return refused(refusal_of(got));
     };
     if let Kind::Whole = kind {
-        return in_packet(s, p);
+        return in_packet(h);
     }
     in_output(taking::take_in(s, store, n, zero, out))
 }

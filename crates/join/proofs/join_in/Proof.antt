@@ -1,16 +1,21 @@
--- `join::join_in` meets its contract: the arrival, and then what it asks for.
+-- `join::join_in` meets its contract: the packet is read, it arrives, and then comes what the arrival asks for.
 -- Assumes nothing.
+use mathlib.Core.Path.{ap, _∙_}
 use native.Mathlib.Omega.{arith}
 use denote.Ref.{now}
 use lib.ListN.{length}
+use Rattle.join.specs.Inner.{bodyIn}
 use Rattle.join.proofs.Coming.{place-fits}
 use Rattle.join.proofs.Joins.{not-whole, join-refused, join-whole, join-taking}
 use borrow.Author.Needs.{needs}
 use Rattle.join.proofs.join_in.Statement.{statement}
 use Rattle.join.proofs.join_in.Tie as tie
 
+read-requires : tie.Need-read-requires
+read-requires c κs = search needs
+
 arrive-in-requires : tie.Need-arrive-in-requires
-arrive-in-requires c κs = c .before .before .before .before .before .pre
+arrive-in-requires c κs = (c .before .before .before .before .before .before .pre, c .before .read .ensures .0)
 
 enum-known-got : tie.Need-enum-known-got
 enum-known-got c = search needs
@@ -44,11 +49,12 @@ same-length-2 c = search needs
 returns-2 : tie.Need-returns-2
 returns-2 c =
     let g = c .before .before .before .before .before .before .before .before in
-    join-whole _ _ _ _ _ _ (g .arrive-in .ensures .0) (g .arrive-in .ensures .1) (λ i. g .before .before .before .shared-slice-known2 .given i .fits)
-    (c .before .before .before .before .got .given .1) (c .before .enum-told2 .given .1) (c .in-packet .ensures)
+    join-whole _ _ _ _ _ _ (g .arrive-in .ensures .0) (g .arrive-in .ensures .1) (λ i. g .before .before .before .before .shared-slice-known2 .given i .fits)
+    (c .before .before .before .before .got .given .1) (c .before .enum-told2 .given .1)
+    (c .in-packet .ensures ∙ ap bodyIn (g .before .before .read .ensures .0))
 
 take-in-requires : tie.Need-take-in-requires
-take-in-requires c κs = c .before .before .before .before .before .before .before .before .before .before .before .before .before .before .pre
+take-in-requires c κs = c .before .before .before .before .before .before .before .before .before .before .before .before .before .before .before .pre
 
 in-output-requires : tie.Need-in-output-requires
 in-output-requires c κs =
@@ -56,7 +62,7 @@ in-output-requires c κs =
     (omega (
       arith,
       c .before .before .before .before .before .before .before .before .before .before .before .before .before .before .before .before .before .before .before
-          .good .1 .1 .1 .1 .1 .0,
+          .before .good .1 .1 .1 .1 .1 .0,
     ))
 
 same-length-3 : tie.Need-same-length-3
@@ -80,5 +86,5 @@ returns-3 c =
 
 pub join-in-spec : {M : Type 1} → statement M
 join-in-spec =
-    tie.close (tie.spec arrive-in-requires enum-known-got enum-told refusal-of-requires refused-requires same-length returns enum-told-2 in-packet-requires
+    tie.close (tie.spec read-requires arrive-in-requires enum-known-got enum-told refusal-of-requires refused-requires same-length returns enum-told-2 in-packet-requires
     same-length-2 returns-2 take-in-requires in-output-requires same-length-3 same-length-4 returns-3)
