@@ -87,6 +87,13 @@ static void message_of(const uint8_t *packet, const struct orl_read_answer *r, u
     }
 }
 
+/* what a refusal of reading tells */
+static void hold_told(const uint8_t *packet, size_t length, uint64_t refusal, uint64_t off, uint64_t began) {
+    size_t said = length < 6 ? 0 : (packet[4] << 8 | packet[5]) + 7;
+    hold(off == (refusal == 5 ? said - length : refusal == 27 ? length - said : 0), "5 and 27 tell the octets missing or left over");
+    hold(refusal == 6 ? began <= length - 6 : began == 0, "6 tells a place in the secondary header");
+}
+
 static void reading(struct rest in) {
     uint64_t t = number(&in, 1);
     size_t length = in.left;
@@ -94,9 +101,10 @@ static void reading(struct rest in) {
     struct orl_read_answer r;
     memset(&r, 0xaa, sizeof r);
     orl_read(t, packet, length, &r);
-    hold(r.refusal <= 15, "reading gives 1 to 15");
+    hold(r.refusal <= 15 || r.refusal == 27, "reading gives 1 to 15 or 27");
+    hold_told(packet, length, r.refusal, r.off, r.began);
     if (r.refusal != 0) {
-        hold(all_zero(&r, sizeof r), "a refused reading tells zeros");
+        hold(all_zero(&r, offsetof(struct orl_read_answer, off)), "a refused reading tells zeros");
     } else {
         struct message m = {0};
         uint8_t room[256], *out = malloc(length);
@@ -191,12 +199,15 @@ static void storing(struct rest in, int joins) {
         struct orl_join_answer j;
         orl_join(t, store, size, packet, length, out, room, &j);
         hold(j.refusal == 0 || memcmp(out, out_before, room) == 0, "a refused joining leaves the output");
-        hold(j.refusal == 0 || j.refusal >= 20 || memcmp(store, before, size) == 0, "a refused arrival leaves the store");
+        hold_told(packet, length, j.refusal, j.off, j.began);
+        hold(j.refusal == 0 || j.refusal == 20 || j.refusal == 21 || memcmp(store, before, size) == 0,
+             "a refused arrival leaves the store");
         hold(order.refusal == 0 || j.refusal == order.refusal, "15 and 16 come first");
     } else {
         struct orl_arrive_answer a;
         struct orl_take_answer k;
         orl_arrive(t, store, size, packet, length, &a);
+        hold_told(packet, length, a.refusal, a.off, a.began);
         hold(a.kind == ORL_STORED || memcmp(store, before, size) == 0, "only a stored segment changes the store");
         hold(order.refusal == 0 || a.refusal == order.refusal, "15 and 16 come first");
         orl_take(t, store, size, out, room, &k);

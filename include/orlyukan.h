@@ -9,8 +9,8 @@
  * - Every number is a uint64_t. A slice is a pointer and a length: octets, or for the lengths of domain parts uint64_t.
  * - The answer is the last parameter, a struct of uint64_t fields that the call fills whole. Its first field is the refusal: 0
  *   if the call did what was asked, else a number of the list below. On a refusal all other fields are 0, but for a sender's
- *   numbers, which are told back as they were given, and no octet that was lent has changed. (orl_join says when it is
- *   otherwise.)
+ *   numbers, which are told back as they were given, and for off and began, which say more of 5, 27 and 6 (see below); and no
+ *   octet that was lent has changed. (orl_join says when it is otherwise.)
  * - On success only the octets that the call names have changed; the rest of a buffer is as it was.
  * - t is T, the octets of a timestamp that both sides agreed on, 1 to 16. Any other value is refused by 15.
  * - A number too wide for its field is refused by 22 and never made narrower. If T or P is out of range too, it is 15.
@@ -32,8 +32,8 @@
  *    2  packet version other than 0
  *    3  no secondary header
  *    4  the idle APID, 2047
- *    5  the slice is longer or shorter than the packet's length field says
- *    6  the packet ends inside its secondary header
+ *    5  the slice is shorter than the packet's length field says: off octets are missing
+ *    6  the packet ends inside its secondary header, in the field that began at place began
  *    7  binding version other than 0
  *    8  an SDU type above 21
  *    9  session 3
@@ -55,10 +55,20 @@
  *   24  cutting is needed, and with this P a packet has no room for one octet of body
  *   25  the segment counters that are left do not suffice
  *   26  there is no packet with this number
+ *   27  the slice is longer than the packet's length field says: off octets are left over
  *
- * If several apply, the answer is the one that comes first: reading 15, 1 to 5, then as the header is read from left to
+ * If several apply, the answer is the one that comes first: reading 15, 1 to 4, 5 or 27, then as the header is read from left to
  * right, 14; writing 15, 22, 13, 23, 12, 14, 21; cutting 15, 22, 13, 23, 12, 24, 25, 26, 21; arrival 15, 16, those of reading,
  * 17, 18, 19; taking 15, 16, 20, 21.
+ *
+ * What 5, 27 and 6 tell, in the answers of reading, arrival and joining
+ *
+ * - off: beside 5 how many octets are missing, beside 27 how many are left over; else 0. With so many octets more, or fewer, the
+ *   slice is as long as its length field says.
+ * - began: beside 6 the place where the unfinished field began, counted from 0 at the first octet of the secondary header, the
+ *   segment counter counted too; else 0. A field that shares an octet with others began in it. A length and its text are one
+ *   field, so are the count of domain parts, and each part with its presence octet, length and text. If the packet ends between
+ *   two fields, the unfinished one is the next.
  */
 #ifndef ORLYUKAN_H
 #define ORLYUKAN_H
@@ -180,6 +190,8 @@ struct orl_read_answer {
     struct orl_place authentication;
     uint64_t H;
     struct orl_place body; /* of length 0 at the packet's end if it is empty */
+    uint64_t off;          /* beside 5 and 27 */
+    uint64_t began;        /* beside 6 */
 };
 
 /* Reads one whole packet. */
@@ -263,7 +275,9 @@ void orl_cut_packet(uint64_t t, uint64_t p, const struct orl_header *header, con
 
 struct orl_arrive_answer {
     uint64_t refusal;
-    uint64_t kind; /* one of the three above */
+    uint64_t kind;  /* one of the three above */
+    uint64_t off;   /* beside 5 and 27 */
+    uint64_t began; /* beside 6 */
 };
 
 /* A packet arrives at the store. */
@@ -296,6 +310,8 @@ struct orl_join_answer {
     uint64_t H; /* this and the next two as taking tells them; 0 for a packet that came whole */
     uint64_t B;
     uint64_t counter;
+    uint64_t off;   /* beside 5 and 27 */
+    uint64_t began; /* beside 6 */
 };
 
 /*

@@ -1,11 +1,13 @@
 #!/usr/bin/env python3
 """cases.py VECTORS_DIR: writes what the crate vectors reads, and what it must print, beside its src/.
 
-VECTORS_DIR holds a file CALL.jsonl for each call, a case a line: the call's inputs and, under `expect`, its answer and the lent
+VECTORS_DIR holds a file CALL.jsonl for each call, and one folder a change request with files of the calls that it changed: the newest
+file of a call counts (LANDED). A case is a line: the call's inputs and, under `expect`, its answer and the lent
 buffers after it. The lines that must be printed are made from `expect`, never from the program. The form of a case and of a line
 is told in crates/vectors/src/main.rt; a call is added by a row of CALLS.
 
-To the cases of reading those of damaged() are added: figure 14 with each octet changed, cut and lengthened. Their answers are
+To the cases of reading those of damaged() are added: figure 14 with each octet changed, cut and lengthened, its length field left or set
+right, and packets whose last field is not whole. Their answers are
 those of tests/model.py, which must agree with the file on every case of its own. To the cases of writing and cutting are added
 figure 14 written, and numbers one above what the type of their field holds, which are refused by 22 and never cut to the width. To
 those of the view are added views of no buffer, to those of a recording outputs just too short and just long enough. Where and why a
@@ -21,6 +23,8 @@ sys.dont_write_bytecode = True
 import model
 
 CRATE = pathlib.Path(__file__).resolve().parent.parent / "crates" / "vectors"
+# The change requests that have landed and have cases of their own, in the order in which they landed.
+LANDED = ("T-01",)
 MOST_IN_PAIR = 255
 FIGURE_14 = bytes.fromhex("18 05 C0 00 00 14 00 00 01 00 02 00 03 01 20 06 00 07 00 00 00 00 00 00 00 09 00")
 
@@ -97,6 +101,11 @@ def part(p):
     return [p["place"], p["length"]]
 
 
+def told(a):
+    """What a refusal of reading tells: the octets missing or left over, and where the unfinished field began."""
+    return [a["off"], a["began"]]
+
+
 READ_NUMBERS = (
     "refusal packet_type apid flags seq sdu area service operation area_version error qos session secondary_apid qualifier "
     "transaction has_source has_destination has_priority has_timestamp has_zone has_session_name has_domain has_authentication "
@@ -111,7 +120,7 @@ def read_line(row):
     numbers += part(a["zone"]) + part(a["session_name"]) + [a["domain_count"]]
     for p in a["domain"]:
         numbers += part(p)
-    return line(numbers + part(a["authentication"]) + [a["H"]] + part(a["body"]))
+    return line(numbers + part(a["authentication"]) + [a["H"]] + part(a["body"]) + told(a))
 
 
 HEADER_NUMBERS = (
@@ -148,7 +157,7 @@ WHICH = ["", "packet", "joined"]
 def join_line(row):
     """The line of an answer of joining."""
     a = answer(row)
-    numbers = [a["refusal"], WHICH.index(a["which"])] + part(a) + [a["H"], a["B"], a["c"]]
+    numbers = [a["refusal"], WHICH.index(a["which"])] + part(a) + [a["H"], a["B"], a["c"]] + told(a)
     return line(numbers, octets(row["expect"]["store"]), octets(row["expect"]["out"]))
 
 
@@ -249,7 +258,9 @@ CALLS = {
         8,
         lambda row: [row["T"]],
         lambda row: [octets(row["packet"])],
-        lambda row: line([answer(row)["refusal"], KINDS.index(answer(row)["kind"])], octets(row["expect"]["store"])),
+        lambda row: line(
+            [answer(row)["refusal"], KINDS.index(answer(row)["kind"]), *told(answer(row))], octets(row["expect"]["store"])
+        ),
         store=given_store,
     ),
     "take": Call(
@@ -302,15 +313,38 @@ CALLS = {
 # Cases beyond those of the files.
 
 
+def sized(packet):
+    """The packet with its length field set right."""
+    return packet[:4] + big(len(packet) - 7, 2) + packet[6:]
+
+
+def unfinished():
+    """Figure 14 as it is and as a first, with one more presence flag and what may stand after it, each cut off after every octet from its
+    seventh on."""
+    ends = {0x80: "", 0x40: "", 0x20: "ff7f", 0x10: "0102030405060708", 0x08: "0361", 0x04: "0361", 0x02: "0201016101036162", 0x01: "05616263"}
+    for flags, (presence, end) in itertools.product((0xC0, 0x40), ends.items()):
+        counter = b"" if flags == 0xC0 else big(7, 4)
+        whole = FIGURE_14[:2] + bytes([flags]) + FIGURE_14[3:26] + bytes([presence]) + counter + bytes.fromhex(end)
+        for size in range(7, len(whole) + 1):
+            yield sized(whole[:size])
+
+
 def damaged():
-    """Figure 14 with each octet changed to every other value, cut by one octet, and lengthened by one."""
+    """Figure 14 with each octet changed to every other value, cut and lengthened by one octet and by more; then unfinished()."""
     for at, octet in enumerate(FIGURE_14):
         for other in range(256):
             if other != octet:
                 yield FIGURE_14[:at] + bytes([other]) + FIGURE_14[at + 1 :]
-    yield FIGURE_14[:-1]
+    for size in range(len(FIGURE_14)):
+        yield FIGURE_14[:size]
     yield FIGURE_14 + b"\x00"
     yield FIGURE_14 + b"\xff"
+    for longest in (bytes(65515), bytes(65516), bytes(70000)):
+        yield FIGURE_14 + longest
+    for size in range(6, 28):
+        yield FIGURE_14[:4] + b"\xff\xff" + FIGURE_14[6:size]
+    yield FIGURE_14[:4] + b"\xff\xff" + FIGURE_14[6:] + bytes(65516)
+    yield from unfinished()
 
 
 def read_rows():
@@ -428,8 +462,9 @@ def short_rows():
 
 
 def rows(vectors, call):
-    """The cases of a call in its file."""
-    with open(vectors / f"{call}.jsonl", encoding="ascii") as file:
+    """The cases of a call in its newest file."""
+    files = [vectors / f"{call}.jsonl", *(vectors / request / f"{call}.jsonl" for request in LANDED)]
+    with open([path for path in files if path.is_file()][-1], encoding="ascii") as file:
         for text in file:
             yield json.loads(text)
 

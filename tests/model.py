@@ -7,7 +7,11 @@ PARTS = 16
 
 
 class Refused(Exception):
-    """Reading stops here, with this number."""
+    """Reading stops here, with this number; beside 5 and 27 the octets missing or left over, beside 6 where the field began."""
+
+    def __init__(self, number, off=0, began=0):
+        super().__init__(number)
+        self.told = {"refusal": number, "off": off, "began": began}
 
 
 class Data:
@@ -15,7 +19,12 @@ class Data:
 
     def __init__(self, packet):
         self.packet = packet
-        self.at = 6
+        self.at = self.began = 6
+
+    def field(self):
+        """A field begins here."""
+        self.began = self.at
+        return self
 
     def content(self, length):
         """The whole content of a known length: tested for 12, then for 6. Its place."""
@@ -23,7 +32,7 @@ class Data:
         if place + length - 6 > HEADER_LIMIT:
             raise Refused(12)
         if place + length > len(self.packet):
-            raise Refused(6)
+            raise Refused(6, began=self.began - 6)
         self.at = place + length
         return place
 
@@ -70,12 +79,12 @@ def nothing():
     answer.update({"has_" + name: 0 for name in PRESENCE})
     answer.update(dict.fromkeys(("source", "destination", "counter", "priority", "timestamp"), 0))
     answer.update(zone=nowhere(), session_name=nowhere(), domain_count=0, domain=[nowhere() for _ in range(PARTS)],
-                  authentication=nowhere(), H=0, body=nowhere())
+                  authentication=nowhere(), H=0, body=nowhere(), off=0, began=0)
     return answer
 
 
 def primary(a, packet):
-    """The primary header: refusals 1 to 5."""
+    """The primary header: refusals 1 to 4, then 5 or 27."""
     if len(packet) < 6:
         raise Refused(1)
     first = packet[0] * 256 + packet[1]
@@ -87,8 +96,11 @@ def primary(a, packet):
         raise Refused(3)
     if first & 0x7FF == 2047:
         raise Refused(4)
-    if len(packet) != length_field + 7:
-        raise Refused(5)
+    said = length_field + 7
+    if len(packet) < said:
+        raise Refused(5, off=said - len(packet))
+    if len(packet) > said:
+        raise Refused(27, off=len(packet) - said)
     a["packet_type"] = first >> 12 & 1
     a["apid"] = first & 0x7FF
     a["flags"] = second >> 14
@@ -96,39 +108,40 @@ def primary(a, packet):
 
 
 def fixed(a, data):
-    """The fixed part of the secondary header, an octet at a time: 7, 8 and 9 as soon as their octet is there."""
-    octet = data.octet()
+    """The fixed part of the secondary header, an octet at a time: 7, 8 and 9 as soon as their octet is there. The secondary APID began
+    in the octet that it shares with error, QoS level and session."""
+    octet = data.field().octet()
     if octet >> 5 != 0:
         raise Refused(7)
     a["sdu"] = octet & 31
     if a["sdu"] > 21:
         raise Refused(8)
-    a["area"] = data.number(2)
-    a["service"] = data.number(2)
-    a["operation"] = data.number(2)
-    a["area_version"] = data.number(1)
-    octet = data.octet()
+    a["area"] = data.field().number(2)
+    a["service"] = data.field().number(2)
+    a["operation"] = data.field().number(2)
+    a["area_version"] = data.field().number(1)
+    octet = data.field().octet()
     a["error"] = octet >> 7
     a["qos"] = octet >> 5 & 3
     a["session"] = octet >> 3 & 3
     if a["session"] == 3:
         raise Refused(9)
     a["secondary_apid"] = (octet & 7) * 256 + data.octet()
-    a["qualifier"] = data.number(2)
-    a["transaction"] = data.number(8)
-    octet = data.octet()
+    a["qualifier"] = data.field().number(2)
+    a["transaction"] = data.field().number(8)
+    octet = data.field().octet()
     for k, name in enumerate(PRESENCE):
         a["has_" + name] = octet >> (7 - k) & 1
 
 
 def domain(a, data):
     """The count, which may be too many as soon as it is known, then the parts: a presence octet of 1 and a text each."""
-    count = data.varint()
+    count = data.field().varint()
     if count > PARTS:
         raise Refused(13)
     a["domain_count"] = count
     for k in range(count):
-        if data.octet() != 1:
+        if data.field().octet() != 1:
             raise Refused(11)
         a["domain"][k] = data.text()
 
@@ -136,27 +149,27 @@ def domain(a, data):
 def optional(a, data, t):
     """The fields that are there only if present, in their order."""
     if a["has_source"]:
-        a["source"] = data.number(1)
+        a["source"] = data.field().number(1)
     if a["has_destination"]:
-        a["destination"] = data.number(1)
+        a["destination"] = data.field().number(1)
     if a["flags"] != 3:
-        a["counter"] = data.number(4)
+        a["counter"] = data.field().number(4)
     if a["has_priority"]:
-        a["priority"] = data.varint()
+        a["priority"] = data.field().varint()
     if a["has_timestamp"]:
-        a["timestamp"] = data.content(t)
+        a["timestamp"] = data.field().content(t)
     if a["has_zone"]:
-        a["zone"] = data.text()
+        a["zone"] = data.field().text()
     if a["has_session_name"]:
-        a["session_name"] = data.text()
+        a["session_name"] = data.field().text()
     if a["has_domain"]:
         domain(a, data)
     if a["has_authentication"]:
-        a["authentication"] = data.text()
+        a["authentication"] = data.field().text()
 
 
 def read(t, packet):
-    """The whole answer of reading these octets with a timestamp of t octets. A refusal is its number and zeros."""
+    """The whole answer of reading these octets with a timestamp of t octets. A refusal is its number, what it tells, and zeros."""
     a = nothing()
     try:
         if not 1 <= t <= 16:
@@ -169,9 +182,7 @@ def read(t, packet):
         if a["flags"] != 3 and body == 0:
             raise Refused(14)
     except Refused as refused:
-        a = nothing()
-        a["refusal"] = refused.args[0]
-        return a
+        return nothing() | refused.told
     a["H"] = data.at - 6 - (4 if a["flags"] != 3 else 0)
     a["body"] = {"place": data.at, "length": body}
     return a
@@ -203,7 +214,7 @@ class Joining:
         self.cells = [None] * CELLS
         self.output = bytearray()
         self.seen = self.whole = self.joined = self.kept = self.passed = 0
-        self.refused = {}
+        self.refused, self.began = {}, {}
         self.place = 0
         while self.step(stream[self.place :]):
             pass
@@ -235,6 +246,8 @@ class Joining:
             self.whole += 1
             self.write(packet[:2] + packet[6:])
             return
+        if number == 6:
+            self.began[a["began"]] = self.began.get(a["began"], 0) + 1
         number = number or self.arrive(packet, Segment(a, packet))
         if number:
             self.refused[number] = self.refused.get(number, 0) + 1
@@ -242,6 +255,10 @@ class Joining:
             self.joined += 1
         else:
             self.kept += 1
+
+    def most_began(self):
+        """Where the unfinished field of most packets refused with 6 began, the lowest of several, and of how many."""
+        return min(self.began.items(), key=lambda item: (-item[1], item[0]))
 
     def arrive(self, packet, segment):
         """A segment goes to the lowest free cell, unless it is held already: 17, 18, 19, or 0."""

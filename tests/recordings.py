@@ -61,6 +61,7 @@ def findings(joining):
     lines += [f"long {joining.passed}", f"segments {joining.segments}", f"keys {joining.keys}", f"written {len(joining.output)}"]
     lines += [f"refused {sum(joining.refused.values())}", f"used {joining.place}"]
     lines += [f"refusal {number} {joining.refused[number]}" for number in sorted(joining.refused)]
+    lines += ["began {} {}".format(*joining.most_began())] if joining.began else []
     return lines + [*segment_lines(joining.cells), f"stop {STOPS.index(joining.stop) + 1}", "done"]
 
 

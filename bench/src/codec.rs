@@ -32,7 +32,7 @@ fn sum(r: &Reading) -> u64 {
 fn model_sum(answer: &Result<model::Reading, model::Refusal>) -> u64 {
     let r = match answer {
         Ok(reading) => reading,
-        Err(model::Refusal(number)) => return u64::from(*number),
+        Err(model::Refusal { number, .. }) => return u64::from(*number),
     };
     let stamp = model::Span { place: r.timestamp, length: if r.has(3) { T as u32 } else { 0 } };
     let places = [stamp, r.zone, r.session_name, r.authentication, r.body];
@@ -69,7 +69,7 @@ fn write(shape: &str, header: &Header, flags: u64, counter: u64, octets: usize) 
         },
         &mut || {
             let a = model::write(black_box(T), black_box(&lent), flags, 3, counter, black_box(&body), black_box(&mut theirs));
-            a.map_or_else(|refusal| refusal.0 as u64, |length| length as u64)
+            a.map_or_else(|refusal| refusal.number as u64, |length| length as u64)
         },
     );
     assert!(ours == theirs && ours[..octets] == made, "the outputs differ");
@@ -99,7 +99,7 @@ fn cut() {
             let mut total = count + after.sequence_count + after.counter.unwrap_or(0);
             for i in 0..count {
                 let made = model::packet(T, p, black_box(&lent), black_box(&body), model_given, i, black_box(&mut theirs));
-                total += made.map_or_else(|refusal| refusal.0 as u64, |length| length as u64) + model_given.sequence_count;
+                total += made.map_or_else(|refusal| refusal.number as u64, |length| length as u64) + model_given.sequence_count;
             }
             total
         },

@@ -34,7 +34,7 @@ fn kind(answer: orlyukan::Arrived) -> u64 {
 fn model_kind(answer: Result<model::Kind, model::Refusal>) -> u64 {
     match answer {
         Ok(kind) => 100 + kind as u64,
-        Err(model::Refusal(number)) => number.into(),
+        Err(model::Refusal { number, .. }) => number.into(),
     }
 }
 
@@ -92,7 +92,7 @@ fn take(cells: usize, count: usize) {
         },
         |b| match model::take(T, &mut b.store, &mut b.out) {
             Ok(taken) => (taken.h + taken.b) as u64 + u64::from(taken.counter),
-            Err(model::Refusal(number)) => number.into(),
+            Err(model::Refusal { number, .. }) => number.into(),
         },
     );
     line("take", &format!("{cells} cells, a message of {count} segments"), times, "-");

@@ -4,7 +4,8 @@ The work is done by the proved library, a shared object: the one that the enviro
 target/native of the repository in which this file stands.
 
 Each call answers an object whose `refusal` is 0, or a number of SPEC's table; then every other number is zero, but a
-sender's two, which stay. `store` and `out` are bytearrays, changed in place and by success alone (but see `join`). A header is an
+sender's two, which stay, and what a refusal of reading tells: `off`, beside 5 the octets that are missing and beside 27 those that
+are left over, and `began`, beside 6 the place in the secondary header where the unfinished field began. `store` and `out` are bytearrays, changed in place and by success alone (but see `join`). A header is an
 object or a dict; a sender is one of `sequence_count` and `counter`, and a counter of None says that none is left. Octets are bytes or
 a bytearray. Numbers may be of any size: one that is negative or too wide is refused and never cut off. A call that lends a bytearray
 must be over before another thread touches it.
@@ -203,7 +204,7 @@ def after_segment(sender):
 
 def read(t, packet):
     """Reads one packet whose timestamp, if it has one, is of t octets: every value of its header, every place, H and the body."""
-    n = _run("read", 72, _setting(t), *_lent(packet))
+    n = _run("read", 74, _setting(t), *_lent(packet))
     timestamp, zone, session_name = _places(n[28:34])
     parts = _places(n[35 : 35 + 2 * _PARTS])
     authentication = _places(n[67:69])[0]
@@ -218,6 +219,8 @@ def read(t, packet):
         authentication=authentication,
         H=n[69],
         body=body,
+        off=n[72],
+        began=n[73],
     )
 
 
@@ -263,8 +266,8 @@ def in_order(t, store):
 
 def arrive(t, store, packet):
     """Takes a packet into the store: 'whole', 'stored' or 'held'."""
-    n = _run("arrive", 2, _setting(t), *_changed(store), *_lent(packet))
-    return Answer(refusal=n[0], kind=_KINDS[n[1]])
+    n = _run("arrive", 4, _setting(t), *_changed(store), *_lent(packet))
+    return Answer(refusal=n[0], kind=_KINDS[n[1]], off=n[2], began=n[3])
 
 
 def take(t, store, out):
@@ -278,8 +281,9 @@ def take(t, store, out):
 def join(t, store, packet, out):
     """Arrival, and if the packet did not come whole, taking. Refused by 20 or 21 the store has changed by that arrival."""
     _apart(store, out)
-    n = _run("join", 7, _setting(t), *_changed(store), *_lent(packet), *_changed(out))
-    return Answer(refusal=n[0], which=_WHICH[n[1]], place=n[2], length=n[3], H=n[4], B=n[5], counter=n[6])
+    n = _run("join", 9, _setting(t), *_changed(store), *_lent(packet), *_changed(out))
+    which = _WHICH[n[1]]
+    return Answer(refusal=n[0], which=which, place=n[2], length=n[3], H=n[4], B=n[5], counter=n[6], off=n[7], began=n[8])
 
 
 def view(packet, joined, which, place, length):

@@ -17,6 +17,8 @@ ROOT = pathlib.Path(__file__).resolve().parent.parent.parent
 VECTORS = pathlib.Path(os.environ.get("ORLYUKAN_VECTORS", ROOT.parent / "shared" / "vectors"))
 FIGURE_14 = bytes.fromhex("18 05 C0 00 00 14 00 00 01 00 02 00 03 01 20 06 00 07 00 00 00 00 00 00 00 09 00")
 HUGE = (-1, 2**64, 2**64 + 5, -(2**70), 2**200)
+# The change requests that have landed and have cases of their own, in the order in which they landed.
+LANDED = ("T-01",)
 # The cases' names for what the calls name otherwise.
 NAMES = {"seq": "sequence_count", "c": "counter"}
 PRESENCE = "source destination priority timestamp zone session_name domain authentication".split()
@@ -66,7 +68,9 @@ class Cases(unittest.TestCase):
     def each(self, call, run):
         if not VECTORS.is_dir():
             self.skipTest(f"no folder {VECTORS} with cases")
-        with open(VECTORS / f"{call}.jsonl", encoding="utf-8") as lines:
+        files = [VECTORS / request / f"{call}.jsonl" for request in LANDED]
+        newest = [VECTORS / f"{call}.jsonl", *filter(pathlib.Path.is_file, files)][-1]
+        with open(newest, encoding="utf-8") as lines:
             for line in lines:
                 case = json.loads(line, object_hook=renamed)
                 expect = case["expect"]
@@ -310,6 +314,50 @@ class Numbers(unittest.TestCase):
         self.assertEqual((last.refusal, last.count, last.sender.counter), (0, 2, None))
 
 
+class Told(unittest.TestCase):
+    """What a refusal of reading tells, by each of the three calls that read: docs/DECISIONS.md, R13 to R17."""
+
+    fixed = FIGURE_14[6:26]
+
+    def tells(self, packet, refusal, off, began):
+        store, out = bytearray(1024), bytearray(100)
+        for answer in (orlyukan.read(8, packet), orlyukan.arrive(8, store, packet), orlyukan.join(8, store, packet, out)):
+            self.assertEqual((answer.refusal, answer.off, answer.began), (refusal, off, began), packet.hex())
+
+    def packet(self, data, flags=0xC0):
+        return bytes([0x18, 0x05, flags, 0]) + (len(data) - 1).to_bytes(2, "big") + data
+
+    def test_length(self):
+        for size in range(6):
+            self.tells(FIGURE_14[:size], 1, 0, 0)
+        for size in range(6, 27):
+            self.tells(FIGURE_14[:size], 5, 27 - size, 0)
+        for more in (1, 2, 65515, 65516, 70000):
+            self.tells(FIGURE_14 + bytes(more), 27, more, 0)
+        self.tells(bytes.fromhex("1805C000FFFF"), 5, 65536, 0)
+
+    def test_place(self):
+        begins = [0, 1, 3, 5, 7, 8, 10, 12, 20]
+        for size in range(1, 21):
+            self.tells(self.packet(self.fixed[:size]), 6, 0, max(place for place in begins if place <= size))
+        for presence, end, began in (
+            *((0x01, "", 21), (0x01, "05616263", 21), (0x80, "", 21), (0x10, "01020304050607", 21), (0x20, "80", 21)),
+            *((0x02, "", 21), (0x02, "80", 21), (0x02, "02", 22), (0x02, "0201", 22), (0x02, "02010561", 22), (0x02, "02010161", 25)),
+            *((0x0C, "0261", 21), (0x0C, "0161", 23), (0x0C, "016103", 23)),
+        ):
+            self.tells(self.packet(self.fixed + bytes([presence]) + bytes.fromhex(end)), 6, 0, began)
+        self.tells(self.packet(self.fixed + b"\x01" + b"\x05abc", 0x40), 6, 0, 25)
+        self.tells(self.packet(self.fixed + b"\x01" + b"\x05ab", 0x40), 6, 0, 21)
+
+    def test_nothing(self):
+        self.tells(self.packet(self.fixed + b"\x01\xea\x01"), 12, 0, 0)
+        self.tells(self.packet(b"\x20"), 7, 0, 0)
+        held = b"MS" + self.packet(self.fixed + b"\x01\x05a", 0x40)
+        store = bytearray(held.ljust(1024, b"\0"))
+        answer = orlyukan.arrive(8, store, FIGURE_14[:20])
+        self.assertEqual((answer.refusal, answer.off, answer.began), (16, 0, 0))
+
+
 class Buffers(unittest.TestCase):
     """Lent buffers: changed in place, never one for two, never one that can't be changed."""
 
@@ -319,7 +367,7 @@ class Buffers(unittest.TestCase):
         for i, kind in ((0, "stored"), (0, "held"), (1, "stored")):
             packet = bytearray(64)
             size = orlyukan.cut_packet(8, 64, figure_14(), body, sender, i, packet).length
-            self.assertEqual(told(orlyukan.arrive(8, store, packet[:size])), {"refusal": 0, "kind": kind})
+            self.assertEqual(told(orlyukan.arrive(8, store, packet[:size])), {"refusal": 0, "kind": kind, "off": 0, "began": 0})
         self.assertEqual(told(orlyukan.take(8, store, out)), {"refusal": 0, "H": 21, "B": 38, "counter": 3})
         self.assertEqual(out[23:61], body)
         self.assertEqual(store, bytes(2048))

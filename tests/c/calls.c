@@ -51,10 +51,51 @@ static void reading(void) {
     expect("H of a refusal", a.H, 0);
     orl_read(UINT64_MAX, figure_14, 27, &a);
     expect("read with the largest T", a.refusal, 15);
-    orl_read(8, figure_14, 26, &a);
-    expect("read one octet less", a.refusal, 5);
     orl_read(8, none, 0, &a);
     expect("read nothing", a.refusal, 1);
+}
+
+/* A refusal of reading with what it tells. */
+static void expect_told(const char *what, uint64_t refusal, uint64_t off, uint64_t began, const uint64_t want[3]) {
+    expect(what, refusal, want[0]);
+    expect(what, off, want[1]);
+    expect(what, began, want[2]);
+}
+
+/* The same slice to reading, arrival and joining: what each refusal tells. */
+static void told_of(const char *what, const uint8_t *packet, size_t length, uint64_t refusal, uint64_t off, uint64_t began) {
+    static uint8_t store[1024];
+    const uint64_t want[3] = {refusal, off, began};
+    struct orl_read_answer r;
+    struct orl_arrive_answer a;
+    struct orl_join_answer j;
+    uint8_t out[1];
+    orl_read(8, packet, length, &r);
+    expect_told(what, r.refusal, r.off, r.began, want);
+    orl_arrive(8, store, sizeof store, packet, length, &a);
+    expect_told(what, a.refusal, a.off, a.began, want);
+    orl_join(8, store, sizeof store, packet, length, out, 0, &j);
+    expect_told(what, j.refusal, j.off, j.began, want);
+}
+
+/* Figure 14 with another end, and its length field set to what is left of it, or not. */
+static void refusals(void) {
+    uint8_t packet[31];
+    memcpy(packet, figure_14, 27);
+    memcpy(packet + 27, "\005abc", 4);
+    told_of("one octet less", packet, 26, 5, 1, 0);
+    told_of("one octet more", packet, 28, 27, 1, 0);
+    packet[4] = packet[5] = 0xFF;
+    told_of("65,536 octets less", packet, 6, 5, 65536, 0);
+    told_of("five octets", packet, 5, 1, 0, 0);
+    packet[4] = 0;
+    packet[5] = 24;
+    packet[26] = 0x01;
+    told_of("an authentication id cut off", packet, 31, 6, 0, 21);
+    packet[2] = 0x40;
+    told_of("the same as a first", packet, 31, 6, 0, 25);
+    packet[5] = 8;
+    told_of("nine octets of the fixed part", packet, 15, 6, 0, 8);
 }
 
 static void write_14(const struct orl_header *h, uint64_t flags, uint64_t counter, uint8_t *out, size_t room,
@@ -285,6 +326,7 @@ static void recording(void) {
 
 int main(void) {
     reading();
+    refusals();
     writing();
     numbers();
     cutting();

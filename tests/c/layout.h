@@ -99,7 +99,9 @@ FIELD(orl_read_answer, domain, 35, 32);
 FIELD(orl_read_answer, authentication, 67, 2);
 FIELD(orl_read_answer, H, 69, 1);
 FIELD(orl_read_answer, body, 70, 2);
-WHOLE(orl_read_answer, 72);
+FIELD(orl_read_answer, off, 72, 1);
+FIELD(orl_read_answer, began, 73, 1);
+WHOLE(orl_read_answer, 74);
 
 /* writeNumbers */
 FIELD(orl_write_answer, refusal, 0, 1);
@@ -126,7 +128,9 @@ WHOLE(orl_cut_packet_answer, 5);
 /* arriveNumbers */
 FIELD(orl_arrive_answer, refusal, 0, 1);
 FIELD(orl_arrive_answer, kind, 1, 1);
-WHOLE(orl_arrive_answer, 2);
+FIELD(orl_arrive_answer, off, 2, 1);
+FIELD(orl_arrive_answer, began, 3, 1);
+WHOLE(orl_arrive_answer, 4);
 
 /* takeNumbers */
 FIELD(orl_take_answer, refusal, 0, 1);
@@ -143,7 +147,9 @@ FIELD(orl_join_answer, length, 3, 1);
 FIELD(orl_join_answer, H, 4, 1);
 FIELD(orl_join_answer, B, 5, 1);
 FIELD(orl_join_answer, counter, 6, 1);
-WHOLE(orl_join_answer, 7);
+FIELD(orl_join_answer, off, 7, 1);
+FIELD(orl_join_answer, began, 8, 1);
+WHOLE(orl_join_answer, 9);
 
 /* viewNumbers */
 FIELD(orl_view_answer, refusal, 0, 1);

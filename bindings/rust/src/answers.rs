@@ -2,13 +2,24 @@
 
 use crate::header::{Apid, SecondaryApid, SegmentCounter, Sender, SequenceCount};
 
-/// The number of a refusal, from SPEC's table.
-#[derive(Clone, Copy, Debug, PartialEq, Eq)]
-pub struct Refusal(pub u64);
+/// A refusal: its number of SPEC's table, and what it tells. `off` is beside 5 how many octets are missing, beside 27 how many are left
+/// over; `began` is beside 6 the place in the secondary header where the unfinished field began. What is not told is 0.
+#[derive(Clone, Copy, Debug, Default, PartialEq, Eq)]
+pub struct Refusal {
+    pub number: u64,
+    pub off: u64,
+    pub began: u64,
+}
 
 impl std::fmt::Display for Refusal {
     fn fmt(&self, f: &mut std::fmt::Formatter) -> std::fmt::Result {
-        write!(f, "refusal {}", self.0)
+        write!(f, "refusal {}", self.number)?;
+        match self.number {
+            5 => write!(f, ": octets missing: {}", self.off),
+            27 => write!(f, ": octets left over: {}", self.off),
+            6 => write!(f, ": the packet ends in the field at octet {} of its secondary header", self.began),
+            _ => Ok(()),
+        }
     }
 }
 
@@ -18,11 +29,16 @@ impl std::error::Error for Refusal {}
 pub trait Answer: Sized {
     fn refusal(&self) -> u64;
 
+    /// The refusal with what it tells; the calls that read no packet tell nothing but its number.
+    fn refused(&self) -> Refusal {
+        Refusal { number: self.refusal(), ..Refusal::default() }
+    }
+
     /// The answer if the call succeeded, else the refusal alone.
     fn accepted(self) -> Result<Self, Refusal> {
         match self.refusal() {
             0 => Ok(self),
-            number => Err(Refusal(number)),
+            _ => Err(self.refused()),
         }
     }
 }
@@ -75,6 +91,8 @@ pub struct Reading {
     pub authentication: Place,
     pub h: u64,
     pub body: Place,
+    pub off: u64,
+    pub began: u64,
 }
 
 /// The octets that a written packet took.
@@ -113,6 +131,8 @@ pub enum Kind {
 pub struct Arrived {
     pub refusal: u64,
     pub kind: Option<Kind>,
+    pub off: u64,
+    pub began: u64,
 }
 
 /// A taking's answer: H, B, and the first segment's counter.
@@ -143,6 +163,8 @@ pub struct Joined {
     pub h: u64,
     pub b: u64,
     pub counter: SegmentCounter,
+    pub off: u64,
+    pub began: u64,
 }
 
 /// How many cells a store in order has.
@@ -162,4 +184,21 @@ macro_rules! answers {
     };
 }
 
-answers!(Reading, Written, Cut, CutPacket, Arrived, Taken, Joined, Order);
+answers!(Written, Cut, CutPacket, Taken, Order);
+
+/// The answers of the calls that read a packet.
+macro_rules! reading_answers {
+    ($($name:ty),*) => {
+        $(impl Answer for $name {
+            fn refusal(&self) -> u64 {
+                self.refusal
+            }
+
+            fn refused(&self) -> Refusal {
+                Refusal { number: self.refusal, off: self.off, began: self.began }
+            }
+        })*
+    };
+}
+
+reading_answers!(Reading, Arrived, Joined);

@@ -8,7 +8,7 @@ use crate::raw::{self, RawAfter, RawCut, RawNumber, RawSender};
 fn unless_refused<A>(refusal: u64, answer: A) -> Result<A, Refusal> {
     match refusal {
         0 => Ok(answer),
-        number => Err(Refusal(number)),
+        number => Err(Refusal { number, ..Refusal::default() }),
     }
 }
 

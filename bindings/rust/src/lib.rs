@@ -2,8 +2,9 @@
 //!
 //! The work is done by the proved library, whose promises stand beside its source. These wrappers see to what a caller of C must
 //! see to alone: pointers that are valid, lengths that are true, buffers that do not overlap. Each call answers a plain struct whose
-//! `refusal` is 0, or a number of SPEC's table with every other field zero; [`Answer::accepted`] makes a `Result` of it. The
-//! three calls that only move a number on answer such a `Result` at once.
+//! `refusal` is 0, or a number of SPEC's table with every other field zero, but for what a refusal of reading tells (`off` and `began`);
+//! [`Answer::accepted`] makes a `Result` of it, whose [`Refusal`] tells the same. The three calls that only move a number on answer such a
+//! `Result` at once.
 //!
 //! APID, secondary APID, sequence count and segment counter are kinds of their own, and none can stand in for another. They and all
 //! other numbers are as wide as the library takes them, so that a number too wide for its field is refused and never cut off.

@@ -81,6 +81,16 @@ pub struct RawCut {
     pub sender: RawSender,
 }
 
+/// The answer of [`orl_arrive`].
+#[repr(C)]
+#[derive(Clone, Copy, Debug, Default, PartialEq, Eq)]
+pub struct RawArrived {
+    pub refusal: u64,
+    pub kind: u64,
+    pub off: u64,
+    pub began: u64,
+}
+
 #[repr(C)]
 #[derive(Clone, Copy, Debug, Default, PartialEq, Eq)]
 pub struct RawTaken {
@@ -100,6 +110,8 @@ pub struct RawJoined {
     pub h: u64,
     pub b: u64,
     pub counter: u64,
+    pub off: u64,
+    pub began: u64,
 }
 
 #[repr(C)]
@@ -141,7 +153,7 @@ extern "C" {
         zone_length: usize, session_name: P, session_name_length: usize, domain: P, domain_length: usize,
         domain_lengths: *const u64, domain_count: usize, authentication: P, authentication_length: usize, body: P,
         body_length: usize, sender: *const RawSender, i: u64, out: M, out_length: usize, answer: *mut RawCut);
-    pub fn orl_arrive(t: u64, store: M, store_length: usize, packet: P, packet_length: usize, answer: *mut RawNumber);
+    pub fn orl_arrive(t: u64, store: M, store_length: usize, packet: P, packet_length: usize, answer: *mut RawArrived);
     pub fn orl_take(t: u64, store: M, store_length: usize, out: M, out_length: usize, answer: *mut RawTaken);
     pub fn orl_join(t: u64, store: M, store_length: usize, packet: P, packet_length: usize, out: M, out_length: usize,
         answer: *mut RawJoined);

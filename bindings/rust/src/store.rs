@@ -2,20 +2,20 @@
 
 use crate::answers::{Arrived, Joined, Kind, Order, Taken, Which};
 use crate::header::SegmentCounter;
-use crate::raw::{self, RawJoined, RawNumber, RawTaken, RawView};
+use crate::raw::{self, RawArrived, RawJoined, RawNumber, RawTaken, RawView};
 
 /// Takes a packet into the store.
 pub fn arrive(t: u64, store: &mut [u8], packet: &[u8]) -> Arrived {
-    let mut answer = RawNumber::default();
+    let mut answer = RawArrived::default();
     // SAFETY: each slice's pointer is valid for its length; the store is lent to us alone.
     unsafe { raw::orl_arrive(t, store.as_mut_ptr(), store.len(), packet.as_ptr(), packet.len(), &mut answer) };
-    let kind = match answer.number {
+    let kind = match answer.kind {
         raw::ORL_WHOLE => Some(Kind::Whole),
         raw::ORL_STORED => Some(Kind::Stored),
         raw::ORL_HELD => Some(Kind::Held),
         _ => None,
     };
-    Arrived { refusal: answer.refusal, kind }
+    Arrived { refusal: answer.refusal, kind, off: answer.off, began: answer.began }
 }
 
 /// Takes the complete message with its first in the lowest cell out of the store, into the front of `out`.
@@ -40,8 +40,8 @@ pub fn join(t: u64, store: &mut [u8], packet: &[u8], out: &mut [u8]) -> Joined {
         raw::ORL_JOINED => Which::Joined,
         _ => Which::Nothing,
     };
-    let RawJoined { refusal, place, length, h, b, counter, .. } = answer;
-    Joined { refusal, which, place, length, h, b, counter: SegmentCounter(counter) }
+    let RawJoined { refusal, place, length, h, b, counter, off, began, .. } = answer;
+    Joined { refusal, which, place, length, h, b, counter: SegmentCounter(counter), off, began }
 }
 
 /// The part of the named buffer that joining told of; empty if place and length do not lie inside it.

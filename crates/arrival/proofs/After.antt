@@ -12,6 +12,8 @@ use lib.ListN.{length}
 use lib.Dec.{leb, ltb, eqb}
 use borrow.Author.Tests.{eqb-true, leb-true, ltb-true, eq-eqb, le-leb, lt-ltb}
 use Rattle.walk.specs.declared.Settings.{Settings}
+use Rattle.walk.specs.declared.Refusal.{Refusal}
+use Rattle.walk.specs.Walk.{refusal}
 use Rattle.packet.specs.Reading.{readPacket, segmented}
 use Rattle.cells.specs.Segments.{Seg, segOf, sameRest}
 use Rattle.cells.specs.Rows.{free, held, heldRow, cellOf}
@@ -43,17 +45,17 @@ not-whole i e = let z : _≡_ {A = ℕ} 0 1 = cc in omega arith
 not-again : (i : ℕ) → again ≡ stored i → ⊥
 not-again i e = let z : _≡_ {A = ℕ} 0 1 = cc in omega arith
 
-pub not-refused : (k i : ℕ) → refused k ≡ stored i → ⊥
-not-refused k i e = let z : _≡_ {A = ℕ} 0 1 = cc in omega arith
+pub not-refused : (r : Refusal) (i : ℕ) → refused r ≡ stored i → ⊥
+not-refused r i e = let z : _≡_ {A = ℕ} 0 1 = cc in omega arith
 
 beside-new : (o : Option Seg) (t : Seg) (x : Arrived) (i : ℕ) → beside o t x ≡ stored i → (o ≡ none) × (x ≡ stored i)
 beside-new none t x i e = (refl, e)
-beside-new (some u) t x i e = absurd (not-again i (pick-tells (sameRest u t) again (refused 18) (stored i) (not-refused 18 i) e .1))
+beside-new (some u) t x i e = absurd (not-again i (pick-tells (sameRest u t) again (refused (refusal 18)) (stored i) (not-refused (refusal 18) i) e .1))
 
 placed-low : (n j i : ℕ) → placed n j ≡ stored i → (j < n) × (j ≡ i)
 unfolding placed
 placed-low n j i e =
-    let a = pick-tells (ltb j n) (stored j) (refused 19) (stored i) (not-refused 19 i) e in
+    let a = pick-tells (ltb j n) (stored j) (refused (refusal 19)) (stored i) (not-refused (refusal 19) i) e in
     let same : j ≡ i = cc (a .1) in
     (ltb-true j n (a .0), same)
 
@@ -65,9 +67,9 @@ module _ (s : Settings) (Z : ℕ) (st : List ℕ) (n : ℕ) (p : List ℕ) where
   pub stored-tells : (i : ℕ) → arrivedIn s Z st n p ≡ stored i → Stored s Z st n p i
   unfolding arrivedIn segmentArrived
   stored-tells i e =
-      let a = pick-tells (eqb number 0) _ _ (stored i) (not-refused number i) e in
+      let a = pick-tells (eqb number 0) _ _ (stored i) (not-refused (readPacket s p .refusal) i) e in
       let b = pick-tells (segmented p) _ _ (stored i) (not-whole i) (a .1) in
-      let c = pick-tells (leb (2 + length p) Z) _ _ (stored i) (not-refused 17 i) (b .1) in
+      let c = pick-tells (leb (2 + length p) Z) _ _ (stored i) (not-refused (refusal 17) i) (b .1) in
       let d = beside-new (look (cellsOf s Z st n) (segment s p .key) (segment s p .counter)) (segment s p) _ i (c .1) in
       let f = placed-low n (lowestFree s Z st n) i (d .1) in
       record {

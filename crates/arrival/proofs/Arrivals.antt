@@ -14,6 +14,7 @@ use borrow.Author.Tests.{le-leb, lt-leb, leb-true, leb-false, eq-eqb, ne-eqb, eq
 use Rattle.octets.specs.Octets.{pick, Octets, octetAt, part, alike}
 use Rattle.octets.proofs.Lists.{alike-true, bool}
 use Rattle.walk.specs.declared.Settings.{Settings}
+use Rattle.walk.specs.Walk.{refusal}
 use Rattle.packet.specs.declared.Header.{Header}
 use Rattle.packet.specs.Reading.{readPacket, segmented}
 use Rattle.packet.specs.Key.{keyOf}
@@ -38,14 +39,14 @@ module _ (st z p : List ℕ) (n : ℕ) where
   abbrev pub low : ℕ
   low = lowest (λ j. alike (rowAt (length z) st j) z) n 0
 
-  pub new-full : {i : ℕ} → i ≡ low → n ≤ i → placed n low ≡ refused 19
+  pub new-full : {i : ℕ} → i ≡ low → n ≤ i → placed n low ≡ refused (refusal 19)
   unfolding placed
-  new-full {i} e h = let k : n < suc low = omega arith in ap (λ (b : Bool). pick b (stored low) (refused 19)) (lt-leb (suc low) n k)
+  new-full {i} e h = let k : n < suc low = omega arith in ap (λ (b : Bool). pick b (stored low) (refused (refusal 19))) (lt-leb (suc low) n k)
 
   module _ {i : ℕ} (e : i ≡ low) (h : i < n) where
     pub new-there : placed n low ≡ stored i
     unfolding placed
-    new-there = let k : suc low ≤ n = omega arith in ap (λ (b : Bool). pick b (stored low) (refused 19)) (le-leb (suc low) n k) ∙ ap stored (sym e)
+    new-there = let k : suc low ≤ n = omega arith in ap (λ (b : Bool). pick b (stored low) (refused (refusal 19))) (le-leb (suc low) n k) ∙ ap stored (sym e)
 
     row-zero : rowAt (length z) st i ≡ z
     row-zero =
@@ -89,7 +90,7 @@ module _ (s : Settings) (st z p : List ℕ) (n flags at long c : ℕ) (ez : z �
         ap₂ (λ (o : Option Seg) (i : ℕ). beside o t (placed n i)) (look-none (cellAt s Z st) k c n 0 m) free-low
 
     module _ (h : j < n) where
-      pub segment-beside : segmentArrived s Z st n t ≡ pick (sameRest (segIn s (rowAt Z st j)) t) again (refused 18)
+      pub segment-beside : segmentArrived s Z st n t ≡ pick (sameRest (segIn s (rowAt Z st j)) t) again (refused (refusal 18))
       unfolding segmentArrived segWith foundIn
       segment-beside =
           let m : foundIn s Z st n k c < 0 + n = omega arith in
@@ -102,10 +103,10 @@ module _ (s : Settings) (st z p : List ℕ) (n flags at long c : ℕ) (ez : z �
         told = eb ∙ ap (λ (y : List ℕ). sameRest (segIn s y) t) ex
 
         pub segment-same : b ≡ true → segmentArrived s Z st n t ≡ again
-        segment-same y = segment-beside ∙ ap (λ (w : Bool). pick w again (refused 18)) (sym told ∙ y)
+        segment-same y = segment-beside ∙ ap (λ (w : Bool). pick w again (refused (refusal 18))) (sym told ∙ y)
 
-        pub segment-other : b ≡ false → segmentArrived s Z st n t ≡ refused 18
-        segment-other y = segment-beside ∙ ap (λ (w : Bool). pick w again (refused 18)) (sym told ∙ y)
+        pub segment-other : b ≡ false → segmentArrived s Z st n t ≡ refused (refusal 18)
+        segment-other y = segment-beside ∙ ap (λ (w : Bool). pick w again (refused (refusal 18))) (sym told ∙ y)
 
 -- flags and body compared as they stand in two packets
 pub rest-same :
@@ -125,9 +126,9 @@ module _ (s : Settings) (Z : ℕ) (st p : List ℕ) (n : ℕ) {h : Header} (e : 
   number-is : h .refusal .number ≡ r
   number-is = ap (λ (x : Header). x .refusal .number) e
 
-  pub packet-bad : (h .refusal .number ≡ 0 → ⊥) → arrivedIn s Z st n p ≡ refused (h .refusal .number)
+  pub packet-bad : (h .refusal .number ≡ 0 → ⊥) → arrivedIn s Z st n p ≡ refused (h .refusal)
   unfolding arrivedIn
-  packet-bad bad = rw (ne-eqb r 0 (λ x. bad (number-is ∙ x))) (ap refused (sym number-is))
+  packet-bad bad = rw (ne-eqb r 0 (λ x. bad (number-is ∙ x))) (ap (λ (x : Header). refused (x .refusal)) (sym e))
 
   module _ (ok : h .refusal .number ≡ 0) where
     fine : r ≡ 0
@@ -147,7 +148,7 @@ module _ (s : Settings) (Z : ℕ) (st p : List ℕ) (n : ℕ) {h : Header} (e : 
       pub packet-asked : Octets p → Asked s p (h .body .at)
       packet-asked o = record { octets = o; accepted = fine; segment = packet-segment; body = ap (λ (x : Header). x .body .at) e }
 
-      pub packet-long : Z < 2 + length p → arrivedIn s Z st n p ≡ refused 17
+      pub packet-long : Z < 2 + length p → arrivedIn s Z st n p ≡ refused (refusal 17)
       unfolding arrivedIn
       packet-long l = rw (eq-eqb r 0 fine, packet-segment, lt-leb (2 + length p) Z l) refl
 
@@ -176,7 +177,7 @@ module _ (h : Header) where
   abbrev flags : ℕ
   flags = h .primary .flags
 
-  pub unstored-bad : (number ≡ 0 → ⊥) → refused number ≡ unstoredOf h
+  pub unstored-bad : (number ≡ 0 → ⊥) → refused (h .refusal) ≡ unstoredOf h
   unfolding unstoredOf
   unstored-bad bad = rw (ne-eqb number 0 bad) refl
 
@@ -185,7 +186,7 @@ module _ (h : Header) where
     unfolding unstoredOf
     unstored-whole f = rw (eq-eqb number 0 ok, eq-eqb flags 3 f) refl
 
-    pub unstored-long : (flags ≡ 3 → ⊥) → refused 17 ≡ unstoredOf h
+    pub unstored-long : (flags ≡ 3 → ⊥) → refused (refusal 17) ≡ unstoredOf h
     unfolding unstoredOf
     unstored-long f = rw (eq-eqb number 0 ok, ne-eqb flags 3 f) refl
 
@@ -194,7 +195,7 @@ module _ (h : Header) where
   unfolding unstoredOf storeWith
   unstored-store Z st p = go (eqb number 0) (eqb flags 3)
     where
-      go : (a b : Bool) → st ≡ storeWith Z st p (pick a (pick b whole (refused 17)) (refused number))
+      go : (a b : Bool) → st ≡ storeWith Z st p (pick a (pick b whole (refused (refusal 17))) (refused (h .refusal)))
       go true true = refl
       go true false = refl
       go false b = refl

@@ -10,7 +10,7 @@ use lib.ListN.{length}
 use lib.Dec.{eqb}
 use lib.Seq.{length-sets}
 use Rattle.walk.specs.declared.Settings.{Settings}
-use Rattle.walk.specs.Walk.{begun}
+use Rattle.walk.specs.Walk.{begun, refusal}
 use Rattle.cells.specs.Segments.{Seg, carries}
 use Rattle.cells.specs.Rows.{held, heldRow}
 use Rattle.cells.specs.Order.{isSound, carriesIn, cellAt, countIn, inOrder, gate}
@@ -32,10 +32,10 @@ arrive-long Z st p (refused k) = refl
 
 module _ (s : Settings) (Z : ℕ) (st p : List ℕ) where
   -- one that is stored: the store was in order
-  pub arrived-tells : (i : ℕ) → arrived s Z st p ≡ stored i → (eqb (begun s .refusal .number) 0 ≡ true) × ((inOrder s Z st ≡ true) × (arrivedIn s Z st (countIn Z st) p ≡ stored i))
+  pub arrived-tells : (i : ℕ) → arrived s Z st p ≡ stored i → (eqb (begun s .refused) 0 ≡ true) × ((inOrder s Z st ≡ true) × (arrivedIn s Z st (countIn Z st) p ≡ stored i))
   unfolding arrived
   arrived-tells i e =
-      let a = through-tells (gate s Z st) (arrivedIn s Z st (countIn Z st) p) refused (stored i) (λ k. not-refused k i) e in
+      let a = through-tells (gate s Z st) (arrivedIn s Z st (countIn Z st) p) (λ k. refused (refusal k)) (stored i) (λ k. not-refused (refusal k) i) e in
       let b = open-true s Z st (a .0) in
       (b .0, (b .1, a .1))
 

@@ -6,6 +6,7 @@ use mathlib.Core.List.{List}
 use lib.Dec.{leb, eqb}
 use Rattle.octets.specs.Octets.{pick, part}
 use Rattle.walk.specs.declared.Settings.{Settings}
+use Rattle.walk.specs.Walk.{refusal}
 use Rattle.packet.specs.declared.Header.{Header}
 use Rattle.packet.specs.Reading.{readPacket}
 use Rattle.packet.specs.Key.{keyOf}
@@ -23,4 +24,4 @@ segmentFits h long Z = both (both (eqb (h .refusal .number) 0) (not (eqb (h .pri
 
 -- what any other packet comes to
 unfoldable pub unstoredOf : Header → Arrived
-unstoredOf h = pick (eqb (h .refusal .number) 0) (pick (eqb (h .primary .flags) 3) whole (refused 17)) (refused (h .refusal .number))
+unstoredOf h = pick (eqb (h .refusal .number) 0) (pick (eqb (h .primary .flags) 3) whole (refused (refusal 17))) (refused (h .refusal))

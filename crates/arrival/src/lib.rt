@@ -8,6 +8,7 @@ ghost use lib.ListN.{length};
 ghost use Rattle.octets.specs.Octets.{alike};
 ghost use Rattle.cells.specs.Segments.{sameRest};
 ghost use Rattle.cells.specs.Rows.{rowAt, zeroRow};
+ghost use Rattle.walk.specs.Walk.{refusal as refusalOf};
 ghost use Rattle.packet.specs.Reading.{readPacket};
 ghost use Rattle.packet.specs.Key.{keyOf};
 ghost use Rattle.cells.specs.Order.{lowest, foundIn};
@@ -38,9 +39,9 @@ pub enum Arrival {
 
 // The one place where an arrival is refused.
 fn refused(k: u8) -> Arrival
-    ensures { λ r. ⌜ r ≡ arrivalOf (refusedBy k) ⌝ }
+    ensures { λ r. ⌜ r ≡ arrivalOf (refusedBy (refusalOf k)) ⌝ }
 {
-    Arrival::Refused(Refusal { number: k })
+    Arrival::Refused(walk::numbered(k))
 }
 
 // Whether the segment of a held cell has these flags and this body.

@@ -20,7 +20,8 @@ use Rattle.cells.specs.Order.{cellSize, gate}
 use Rattle.flat_store.specs.Numbers.{orderNumbers}
 use Rattle.flat_store.specs.Views.{insideNumbers, viewNumbers}
 use Rattle.numbers.specs.Lists.{Numbered, ofReading, ofArrival, ofTaking, ofJoining, ofRecording, ofOrder, ofWidths, ofWriting, ofCount, ofCutting}
-use Rattle.numbers.proofs.Among.{among, picked}
+use Rattle.format.proofs.Refusals.{picked}
+use Rattle.numbers.proofs.Among.{among}
 use Rattle.numbers.proofs.Reading.{reading}
 use Rattle.numbers.proofs.Sending.{writing, write-wide, count, count-wide, cutting, cut-wide}
 use Rattle.numbers.proofs.Store.{arrival, taking, join, order, all}

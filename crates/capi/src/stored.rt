@@ -13,7 +13,7 @@ ghost use Rattle.flat_store.specs.Recordings.{recordedNumbers};
 
 // A packet arrives.
 #[no_mangle]
-pub extern "C" fn orl_arrive(t: u64, store: &mut [u8], packet: &[u8], answer: &mut [u64; 2])
+pub extern "C" fn orl_arrive(t: u64, store: &mut [u8], packet: &[u8], answer: &mut [u64; 4])
     ensures { λ r. ⌜ now (answer .exit) ≡ arriveNumbers (arrived (settingsOf t) cellSize (now (store .entry)) (now (packet .entry))) ⌝ }
     ensures { λ r. ⌜ now (store .exit) ≡ storeWith cellSize (now (store .entry)) (now (packet .entry))
         (arrived (settingsOf t) cellSize (now (store .entry)) (now (packet .entry))) ⌝ }
@@ -39,7 +39,7 @@ pub extern "C" fn orl_join(
     store: &mut [u8],
     packet: &[u8],
     out: &mut [u8],
-    answer: &mut [u64; 7],
+    answer: &mut [u64; 9],
 )
     ensures { λ r. ⌜ now (answer .exit) ≡ joinNumbers (joining (settingsOf t) cellSize (now (store .entry)) (now (packet .entry))
         (length (now (out .entry)))) ⌝ }

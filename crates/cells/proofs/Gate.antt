@@ -1,7 +1,7 @@
 -- The check of settings and order: 15, then 16; what a store in order has; and what is known where the check passes.
 -- Assumes nothing.
 use Prim.Native.Nat.{ℕ, _%_, _≤_}
-use mathlib.Core.Path.{_≡_, refl, ap, ap₂, sym, _∙_}
+use mathlib.Core.Path.{_≡_, refl, ap, sym, _∙_}
 use mathlib.Core.Logic.{_⊎_, inl, inr, ⊎-elim}
 use mathlib.Core.Bool.{Bool, true, false}
 use mathlib.Core.List.{List}
@@ -13,6 +13,7 @@ use Rattle.octets.specs.Octets.{pick}
 use Rattle.octets.proofs.Lists.{bool}
 use Rattle.walk.specs.declared.Settings.{Settings}
 use Rattle.walk.specs.declared.Walk.{Walk}
+use Rattle.walk.specs.declared.Refusal.{Refusal}
 use Rattle.walk.specs.Walk.{begun, check, goes, refusal, timestampLeast, timestampMost}
 use Rattle.walk.specs.Inner.{asWalk}
 use Rattle.cells.specs.Segments.{both}
@@ -20,6 +21,10 @@ use Rattle.cells.specs.Order.{cellsMost, lengthFits, countIn, sound as a
 use Rattle.cells.proofs.Held.{both-true}
 use Rattle.cells.specs.declared.opening.Opened.{Opened}
 use Rattle.cells.specs.Opening.{openedOf}
+
+-- what an opened store is told by, whatever made its refusal
+pub opened-by : {r q : Refusal} {n : ℕ} {o : Opened} → r ≡ q → record { refusal = q; cells = n } ≡ o → record { refusal = r; cells = n } ≡ o
+opened-by {n} e h = ap (λ (x : Refusal). record { refusal = x; cells = n }) e ∙ h
 
 module _ (s : Settings) (Z : ℕ) (st : List ℕ) where
   -- what a store in order has
@@ -40,11 +45,11 @@ module _ (s : Settings) (Z : ℕ) (st : List ℕ) where
 
   -- ---- what is tested first
 
-  pub gate-by : {b : Bool} → eqb (begun s .refusal .number) 0 ≡ true → inOrder s Z st ≡ b → gate s Z st ≡ pick b 0 16
+  pub gate-by : {b : Bool} → eqb (begun s .refused) 0 ≡ true → inOrder s Z st ≡ b → gate s Z st ≡ pick b 0 16
   unfolding gate
   gate-by e f = rw (e, f) refl
 
-  pub gate-15 : eqb (begun s .refusal .number) 0 ≡ false → gate s Z st ≡ 15
+  pub gate-15 : eqb (begun s .refused) 0 ≡ false → gate s Z st ≡ 15
   unfolding gate
   gate-15 e = rw e refl
 
@@ -57,8 +62,8 @@ module _ (s : Settings) (Z : ℕ) (st : List ℕ) where
   open-as e = rw e refl
 
   module _ {w : Walk} (ew : w ≡ asWalk (begun s)) where
-    number-is : w .refusal .number ≡ begun s .refusal .number
-    number-is = ap (λ (x : Walk). x .refusal .number) ew
+    number-is : w .refused ≡ begun s .refused
+    number-is = ap (λ (x : Walk). x .refused) ew
 
     -- T outside its range
     told-15 : (a b : Bool) {r : ℕ} → r ≡ pick (eqb (pick a 0 15) 0) (pick b (pick a 0 15) 15) (pick a 0 15) → (r ≡ 0 → ⊥) → r ≡ 15
@@ -66,23 +71,23 @@ module _ (s : Settings) (Z : ℕ) (st : List ℕ) where
     told-15 true false e h = e
     told-15 false b e h = e
 
-    refusal-15 : (w .refusal .number ≡ 0 → ⊥) → w .refusal .number ≡ 15
+    refusal-15 : (w .refused ≡ 0 → ⊥) → w .refused ≡ 15
     unfolding begun check
     refusal-15 h = told-15 (leb timestampLeast (s .t)) (leb (s .t) timestampMost) (number-is ∙ split (leb timestampLeast (s .t)) (leb (s .t) timestampMost)) h
       where
-        split : (a b : Bool) → check b 15 (check a 15 (goes 6)) .refusal .number ≡ pick (eqb (pick a 0 15) 0) (pick b (pick a 0 15) 15) (pick a 0 15)
+        split : (a b : Bool) → check b 15 (check a 15 (goes 6)) .refused ≡ pick (eqb (pick a 0 15) 0) (pick b (pick a 0 15) 15) (pick a 0 15)
         split true true = refl
         split true false = refl
         split false b = refl
 
-    pub open-t : (w .refusal .number ≡ 0 → ⊥) → record { refusal = w .refusal; cells = 0 } ≡ openedOf s Z st
+    pub open-t : (w .refused ≡ 0 → ⊥) → record { refusal = refusal (w .refused); cells = 0 } ≡ openedOf s Z st
     open-t h =
         ap (λ (x : ℕ). record { refusal = refusal x; cells = 0 }) (refusal-15 h)
-        ∙ shut-as (gate-15 (ne-eqb (begun s .refusal .number) 0 (λ x. h (number-is ∙ x)))) (λ x. omega arith)
+        ∙ shut-as (gate-15 (ne-eqb (begun s .refused) 0 (λ x. h (number-is ∙ x)))) (λ x. omega arith)
 
-    module _ (h : w .refusal .number ≡ 0) {n : ℕ} (en : n ≡ pick (inOrder s Z st) (countIn Z st) 0) where
-      fine : eqb (begun s .refusal .number) 0 ≡ true
-      fine = eq-eqb (begun s .refusal .number) 0 (sym number-is ∙ h)
+    module _ (h : w .refused ≡ 0) {n : ℕ} (en : n ≡ pick (inOrder s Z st) (countIn Z st) 0) where
+      fine : eqb (begun s .refused) 0 ≡ true
+      fine = eq-eqb (begun s .refused) 0 (sym number-is ∙ h)
 
       pub open-order : n ≡ 0 → record { refusal = refusal 16; cells = 0 } ≡ openedOf s Z st
       open-order z = ⊎-elim in-it out-of-it (bool (inOrder s Z st))
@@ -93,16 +98,16 @@ module _ (s : Settings) (Z : ℕ) (st : List ℕ) where
           out-of-it : inOrder s Z st ≡ false → record { refusal = refusal 16; cells = 0 } ≡ openedOf s Z st
           out-of-it e = let g : gate s Z st ≡ 16 = gate-by fine e in shut-as g (λ x. omega arith)
 
-      pub open-held : (n ≡ 0 → ⊥) → record { refusal = w .refusal; cells = n } ≡ openedOf s Z st
+      pub open-held : (n ≡ 0 → ⊥) → record { refusal = refusal 0; cells = n } ≡ openedOf s Z st
       open-held k = ⊎-elim in-it out-of-it (bool (inOrder s Z st))
         where
-          in-it : inOrder s Z st ≡ true → record { refusal = w .refusal; cells = n } ≡ openedOf s Z st
+          in-it : inOrder s Z st ≡ true → record { refusal = refusal 0; cells = n } ≡ openedOf s Z st
           in-it e =
               let g : gate s Z st ≡ 0 = gate-by fine e in
               let m : n ≡ countIn Z st = en ∙ ap (λ (b : Bool). pick b (countIn Z st) 0) e in
-              ap₂ (λ (x y : ℕ). record { refusal = refusal x; cells = y }) h m ∙ open-as g
+              ap (λ (y : ℕ). record { refusal = refusal 0; cells = y }) m ∙ open-as g
 
-          out-of-it : inOrder s Z st ≡ false → record { refusal = w .refusal; cells = n } ≡ openedOf s Z st
+          out-of-it : inOrder s Z st ≡ false → record { refusal = refusal 0; cells = n } ≡ openedOf s Z st
           out-of-it e = absurd (k (en ∙ ap (λ (b : Bool). pick b (countIn Z st) 0) e))
 
 -- ---- a call by the gate's number
@@ -125,9 +130,9 @@ module _ {A : Type 0} (g : ℕ) (a : A) (refuse : ℕ → A) where
 -- ---- where the check passes
 
 module _ (s : Settings) (Z : ℕ) (st : List ℕ) where
-  pub open-true : gate s Z st ≡ 0 → (eqb (begun s .refusal .number) 0 ≡ true) × (inOrder s Z st ≡ true)
+  pub open-true : gate s Z st ≡ 0 → (eqb (begun s .refused) 0 ≡ true) × (inOrder s Z st ≡ true)
   unfolding gate
-  open-true g = told (eqb (begun s .refusal .number) 0) (inOrder s Z st) g
+  open-true g = told (eqb (begun s .refused) 0) (inOrder s Z st) g
     where
       told : (a b : Bool) → _≡_ {A = ℕ} (pick a (pick b 0 16) 15) 0 → (a ≡ true) × (b ≡ true)
       told true true e = (refl, refl)
@@ -140,9 +145,12 @@ module _ (s : Settings) (Z : ℕ) (st : List ℕ) where
 
   -- what an opened store is told by
   module _ {o : Opened} (eo : o ≡ openedOf s Z st) where
-    pub opened-number : o .refusal .number ≡ gate s Z st
+    pub opened-refusal : o .refusal ≡ refusal (gate s Z st)
     unfolding openedOf
-    opened-number = ap (λ (x : Opened). x .refusal .number) eo
+    opened-refusal = ap (λ (x : Opened). x .refusal) eo
+
+    pub opened-number : o .refusal .number ≡ gate s Z st
+    opened-number = ap (λ (x : Refusal). x .number) opened-refusal
 
     module _ (h : o .refusal .number ≡ 0) where
       pub opened-gate : gate s Z st ≡ 0
@@ -155,7 +163,7 @@ module _ (s : Settings) (Z : ℕ) (st : List ℕ) where
 -- another store in order, the settings being the same
 pub gate-again : (s : Settings) (Z : ℕ) (st x : List ℕ) → gate s Z st ≡ 0 → inOrder s Z x ≡ true → gate s Z x ≡ 0
 unfolding gate
-gate-again s Z st x g o = told (eqb (begun s .refusal .number) 0) (inOrder s Z st) (inOrder s Z x) g o
+gate-again s Z st x g o = told (eqb (begun s .refused) 0) (inOrder s Z st) (inOrder s Z x) g o
   where
     told : (a b d : Bool) → _≡_ {A = ℕ} (pick a (pick b 0 16) 15) 0 → d ≡ true → _≡_ {A = ℕ} (pick a (pick d 0 16) 15) 0
     told true b true e o = refl

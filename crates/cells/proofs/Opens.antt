@@ -11,8 +11,8 @@ use Rattle.octets.specs.Octets.{pick, octetAt}
 use Rattle.octets.proofs.Lists.{bool}
 use Rattle.walk.specs.declared.Settings.{Settings}
 use Rattle.walk.specs.Walk.{Reading, Step, going, octets, check, uinteger}
-use Rattle.walk.proofs.Steps.{octets-there, check-held, number-refused}
-use Rattle.fields.specs.Fields.{opt, nowhere, block, blob, text, part, domain, partAt, partsTo, Parts, noParts, partsMost}
+use Rattle.walk.proofs.Steps.{field-went, octets-there, check-held, number-refused}
+use Rattle.fields.specs.Fields.{markedText, opt, nowhere, block, blob, text, part, domain, partAt, partsTo, Parts, noParts, partsMost}
 use Rattle.packet.specs.declared.Present.{Present}
 use Rattle.packet.specs.FixedPart.{octetField, wideField, afterSdu, afterArea, afterService, afterOperation, afterVersion, afterSession}
 use Rattle.packet.specs.FixedPart.{afterSecondary, afterQualifier, afterTransaction, afterPresence, fixedEnd}
@@ -37,7 +37,7 @@ module _ (s : Settings) (p : List ℕ) where
 
   stays-blob : Stays (λ w. blob s p w .walk)
   unfolding blob
-  stays-blob w g = stays-number w (stays-octets (uinteger s p w .value) (uinteger s p w .walk) g)
+  stays-blob w g = stays-number w (stays-octets (uinteger s p w .value) (uinteger s p w .walk) (field-went w _ g))
 
   stays-text : Stays (λ w. text s p w .walk)
   unfolding text
@@ -48,8 +48,10 @@ module _ (s : Settings) (p : List ℕ) where
   stays-block n w g = stays-octets n w g
 
   stays-part : Stays (λ w. part s p w .walk)
-  unfolding part
-  stays-part w g = stays-octets 1 w (check-held (eqb (octetAt p (w .at)) 1) 10 (octets p 1 w) (stays-text (check (eqb (octetAt p (w .at)) 1) 11 (octets p 1 w)) g) .went)
+  unfolding part markedText
+  stays-part w g =
+      let a = stays-text (check (eqb (octetAt p (w .at)) 1) 11 (octets p 1 w)) (field-went w _ g) in
+      stays-octets 1 w (check-held (eqb (octetAt p (w .at)) 1) 10 (octets p 1 w) a .went)
 
   stays-parts : (n : ℕ) (d : Step Parts) → going (partsTo s p n d .walk) ≡ true → going (d .walk) ≡ true
   unfolding partsTo partAt
@@ -73,7 +75,7 @@ module _ (s : Settings) (p : List ℕ) where
   unfolding afterSdu afterArea afterService afterOperation afterVersion afterSession afterSecondary afterQualifier afterTransaction afterPresence
   stays-fixed w g =
       let a = stays-octets 8 _ (stays-octets 1 _ g) in
-      let b = stays-octets 1 _ (stays-octets 2 _ a) in
+      let b = stays-octets 1 _ (field-went _ _ (stays-octets 2 _ a)) in
       let c = stays-octets 1 _ (check-held _ 8 _ b .went) in
       let d = stays-octets 2 _ (stays-octets 2 _ (stays-octets 2 _ (stays-octets 1 _ c))) in
       stays-octets 1 w (check-held _ 6 _ (check-held _ 7 _ d .went) .went)

@@ -75,7 +75,7 @@ inOrder s Z st = both (lengthFits Z (length st)) (both (sound s Z st (countIn Z 
 
 -- what every call on a store tests before anything else: 15, then 16; 0 if both pass
 unfoldable pub gate : Settings → ℕ → List ℕ → ℕ
-gate s Z st = pick (eqb (begun s .refusal .number) 0) (pick (inOrder s Z st) 0 16) 15
+gate s Z st = pick (eqb (begun s .refused) 0) (pick (inOrder s Z st) 0 16) 15
 
 -- what a call comes to by that number: a if it is 0, and else the refusal by it
 abbrev pub through : {A : Type 0} → ℕ → A → (ℕ → A) → A

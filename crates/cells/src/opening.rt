@@ -31,24 +31,21 @@ pub fn check_by(
         Chained (bucketAt s (length (now (zero .entry))) (now (store .entry))) (now (heads .exit)) (now (links .exit)) (r .cells)) ⌝ }
 {
     let w = walk::begin(s);
-    let refusal = w.refusal;
-    if refusal.number != 0 {
+    if w.refused != 0 {
         return Opened {
-            refusal: refusal,
+            refusal: walk::numbered(w.refused),
             cells: 0,
         };
     }
     let n = crate::in_order_by(s, store, zero, heads, links);
     if n == 0 {
         return Opened {
-            refusal: Refusal {
-                number: REFUSED_ORDER,
-            },
+            refusal: walk::numbered(REFUSED_ORDER),
             cells: 0,
         };
     }
     Opened {
-        refusal: refusal,
+        refusal: walk::numbered(0),
         cells: n,
     }
 }

@@ -12,8 +12,8 @@ use borrow.Author.Tests.{leb-true, ltb-true, le-leb, eq-eqb, ne-eqb}
 use Rattle.octets.specs.Octets.{pick, part, most32}
 use Rattle.octets.specs.Laying.{laid, Lays}
 use Rattle.walk.specs.declared.Settings.{Settings}
-use Rattle.walk.specs.declared.Refusal.{Refusal}
-use Rattle.walk.specs.Walk.{unless}
+use Rattle.walk.specs.declared.Tested.{Tested}
+use Rattle.walk.specs.Walk.{refusal, unless}
 use Rattle.fields.specs.Inner.{capped}
 use Rattle.octets.proofs.Places.{part-at}
 use Rattle.packet.specs.Format.{Values, segment, octetsOf}
@@ -106,7 +106,7 @@ packet-most s P v t body d i g =
 
 -- ---- the code's packet
 
-module _ (s : Settings) (P : ℕ) (v : HeaderValues) (t : Lent) (body : List ℕ) (d : Sender) (i : ℕ) {h : ℕ} {r : Refusal} {q : Plan} {o : PacketValues} {from to : ℕ}
+module _ (s : Settings) (P : ℕ) (v : HeaderValues) (t : Lent) (body : List ℕ) (d : Sender) (i : ℕ) {h : ℕ} {r : Tested} {q : Plan} {o : PacketValues} {from to : ℕ}
     (er : r ≡ before s P v t d) (eh : h ≡ capped (headerLength s v t)) (eq : q ≡ planOf P h (length body) d r)
     (eo : o ≡ valuesOf (q .single) (q .count) d i) (ef : from ≡ fromOf (q .single) (q .chunk) i (length body)) (et : to ≡ toOf (q .single) from (q .chunk) (length body)) where
   abbrev piece : List ℕ
@@ -115,7 +115,7 @@ module _ (s : Settings) (P : ℕ) (v : HeaderValues) (t : Lent) (body : List ℕ
   abbrev made : Values
   made = givenPacket v o t piece
 
-  pub made-same : fine (q .refusal) ≡ true → i < q .count → made ≡ givenAt s P v t body d i
+  pub made-same : fine (q .tested) ≡ true → i < q .count → made ≡ givenAt s P v t body d i
   unfolding packetOf packetAt valuesOf flagsAt bodyAt
   made-same g l =
       let k = planned s P v t (length body) d er eh eq g in
@@ -135,7 +135,7 @@ module _ (s : Settings) (P : ℕ) (v : HeaderValues) (t : Lent) (body : List ℕ
       λ j. record { head = headOf v t; flags = f j; sequence-count = c j; counter = n j; body = b j }
 
   module _ {second size : ℕ} (es : second ≡ capped (h + pick (segment (o .flags)) 4 0)) (ez : size ≡ capped (6 + second + length piece)) where
-    pub size-exact : fine (q .refusal) ≡ true → i < q .count → size ≡ length (octetsOf s (givenAt s P v t body d i))
+    pub size-exact : fine (q .tested) ≡ true → i < q .count → size ≡ length (octetsOf s (givenAt s P v t body d i))
     size-exact g l =
         let k = planned s P v t (length body) d er eh eq g in
         let a = size-is s v o t piece eh es ez in
@@ -143,16 +143,16 @@ module _ (s : Settings) (P : ℕ) (v : HeaderValues) (t : Lent) (body : List ℕ
         let m = packet-most s P v t body d i (k .cuts-well .some) in
         omega (arith, k .good-values .top)
 
-    module _ {x y : Refusal} (room : ℕ) (ex : x ≡ unless (ltb i (q .count)) 26 (q .refusal)) (ey : y ≡ unless (leb size room) 21 x) where
+    module _ {x y : Tested} (room : ℕ) (ex : x ≡ unless (ltb i (q .count)) 26 (q .tested)) (ey : y ≡ unless (leb size room) 21 x) where
       first-same : x ≡ unless (ltb i (packets P (headerLength s v t) (length body))) 26 (countRefusal s P v t (length body) d)
       first-same =
           ex
-          ∙ unless-same 26 (q .refusal) (λ g. ap (ltb i) (planned s P v t (length body) d er eh eq g .count-is))
+          ∙ unless-same 26 (q .tested) (λ g. ap (ltb i) (planned s P v t (length body) d er eh eq g .count-is))
           ∙ ap (unless (ltb i (packets P (headerLength s v t) (length body))) 26) (refusal-same s P v t (length body) d er eh eq)
 
-      pub reached : fine x ≡ true → (fine (q .refusal) ≡ true) × (i < q .count)
+      pub reached : fine x ≡ true → (fine (q .tested) ≡ true) × (i < q .count)
       reached g =
-          let a = unless-fine (ltb i (q .count)) 25 (q .refusal) (ap fine (sym ex) ∙ g) in
+          let a = unless-fine (ltb i (q .count)) 25 (q .tested) (ap fine (sym ex) ∙ g) in
           (a .before, ltb-true i (q .count) (a .held))
 
       pub packet-refusal : y ≡ packetRefusal s P v t body d i room
@@ -162,11 +162,11 @@ module _ (s : Settings) (P : ℕ) (v : HeaderValues) (t : Lent) (body : List ℕ
           ∙ unless-same 21 x (λ g. let k = reached g in ap (λ (n : ℕ). leb n room) (size-exact (k .0) (k .1)))
           ∙ ap (unless (leb (length (octetsOf s (givenAt s P v t body d i))) room) 21) first-same
 
-      pub refused-packet : (y .number ≡ 0 → ⊥) → record { refusal = y; length = 0; sender = d } ≡ packetAnswer s P v t body d i room
+      pub refused-packet : (y .number ≡ 0 → ⊥) → record { refusal = refusal (y .number); length = 0; sender = d } ≡ packetAnswer s P v t body d i room
       unfolding packetAnswer
       refused-packet n =
           let f : fine (packetRefusal s P v t body d i room) ≡ false = ap fine (sym packet-refusal) ∙ ne-eqb (y .number) 0 n in
-          λ j. record { refusal = packet-refusal j; length = ap (λ (b : Bool). pick b (length (octetsOf s (givenAt s P v t body d i))) 0) (sym f) j; sender = d }
+          λ j. record { refusal = refusal (packet-refusal j .number); length = ap (λ (b : Bool). pick b (length (octetsOf s (givenAt s P v t body d i))) 0) (sym f) j; sender = d }
 
       -- where nothing refused
       pub record Done : Type 0 where
@@ -188,18 +188,19 @@ module _ (s : Settings) (P : ℕ) (v : HeaderValues) (t : Lent) (body : List ℕ
             least = omega (arith, packet-least s (givenAt s P v t body d i));
           }
 
-      pub made-packet : y .number ≡ 0 → record { refusal = y; length = size; sender = d } ≡ packetAnswer s P v t body d i room
+      pub made-packet : y .number ≡ 0 → record { refusal = refusal 0; length = size; sender = d } ≡ packetAnswer s P v t body d i room
       unfolding packetAnswer
       made-packet z =
           let f : fine (packetRefusal s P v t body d i room) ≡ true = ap fine (sym packet-refusal) ∙ eq-eqb (y .number) 0 z in
+          let n : 0 ≡ packetRefusal s P v t body d i room .number = sym z ∙ ap (λ (x : Tested). x .number) packet-refusal in
           λ j.
           record {
-            refusal = packet-refusal j;
+            refusal = refusal (n j);
             length = (done z .size-is-length ∙ ap (λ (b : Bool). pick b (length (octetsOf s (givenAt s P v t body d i))) 0) (sym f)) j;
             sender = d;
           }
 
-    module _ {x y : Refusal} (out : List ℕ) (ex : x ≡ unless (ltb i (q .count)) 26 (q .refusal)) (ey : y ≡ unless (leb size (length out)) 21 x) where
+    module _ {x y : Tested} (out : List ℕ) (ex : x ≡ unless (ltb i (q .count)) 26 (q .tested)) (ey : y ≡ unless (leb size (length out)) 21 x) where
       pub refused-output : (y .number ≡ 0 → ⊥) → out ≡ packetOutput s P v t body d i out
       unfolding packetOutput
       refused-output n =

@@ -11,8 +11,8 @@ use borrow.Author.Tests.{leb-true, eq-eqb, ne-eqb}
 use Rattle.octets.specs.Octets.{pick}
 use Rattle.octets.proofs.Lists.{bool}
 use Rattle.walk.specs.declared.Settings.{Settings}
-use Rattle.walk.specs.declared.Refusal.{Refusal}
-use Rattle.walk.specs.Walk.{noRefusal, unless}
+use Rattle.walk.specs.declared.Tested.{Tested}
+use Rattle.walk.specs.Walk.{refusal, noneFailed, unless}
 use Rattle.fields.specs.Inner.{capped}
 use Rattle.fields.specs.Fields.{partsMost}
 use Rattle.packet.specs.Format.{headerMost, packetMost}
@@ -33,8 +33,8 @@ use Rattle.cut.specs.Inner.{singleOf, packetsOf, planRefusal, planOf}
 
 -- ---- the tests before the plan
 
-abbrev pub before : Settings → ℕ → HeaderValues → Lent → Sender → Refusal
-before s P v t d = partsTest t (valueTests s v t d (limitTest s P noRefusal))
+abbrev pub before : Settings → ℕ → HeaderValues → Lent → Sender → Tested
+before s P v t d = partsTest t (valueTests s v t d (limitTest s P noneFailed))
 
 -- what holds where none of them refused
 pub record Good (s : Settings) (P : ℕ) (v : HeaderValues) (t : Lent) (d : Sender) : Type 0 where
@@ -43,16 +43,16 @@ pub record Good (s : Settings) (P : ℕ) (v : HeaderValues) (t : Lent) (d : Send
   pub checks : AllHold (headerChecks s v t)
   pub low : limitLeast ≤ P
   pub top : P ≤ packetMost
-  pub settings : fine (settingsTest s noRefusal) ≡ true
+  pub settings : fine (settingsTest s noneFailed) ≡ true
 
 pub good : (s : Settings) (P : ℕ) (v : HeaderValues) (t : Lent) (d : Sender) → fine (before s P v t d) ≡ true → Good s P v t d
 unfolding partsTest valueTests limitTest
 good s P v t d g =
-    let a = unless-fine (leb (length (t .lengths)) partsMost) 12 (valueTests s v t d (limitTest s P noRefusal)) g in
-    let b = unless-fine (leb (d .«sequence_count» .0) countMost) 21 (unlessAll (headerChecks s v t) 22 (limitTest s P noRefusal)) (a .before) in
-    let c = unlessAll-fine (headerChecks s v t) 21 (limitTest s P noRefusal) (b .before) in
-    let e = unless-fine (leb P packetMost) 14 (unless (leb limitLeast P) 15 (settingsTest s noRefusal)) (c .0) in
-    let f = unless-fine (leb limitLeast P) 14 (settingsTest s noRefusal) (e .before) in
+    let a = unless-fine (leb (length (t .lengths)) partsMost) 12 (valueTests s v t d (limitTest s P noneFailed)) g in
+    let b = unless-fine (leb (d .«sequence_count» .0) countMost) 21 (unlessAll (headerChecks s v t) 22 (limitTest s P noneFailed)) (a .before) in
+    let c = unlessAll-fine (headerChecks s v t) 21 (limitTest s P noneFailed) (b .before) in
+    let e = unless-fine (leb P packetMost) 14 (unless (leb limitLeast P) 15 (settingsTest s noneFailed)) (c .0) in
+    let f = unless-fine (leb limitLeast P) 14 (settingsTest s noneFailed) (e .before) in
     record {
       parts = leb-true (length (t .lengths)) partsMost (a .held);
       sequence-count = leb-true (d .«sequence_count» .0) countMost (b .held);
@@ -84,18 +84,18 @@ module _ (P H B : ℕ) (d : Sender) {h : ℕ} (eh : h ≡ capped H) (top : P ≤
       let e : capped (h + 4) ≡ capped (H + 4) = omega arith in
       ap (λ (n : ℕ). leb n headerMost) e ∙ below-cap (H + 4) headerMost (omega arith)
 
-  tests-same : (r : Refusal) → planRefusal (singleOf P h B) h B (chunk P h) d r ≡ messageTests P H B d r
+  tests-same : (r : Tested) → planRefusal (singleOf P h B) h B (chunk P h) d r ≡ messageTests P H B d r
   unfolding planRefusal messageTests
   tests-same r = rw (packets-same, single-same, chunk-same, head-same (single P H B))
 
 -- a refusal that was there stays
-still-plan : (one : Bool) (h B C : ℕ) (d : Sender) (r : Refusal) → fine r ≡ false → planRefusal one h B C d r ≡ r
+still-plan : (one : Bool) (h B C : ℕ) (d : Sender) (r : Tested) → fine r ≡ false → planRefusal one h B C d r ≡ r
 unfolding planRefusal
 still-plan one h B C d r e =
     rw (shut (leb B bodyMost) 23 r e, shut (leb (pick one h (capped (h + 4))) headerMost) 12 r e, shut (pick one true (leb 1 C)) 24 r e)
     (shut (pick one true (countersFit (d .next) (packetsOf one B C))) 25 r e)
 
-still-tests : (P H B : ℕ) (d : Sender) (r : Refusal) → fine r ≡ false → messageTests P H B d r ≡ r
+still-tests : (P H B : ℕ) (d : Sender) (r : Tested) → fine r ≡ false → messageTests P H B d r ≡ r
 unfolding messageTests
 still-tests P H B d r e =
     rw (shut (leb B bodyMost) 23 r e, shut (leb (pick (single P H B) H (H + 4)) headerMost) 12 r e, shut (pick (single P H B) true (leb 1 (chunk P H))) 24 r e)
@@ -108,7 +108,7 @@ pub record Cuts (P H B : ℕ) (d : Sender) : Type 0 where
   pub some : pick (single P H B) true (leb 1 (chunk P H)) ≡ true
   pub counters : pick (single P H B) true (countersFit (d .next) (packets P H B)) ≡ true
 
-pub cuts : (P H B : ℕ) (d : Sender) (r : Refusal) → fine (messageTests P H B d r) ≡ true → Cuts P H B d × (fine r ≡ true)
+pub cuts : (P H B : ℕ) (d : Sender) (r : Tested) → fine (messageTests P H B d r) ≡ true → Cuts P H B d × (fine r ≡ true)
 unfolding messageTests
 cuts P H B d r g =
     let a = unless-fine (pick (single P H B) true (countersFit (d .next) (packets P H B))) 24 _ g in
@@ -126,15 +126,15 @@ cuts P H B d r g =
 
 -- ---- the code's plan
 
-module _ (s : Settings) (P : ℕ) (v : HeaderValues) (t : Lent) (B : ℕ) (d : Sender) {h : ℕ} {r : Refusal} {q : Plan}
+module _ (s : Settings) (P : ℕ) (v : HeaderValues) (t : Lent) (B : ℕ) (d : Sender) {h : ℕ} {r : Tested} {q : Plan}
     (er : r ≡ before s P v t d) (eh : h ≡ capped (headerLength s v t)) (eq : q ≡ planOf P h B d r) where
   abbrev H : ℕ
   H = headerLength s v t
 
-  pub refusal-same : q .refusal ≡ countRefusal s P v t B d
+  pub refusal-same : q .tested ≡ countRefusal s P v t B d
   unfolding planOf countRefusal
   refusal-same =
-      ap (λ (x : Plan). x .refusal) eq
+      ap (λ (x : Plan). x .tested) eq
       ∙ ⊎-elim
       (λ g. let k = good s P v t d (ap fine (sym er) ∙ g) in tests-same P H B d eh (k .top) r)
       (λ e. still-plan (singleOf P h B) h B (chunk P h) d r e ∙ sym (still-tests P H B d r e))
@@ -150,7 +150,7 @@ module _ (s : Settings) (P : ℕ) (v : HeaderValues) (t : Lent) (B : ℕ) (d : S
     pub chunk-is : q .chunk ≡ chunk P H
     pub count-is : q .count ≡ packets P H B
 
-  pub planned : fine (q .refusal) ≡ true → Planned
+  pub planned : fine (q .tested) ≡ true → Planned
   unfolding planOf countRefusal
   planned g =
       let f : fine (countRefusal s P v t B d) ≡ true = ap fine (sym refusal-same) ∙ g in
@@ -165,29 +165,30 @@ module _ (s : Settings) (P : ℕ) (v : HeaderValues) (t : Lent) (B : ℕ) (d : S
         count-is = ap (λ (x : Plan). x .count) eq ∙ packets-same P H B d eh (k .top);
       }
 
-  pub refused-count : (q .refusal .number ≡ 0 → ⊥) → record { refusal = q .refusal; count = 0; sender = d } ≡ countAnswer s P v t B d
+  pub refused-count : (q .tested .number ≡ 0 → ⊥) → record { refusal = refusal (q .tested .number); count = 0; sender = d } ≡ countAnswer s P v t B d
   unfolding countAnswer
   refused-count n =
-      let f : fine (countRefusal s P v t B d) ≡ false = ap fine (sym refusal-same) ∙ ne-eqb (q .refusal .number) 0 n in
+      let f : fine (countRefusal s P v t B d) ≡ false = ap fine (sym refusal-same) ∙ ne-eqb (q .tested .number) 0 n in
       λ i.
       record {
-        refusal = refusal-same i;
+        refusal = refusal (refusal-same i .number);
         count = ap (λ (x : Bool). pick x (packets P H B) 0) (sym f) i;
         sender = ap (λ (x : Bool). pick x (senderAfter P H B d) d) (sym f) i;
       }
 
   pub made-count :
-      q .refusal .number ≡ 0 → {m : Sender} {w : Sent} → w ≡ pick (q .single) Whole (Segments (q .count)) → m ≡ afterMessage w d →
-      record { refusal = q .refusal; count = q .count; sender = m } ≡ countAnswer s P v t B d
+      q .tested .number ≡ 0 → {m : Sender} {w : Sent} → w ≡ pick (q .single) Whole (Segments (q .count)) → m ≡ afterMessage w d →
+      record { refusal = refusal 0; count = q .count; sender = m } ≡ countAnswer s P v t B d
   unfolding countAnswer senderAfter
   made-count z {m} ew em =
-      let k = planned (eq-eqb (q .refusal .number) 0 z) in
+      let k = planned (eq-eqb (q .tested .number) 0 z) in
       let f = k .fine-count in
       let a : m ≡ pick (single P H B) (afterPacket d) (afterSegments (packets P H B) d) =
       sent-on (q .single) (q .count) d ew em ∙ ap₂ (λ (o : Bool) (n : ℕ). pick o (afterPacket d) (afterSegments n d)) (k .single-is) (k .count-is) in
+      let n : 0 ≡ countRefusal s P v t B d .number = sym z ∙ ap (λ (x : Tested). x .number) refusal-same in
       λ i.
       record {
-        refusal = refusal-same i;
+        refusal = refusal (n i);
         count = (k .count-is ∙ ap (λ (x : Bool). pick x (packets P H B) 0) (sym f)) i;
         sender = (a ∙ ap (λ (x : Bool). pick x (pick (single P H B) (afterPacket d) (afterSegments (packets P H B) d)) d) (sym f)) i;
       }

@@ -9,8 +9,8 @@ use lib.ListN.{length, drop}
 use lib.Dec.{ltb, leb, eqb}
 use Rattle.octets.specs.Octets.{pick, part, most32}
 use Rattle.walk.specs.declared.Settings.{Settings}
-use Rattle.walk.specs.declared.Refusal.{Refusal}
-use Rattle.walk.specs.Walk.{noRefusal, unless}
+use Rattle.walk.specs.declared.Tested.{Tested}
+use Rattle.walk.specs.Walk.{refusal, noneFailed, unless}
 use Rattle.packet.specs.Format.{Head, Values, headerOctets, octetsOf, packetMost, headerMost}
 use Rattle.packet.specs.Numbers.{countMost, countAt}
 use Rattle.sender.specs.declared.Sender.{Sender}
@@ -70,19 +70,19 @@ counterAt NoneLeft i = 0
 -- ---- the refusals
 
 -- 15: T and P
-unfoldable pub limitTest : Settings → ℕ → Refusal → Refusal
+unfoldable pub limitTest : Settings → ℕ → Tested → Tested
 limitTest s P r = unless (leb P packetMost) 15 (unless (leb limitLeast P) 15 (settingsTest s r))
 
 -- 22: the header's checks, and the sender's sequence count (its counter always fits its type)
-unfoldable pub valueTests : Settings → HeaderValues → Lent → Sender → Refusal → Refusal
+unfoldable pub valueTests : Settings → HeaderValues → Lent → Sender → Tested → Tested
 valueTests s v t d r = unless (leb (d .«sequence_count» .0) countMost) 22 (unlessAll (headerChecks s v t) 22 r)
 
 -- 15, 22, 13: the tests on the values alone
-abbrev pub valueRefusal : Settings → ℕ → HeaderValues → Lent → Sender → Refusal
-valueRefusal s P v t d = partsTest t (valueTests s v t d (limitTest s P noRefusal))
+abbrev pub valueRefusal : Settings → ℕ → HeaderValues → Lent → Sender → Tested
+valueRefusal s P v t d = partsTest t (valueTests s v t d (limitTest s P noneFailed))
 
 -- 23: the body; 12: the header; 24: C below 1; 25: the counters
-unfoldable pub messageTests : ℕ → ℕ → ℕ → Sender → Refusal → Refusal
+unfoldable pub messageTests : ℕ → ℕ → ℕ → Sender → Tested → Tested
 messageTests P H B d r =
     unless (pick (single P H B) true (countersFit (d .next) (packets P H B))) 25
     (unless (pick (single P H B) true (leb 1 (chunk P H))) 24
@@ -93,7 +93,7 @@ abbrev pub headerLength : Settings → HeaderValues → Lent → ℕ
 headerLength s v t = length (headerOctets s (headOf v t))
 
 -- 15, 22, 13, 23, 12, 24, 25
-unfoldable pub countRefusal : Settings → ℕ → HeaderValues → Lent → ℕ → Sender → Refusal
+unfoldable pub countRefusal : Settings → ℕ → HeaderValues → Lent → ℕ → Sender → Tested
 countRefusal s P v t B d = messageTests P (headerLength s v t) B d (valueRefusal s P v t d)
 
 -- ---- the count and the numbers moved on
@@ -105,7 +105,7 @@ senderAfter P H B d = pick (single P H B) (afterPacket d) (afterSegments (packet
 unfoldable pub countAnswer : Settings → ℕ → HeaderValues → Lent → ℕ → Sender → Counted
 countAnswer s P v t B d =
     record {
-      refusal = countRefusal s P v t B d;
+      refusal = refusal (countRefusal s P v t B d .number);
       count = pick (fine (countRefusal s P v t B d)) (packets P (headerLength s v t) B) 0;
       sender = pick (fine (countRefusal s P v t B d)) (senderAfter P (headerLength s v t) B d) d;
     }
@@ -136,7 +136,7 @@ abbrev pub givenAt : Settings → ℕ → HeaderValues → Lent → List ℕ →
 givenAt s P v t body d i = packetAt P (headerLength s v t) (headOf v t) body d i
 
 -- and then 26 and 21
-unfoldable pub packetRefusal : Settings → ℕ → HeaderValues → Lent → List ℕ → Sender → ℕ → ℕ → Refusal
+unfoldable pub packetRefusal : Settings → ℕ → HeaderValues → Lent → List ℕ → Sender → ℕ → ℕ → Tested
 packetRefusal s P v t body d i room =
     unless (leb (length (octetsOf s (givenAt s P v t body d i))) room) 21
     (unless (ltb i (packets P (headerLength s v t) (length body))) 26 (countRefusal s P v t (length body) d))
@@ -145,7 +145,7 @@ packetRefusal s P v t body d i room =
 unfoldable pub packetAnswer : Settings → ℕ → HeaderValues → Lent → List ℕ → Sender → ℕ → ℕ → Cut
 packetAnswer s P v t body d i room =
     record {
-      refusal = packetRefusal s P v t body d i room;
+      refusal = refusal (packetRefusal s P v t body d i room .number);
       length = pick (fine (packetRefusal s P v t body d i room)) (length (octetsOf s (givenAt s P v t body d i))) 0;
       sender = d;
     }

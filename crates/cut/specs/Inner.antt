@@ -4,7 +4,7 @@ use Prim.Native.Nat.{ℕ, suc, _+_, _*_, min}
 use mathlib.Core.Bool.{Bool, true}
 use lib.Dec.{leb, eqb}
 use Rattle.octets.specs.Octets.{pick, roomOf}
-use Rattle.walk.specs.declared.Refusal.{Refusal}
+use Rattle.walk.specs.declared.Tested.{Tested}
 use Rattle.walk.specs.Walk.{unless}
 use Rattle.fields.specs.Inner.{capped}
 use Rattle.packet.specs.Format.{headerMost}
@@ -22,16 +22,16 @@ singleOf P h B = leb (capped (primarySize + h + B)) P
 abbrev pub packetsOf : Bool → ℕ → ℕ → ℕ
 packetsOf one B C = pick one 1 (rounded B C)
 
-unfoldable pub planRefusal : Bool → ℕ → ℕ → ℕ → Sender → Refusal → Refusal
+unfoldable pub planRefusal : Bool → ℕ → ℕ → ℕ → Sender → Tested → Tested
 planRefusal one h B C d r =
     unless (pick one true (countersFit (d .next) (packetsOf one B C))) 25
     (unless (pick one true (leb 1 C)) 24
     (unless (leb (pick one h (capped (h + counterWidth))) headerMost) 12 (unless (leb B bodyMost) 23 r)))
 
-unfoldable pub planOf : ℕ → ℕ → ℕ → Sender → Refusal → Plan
+unfoldable pub planOf : ℕ → ℕ → ℕ → Sender → Tested → Plan
 planOf P h B d r =
     record {
-      refusal = planRefusal (singleOf P h B) h B (chunk P h) d r;
+      tested = planRefusal (singleOf P h B) h B (chunk P h) d r;
       single = singleOf P h B;
       chunk = chunk P h;
       count = packetsOf (singleOf P h B) B (chunk P h);

@@ -12,7 +12,7 @@ ghost use lib.ListN.{length};
 ghost use lib.Dec.{eqb};
 ghost use Rattle.fields.specs.Inner.{capped};
 ghost use Rattle.octets.specs.Octets.{pick};
-ghost use Rattle.walk.specs.Walk.{unless};
+ghost use Rattle.walk.specs.Walk.{refusal, unless};
 ghost use Rattle.write.specs.Given.{lent};
 ghost use Rattle.write.specs.Lending.{Lends};
 ghost use Rattle.sender.specs.declared.Sent.the-variants.{Whole, Segments};
@@ -33,6 +33,7 @@ use walk::REFUSED_SETTINGS;
 use walk::REFUSED_VALUE;
 use walk::Refusal;
 use walk::Settings;
+use walk::Tested;
 use write::HeaderValues;
 use write::PacketValues;
 
@@ -59,7 +60,7 @@ pub struct Cut {
 
 // A message's plan: whether one packet is enough, the body octets of a packet where it is not, and how many packets.
 struct Plan {
-    refusal: Refusal,
+    tested: Tested,
     single: bool,
     chunk: usize,
     count: usize,
@@ -68,7 +69,7 @@ struct Plan {
 // ---- the plan
 
 // 15: T and P.
-pub fn test_limit(s: Settings, p: usize, r: Refusal) -> Refusal
+pub fn test_limit(s: Settings, p: usize, r: Tested) -> Tested
     ensures { λ q. ⌜ q ≡ limitTest s p r ⌝ }
 {
     let a = write::test_settings(s, r);
@@ -88,11 +89,11 @@ fn test_message(
     lengths: &[u64],
     id: &[u8],
     sender: Sender,
-) -> Refusal
+) -> Tested
     ensures { λ q. ⌜ q ≡ valueRefusal s p v (lent (now (time .entry)) (now (zone .entry)) (now (name .entry)) (now (domain .entry))
         (now (lengths .entry)) (now (id .entry))) sender ⌝ }
 {
-    let none = Refusal { number: 0 };
+    let none = Tested { number: 0 };
     let sequence_count = sender.sequence_count;
     let a = test_limit(s, p, none);
     let b = write::test_header(s, v, time, zone, name, domain, lengths, id, a);
@@ -153,7 +154,7 @@ fn header_of(single: bool, h: usize) -> usize
 }
 
 // 23, 12, 24, 25, and the numbers that they are judged on.
-fn plan_of(p: usize, h: usize, b: usize, sender: Sender, r: Refusal) -> Plan
+fn plan_of(p: usize, h: usize, b: usize, sender: Sender, r: Tested) -> Plan
     ensures { λ q. ⌜ q ≡ planOf p h b sender r ⌝ }
 {
     let single = write::packet_size(h, b) <= p;
@@ -173,7 +174,7 @@ fn plan_of(p: usize, h: usize, b: usize, sender: Sender, r: Refusal) -> Plan
         REFUSED_COUNTER,
     );
     Plan {
-        refusal: e,
+        tested: e,
         single: single,
         chunk: chunk,
         count: count,
@@ -279,10 +280,10 @@ pub fn count(
     let values = test_message(s, p, v, time, zone, name, domain, lengths, id, sender);
     let h = write::header_size(s, v, time, zone, name, domain, lengths, id);
     let plan = plan_of(p, h, body, sender, values);
-    let refusal = plan.refusal;
-    if refusal.number != 0 {
+    let tested = plan.tested;
+    if tested.number != 0 {
         return Counted {
-            refusal: refusal,
+            refusal: walk::numbered(tested.number),
             count: 0,
             sender: sender,
         };
@@ -290,18 +291,18 @@ pub fn count(
     let sent = sent_as(plan.single, plan.count);
     let moved = sender.after_message(sent);
     Counted {
-        refusal: refusal,
+        refusal: walk::numbered(0),
         count: plan.count,
         sender: moved,
     }
 }
 
 // What a refusal answers.
-fn refused(refusal: Refusal, sender: Sender) -> Cut
-    ensures { λ r. ⌜ r ≡ record { refusal = refusal; length = 0; sender = sender } ⌝ }
+fn refused(k: u8, sender: Sender) -> Cut
+    ensures { λ r. ⌜ r ≡ record { refusal = refusal k; length = 0; sender = sender } ⌝ }
 {
     Cut {
-        refusal: refusal,
+        refusal: walk::numbered(k),
         length: 0,
         sender: sender,
     }
@@ -337,15 +338,15 @@ pub fn packet(
     let to = to_of(plan.single, from, plan.chunk, body.len());
     let part = &body[from..to];
     let size = write::packet_size(write::secondary_size(h, o.flags), part.len());
-    let a = walk::unless(plan.refusal, i < plan.count, REFUSED_NUMBER);
+    let a = walk::unless(plan.tested, i < plan.count, REFUSED_NUMBER);
     let r = walk::unless(a, size <= out.len(), REFUSED_OUTPUT);
     if r.number != 0 {
-        return refused(r, sender);
+        return refused(r.number, sender);
     }
     let n = size - 7;
     write::put_packet(s, out, v, o, n, time, zone, name, domain, lengths, id, part);
     Cut {
-        refusal: r,
+        refusal: walk::numbered(0),
         length: size,
         sender: sender,
     }

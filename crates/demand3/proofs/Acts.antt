@@ -13,6 +13,7 @@ use lib.Dec.{ltb}
 use Rattle.octets.specs.Octets.{pick}
 use Rattle.octets.proofs.Lists.{bool}
 use Rattle.walk.specs.declared.Settings.{Settings}
+use Rattle.walk.specs.Walk.{refusal}
 use Rattle.packet.specs.Reading.{segmented}
 use Rattle.cells.specs.Segments.{Seg, sameRest}
 use Rattle.cells.specs.Rows.{Cell, mayHold}
@@ -123,11 +124,11 @@ module _ (s : Settings) (Z n : ℕ) where
     unfolding segmentArrived placed
     goes-on p = ap goesOn (arrived-is s Z n st k p) ∙ go (bool (mayHold s Z p))
       where
-        new : (b : Bool) → goesOn (pick b (stored (lowestFree s Z st n)) (refused 19)) ≡ b
+        new : (b : Bool) → goesOn (pick b (stored (lowestFree s Z st n)) (refused (refusal 19))) ≡ b
         new true = refl
         new false = refl
 
-        old : (b : Bool) → goesOn (pick b again (refused 18)) ≡ b
+        old : (b : Bool) → goesOn (pick b again (refused (refusal 18))) ≡ b
         old true = refl
         old false = refl
 

@@ -15,6 +15,7 @@ use lib.ListN.{length, take, drop}
 use lib.Dec.{leb}
 use Rattle.octets.specs.Octets.{pick}
 use Rattle.walk.specs.declared.Settings.{Settings}
+use Rattle.walk.specs.declared.Refusal.{Refusal}
 use Rattle.walk.specs.Walk.{refusal}
 use Rattle.sender.specs.declared.Sender.{Sender}
 use Rattle.write.specs.declared.HeaderValues.{HeaderValues}
@@ -60,7 +61,7 @@ arrive-steps κs a r x k = k .1
 -- a joining that takes nothing: the body's place in a packet that came whole, or the refusal of its arrival
 abbrev pub Ended : Settings → List ℕ → Arrived → Joining → Type 0
 Ended s p a j =
-    ((a ≡ whole) × (j ≡ inPacket (bodyFrom s p) (length p - bodyFrom s p))) ⊎ ((k : ℕ) × (a ≡ refused k) × (j ≡ unjoined k))
+    ((a ≡ whole) × (j ≡ inPacket (bodyFrom s p) (length p - bodyFrom s p))) ⊎ ((r : Refusal) × (a ≡ refused r) × (j ≡ unjoined r))
 
 module _ (s : Settings) (Z : ℕ) (st out p : List ℕ) where
   -- where there is a taking, joining comes to what it does

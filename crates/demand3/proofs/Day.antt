@@ -15,12 +15,12 @@ use Rattle.octets.specs.Octets.{Octets, wide, number as numberAt}
 use Rattle.octets.proofs.Lists.{below-or}
 use Rattle.octets.proofs.Has.{octets-nil, octets-one, octets-append}
 use Rattle.walk.specs.declared.Settings.{Settings}
-use Rattle.walk.specs.Walk.{begun, check, octets, unless}
+use Rattle.walk.specs.Walk.{begun, check, octets, fieldFrom, unless}
 use Rattle.fields.specs.Form.{split}
 use Rattle.packet.specs.Format.{presence, identification, fixedOctets, frontOctets, backOctets, headerOctets, InRange}
 use Rattle.packet.specs.FixedPart.{octetField, wideField, sduField, afterSdu, afterArea, afterService, afterOperation, afterVersion, afterSession}
 use Rattle.packet.specs.FixedPart.{afterSecondary, afterQualifier, afterTransaction, afterPresence, fixedOf, flagsOf, presentOf}
-use Rattle.packet.specs.Reading.{primaryTests, primaryOf, idsOf, textsOf, bodyTest, refusedHeader, acceptedHeader, readPacket}
+use Rattle.packet.specs.Reading.{primaryTests, primaryOf, idsOf, textsOf, bodyTest, refusalOf, refusedHeader, acceptedHeader, readPacket}
 use Rattle.packet.specs.Key.{counterPlace, keyOf}
 use Rattle.sender.specs.declared.Next.the-variants.{At}
 use Rattle.sender.specs.Sending.{stepsOf}
@@ -253,28 +253,28 @@ abbrev pub stray : Seg
 stray = record { key = 0x18 ∷ 6 ∷ header; counter = 8; flags = 0; body = 4 ∷ [] }
 
 pub is-single : eventOf settings cellSize single ≡ passes
-unfolding mayHold readPacket refusedHeader acceptedHeader primaryTests begun check octets numberAt primaryOf octetField wideField sduField afterSdu
-    afterArea afterService afterOperation afterVersion afterSession afterSecondary afterQualifier afterTransaction afterPresence fixedOf flagsOf presentOf idsOf textsOf bodyTest
+unfolding mayHold readPacket refusalOf refusedHeader acceptedHeader primaryTests begun check octets numberAt primaryOf octetField wideField sduField afterSdu
+    afterArea afterService afterOperation afterVersion afterSession afterSecondary fieldFrom afterQualifier afterTransaction afterPresence fixedOf flagsOf presentOf idsOf textsOf bodyTest
 is-single = refl
 
 pub is-stub : eventOf settings cellSize stub ≡ passes
-unfolding mayHold readPacket refusedHeader acceptedHeader primaryTests begun check octets numberAt primaryOf octetField wideField sduField afterSdu
-    afterArea afterService afterOperation afterVersion afterSession afterSecondary afterQualifier afterTransaction afterPresence fixedOf flagsOf presentOf idsOf textsOf bodyTest
+unfolding mayHold readPacket refusalOf refusedHeader acceptedHeader primaryTests begun check octets numberAt primaryOf octetField wideField sduField afterSdu
+    afterArea afterService afterOperation afterVersion afterSession afterSecondary fieldFrom afterQualifier afterTransaction afterPresence fixedOf flagsOf presentOf idsOf textsOf bodyTest
 is-stub = refl
 
 pub is-huge : eventOf settings cellSize huge ≡ passes
-unfolding mayHold readPacket refusedHeader acceptedHeader primaryTests begun check octets numberAt primaryOf octetField wideField sduField afterSdu
-    afterArea afterService afterOperation afterVersion afterSession afterSecondary afterQualifier afterTransaction afterPresence fixedOf flagsOf presentOf idsOf textsOf bodyTest
+unfolding mayHold readPacket refusalOf refusedHeader acceptedHeader primaryTests begun check octets numberAt primaryOf octetField wideField sduField afterSdu
+    afterArea afterService afterOperation afterVersion afterSession afterSecondary fieldFrom afterQualifier afterTransaction afterPresence fixedOf flagsOf presentOf idsOf textsOf bodyTest
 is-huge = refl
 
 pub is-other : eventOf settings cellSize other ≡ arrives stray
-unfolding segOf keyOf counterPlace mayHold readPacket refusedHeader acceptedHeader primaryTests begun check octets numberAt primaryOf octetField
-    wideField sduField afterSdu afterArea afterService afterOperation afterVersion afterSession afterSecondary afterQualifier afterTransaction
+unfolding segOf keyOf counterPlace mayHold readPacket refusalOf refusedHeader acceptedHeader primaryTests begun check octets numberAt primaryOf octetField
+    wideField sduField afterSdu afterArea afterService afterOperation afterVersion afterSession afterSecondary fieldFrom afterQualifier afterTransaction
     afterPresence fixedOf flagsOf presentOf idsOf textsOf bodyTest
 is-other = refl
 
 -- it would be read, but for its length
 pub huge-read : readPacket settings huge .refusal .number ≡ 0
-unfolding readPacket refusedHeader acceptedHeader primaryTests begun check octets numberAt primaryOf octetField wideField sduField afterSdu afterArea
-    afterService afterOperation afterVersion afterSession afterSecondary afterQualifier afterTransaction afterPresence fixedOf flagsOf presentOf idsOf textsOf bodyTest
+unfolding readPacket refusalOf refusedHeader acceptedHeader primaryTests begun check octets numberAt primaryOf octetField wideField sduField afterSdu afterArea
+    afterService afterOperation afterVersion afterSession afterSecondary fieldFrom afterQualifier afterTransaction afterPresence fixedOf flagsOf presentOf idsOf textsOf bodyTest
 huge-read = refl

@@ -7,12 +7,12 @@ use mathlib.Core.List.{List, [], _∷_, List·Memᴰ, List·Memᴰ·head, List·
 use native.Mathlib.Omega.{arith}
 use lib.ListN.{length}
 use Rattle.octets.specs.Octets.{Octets, wide, number as numberAt}
-use Rattle.walk.specs.Walk.{begun, check, octets}
+use Rattle.walk.specs.Walk.{begun, check, octets, fieldFrom}
 use Rattle.fields.specs.Form.{split}
 use Rattle.packet.specs.Format.{presence, identification, fixedOctets, frontOctets, backOctets, headerOctets}
 use Rattle.packet.specs.FixedPart.{octetField, wideField, sduField, afterSdu, afterArea, afterService, afterOperation, afterVersion, afterSession}
 use Rattle.packet.specs.FixedPart.{afterSecondary, afterQualifier, afterTransaction, afterPresence, fixedOf, flagsOf, presentOf}
-use Rattle.packet.specs.Reading.{primaryTests, primaryOf, idsOf, textsOf, bodyTest, refusedHeader, acceptedHeader, readPacket}
+use Rattle.packet.specs.Reading.{primaryTests, primaryOf, idsOf, textsOf, bodyTest, refusalOf, refusedHeader, acceptedHeader, readPacket}
 use Rattle.packet.specs.Key.{counterPlace, keyOf}
 use Rattle.write.specs.Given.{headOf}
 use Rattle.fewest.specs.Runs.{place}
@@ -60,8 +60,8 @@ pub single-fine : Fine single
 single-fine = (single-octets, unsegmented refl)
 
 stub-refused : readPacket settings stub .refusal .number ≡ 1
-unfolding readPacket refusedHeader acceptedHeader primaryTests begun check octets numberAt primaryOf octetField wideField sduField afterSdu afterArea
-    afterService afterOperation afterVersion afterSession afterSecondary afterQualifier afterTransaction afterPresence fixedOf flagsOf presentOf idsOf textsOf bodyTest
+unfolding readPacket refusalOf refusedHeader acceptedHeader primaryTests begun check octets numberAt primaryOf octetField wideField sduField afterSdu afterArea
+    afterService afterOperation afterVersion afterSession afterSecondary fieldFrom afterQualifier afterTransaction afterPresence fixedOf flagsOf presentOf idsOf textsOf bodyTest
 stub-refused = refl
 
 pub stub-fine : Fine stub
@@ -79,8 +79,8 @@ unfolding headOf split identification headerOctets fixedOctets presence frontOct
 two-key = refl
 
 other-key : keyOf other (readPacket settings other) ≡ 0x18 ∷ 6 ∷ header
-unfolding keyOf counterPlace readPacket refusedHeader acceptedHeader primaryTests begun check octets numberAt primaryOf octetField wideField sduField
-    afterSdu afterArea afterService afterOperation afterVersion afterSession afterSecondary afterQualifier afterTransaction afterPresence fixedOf flagsOf presentOf idsOf textsOf bodyTest
+unfolding keyOf counterPlace readPacket refusalOf refusedHeader acceptedHeader primaryTests begun check octets numberAt primaryOf octetField wideField sduField
+    afterSdu afterArea afterService afterOperation afterVersion afterSession afterSecondary fieldFrom afterQualifier afterTransaction afterPresence fixedOf flagsOf presentOf idsOf textsOf bodyTest
 other-key = refl
 
 pub other-fine : Fine other

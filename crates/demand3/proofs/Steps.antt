@@ -14,7 +14,7 @@ use borrow.Author.Tests.{eqb-true, leb-true, eq-eqb, le-leb}
 use Rattle.octets.specs.Octets.{pick}
 use Rattle.octets.proofs.Lists.{bool}
 use Rattle.walk.specs.declared.Settings.{Settings}
-use Rattle.walk.specs.Walk.{timestampLeast, timestampMost, check, begun}
+use Rattle.walk.specs.Walk.{refusal, timestampLeast, timestampMost, check, begun}
 use Rattle.packet.specs.Format.{SettingsInRange}
 use Rattle.packet.specs.Reading.{readPacket, segmented}
 use Rattle.cells.specs.Segments.{Seg, both, sameRest}
@@ -45,7 +45,7 @@ pick-no true x y e = let z : _≡_ {A = ℕ} 0 1 = cc in absurd (omega arith)
 pick-no false x y e = refl
 
 -- T in range
-pub settings-go : (s : Settings) → SettingsInRange s → eqb (begun s .refusal .number) 0 ≡ true
+pub settings-go : (s : Settings) → SettingsInRange s → eqb (begun s .refused) 0 ≡ true
 unfolding begun check
 settings-go s r = rw (le-leb timestampLeast (s .t) (r .t-low), le-leb (s .t) timestampMost (r .t-top)) refl
 
@@ -97,7 +97,7 @@ module _ (s : Settings) (Z : ℕ) (p : List ℕ) where
 -- ---- a store in order of n cells, with T in range
 
 pub record Kept (s : Settings) (Z n : ℕ) (st : List ℕ) : Type 0 where
-  pub settings : eqb (begun s .refusal .number) 0 ≡ true
+  pub settings : eqb (begun s .refused) 0 ≡ true
   pub order : inOrder s Z st ≡ true
   pub count : countIn Z st ≡ n
 
@@ -126,7 +126,7 @@ module _ (s : Settings) (Z n : ℕ) (st : List ℕ) (k : Kept s Z n st) where
       where
         go : (a b c : Bool) → both c (both a b) ≡ false →
             storeWith Z st p
-            (pick a (pick b (pick c (segmentArrived s Z st n (segment s p)) (refused 17)) whole) (refused (readPacket s p .refusal .number)))
+            (pick a (pick b (pick c (segmentArrived s Z st n (segment s p)) (refused (refusal 17))) whole) (refused (readPacket s p .refusal)))
             ≡ st
         go false b c h = refl
         go true false c h = refl
@@ -140,7 +140,7 @@ module _ (s : Settings) (Z n : ℕ) (st : List ℕ) (k : Kept s Z n st) where
       where
         go : (a b c : Bool) → both c (both a b) ≡ false →
             goesOn
-            (pick a (pick b (pick c (segmentArrived s Z st n (segment s p)) (refused 17)) whole) (refused (readPacket s p .refusal .number)))
+            (pick a (pick b (pick c (segmentArrived s Z st n (segment s p)) (refused (refusal 17))) whole) (refused (readPacket s p .refusal)))
             ≡ false
         go false b c h = refl
         go true false c h = refl
@@ -166,10 +166,10 @@ module _ (s : Settings) (Z n : ℕ) (st : List ℕ) (k : Kept s Z n st) where
 
         go : (ltb low n ≡ true) ⊎ (ltb low n ≡ false) → cellsOf s Z (storeWith Z st p (placed n low)) n ≡ put cs (segment s p)
         go (inl l) =
-            let a : placed n low ≡ stored low = pick-yes (ltb low n) (stored low) (refused 19) l in
+            let a : placed n low ≡ stored low = pick-yes (ltb low n) (stored low) (refused (refusal 19)) l in
             ap (λ (x : Arrived). cellsOf s Z (storeWith Z st p x) n) a ∙ cells-stored s Z st n p low (came ∙ a) inside
         go (inr l) =
-            ap (λ (x : Arrived). cellsOf s Z (storeWith Z st p x) n) (pick-no (ltb low n) (stored low) (refused 19) l)
+            ap (λ (x : Arrived). cellsOf s Z (storeWith Z st p x) n) (pick-no (ltb low n) (stored low) (refused (refusal 19)) l)
             ∙ sym (put-full cs (segment s p) (has-free s Z st n ∙ l))
 
     segment-cells : mayHold s Z p ≡ true → cellsOf s Z (storeWith Z st p (segmentArrived s Z st n (segment s p))) n ≡
@@ -177,7 +177,7 @@ module _ (s : Settings) (Z n : ℕ) (st : List ℕ) (k : Kept s Z n st) where
     unfolding segmentArrived storeWith
     segment-cells h = go (look cs (segment s p .key) (segment s p .counter)) refl
       where
-        same : (u : Seg) (b : Bool) → cellsOf s Z (storeWith Z st p (pick b again (refused 18))) n ≡ cs
+        same : (u : Seg) (b : Bool) → cellsOf s Z (storeWith Z st p (pick b again (refused (refusal 18)))) n ≡ cs
         same u true = refl
         same u false = refl
 

@@ -5,6 +5,7 @@ use Prim.Native.Nat.{ℕ}
 use mathlib.Core.Path.{_≡_, ap}
 use mathlib.Core.List.{List}
 use Rattle.walk.specs.declared.Settings.{Settings}
+use Rattle.walk.specs.declared.Refusal.{Refusal}
 use Rattle.cells.specs.Order.{countIn}
 use Rattle.arrival.specs.Arriving.{whole, again, refused, arrived, storeWith}
 use Rattle.taking.specs.Taking.{unable, took, outWith, storeLess}
@@ -22,9 +23,9 @@ module _ (s : Settings) (Z : ℕ) (st : List ℕ) where
     again-same e = ap (storeWith Z st p) e
 
     -- a refusal, by any number
-    pub refused-same : (k : ℕ) → arrived s Z st p ≡ refused k → storeWith Z st p (arrived s Z st p) ≡ st
+    pub refused-same : (r : Refusal) → arrived s Z st p ≡ refused r → storeWith Z st p (arrived s Z st p) ≡ st
     unfolding storeWith
-    refused-same k e = ap (storeWith Z st p) e
+    refused-same r e = ap (storeWith Z st p) e
 
   -- a taking that is refused
   pub unable-same : (long k : ℕ) → took s Z st long ≡ unable k → storeLess s Z st (countIn Z st) (took s Z st long) ≡ st

@@ -14,7 +14,7 @@ use lib.Dec.{leb, ltb}
 use borrow.Author.Tests.{le-leb, lt-ltb}
 use Rattle.octets.proofs.Lists.{bool}
 use Rattle.walk.specs.declared.Settings.{Settings}
-use Rattle.walk.specs.declared.Refusal.{Refusal}
+use Rattle.walk.specs.declared.Tested.{Tested}
 use Rattle.fields.specs.Form.{joined}
 use Rattle.packet.specs.declared.Header.{Header}
 use Rattle.packet.specs.Reading.{readPacket}
@@ -54,7 +54,7 @@ module _ (s : Settings) (P : ℕ) (v : HeaderValues) (t : Lent) (body : List ℕ
   unfolding packetRefusal
   not-refused i room l m =
       let p = packet-most s P v t body d i (cuts-well s P v t body d z .some) in
-      ap (λ (r : Refusal). r .number)
+      ap (λ (r : Tested). r .number)
       (unless-true (leb (length (octetsAt s P v t body d i)) room) 21 _ (le-leb (length (octetsAt s P v t body d i)) room (omega (arith, p)))
       ∙ unless-true (ltb i n) 26 (countRefusal s P v t (length body) d) (lt-ltb i n l))
       ∙ z

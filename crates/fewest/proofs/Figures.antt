@@ -9,7 +9,7 @@ use native.Mathlib.Omega.{arith}
 use lib.ListN.{length}
 use Rattle.octets.specs.Octets.{Octets, wide, number as numberAt}
 use Rattle.octets.proofs.Has.{octets-nil}
-use Rattle.walk.specs.Walk.{begun, check, octets, unless}
+use Rattle.walk.specs.Walk.{begun, check, octets, fieldFrom, unless}
 use Rattle.fields.specs.Form.{joined, split}
 use Rattle.packet.specs.Figure14.{settings, zeros}
 use Rattle.packet.specs.Numbers.{countAt}
@@ -79,7 +79,7 @@ repeated = firstOf (λ (i : ℕ). octetsAt settings 64 values texts (zeros 38) (
 repeated-long : length (joined (bodyOf settings) repeated) ≡ 66
 unfolding firstOf joined packetAt flagsAt bodyAt packets rounded countAt counterAt stepsOf headOf split octetsOf identification dataOctets
     secondaryOctets fixedOctets presence frontOctets counterOctets backOctets headerOctets wide readPacket acceptedHeader primaryTests begun check
-    octets numberAt primaryOf afterSdu afterArea afterService afterOperation afterVersion afterSession afterSecondary afterQualifier afterTransaction
+    octets numberAt primaryOf afterSdu afterArea afterService afterOperation afterVersion afterSession afterSecondary fieldFrom afterQualifier afterTransaction
     afterPresence fixedOf flagsOf presentOf idsOf textsOf bodyTest wideField
 repeated-long = refl
 

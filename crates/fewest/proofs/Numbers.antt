@@ -11,7 +11,7 @@ use borrow.Author.Tests.{leb-true, eq-eqb, ne-eqb}
 use Rattle.octets.specs.Octets.{pick, part, Octets, most32}
 use Rattle.octets.proofs.Has.{octets-part}
 use Rattle.walk.specs.declared.Settings.{Settings}
-use Rattle.walk.specs.Walk.{noRefusal, unless, timestampLeast, timestampMost}
+use Rattle.walk.specs.Walk.{noneFailed, unless, timestampLeast, timestampMost}
 use Rattle.packet.proofs.Counts.{count-mod}
 use Rattle.packet.specs.declared.SegmentCounter.{SegmentCounter}
 use Rattle.packet.specs.Format.{Opt, segment, SettingsInRange, InRange}
@@ -121,8 +121,8 @@ module _ (s : Settings) (P : ℕ) (v : HeaderValues) (t : Lent) (body : List ℕ
   settings-range : SettingsInRange s
   unfolding settingsTest
   settings-range =
-      let a = unless-fine (leb (s .t) timestampMost) 14 (unless (leb timestampLeast (s .t)) 15 noRefusal) (good-values .settings) in
-      let b = unless-fine (leb timestampLeast (s .t)) 14 noRefusal (a .before) in
+      let a = unless-fine (leb (s .t) timestampMost) 14 (unless (leb timestampLeast (s .t)) 15 noneFailed) (good-values .settings) in
+      let b = unless-fine (leb timestampLeast (s .t)) 14 noneFailed (a .before) in
       record { t-low = leb-true timestampLeast (s .t) (b .held); t-top = leb-true (s .t) timestampMost (a .held) }
 
   -- the counter fits, and there is none in an unsegmented packet

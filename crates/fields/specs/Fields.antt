@@ -9,7 +9,7 @@ use lib.ListN.{set, replicate}
 use lib.Dec.{leb, eqb}
 use Rattle.octets.specs.Octets.{pick, octetAt}
 use Rattle.walk.specs.declared.Settings.{Settings}
-use Rattle.walk.specs.Walk.{Reading, Step, octets, check, uinteger}
+use Rattle.walk.specs.Walk.{Reading, Step, octets, check, fieldFrom, uinteger}
 use Rattle.fields.specs.declared.Place.{Place}
 
 -- a place and a length; absent, both are 0
@@ -27,11 +27,11 @@ opt there none step w = pick there (step w) (record { walk = w; value = none })
 unfoldable pub block : ℕ → List ℕ → Reading → Step Place
 block n p w = record { walk = octets p n w; value = place (w .at) n }
 
--- a length and as many octets of any value: the authentication id
+-- a length and as many octets of any value, one field: the authentication id
 unfoldable pub blob : Settings → List ℕ → Reading → Step Place
 blob s p w =
     record {
-      walk = octets p (uinteger s p w .value) (uinteger s p w .walk);
+      walk = fieldFrom w (octets p (uinteger s p w .value) (uinteger s p w .walk));
       value = place (uinteger s p w .walk .at) (uinteger s p w .value);
     }
 
@@ -39,9 +39,12 @@ blob s p w =
 unfoldable pub text : Settings → List ℕ → Reading → Step Place
 text s p w = blob s p w
 
--- a domain part: an octet of 1, else 11, and a text
+-- a domain part, one field: an octet of 1, else 11, and a text
+unfoldable pub markedText : Settings → List ℕ → Reading → Step Place
+markedText s p w = text s p (check (eqb (octetAt p (w .at)) 1) 11 (octets p 1 w))
+
 unfoldable pub part : Settings → List ℕ → Reading → Step Place
-part s p w = text s p (check (eqb (octetAt p (w .at)) 1) 11 (octets p 1 w))
+part s p w = record { walk = fieldFrom w (markedText s p w .walk); value = markedText s p w .value }
 
 -- SPEC N-5: at most sixteen parts; each has a place of its own
 abbrev pub partsMost : ℕ

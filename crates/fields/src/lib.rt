@@ -13,7 +13,7 @@ ghost use mathlib.Core.List.{[], _∷_};
 ghost use Rattle.octets.specs.Laying.{laid, Lays};
 ghost use Rattle.walk.specs.Inner.{ofWalk, asUInteger};
 ghost use Rattle.walk.specs.Walk.{uinteger};
-ghost use Rattle.fields.specs.Fields.{nowhere, opt, block, blob, text, part, noParts, partAt, partsTo, domain};
+ghost use Rattle.fields.specs.Fields.{nowhere, opt, block, blob, text, part, noParts, partsTo, domain};
 ghost use Rattle.fields.specs.Form.{uintegerOctets, domainOctets, split};
 ghost use Rattle.fields.specs.Inner.{asText, asDomain, ofDomain, blobPieces, textPieces, partPieces, partsPieces, domainPieces, capped};
 use varint::Wrote;
@@ -84,7 +84,7 @@ pub fn read_blob(s: Settings, p: &[u8], w: Walk) -> Text
     let n = walk::read_uinteger(s, p, w);
     let v = n.walk;
     let length = n.value as usize;
-    let end = v.octets(p, length);
+    let end = v.octets(p, length).field_from(w);
     let place = Place {
         at: v.at as usize,
         length: length,
@@ -134,36 +134,38 @@ fn read_part(s: Settings, p: &[u8], w: Walk) -> Text
     ensures { λ r. ⌜ r ≡ asText (part s (now (p .entry)) (ofWalk w)) ⌝ }
 {
     let b = octets::octet(p, w.at as usize);
-    read_text(s, p, w.octets(p, 1).check(b == 1, REFUSED_DOMAIN_PART))
-}
-
-// One part more, as part number k: there are sixteen places.
-fn part_at(s: Settings, p: &[u8], k: usize, d: Domain) -> Domain
-    requires { ⌜ k < 16 ⌝ }
-    ensures { λ r. ⌜ r ≡ asDomain (partAt s (now (p .entry)) k (ofDomain d)) ⌝ }
-{
-    let w = d.walk;
-    let t = read_part(s, p, w);
-    let end = t.walk;
+    let t = read_text(s, p, w.octets(p, 1).check(b == 1, REFUSED_DOMAIN_PART));
+    let v = t.walk;
     let place = t.place;
-    let mut next = d;
-    next.parts[k] = place;
-    next.walk = end;
-    next
+    let end = v.field_from(w);
+    Text {
+        walk: end,
+        place: place,
+    }
 }
 
-// The first n parts.
+// The first n parts: there are sixteen places. They stay where they are, and only the walk goes from part to part.
 fn parts_to(s: Settings, p: &[u8], n: usize, d: Domain) -> Domain
     requires { ⌜ n ≤ 16 ⌝ }
     ensures { λ r. ⌜ r ≡ asDomain (partsTo s (now (p .entry)) n (ofDomain d)) ⌝ }
 {
-    let mut next = d;
+    let count = d.count;
+    let mut parts = d.parts;
+    let mut w = d.walk;
     let mut k = 0;
     while k < n {
-        next = part_at(s, p, k, next);
+        let t = read_part(s, p, w);
+        let place = t.place;
+        let end = t.walk;
+        parts[k] = place;
+        w = end;
         k += 1;
     }
-    next
+    Domain {
+        walk: w,
+        count: count,
+        parts: parts,
+    }
 }
 
 // A domain with no place yet.

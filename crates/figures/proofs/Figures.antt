@@ -6,7 +6,7 @@ use mathlib.Core.List.{[], _∷_, _++_, map}
 use lib.ListN.{take, drop}
 use Rattle.octets.specs.Octets.{wide, number as numberAt}
 use Rattle.varint.specs.Varint.{write, octetsOf as varintOctets, final, after, read}
-use Rattle.walk.specs.Walk.{begun, check, octets, unless, uinteger, uintegerStep}
+use Rattle.walk.specs.Walk.{begun, check, octets, fieldFrom, unless, uinteger, uintegerStep}
 use Rattle.fields.specs.Form.{split}
 use Rattle.packet.specs.Numbers.{nextCount, countAt}
 use Rattle.packet.specs.Format.{presence, identification, fixedOctets, frontOctets, counterOctets, backOctets, headerOctets, secondaryOctets, dataOctets, octetsOf}
@@ -25,7 +25,7 @@ use Rattle.sender.specs.Sending.{stepsOf}
 pub figures : map (λ (r : Row). r .computed) table ≡ map (λ (r : Row). r .said) table
 unfolding nextCount wide numberAt write varintOctets final after read begun check octets unless uinteger uintegerStep split presence identification
     fixedOctets frontOctets counterOctets backOctets headerOctets secondaryOctets dataOctets octetsOf primaryTests primaryOf octetField wideField
-    sduField afterSdu afterArea afterService afterOperation afterVersion afterSession afterSecondary afterQualifier afterTransaction afterPresence
+    sduField afterSdu afterArea afterService afterOperation afterVersion afterSession afterSecondary fieldFrom afterQualifier afterTransaction afterPresence
     fixedOf flagsOf presentOf idsOf textsOf bodyTest refusedHeader acceptedHeader readPacket headOf packetOf sum nameChecks routingChecks idChecks
     textChecks headerChecks packetChecks unlessAll settingsTest partsTest sizeTests valueRefusal writeRefusal writeOutput countersFit counterAt
     stepsOf countAt packets rounded limitTest valueTests messageTests countRefusal countAnswer flagsAt bodyAt packetAt packetRefusal packetAnswer packetOutput

@@ -6,7 +6,7 @@ use mathlib.Core.Path.{_≡_, refl, ap, ap₂, _∙_}
 use mathlib.Core.List.{List, [], _∷_}
 use native.Mathlib.Omega.{arith}
 use Rattle.octets.specs.Octets.{wide, alike, number as numberAt}
-use Rattle.walk.specs.Walk.{begun, check, octets, unless}
+use Rattle.walk.specs.Walk.{begun, check, octets, fieldFrom, unless}
 use Rattle.fields.specs.Form.{split}
 use Rattle.packet.specs.Numbers.{nextCount, countAt}
 use Rattle.packet.specs.Format.{presence, identification, fixedOctets, frontOctets, counterOctets, backOctets, headerOctets, secondaryOctets, dataOctets, octetsOf}
@@ -47,7 +47,7 @@ closes = record { key = key; counter = 1; flags = 2; body = zeros 5 }
 first-comes : eventOf settings 1024 (packet 64 38 0 64) ≡ arrives opens
 unfolding nextCount wide alike numberAt begun check octets unless split presence identification fixedOctets frontOctets counterOctets backOctets
     headerOctets secondaryOctets dataOctets octetsOf primaryTests primaryOf octetField wideField sduField afterSdu afterArea afterService
-    afterOperation afterVersion afterSession afterSecondary afterQualifier afterTransaction afterPresence fixedOf flagsOf presentOf idsOf textsOf
+    afterOperation afterVersion afterSession afterSecondary fieldFrom afterQualifier afterTransaction afterPresence fixedOf flagsOf presentOf idsOf textsOf
     bodyTest refusedHeader acceptedHeader readPacket counterPlace keyOf headOf sum nameChecks routingChecks idChecks textChecks headerChecks unlessAll
     settingsTest partsTest countersFit counterAt stepsOf countAt packets rounded limitTest valueTests messageTests countRefusal flagsAt bodyAt packetAt packetRefusal packetOutput segOf mayHold
 first-comes = refl
@@ -55,7 +55,7 @@ first-comes = refl
 last-comes : eventOf settings 1024 (packet 64 38 1 36) ≡ arrives closes
 unfolding nextCount wide alike numberAt begun check octets unless split presence identification fixedOctets frontOctets counterOctets backOctets
     headerOctets secondaryOctets dataOctets octetsOf primaryTests primaryOf octetField wideField sduField afterSdu afterArea afterService
-    afterOperation afterVersion afterSession afterSecondary afterQualifier afterTransaction afterPresence fixedOf flagsOf presentOf idsOf textsOf
+    afterOperation afterVersion afterSession afterSecondary fieldFrom afterQualifier afterTransaction afterPresence fixedOf flagsOf presentOf idsOf textsOf
     bodyTest refusedHeader acceptedHeader readPacket counterPlace keyOf headOf sum nameChecks routingChecks idChecks textChecks headerChecks unlessAll
     settingsTest partsTest countersFit counterAt stepsOf countAt packets rounded limitTest valueTests messageTests countRefusal flagsAt bodyAt packetAt packetRefusal packetOutput segOf mayHold
 last-comes = refl

@@ -5,12 +5,13 @@
 use Prim.Native.Nat.{ℕ, _*_}
 use mathlib.Core.List.{List, [], _∷_}
 use lib.ListN.{length}
+use lib.Dec.{eqb}
 use Rattle.octets.specs.Octets.{pick, number as numberAt}
 use Rattle.varint.specs.Varint.{write}
 use Rattle.walk.specs.Walk.{Step, goes, uinteger}
 use Rattle.packet.specs.declared.Header.{Header}
 use Rattle.packet.specs.Reading.{readPacket}
-use Rattle.write.specs.Writing.{fine, writeOutput}
+use Rattle.write.specs.Writing.{writeOutput}
 use Rattle.cut.specs.declared.Counted.{Counted}
 use Rattle.cut.specs.Cutting.{headerLength, countAnswer, packetAnswer, packetOutput}
 use Rattle.cells.specs.Order.{cellSize}
@@ -40,7 +41,7 @@ row f c d = record { figure = f; computed = c; said = d }
 -- ---- Varints
 
 abbrev pub varintOf : Step ℕ → Said
-varintOf n = pick (fine (n .walk .refusal)) (is (n .value)) (gives (n .walk .refusal .number))
+varintOf n = pick (eqb (n .walk .refused) 0) (is (n .value)) (gives (n .walk .refused))
 
 -- a Varint read as a field of a header
 abbrev pub varint : List ℕ → Said
@@ -49,7 +50,7 @@ varint l = varintOf (uinteger settings l (goes 0))
 -- ---- cutting
 
 abbrev pub counted : Counted → Said
-counted r = pick (fine (r .refusal)) (is (r .count)) (gives (r .refusal .number))
+counted r = pick (eqb (r .refusal .number) 0) (is (r .count)) (gives (r .refusal .number))
 
 -- how many packets of P octets at most a body of B octets is cut into, from the counter c on
 abbrev pub count : ℕ → ℕ → ℕ → Said

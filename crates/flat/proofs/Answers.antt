@@ -9,7 +9,7 @@ use lib.Seq.{sets, sets-eq, drop-length}
 use Rattle.octets.proofs.Lists.{sets-append}
 use Rattle.packet.specs.declared.Header.{Header}
 use Rattle.packet.specs.declared.Texts.{Texts}
-use Rattle.flat.specs.Told.{primaryNumbers, nameNumbers, routingNumbers, presentNumbers, idsNumbers, placeNumbers, placesTo, textNumbers, readNumbers}
+use Rattle.flat.specs.Told.{primaryNumbers, nameNumbers, routingNumbers, presentNumbers, idsNumbers, placeNumbers, placesTo, textNumbers, toldBeside, readNumbers}
 use Rattle.flat.proofs.Placing.{places-length}
 
 -- a list laid over another of its length is what is left
@@ -42,21 +42,22 @@ texts-length t =
     let b = places-length 16 (t .parts) in
     omega (arith, a, b)
 
-module _ (h : Header) (l m1 m2 m3 m4 m5 m6 m7 : List ℕ) where
+module _ (h : Header) (l m1 m2 m3 m4 m5 m6 m7 m8 : List ℕ) where
   pub header-laid :
-      length l ≡ 72 → m1 ≡ sets (set l 0 (h .refusal .number)) 1 (primaryNumbers (h .primary)) →
+      length l ≡ 74 → m1 ≡ sets (set l 0 (h .refusal .number)) 1 (primaryNumbers (h .primary)) →
       m2 ≡ sets m1 5 (nameNumbers (h .fixed)) → m3 ≡ sets m2 10 (routingNumbers (h .fixed)) →
       m4 ≡ sets m3 16 (presentNumbers (h .has)) → m5 ≡ sets m4 24 (idsNumbers (h .ids)) →
-      m6 ≡ sets m5 28 (textNumbers (h .texts)) → m7 ≡ sets (set m6 69 (h .h)) 70 (placeNumbers (h .body)) → m7 ≡ readNumbers h
+      m6 ≡ sets m5 28 (textNumbers (h .texts)) → m7 ≡ sets (set m6 69 (h .h)) 70 (placeNumbers (h .body)) →
+      m8 ≡ sets m7 72 (toldBeside (h .refusal)) → m8 ≡ readNumbers h
   unfolding readNumbers
-  header-laid n e1 e2 e3 e4 e5 e6 e7 =
+  header-laid n e1 e2 e3 e4 e5 e6 e7 e8 =
       let x = front h in
       let y = textNumbers (h .texts) in
-      let z = (h .h ∷ []) ++ placeNumbers (h .body) in
+      let z = (h .h ∷ []) ++ (placeNumbers (h .body) ++ toldBeside (h .refusal)) in
       let a : m5 ≡ sets l 0 x = rw (e5, e4, e3, e2, e1) in
       let b : m6 ≡ sets l 0 (x ++ y) = e6 ∙ ap (λ (m : List ℕ). sets m 28 y) a ∙ sets-append l 0 x y in
       let k : length (x ++ y) ≡ 69 = length-append x y ∙ rw (texts-length (h .texts)) in
       let j : 69 ≡ 0 + length (x ++ y) = omega (arith, k) in
-      let d : m7 ≡ sets (sets l 0 (x ++ y)) (0 + length (x ++ y)) z = e7 ∙ rw (b, sym j) in
+      let d : m8 ≡ sets (sets l 0 (x ++ y)) (0 + length (x ++ y)) z = e8 ∙ rw (e7, b, sym j) in
       let f : length ((x ++ y) ++ z) ≡ length l = length-append (x ++ y) z ∙ rw (k, n) in
       d ∙ sets-append l 0 (x ++ y) z ∙ sets-all l ((x ++ y) ++ z) f ∙ append-assoc x y z

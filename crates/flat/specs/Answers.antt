@@ -7,8 +7,8 @@ use mathlib.Core.List.{List, [], _∷_}
 use lib.Dec.{leb}
 use Rattle.octets.specs.Octets.{pick, most16, octetAt as numberAt}
 use Rattle.walk.specs.declared.Settings.{Settings}
-use Rattle.walk.specs.declared.Refusal.{Refusal}
-use Rattle.walk.specs.Walk.{settingsOf, noRefusal, unless}
+use Rattle.walk.specs.declared.Tested.{Tested}
+use Rattle.walk.specs.Walk.{settingsOf, noneFailed, unless}
 use Rattle.packet.specs.Numbers.{nextSequenceCount}
 use Rattle.sender.specs.Sending.{afterPacket, afterSegment}
 use Rattle.write.specs.Given.{Lent}
@@ -18,7 +18,7 @@ use Rattle.flat.specs.Given.{headerFits, headerOf, packetFits, packetOf,
 use Rattle.flat.specs.Told.{writtenNumbers, senderNumbers, countedNumbers, cutNumbers}
 
 -- a number does not fit: 22, unless it is refused already
-abbrev pub tooWide : Refusal → ℕ
+abbrev pub tooWide : Tested → ℕ
 tooWide r = unless false 22 r .number
 
 -- the refusal, and the next sequence count
@@ -31,7 +31,7 @@ abbrev pub writeFits : List ℕ → ℕ → ℕ → ℕ → Bool
 writeFits h flags count counter = pick (headerFits h) (packetFits flags count counter) false
 
 abbrev pub writeRefused : Settings → List ℕ
-writeRefused s = tooWide (settingsTest s noRefusal) ∷ 0 ∷ []
+writeRefused s = tooWide (settingsTest s noneFailed) ∷ 0 ∷ []
 
 -- the refusal, and the octets written
 unfoldable pub writeNumbers : ℕ → List ℕ → Lent → ℕ → ℕ → ℕ → List ℕ → ℕ → List ℕ
@@ -66,7 +66,7 @@ abbrev pub cutFits : List ℕ → List ℕ → Bool
 cutFits h d = pick (headerFits h) (senderFits d) false
 
 abbrev pub cutRefused : ℕ → ℕ → List ℕ → List ℕ
-cutRefused t P d = tooWide (limitTest (settingsOf t) P noRefusal) ∷ 0 ∷ given d
+cutRefused t P d = tooWide (limitTest (settingsOf t) P noneFailed) ∷ 0 ∷ given d
 
 -- the refusal, the count of packets, and the sender's numbers moved on
 unfoldable pub countNumbers : ℕ → ℕ → List ℕ → Lent → ℕ → List ℕ → List ℕ

@@ -4,6 +4,7 @@
 use Prim.Native.Nat.{ℕ, zero, suc}
 use mathlib.Core.List.{List, [], _∷_, _++_}
 use lib.ListN.{getD}
+use Rattle.walk.specs.declared.Refusal.{Refusal}
 use Rattle.fields.specs.declared.Place.{Place}
 use Rattle.fields.specs.Fields.{nowhere}
 use Rattle.packet.specs.Format.{bit}
@@ -62,7 +63,11 @@ textNumbers t =
     ++ (placeNumbers (t .zone)
     ++ (placeNumbers (t .«session_name») ++ ((t .count ∷ []) ++ (placesTo 16 (t .parts) ++ placeNumbers (t .authentication)))))
 
--- what reading answers: 72 numbers
+-- what a refusal of reading tells, SPEC R-10: the octets missing or left over, and the place where the unfinished field began
+abbrev pub toldBeside : Refusal → List ℕ
+toldBeside r = r .octets ∷ r .place ∷ []
+
+-- what reading answers: 74 numbers
 unfoldable pub readNumbers : Header → List ℕ
 readNumbers h =
     (h .refusal .number ∷ [])
@@ -70,7 +75,7 @@ readNumbers h =
     ++ (nameNumbers (h .fixed)
     ++ (routingNumbers (h .fixed)
     ++ (presentNumbers (h .has)
-    ++ (idsNumbers (h .ids) ++ (textNumbers (h .texts) ++ ((h .h ∷ []) ++ placeNumbers (h .body))))))))
+    ++ (idsNumbers (h .ids) ++ (textNumbers (h .texts) ++ ((h .h ∷ []) ++ (placeNumbers (h .body) ++ toldBeside (h .refusal)))))))))
 
 -- ---- writing and cutting
 

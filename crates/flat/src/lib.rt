@@ -34,14 +34,14 @@ use sender::Sender;
 use varint::MOST_16;
 use varint::MOST_32;
 use walk::REFUSED_VALUE;
-use walk::Refusal;
 use walk::Settings;
+use walk::Tested;
 use write::HeaderValues;
 use write::PacketValues;
 use write::Written;
 
 // How many numbers reading answers.
-pub const READ: usize = 72;
+pub const READ: usize = 74;
 
 // How many numbers a sender has, and how many its calls and those of cutting answer.
 pub const SENDER: usize = 3;
@@ -144,7 +144,7 @@ fn put_ids(answer: &mut [u64; READ], ids: Ids)
 }
 
 fn put_place(answer: &mut [u64; READ], at: usize, p: Place)
-    requires { ⌜ at + 2 ≤ 72 ⌝ }
+    requires { ⌜ at + 2 ≤ 74 ⌝ }
     ensures { λ r. ⌜ now (answer .exit) ≡ sets (now (answer .entry)) at (placeNumbers p) ⌝ }
 {
     answer[at] = p.at as u64;
@@ -190,6 +190,8 @@ fn header_numbers(h: Header) -> [u64; READ]
     put_texts(&mut answer, h.texts);
     answer[69] = h.h as u64;
     put_place(&mut answer, 70, h.body);
+    answer[72] = refusal.octets as u64;
+    answer[73] = refusal.place as u64;
     answer
 }
 
@@ -374,7 +376,7 @@ pub fn next_sequence_count(sequence_count: u64) -> [u64; 2]
 }
 
 // The refusal of a number that does not fit, behind that of the settings.
-fn too_wide(r: Refusal) -> u64
+fn too_wide(r: Tested) -> u64
     ensures { λ q. ⌜ q ≡ tooWide r ⌝ }
 {
     let q = walk::unless(r, false, REFUSED_VALUE);
@@ -384,7 +386,7 @@ fn too_wide(r: Refusal) -> u64
 fn write_too_wide(s: Settings) -> [u64; 2]
     ensures { λ r. ⌜ r ≡ writeRefused s ⌝ }
 {
-    let none = Refusal { number: 0 };
+    let none = Tested { number: 0 };
     let number = too_wide(write::test_settings(s, none));
     [number, 0]
 }
@@ -466,7 +468,7 @@ fn cut_too_wide(t: u64, p: u64, sender: &[u64; SENDER]) -> [u64; CUT]
     ensures { λ r. ⌜ r ≡ cutRefused t p (now (sender .entry)) ⌝ }
 {
     let s = Settings { t: t as usize };
-    let none = Refusal { number: 0 };
+    let none = Tested { number: 0 };
     let number = too_wide(cut::test_limit(s, p as usize, none));
     [number, 0, sender[0], sender[1], sender[2]]
 }

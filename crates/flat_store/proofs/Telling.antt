@@ -63,12 +63,12 @@ module _ (s : Settings) (Z : ℕ) (st : List ℕ) where
   by-gate e = ap (λ (g : ℕ). through g (0 ∷ countIn Z st ∷ []) (λ n. n ∷ 0 ∷ [])) (sym e)
 
   -- T out of range
-  pub order-15 : (begun s .refusal .number ≡ 0 → ⊥) → 15 ∷ 0 ∷ [] ≡ orderNumbers s Z st
-  order-15 h = by-gate (gate-15 s Z st (ne-eqb _ 0 h))
+  pub order-15 : (begun s .refused ≡ 0 → ⊥) → 15 ∷ 0 ∷ [] ≡ orderNumbers s Z st
+  order-15 h = by-gate (gate-15 s Z st (ne-eqb (begun s .refused) 0 h))
 
-  module _ {n : ℕ} (e : n ≡ pick (inOrder s Z st) (countIn Z st) 0) (t : begun s .refusal .number ≡ 0) where
-    fine : eqb (begun s .refusal .number) 0 ≡ true
-    fine = eq-eqb _ 0 t
+  module _ {n : ℕ} (e : n ≡ pick (inOrder s Z st) (countIn Z st) 0) (t : begun s .refused ≡ 0) where
+    fine : eqb (begun s .refused) 0 ≡ true
+    fine = eq-eqb (begun s .refused) 0 t
 
     cells-some : inOrder s Z st ≡ true → (n ≡ countIn Z st) × (1 ≤ n)
     cells-some h =

@@ -15,13 +15,14 @@ use Rattle.taking.specs.Told.{takenOf}
 use Rattle.join.specs.Joining.{Joining}
 use Rattle.join.specs.declared.Joined.{Joined}
 use Rattle.join.specs.Told.{bufferNumber, joinedOf}
+use Rattle.flat.specs.Told.{toldBeside}
 
 -- ---- arrival
 
 abbrev pub arrivalNumbers : Arrival → List ℕ
-arrivalNumbers a = said a .number ∷ said a .word ∷ []
+arrivalNumbers a = said a .refusal .number ∷ said a .word ∷ toldBeside (said a .refusal)
 
--- refusal, and 1 whole, 2 stored or 3 held
+-- refusal; 1 whole, 2 stored or 3 held; what reading's refusal tells
 abbrev pub arriveNumbers : Arrived → List ℕ
 arriveNumbers b = arrivalNumbers (arrivalOf b)
 
@@ -45,9 +46,9 @@ joinedNumbers j =
     ∷ j .header
     ∷ j .body
     ∷ j .counter .0
-    ∷ []
+    ∷ toldBeside (j .refusal)
 
--- refusal, buffer, place, length, H, B and c
+-- refusal, buffer, place, length, H, B and c, what reading's refusal tells
 abbrev pub joinNumbers : Joining → List ℕ
 joinNumbers j = joinedNumbers (joinedOf j)
 

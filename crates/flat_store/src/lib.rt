@@ -1,7 +1,7 @@
 // The store's calls over plain numbers: what `capi` hands to other languages.
 //
 // Every number is one of 64 bits, and none is made narrower before it is tested. An answer is an array of numbers, the refusal first;
-// where the call is refused the others are 0.
+// where the call is refused the others are 0, but for what a refusal of reading tells, which stands last.
 pub mod recordings;
 
 ghost use mathlib.Core.Path.{_≡_};
@@ -32,17 +32,17 @@ fn kind_number(k: Kind) -> u64
     }
 }
 
-fn arrival_numbers(a: Arrival) -> [u64; 2]
+fn arrival_numbers(a: Arrival) -> [u64; 4]
     ensures { λ r. ⌜ r ≡ arrivalNumbers a ⌝ }
 {
     match a {
-        Arrival::Answer(k) => [0, kind_number(k)],
-        Arrival::Refused(r) => [r.number as u64, 0],
+        Arrival::Answer(k) => [0, kind_number(k), 0, 0],
+        Arrival::Refused(r) => [r.number as u64, 0, r.octets as u64, r.place as u64],
     }
 }
 
-// A packet arrives: the refusal, and 1 whole, 2 stored or 3 held.
-pub fn arrive(t: u64, store: &mut [u8], packet: &[u8]) -> [u64; 2]
+// A packet arrives: the refusal; 1 whole, 2 stored or 3 held; what the refusal tells.
+pub fn arrive(t: u64, store: &mut [u8], packet: &[u8]) -> [u64; 4]
     ensures { λ r. ⌜ r ≡ arriveNumbers (arrived (settingsOf t) cellSize (now (store .entry)) (now (packet .entry))) ⌝ }
     ensures { λ r. ⌜ now (store .exit) ≡ storeWith cellSize (now (store .entry)) (now (packet .entry))
         (arrived (settingsOf t) cellSize (now (store .entry)) (now (packet .entry))) ⌝ }
@@ -85,7 +85,7 @@ fn which_number(w: Which) -> u64
     }
 }
 
-fn joined_numbers(j: Joined) -> [u64; 7]
+fn joined_numbers(j: Joined) -> [u64; 9]
     ensures { λ r. ⌜ r ≡ joinedNumbers j ⌝ }
 {
     let refusal = j.refusal;
@@ -99,11 +99,14 @@ fn joined_numbers(j: Joined) -> [u64; 7]
         j.header as u64,
         j.body as u64,
         counter.0 as u64,
+        refusal.octets as u64,
+        refusal.place as u64,
     ]
 }
 
-// A packet is joined: the refusal, 0 no buffer, 1 the packet or 2 the output, the body's place and length there, H, B and c.
-pub fn join(t: u64, store: &mut [u8], packet: &[u8], out: &mut [u8]) -> [u64; 7]
+// A packet is joined: the refusal, 0 no buffer, 1 the packet or 2 the output, the body's place and length there, H, B and c,
+// what the refusal tells.
+pub fn join(t: u64, store: &mut [u8], packet: &[u8], out: &mut [u8]) -> [u64; 9]
     ensures { λ r. ⌜ r ≡ joinNumbers (joining (settingsOf t) cellSize (now (store .entry)) (now (packet .entry)) (length (now (out .entry)))) ⌝ }
     ensures { λ r. ⌜ now (store .exit) ≡ storeJoined (settingsOf t) cellSize (now (store .entry)) (now (packet .entry)) (length (now (out .entry))) ⌝ }
     ensures { λ r. ⌜ now (out .exit) ≡ outJoined (settingsOf t) cellSize (now (store .entry)) (now (packet .entry)) (now (out .entry)) ⌝ }
@@ -148,8 +151,7 @@ pub fn in_order(t: u64, store: &[u8]) -> [u64; 2]
 {
     let s = Settings { t: t as usize };
     let w = walk::begin(s);
-    let refusal = w.refusal;
-    if refusal.number != 0 {
+    if w.refused != 0 {
         return [15, 0];
     }
     let n = cells::order(s, store);

@@ -1,5 +1,5 @@
--- Fields made of fields: one that is refused unless a test holds, one whose value is tested, one that a number decides,
--- the same octets told as another value or in another form. Each carries the laws of its parts.
+-- Fields made of fields: one that is refused unless a test holds, one whose value is tested, one of several steps, one that a number
+-- decides, the same octets told as another value or in another form. Each carries the laws of its parts.
 -- Assumes nothing.
 use Prim.Native.Nat.{ℕ, suc, _+_, _≤_}
 use mathlib.Core.Path.{_≡_, refl, ap, _∙_}
@@ -9,8 +9,8 @@ use native.Mathlib.Omega.{arith}
 use lib.ListN.{length}
 use Rattle.octets.specs.Octets.{pick, Octets}
 use Rattle.octets.proofs.Has.{Has}
-use Rattle.walk.specs.Walk.{Reading, goes, going, headerEnd, check}
-use Rattle.walk.proofs.Steps.{check-held, check-ok}
+use Rattle.walk.specs.Walk.{Reading, goes, going, headerEnd, check, fieldFrom}
+use Rattle.walk.proofs.Steps.{check-held, check-ok, field-goes, field-went}
 use Rattle.format.specs.Told.{InOrder}
 use Rattle.format.proofs.Field.{Sound, Took, Field, then}
 
@@ -99,6 +99,43 @@ module _ (p : List ℕ) where
           plain = λ x f l. F .plain x (f .0) l;
           only = tested-only ok k F;
           order = tested-order ok k F;
+        }
+
+  -- ---- several steps as one field: where it is refused in any of them, it began at the first
+
+  module _ {A : Type 0} (F : Field p A) where
+    whole-same : (w : Reading) → going (fieldFrom w (F .step w)) ≡ true → fieldFrom w (F .step w) ≡ F .step w
+    whole-same w g = field-goes w (F .step w) (field-went w (F .step w) g)
+
+    pub whole-back :
+        (i : ℕ) (x : A) → F .Fit x → Has p i (F .form x) → i + length (F .form x) ≤ headerEnd →
+        (fieldFrom (goes i) (F .step (goes i)) ≡ goes (i + length (F .form x))) × (F .value (goes i) ≡ x)
+    whole-back i x f h l =
+        let a = F .back i x f h l in
+        (field-goes (goes i) (F .step (goes i)) (rw (a .0) refl) ∙ a .0, a .1)
+
+    pub whole-only :
+        Octets p → (w : Reading) → Sound p w → going (fieldFrom w (F .step w)) ≡ true →
+        Took p w (fieldFrom w (F .step w)) (F .form (F .value w)) × F .Fit (F .value w)
+    whole-only o w s g = rw (whole-same w g) (F .only o w s (field-went w (F .step w) g))
+
+    pub whole-order :
+        Octets p → (w : Reading) → Sound p w → going (fieldFrom w (F .step w)) ≡ true →
+        InOrder (w .at) (F .spots w) (fieldFrom w (F .step w) .at)
+    whole-order o w s g = rw (whole-same w g) (F .order o w s (field-went w (F .step w) g))
+
+    abbrev pub whole : Field p A
+    whole =
+        record {
+          step = λ w. fieldFrom w (F .step w);
+          value = F .value;
+          form = F .form;
+          Fit = F .Fit;
+          spots = F .spots;
+          back = whole-back;
+          plain = F .plain;
+          only = whole-only;
+          order = whole-order;
         }
 
   -- ---- the same octets, told as another value: `from` undoes `to`

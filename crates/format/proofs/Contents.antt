@@ -10,11 +10,11 @@ use borrow.Author.Tests.{eqb-true}
 use Rattle.octets.specs.Octets.{Octets, wide}
 use Rattle.walk.specs.declared.Settings.{Settings}
 use Rattle.walk.specs.Walk.{Reading, headerEnd}
-use Rattle.fields.specs.Fields.{blob, text, part}
+use Rattle.fields.specs.Fields.{blob, text, markedText, part}
 use Rattle.fields.specs.Form.{blobOctets, textOctets, partOctets}
 use Rattle.format.specs.Told.{content}
 use Rattle.format.proofs.Field.{Field, seq, told}
-use Rattle.format.proofs.Combine.{tested, via, dep, formed}
+use Rattle.format.proofs.Combine.{tested, whole, via, dep, formed}
 use Rattle.format.proofs.Numbers.{octetF, blockF, numberF}
 
 module _ (s : Settings) (p : List ℕ) where
@@ -22,7 +22,7 @@ module _ (s : Settings) (p : List ℕ) where
 
   -- the field that the length decides
   abbrev pub sized : Field p (List ℕ)
-  sized = dep p (numberF p s) (blockF p) length (λ n x f. f .0)
+  sized = whole p (dep p (numberF p s) (blockF p) length (λ n x f. f .0))
 
   pub blob-form : (x : List ℕ) → blobOctets s x ≡ sized .form x
   unfolding blobOctets
@@ -81,27 +81,30 @@ module _ (s : Settings) (p : List ℕ) where
   pub marked : (x : ℕ × List ℕ) → mark .Fit (x .0) → (1, x .1) ≡ x
   marked x f = let e : x .0 ≡ 1 = eqb-true (x .0) 1 (f .1) in ap (λ (n : ℕ). (n, x .1)) (sym e)
 
-  abbrev pub markedText : Field p (List ℕ)
-  markedText = via p (seq p mark textF) (λ (x : ℕ × List ℕ). x .1) (λ (x : List ℕ). (1, x)) (λ a f. marked a (f .0))
+  abbrev pub markedF : Field p (List ℕ)
+  markedF = whole p (via p (seq p mark textF) (λ (x : ℕ × List ℕ). x .1) (λ (x : List ℕ). (1, x)) (λ a f. marked a (f .0)))
 
-  pub part-form : (x : List ℕ) → partOctets s x ≡ markedText .form x
+  pub part-form : (x : List ℕ) → partOctets s x ≡ markedF .form x
   unfolding partOctets wide
   part-form x = refl
 
-  pub part-step : (w : Reading) → part s p w .walk ≡ markedText .step w
-  unfolding part
+  pub part-fit : (x : List ℕ) → Octets x → length (partOctets s x) ≤ headerEnd → markedF .Fit x
+  part-fit x f l = (((omega arith, refl), f), refl)
+
+  pub part-step : (w : Reading) → part s p w .walk ≡ markedF .step w
+  unfolding part markedText
   part-step w = refl
 
-  pub part-value : (w : Reading) → content p (part s p w .value) ≡ markedText .value w
-  unfolding part
+  pub part-value : (w : Reading) → content p (part s p w .value) ≡ markedF .value w
+  unfolding part markedText
   part-value w = refl
 
-  pub part-spots : (w : Reading) → part s p w .value ∷ [] ≡ markedText .spots w
-  unfolding part
+  pub part-spots : (w : Reading) → part s p w .value ∷ [] ≡ markedF .spots w
+  unfolding part markedText
   part-spots w = refl
 
   abbrev pub partF : Field p (List ℕ)
   partF =
       told p
-      (formed p markedText (partOctets s) Octets part-form (λ x f l. (((omega arith, refl), f), refl)) (λ x f. f .0 .1))
+      (formed p markedF (partOctets s) Octets part-form part-fit (λ x f. f .0 .1))
       (λ w. part s p w .walk) (λ w. content p (part s p w .value)) (λ w. part s p w .value ∷ []) part-step part-value part-spots

@@ -3,7 +3,7 @@
 -- Assumes nothing.
 use Prim.Native.Nat.{ℕ, zero, suc, _≤_, _<_}
 use mathlib.Core.Path.{_≡_, refl, ap, sym, _∙_}
-use mathlib.Core.List.{List, [], _∷_, map}
+use mathlib.Core.List.{List, [], _∷_, _++_, map}
 use mathlib.Core.Bool.{Bool, true, false}
 use native.Mathlib.Omega.{arith}
 use lib.ListN.{length, take, length-set, length-replicate}
@@ -59,7 +59,9 @@ module _ (s : Settings) (p : List ℕ) where
       let a = to-spots n d (omega arith) in
       let k : n < length (partsTo s p n d .value .places) = rw (to-length n d) l in
       take-suc-set (partsTo s p n d .value .places) n (part s p (partsTo s p n d .walk) .value) k
-      ∙ rw (a, to-walk n d) (sym (spots-last p (partF s p) n (d .walk)))
+      ∙ ap (λ (r : List Place). r ++ (part s p (partsTo s p n d .walk) .value ∷ [])) a
+      ∙ ap (λ (w : Reading). spots p (partF s p) n (d .walk) ++ (part s p w .value ∷ [])) (to-walk n d)
+      ∙ sym (spots-last p (partF s p) n (d .walk))
 
   spots-told : (n : ℕ) (w : Reading) → map (content p) (spots p (partF s p) n w) ≡ values p (partF s p) n w
   unfolding spots values

@@ -153,7 +153,7 @@ module _ (p : List ℕ) where
   pub skip-took : (w : Reading) → Sound w → going w ≡ true → Took w w []
   skip-took w s g =
       let z = s g in
-      let e : w ≡ goes (w .at) = ap (λ (k : ℕ). record { at = w .at; refusal = record { number = k } }) (eqb-true _ _ g) in
+      let e : w ≡ goes (w .at) = ap (λ (k : ℕ). record { at = w .at; refused = k }) (eqb-true _ _ g) in
       record { went = g; has = has-nil p (w .at) (z .0); limit = omega arith; ended = e ∙ ap goes (sym (add-zero (w .at))) }
 
   module _ {A : Type 0} where

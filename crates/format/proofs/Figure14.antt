@@ -3,7 +3,7 @@
 -- Assumes nothing.
 use mathlib.Core.Path.{_≡_, refl}
 use Rattle.octets.specs.Octets.{number, wide}
-use Rattle.walk.specs.Walk.{begun, check, octets}
+use Rattle.walk.specs.Walk.{begun, check, octets, fieldFrom}
 use Rattle.packet.specs.Figure14.{settings, packet, values, header}
 use Rattle.packet.specs.Format.{presence, identification, fixedOctets, frontOctets, counterOctets, backOctets, secondaryOctets, dataOctets, octetsOf}
 use Rattle.packet.specs.FixedPart.{afterSdu, afterArea, afterService, afterOperation, afterVersion, afterSession, afterSecondary, afterQualifier}
@@ -13,7 +13,7 @@ use Rattle.format.specs.Told.{headOf, valuesOf}
 
 pub reads : readPacket settings packet ≡ header
 unfolding readPacket acceptedHeader primaryTests begun check octets number primaryOf afterSdu afterArea afterService afterOperation afterVersion
-    afterSession afterSecondary afterQualifier afterTransaction afterPresence fixedOf flagsOf presentOf idsOf textsOf bodyTest
+    afterSession afterSecondary afterQualifier afterTransaction afterPresence fixedOf flagsOf presentOf idsOf textsOf bodyTest fieldFrom
 reads = refl
 
 pub tells : valuesOf packet header ≡ values

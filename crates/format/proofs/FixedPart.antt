@@ -11,7 +11,7 @@ use Rattle.octets.specs.Octets.{wide}
 use Rattle.packet.specs.declared.Present.{Present}
 use Rattle.packet.specs.FixedPart.{flagsOf}
 use Rattle.format.proofs.Field.{Field, seq}
-use Rattle.format.proofs.Combine.{tested, via, formed}
+use Rattle.format.proofs.Combine.{tested, whole, via, formed}
 use Rattle.format.proofs.Numbers.{wideF, octetF}
 use Rattle.format.proofs.Flags.{flagOctet, octet-flags, flags-octet, flag-top}
 
@@ -68,8 +68,11 @@ module _ (p : List ℕ) where
       formed p (via p firstOctet (λ x. x % 32) (λ x. x) first-undo) (wide 1) (λ x. x ≤ 21) (λ x. refl) (λ x f l. sdu-fit x f) sdu-top
 
   -- 9 is tested before the second octet
+  abbrev pub highOctet : Field p ℕ
+  highOctet = tested p (λ x. ltb (x / 8 % 4) 3) 8 (octetF p)
+
   abbrev pub twoOctets : Field p (ℕ × ℕ)
-  twoOctets = seq p (tested p (λ x. ltb (x / 8 % 4) 3) 8 (octetF p)) (octetF p)
+  twoOctets = whole p (seq p highOctet (octetF p))
 
   abbrev pub packedVia : Field p Packed
   packedVia = via p twoOctets unpack pack (λ a f. pack-unpack (a .0) (a .1) (f .0 .0) (f .1))

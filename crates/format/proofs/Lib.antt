@@ -13,6 +13,12 @@ pub mod Frame
 pub mod Only
 pub mod Back
 pub mod TwoWay
+pub mod Cut
+pub mod CutWays
+pub mod CutFields
+pub mod CutOff
+pub mod Refusals
+pub mod Lengths
 pub mod Stretches
 pub mod Order
 pub mod Accepting

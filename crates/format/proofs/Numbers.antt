@@ -149,9 +149,9 @@ module _ (p : List ℕ) where
       found : readAt 32 (take headerEnd p) (w .at) ≡ value what next
       step : uinteger s p w ≡ record { walk = goes next; value = what }
 
-    no-going : (b : Bool) → going (refused (pick b 12 6)) ≡ true → _≡_ {A = ℕ} 0 1
-    no-going true g = cc
-    no-going false g = cc
+    no-going : (at : ℕ) (b : Bool) → going (refused at (pick b 12 6)) ≡ true → _≡_ {A = ℕ} 0 1
+    no-going at true g = cc
+    no-going at false g = cc
 
     read : (w : Reading) → going (uinteger s p w .walk) ≡ true → Read w
     unfolding uintegerStep
@@ -165,7 +165,7 @@ module _ (p : List ℕ) where
 
         by : going w ≡ true → (r : Got) → readAt 32 (take headerEnd p) (w .at) ≡ r → Read w
         by f (value v next) e = record { went = f; what = v; next = next; found = e; step = number-found s p w f e }
-        by f ends e = let z = no-going (leb headerEnd (length p)) (rw (number-found s p w f e) at g) in absurd (omega arith)
+        by f ends e = let z = no-going (w .at) (leb headerEnd (length p)) (rw (number-found s p w f e) at g) in absurd (omega arith)
         by f bad e = let z : _≡_ {A = ℕ} 0 1 = cc (rw (number-found s p w f e) at g) in absurd (omega arith)
 
         on : going w ≡ true → Read w

@@ -6,6 +6,7 @@ use mathlib.Core.Logic.{⊎-elim}
 use mathlib.Core.List.{List}
 use mathlib.Core.Bool.{Bool, true, false, not}
 use native.Mathlib.Omega.{arith}
+use native.Mathlib.Nat.{le-antisymm}
 use lib.ListN.{length}
 use lib.Dec.{eqb, leb, ltb}
 use borrow.Author.Tests.{eqb-true, eqb-false, leb-true, ltb-true, not-true, eq-eqb, le-leb, lt-ltb, ne-eqb}
@@ -14,10 +15,10 @@ use Rattle.octets.proofs.Lists.{bool}
 use Rattle.walk.specs.declared.Settings.{Settings}
 use Rattle.walk.specs.Walk.{Reading, goes, going, check, begun, timestampLeast, timestampMost}
 use Rattle.walk.proofs.Steps.{check-held, check-ok}
-use Rattle.packet.specs.Reading.{primaryTests, segmented, bodyTest, startAt, ended, refusedHeader, acceptedHeader, readPacket}
+use Rattle.packet.specs.Reading.{wanted, primaryTests, segmented, bodyTest, startAt, ended, refusalOf, refusedHeader, acceptedHeader, readPacket}
 use Rattle.packet.proofs.Whole.{accepts}
 
--- 15 and 1 to 5 passed
+-- 15, 1 to 5 and 27 passed
 pub record Opens (s : Settings) (p : List ℕ) : Type 0 where
   pub t-low : timestampLeast ≤ s .t
   pub t-top : s .t ≤ timestampMost
@@ -25,20 +26,21 @@ pub record Opens (s : Settings) (p : List ℕ) : Type 0 where
   pub version : octetAt p 0 < 32
   pub second : octetAt p 0 / 8 % 2 ≡ 1
   pub idle : number 2 p 0 % 2048 ≡ 2047 → ⊥
-  pub long : length p ≡ number 2 p 4 + 7
+  pub long : length p ≡ wanted p
 
 module _ (s : Settings) (p : List ℕ) where
   pub start-only : going (startAt s p) ≡ true → (startAt s p ≡ goes 6) × Opens s p
   unfolding primaryTests begun
   start-only g =
-      let e = check-held (eqb (length p) (number 2 p 4 + 7)) 4 _ g in
+      let f = check-held (leb (length p) (wanted p)) 26 _ g in
+      let e = check-held (leb (wanted p) (length p)) 4 _ (f .went) in
       let d = check-held (not (eqb (number 2 p 0 % 2048) 2047)) 3 _ (e .went) in
       let c = check-held (eqb (octetAt p 0 / 8 % 2) 1) 2 _ (d .went) in
       let b = check-held (ltb (octetAt p 0) 32) 1 _ (c .went) in
       let a = check-held (leb 6 (length p)) 0 _ (b .went) in
       let u = check-held (leb (s .t) timestampMost) 14 _ (a .went) in
       let t = check-held (leb timestampLeast (s .t)) 14 _ (u .went) in (
-        e .same ∙ d .same ∙ c .same ∙ b .same ∙ a .same ∙ u .same ∙ t .same,
+        f .same ∙ e .same ∙ d .same ∙ c .same ∙ b .same ∙ a .same ∙ u .same ∙ t .same,
         record {
           t-low = leb-true _ _ (t .held);
           t-top = leb-true _ _ (u .held);
@@ -46,14 +48,15 @@ module _ (s : Settings) (p : List ℕ) where
           version = ltb-true _ _ (b .held);
           second = eqb-true _ _ (c .held);
           idle = eqb-false _ _ (not-true _ (d .held));
-          long = eqb-true _ _ (e .held);
+          long = le-antisymm (leb-true _ _ (f .held)) (leb-true _ _ (e .held));
         },
       )
 
   pub start-back : Opens s p → startAt s p ≡ goes 6
   unfolding primaryTests begun
   start-back h =
-      check-ok (eqb (length p) (number 2 p 4 + 7)) 5 _ (eq-eqb _ _ (h .long))
+      check-ok (leb (length p) (wanted p)) 27 _ (le-leb (length p) (wanted p) (omega (arith, h .long)))
+      ∙ check-ok (leb (wanted p) (length p)) 5 _ (le-leb (wanted p) (length p) (omega (arith, h .long)))
       ∙ check-ok (not (eqb (number 2 p 0 % 2048) 2047)) 4 _ (ap not (ne-eqb (number 2 p 0 % 2048) 2047 (h .idle)))
       ∙ check-ok (eqb (octetAt p 0 / 8 % 2) 1) 3 _ (eq-eqb _ _ (h .second))
       ∙ check-ok (ltb (octetAt p 0) 32) 2 _ (lt-ltb _ _ (h .version))
@@ -89,7 +92,7 @@ module _ (s : Settings) (p : List ℕ) where
 
   -- an answer that is no refusal: the reading goes on to its end
   pub answered : readPacket s p .refusal .number ≡ 0 → going (ended s p) ≡ true
-  unfolding readPacket refusedHeader
+  unfolding readPacket refusedHeader refusalOf
   answered h = ⊎-elim (λ e. e) (λ e. absurd (eqb-false _ _ e (rw e at h))) (bool (going (ended s p)))
 
   pub answer : readPacket s p .refusal .number ≡ 0 → readPacket s p ≡ acceptedHeader s p

@@ -14,6 +14,7 @@ use borrow.Author.Tests.{eqb-true, leb-true, eq-eqb, ne-eqb}
 use Rattle.octets.specs.Octets.{pick, Octets}
 use Rattle.octets.proofs.Lists.{bool}
 use Rattle.walk.specs.declared.Settings.{Settings}
+use Rattle.walk.specs.declared.Refusal.{Refusal}
 use Rattle.walk.specs.Walk.{refusal}
 use Rattle.packet.specs.Reading.{readPacket, segmented, counterSize}
 use Rattle.format.proofs.Accepting.{accepted}
@@ -38,11 +39,11 @@ module _ (s : Settings) (Z : ℕ) (st p : List ℕ) where
   unfolding segmentArrived placed
   segment-not n t e = told (look (cellsOf s Z st n) (t .key) (t .counter)) (ltb (lowestFree s Z st n) n) e
     where
-      same : (b : Bool) → pick b again (refused 18) ≡ whole → ⊥
+      same : (b : Bool) → pick b again (refused (refusal 18)) ≡ whole → ⊥
       same true d = let z : _≡_ {A = ℕ} 0 1 = cc in omega arith
       same false d = let z : _≡_ {A = ℕ} 0 1 = cc in omega arith
 
-      told : (o : Option Seg) (b : Bool) → beside o t (pick b (stored (lowestFree s Z st n)) (refused 19)) ≡ whole → ⊥
+      told : (o : Option Seg) (b : Bool) → beside o t (pick b (stored (lowestFree s Z st n)) (refused (refusal 19))) ≡ whole → ⊥
       told none true d = let z : _≡_ {A = ℕ} 0 1 = cc in omega arith
       told none false d = let z : _≡_ {A = ℕ} 0 1 = cc in omega arith
       told (some u) b d = same (sameRest u t) d
@@ -58,15 +59,15 @@ module _ (s : Settings) (Z : ℕ) (st p : List ℕ) where
           (readPacket s p .refusal .number ≡ 0) × (segmented p ≡ false)
       told (inl a) (inr b) c = (eqb-true _ 0 a, b)
       told (inl a) (inl b) (inl c) = absurd (segment-not n (segOf p (readPacket s p)) (rw (a, b, c) at e))
-      told (inl a) (inl b) (inr c) = let d : refused 17 ≡ whole = rw (a, b, c) at e in let z : _≡_ {A = ℕ} 0 1 = cc in absurd (omega arith)
+      told (inl a) (inl b) (inr c) = let d : refused (refusal 17) ≡ whole = rw (a, b, c) at e in let z : _≡_ {A = ℕ} 0 1 = cc in absurd (omega arith)
       told (inr a) b c =
-          let d : refused (readPacket s p .refusal .number) ≡ whole = rw a at e in let z : _≡_ {A = ℕ} 0 1 = cc in absurd (omega arith)
+          let d : refused (readPacket s p .refusal) ≡ whole = rw a at e in let z : _≡_ {A = ℕ} 0 1 = cc in absurd (omega arith)
 
   pub whole-tells : arrived s Z st p ≡ whole → (readPacket s p .refusal .number ≡ 0) × (segmented p ≡ false)
   unfolding arrived
-  whole-tells e = whole-in (countIn Z st) (through-tells (gate s Z st) (arrivedIn s Z st (countIn Z st) p) refused whole not-whole e .1)
+  whole-tells e = whole-in (countIn Z st) (through-tells (gate s Z st) (arrivedIn s Z st (countIn Z st) p) (λ k. refused (refusal k)) whole not-whole e .1)
     where
-      not-whole : (k : ℕ) → refused k ≡ whole → ⊥
+      not-whole : (k : ℕ) → refused (refusal k) ≡ whole → ⊥
       not-whole k d = let z : _≡_ {A = ℕ} 0 1 = cc in omega arith
 
 -- the body of an accepted unsegmented packet stands behind 6 + H octets and goes to the packet's end
@@ -83,19 +84,19 @@ whole-place s p o z u =
 
 -- what the code makes of taking's answer
 module _ (t : Taken) where
-  pub as-refused : (t .refusal .number ≡ 0 → ⊥) → joinedOf (unjoined (t .refusal .number)) ≡ takenAs t
+  pub as-refused : (t .refusal .number ≡ 0 → ⊥) → joinedOf (unjoined (t .refusal)) ≡ takenAs t
   unfolding takenAs
   as-refused h =
-      ap (λ (b : Bool). pick b (taken t) (joinedOf (unjoined (t .refusal .number)))) (sym (ne-eqb (t .refusal .number) 0 h))
+      ap (λ (b : Bool). pick b (taken t) (joinedOf (unjoined (t .refusal)))) (sym (ne-eqb (t .refusal .number) 0 h))
 
   pub as-taken :
-      t .refusal .number ≡ 0 →
-      record { refusal = t .refusal; which = InJoined; place = 2 + t .header; length = t .body; header = t .header; body = t .body; counter = t .counter }
+      {r : Refusal} → t .refusal .number ≡ 0 → r ≡ refusal 0 →
+      record { refusal = r; which = InJoined; place = 2 + t .header; length = t .body; header = t .header; body = t .body; counter = t .counter }
       ≡ takenAs t
   unfolding takenAs
-  as-taken e =
-      ap (λ (k : ℕ). record { refusal = refusal k; which = InJoined; place = 2 + t .header; length = t .body; header = t .header; body = t .body; counter = t .counter }) e
-      ∙ ap (λ (b : Bool). pick b (taken t) (joinedOf (unjoined (t .refusal .number)))) (sym (eq-eqb (t .refusal .number) 0 e))
+  as-taken e q =
+      ap (λ (x : Refusal). record { refusal = x; which = InJoined; place = 2 + t .header; length = t .body; header = t .header; body = t .body; counter = t .counter }) q
+      ∙ ap (λ (b : Bool). pick b (taken t) (joinedOf (unjoined (t .refusal)))) (sym (eq-eqb (t .refusal .number) 0 e))
 
 module _ (long : ℕ) where
   drawn-as : (o : Option Run) → takenAs (takenOf (drawn o long)) ≡ joinedOf (tookAs (drawn o long))

@@ -11,6 +11,7 @@ use lib.ListN.{length}
 use Rattle.octets.specs.Octets.{Octets}
 use Rattle.walk.specs.declared.Settings.{Settings}
 use Rattle.walk.specs.declared.Refusal.{Refusal}
+use Rattle.walk.specs.Walk.{refusal}
 use Rattle.packet.specs.Reading.{readPacket}
 use Rattle.arrival.specs.declared.Kind.{Kind}
 use Rattle.arrival.specs.declared.Kind.the-variants.{Whole, Stored, Held}
@@ -47,11 +48,11 @@ module _ (s : Settings) (Z : ℕ) (st p out : List ℕ) where
       × ((x ≡ storeJoined s Z st p (length out)) × (y ≡ outJoined s Z st p out))
 
   -- T or the store's order refuses it
-  pub join-shut : (gate s Z st ≡ 0 → ⊥) → {k : ℕ} {j : Joined} → k ≡ gate s Z st → j ≡ joinedOf (unjoined k) → Joins j st out
+  pub join-shut : (gate s Z st ≡ 0 → ⊥) → {r : Refusal} {j : Joined} → r ≡ refusal (gate s Z st) → j ≡ joinedOf (unjoined r) → Joins j st out
   unfolding joining storeJoined outJoined storeWith
   join-shut h ek ej =
       let e = sym (arrived-shut s Z st p h) in (
-        ej ∙ ap (λ (x : ℕ). joinedOf (unjoined x)) ek ∙ ap (λ (b : Arrived). joinedOf (joinedBy s Z st p (length out) b)) e,
+        ej ∙ ap (λ (x : Refusal). joinedOf (unjoined x)) ek ∙ ap (λ (b : Arrived). joinedOf (joinedBy s Z st p (length out) b)) e,
         (ap (storeBy s Z st p (length out)) e, ap (outBy s Z st p out) e),
       )
 
@@ -96,12 +97,12 @@ module _ (s : Settings) (Z : ℕ) (st p out : List ℕ) (n : ℕ) where
 
     refused-by :
         (b : Arrived) {r f : Refusal} {j : Joined} → g ≡ arrivalOf b → x ≡ storeWith Z st p b → g ≡ Refused r → f ≡ refusalIn g →
-        j ≡ joinedOf (unjoined (f .number)) → By b j x out
+        j ≡ joinedOf (unjoined f) → By b j x out
     refused-by whole e ex h ef ej = let z : _≡_ {A = ℕ} 0 1 = cc in absurd (omega arith)
     refused-by (stored i) e ex h ef ej = let z : _≡_ {A = ℕ} 0 1 = cc in absurd (omega arith)
     refused-by again e ex h ef ej = let z : _≡_ {A = ℕ} 0 1 = cc in absurd (omega arith)
     refused-by (refused k) e ex h ef ej =
-        (ej ∙ ap (λ (f : Refusal). joinedOf (unjoined (f .number))) (ef ∙ ap refusalIn e), (ex, refl))
+        (ej ∙ ap (λ (f : Refusal). joinedOf (unjoined f)) (ef ∙ ap refusalIn e), (ex, refl))
 
     -- ---- whole
 
@@ -127,7 +128,7 @@ module _ (s : Settings) (Z : ℕ) (st p out : List ℕ) (n : ℕ) where
     -- ---- the three of them for the arrival that there is
 
     module _ (e : g ≡ arrivalOf (arrivedIn s Z st n p)) (ex : x ≡ storeWith Z st p (arrivedIn s Z st n p)) where
-      pub join-refused : {r f : Refusal} {j : Joined} → g ≡ Refused r → f ≡ refusalIn g → j ≡ joinedOf (unjoined (f .number)) → JoinsIn j x out
+      pub join-refused : {r f : Refusal} {j : Joined} → g ≡ Refused r → f ≡ refusalIn g → j ≡ joinedOf (unjoined f) → JoinsIn j x out
       unfolding joiningIn storeJoinedIn outJoinedIn
       join-refused h ef ej = refused-by (arrivedIn s Z st n p) e ex h ef ej
 

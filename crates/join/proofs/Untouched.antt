@@ -7,6 +7,7 @@ use mathlib.Core.List.{List}
 use native.Mathlib.Omega.{arith}
 use lib.ListN.{length}
 use Rattle.walk.specs.declared.Settings.{Settings}
+use Rattle.walk.specs.declared.Refusal.{Refusal}
 use Rattle.cells.specs.Order.{countIn}
 use Rattle.arrival.specs.Arriving.{Arrived, whole, stored, again, refused, arrived, storeWith}
 use Rattle.taking.specs.Taking.{Took, message, unable, took, outWith, storeLess}
@@ -19,11 +20,11 @@ took-not (unable k) m n e = let z : _≡_ {A = ℕ} 0 1 = cc in omega arith
 
 -- a taking that is refused leaves store and output
 took-leaves :
-    (s : Settings) (Z : ℕ) (x out : List ℕ) (t : Took) (k : ℕ) → tookAs t ≡ unjoined k →
+    (s : Settings) (Z : ℕ) (x out : List ℕ) (t : Took) (r : Refusal) → tookAs t ≡ unjoined r →
     (storeLess s Z x (countIn Z x) t ≡ x) × (outWith out t ≡ out)
 unfolding storeLess outWith
-took-leaves s Z x out (message r) k e = let z : _≡_ {A = ℕ} 0 1 = cc in absurd (omega arith)
-took-leaves s Z x out (unable j) k e = (refl, refl)
+took-leaves s Z x out (message m) r e = let z : _≡_ {A = ℕ} 0 1 = cc in absurd (omega arith)
+took-leaves s Z x out (unable j) r e = (refl, refl)
 
 module _ (s : Settings) (Z : ℕ) (st p out : List ℕ) where
   whole-by :
@@ -36,7 +37,7 @@ module _ (s : Settings) (Z : ℕ) (st p out : List ℕ) where
   whole-by (refused k) m n e = let z : _≡_ {A = ℕ} 0 1 = cc in absurd (omega arith)
 
   refused-by :
-      (b : Arrived) (k : ℕ) → joinedBy s Z st p (length out) b ≡ unjoined k →
+      (b : Arrived) (r : Refusal) → joinedBy s Z st p (length out) b ≡ unjoined r →
       (storeBy s Z st p (length out) b ≡ storeWith Z st p b) × (outBy s Z st p out b ≡ out)
   refused-by whole k e = let z : _≡_ {A = ℕ} 0 1 = cc in absurd (omega arith)
   refused-by (stored i) k e =
@@ -53,7 +54,7 @@ module _ (s : Settings) (Z : ℕ) (st p out : List ℕ) where
 
   -- SPEC J-3: a refusal leaves the store changed by the arrival alone
   pub refusal-untouched :
-      (k : ℕ) → joining s Z st p (length out) ≡ unjoined k →
+      (r : Refusal) → joining s Z st p (length out) ≡ unjoined r →
       (storeJoined s Z st p (length out) ≡ storeWith Z st p (arrived s Z st p)) × (outJoined s Z st p out ≡ out)
   unfolding joining storeJoined outJoined
   refusal-untouched k e = refused-by (arrived s Z st p) k e

@@ -14,14 +14,13 @@ use Rattle.arrival.specs.Told.{said as saidBy}
 use Rattle.taking.specs.declared.Taken.{Taken}
 use Rattle.arrival.specs.Arriving.{Arrived, whole, stored, again, refused, arrivedIn, storeWith}
 use Rattle.taking.specs.Taking.{tookIn, storeLess, outWith}
-use Rattle.walk.specs.Walk.{refusal}
 use Rattle.join.specs.declared.Joined.{Joined}
 use Rattle.join.specs.Joining.{Joining, inPacket, unjoined, bodyFrom, tookAs}
 use Rattle.join.specs.Told.{taken, joinedOf}
 
--- the refusal of an arrival by its number; 0 if it is answered
+-- the refusal of an arrival; none if it is answered
 abbrev pub refusalIn : Arrival → Refusal
-refusalIn a = refusal (saidBy a .number)
+refusalIn a = saidBy a .refusal
 
 -- the body that reading tells of
 abbrev pub bodyIn : Header → Joined
@@ -29,7 +28,7 @@ bodyIn h = joinedOf (inPacket (h .body .at) (h .body .length))
 
 -- a message that was taken, or taking's refusal
 unfoldable pub takenAs : Taken → Joined
-takenAs t = pick (eqb (t .refusal .number) 0) (taken t) (joinedOf (unjoined (t .refusal .number)))
+takenAs t = pick (eqb (t .refusal .number) 0) (taken t) (joinedOf (unjoined (t .refusal)))
 
 -- ---- joining at the first n cells of any octets: `joining` without the tests of settings and order
 
@@ -38,7 +37,7 @@ abbrev pub joinedInBy : Settings → ℕ → List ℕ → ℕ → List ℕ → �
 joinedInBy s Z st n p long whole = inPacket (bodyFrom s p) (length p - bodyFrom s p)
 joinedInBy s Z st n p long (stored i) = tookAs (tookIn s Z (storeWith Z st p (stored i)) n long)
 joinedInBy s Z st n p long again = tookAs (tookIn s Z (storeWith Z st p again) n long)
-joinedInBy s Z st n p long (refused k) = unjoined k
+joinedInBy s Z st n p long (refused r) = unjoined r
 
 abbrev pub lessTakenIn : Settings → ℕ → List ℕ → ℕ → ℕ → List ℕ
 lessTakenIn s Z x n long = storeLess s Z x n (tookIn s Z x n long)
@@ -47,13 +46,13 @@ abbrev pub storeInBy : Settings → ℕ → List ℕ → ℕ → List ℕ → �
 storeInBy s Z st n p long whole = storeWith Z st p whole
 storeInBy s Z st n p long (stored i) = lessTakenIn s Z (storeWith Z st p (stored i)) n long
 storeInBy s Z st n p long again = lessTakenIn s Z (storeWith Z st p again) n long
-storeInBy s Z st n p long (refused k) = storeWith Z st p (refused k)
+storeInBy s Z st n p long (refused r) = storeWith Z st p (refused r)
 
 abbrev pub outInBy : Settings → ℕ → List ℕ → ℕ → List ℕ → List ℕ → Arrived → List ℕ
 outInBy s Z st n p out whole = out
 outInBy s Z st n p out (stored i) = outWith out (tookIn s Z (storeWith Z st p (stored i)) n (length out))
 outInBy s Z st n p out again = outWith out (tookIn s Z (storeWith Z st p again) n (length out))
-outInBy s Z st n p out (refused k) = out
+outInBy s Z st n p out (refused r) = out
 
 -- what it comes to, the store and the output after it
 unfoldable pub joiningIn : Settings → ℕ → List ℕ → ℕ → List ℕ → ℕ → Joining

@@ -7,6 +7,8 @@ use Prim.Native.Nat.{ℕ, _+_, _-_}
 use mathlib.Core.List.{List}
 use lib.ListN.{length}
 use Rattle.walk.specs.declared.Settings.{Settings}
+use Rattle.walk.specs.declared.Refusal.{Refusal}
+use Rattle.walk.specs.Walk.{refusal}
 use Rattle.packet.specs.Reading.{readPacket}
 use Rattle.cells.specs.Order.{countIn}
 use Rattle.cells.specs.Messages.{Run}
@@ -17,7 +19,7 @@ use Rattle.taking.specs.Taking.{Took, message, unable, took, storeLess, outWith
 pub data Joining : Type 0 where
   inPacket : ℕ → ℕ → Joining
   inOutput : Run → Joining
-  unjoined : ℕ → Joining
+  unjoined : Refusal → Joining
 
 -- where the body of a packet begins that came whole: after the primary header and the H octets of the secondary one
 abbrev pub bodyFrom : Settings → List ℕ → ℕ
@@ -26,7 +28,7 @@ bodyFrom s p = 6 + readPacket s p .h
 -- taking's answer
 abbrev pub tookAs : Took → Joining
 tookAs (message r) = inOutput r
-tookAs (unable k) = unjoined k
+tookAs (unable k) = unjoined (refusal k)
 
 -- the store after a taking from any octets
 abbrev pub lessTaken : Settings → ℕ → List ℕ → ℕ → List ℕ
@@ -38,21 +40,21 @@ abbrev pub joinedBy : Settings → ℕ → List ℕ → List ℕ → ℕ → Arr
 joinedBy s Z st p long whole = inPacket (bodyFrom s p) (length p - bodyFrom s p)
 joinedBy s Z st p long (stored i) = tookAs (took s Z (storeWith Z st p (stored i)) long)
 joinedBy s Z st p long again = tookAs (took s Z (storeWith Z st p again) long)
-joinedBy s Z st p long (refused k) = unjoined k
+joinedBy s Z st p long (refused r) = unjoined r
 
 -- the store then: the arrived segment is in it, and the message that was taken is not
 abbrev pub storeBy : Settings → ℕ → List ℕ → List ℕ → ℕ → Arrived → List ℕ
 storeBy s Z st p long whole = storeWith Z st p whole
 storeBy s Z st p long (stored i) = lessTaken s Z (storeWith Z st p (stored i)) long
 storeBy s Z st p long again = lessTaken s Z (storeWith Z st p again) long
-storeBy s Z st p long (refused k) = storeWith Z st p (refused k)
+storeBy s Z st p long (refused r) = storeWith Z st p (refused r)
 
 -- the output then
 abbrev pub outBy : Settings → ℕ → List ℕ → List ℕ → List ℕ → Arrived → List ℕ
 outBy s Z st p out whole = out
 outBy s Z st p out (stored i) = outWith out (took s Z (storeWith Z st p (stored i)) (length out))
 outBy s Z st p out again = outWith out (took s Z (storeWith Z st p again) (length out))
-outBy s Z st p out (refused k) = out
+outBy s Z st p out (refused r) = out
 
 -- a packet p is joined at a store st, with an output of some length
 unfoldable pub joining : Settings → ℕ → List ℕ → List ℕ → ℕ → Joining

@@ -47,5 +47,5 @@ joinedOf (inPacket place long) =
       counter = noCounter;
     }
 joinedOf (inOutput r) = taken (takenOf (message r))
-joinedOf (unjoined k) =
-    record { refusal = refusal k; which = Nothing; place = 0; length = 0; header = 0; body = 0; counter = noCounter }
+joinedOf (unjoined r) =
+    record { refusal = r; which = Nothing; place = 0; length = 0; header = 0; body = 0; counter = noCounter }

@@ -74,7 +74,7 @@ pub fn view<'a>(
 
 // The one place where a joining is refused.
 fn refused(r: Refusal) -> Joined
-    ensures { λ x. ⌜ x ≡ joinedOf (unjoined (r .number)) ⌝ }
+    ensures { λ x. ⌜ x ≡ joinedOf (unjoined r) ⌝ }
 {
     Joined {
         refusal: r,
@@ -92,7 +92,7 @@ fn refusal_of(a: Arrival) -> Refusal
     ensures { λ r. ⌜ r ≡ refusalIn a ⌝ }
 {
     match a {
-        Arrival::Answer(_) => Refusal { number: 0 },
+        Arrival::Answer(_) => walk::numbered(0),
         Arrival::Refused(r) => r,
     }
 }
@@ -103,7 +103,7 @@ fn in_packet(h: Header) -> Joined
 {
     let body = h.body;
     Joined {
-        refusal: Refusal { number: 0 },
+        refusal: walk::numbered(0),
         which: Which::Packet,
         place: body.at,
         length: body.length,
@@ -124,7 +124,7 @@ fn in_output(t: Taken) -> Joined
         return refused(refusal);
     }
     Joined {
-        refusal: refusal,
+        refusal: walk::numbered(0),
         which: Which::Joined,
         place: 2 + t.header,
         length: t.body,

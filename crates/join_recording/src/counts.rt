@@ -1,39 +1,47 @@
 // What a run counts: a list of numbers, each at its own place.
 //
-// Places 1 to 26 count the packets refused with that number. A number that would pass 64 bits stays at the largest.
+// Places 1 to 27 count the packets refused with that number; from `BEGAN` on those refused with 6 are counted by where in the secondary
+// header the unfinished field began. A number that would pass 64 bits stays at the largest.
 use steps::What;
+use walk::REFUSED_HEADER_ENDS;
+use walk::Refusal;
 
-pub const COUNTS: usize = 38;
+pub const COUNTS: usize = 295;
 
 // What the findings tell, in this order: packets seen; those that came whole, that completed a message, that were stored or held
 // already, that were too long; the segments left in the store and their keys; the octets written; the packets refused; the octets read,
 // and those of them that packets used up.
-pub const SEEN: usize = 27;
+pub const SEEN: usize = 28;
 
-pub const WHOLE: usize = 28;
+pub const WHOLE: usize = 29;
 
-pub const JOINED: usize = 29;
+pub const JOINED: usize = 30;
 
-pub const KEPT: usize = 30;
+pub const KEPT: usize = 31;
 
-pub const PASSED: usize = 31;
+pub const PASSED: usize = 32;
 
-pub const SEGMENTS: usize = 32;
+pub const SEGMENTS: usize = 33;
 
-pub const KEYS: usize = 33;
+pub const KEYS: usize = 34;
 
-pub const WRITTEN: usize = 34;
+pub const WRITTEN: usize = 35;
 
-pub const REFUSED: usize = 35;
+pub const REFUSED: usize = 36;
 
-pub const READ: usize = 36;
+pub const READ: usize = 37;
 
-pub const USED: usize = 37;
+pub const USED: usize = 38;
 
 pub const TOLD: usize = 11;
 
+// The places of a secondary header, which has at most 256 octets.
+const BEGAN: usize = 39;
+
+const PLACES: usize = 256;
+
 // The largest refusal number.
-pub const NUMBERS: usize = 26;
+pub const NUMBERS: usize = 27;
 
 // The place of a step that is no packet.
 const NOWHERE: usize = 0;
@@ -76,11 +84,50 @@ fn place(what: What, number: u8) -> usize {
     }
 }
 
+// How many packets refused with 6 end in a field that began at a place of the secondary header.
+pub fn began(counts: &[u64; COUNTS], k: usize) -> u64 {
+    if k < PLACES {
+        return at(counts, BEGAN + k);
+    }
+    0
+}
+
+// The one of two places at which more fields began; the first if there are as many.
+fn more_began(counts: &[u64; COUNTS], a: usize, b: usize) -> usize {
+    if began(counts, a) < began(counts, b) {
+        return b;
+    }
+    a
+}
+
+// The place at which most fields began, the lowest of several.
+pub fn most_began(counts: &[u64; COUNTS]) -> usize {
+    let mut most: usize = 0;
+    let mut k: usize = 1;
+    while k < PLACES {
+        most = more_began(counts, most, k);
+        k += 1;
+    }
+    most
+}
+
+// Counts where the unfinished field began, of a packet refused with 6.
+fn note_began(counts: &mut [u64; COUNTS], refusal: Refusal) {
+    let k = refusal.place;
+    if refusal.number == REFUSED_HEADER_ENDS {
+        if k < PLACES {
+            add(counts, BEGAN + k, 1);
+        }
+    }
+}
+
 // Counts a packet.
-pub fn note(counts: &mut [u64; COUNTS], what: What, number: u8, used: usize) {
+pub fn note(counts: &mut [u64; COUNTS], what: What, refusal: Refusal, used: usize) {
+    let number = refusal.number;
     add(counts, SEEN, 1);
     add(counts, USED, used as u64);
     add(counts, place(what, number), 1);
+    note_began(counts, refusal);
     if number != 0 {
         add(counts, REFUSED, 1);
     }

@@ -218,7 +218,7 @@ fn turn(
     if used == 0 {
         return in_hand(from, till, at, ends, why(what));
     }
-    counts::note(counts, what, d.refusal.number, used);
+    counts::note(counts, what, d.refusal, used);
     gather(from + used, till, at + written, ends, out, counts)
 }
 

@@ -3,6 +3,8 @@
 //
 //   NAME N                                            a number of the run, by its name in `label`
 //   refusal NUMBER N                                  N packets were refused with this number
+//   began PLACE N                                     N of those refused with 6 end in the field that begins at this place of the
+//                                                     secondary header: the most for any place, the lowest of several
 //   segment KEY TYPE APID SDU TRANSACTION FLAGS COUNTER
 //                                                     a segment left in the store; KEY is the lowest cell with its key
 //   stop WHY                                          why it stopped: 1 the recording ends, 2 no mark, 3 a torn packet, 4 reading
@@ -192,6 +194,19 @@ fn refusals(to: i32, counts: &[u64; COUNTS]) {
     }
 }
 
+// The line of the place at which most unfinished fields began, if there was one.
+fn began(to: i32, counts: &[u64; COUNTS]) {
+    let k = counts::most_began(counts);
+    let n = counts::began(counts, k);
+    if n == 0 {
+        return;
+    }
+    text(to, b"began");
+    next(to, k as u64);
+    next(to, n);
+    newline(to);
+}
+
 // The line of a cell that is held.
 fn segment(to: i32, t: Told) {
     if !t.held {
@@ -220,6 +235,7 @@ fn segments(to: i32, store: &[u8]) {
 pub fn findings(to: i32, counts: &[u64; COUNTS], store: &[u8], stop: u8) {
     numbers(to, counts);
     refusals(to, counts);
+    began(to, counts);
     segments(to, store);
     text(to, b"stop");
     next(to, stop as u64);

@@ -38,8 +38,3 @@ among-all (x ∷ k) l e n h =
     go : (has l x ≡ true) × (hasAll k l ≡ true) → (List·Memᴰ n k → List·Memᴰ n l) → (n ≡ x) ⊎ List·Memᴰ n k → List·Memᴰ n l
     go b ih (inl d) = Memᴰ·cast d (among l x (b .0))
     go b ih (inr m) = ih m
-
--- what holds of both sides of a choice
-pub picked : {A : Type 0} (F : A → Type 0) (b : Bool) (x y : A) → F x → F y → F (pick b x y)
-picked F true x y f g = f
-picked F false x y f g = g

@@ -42,8 +42,8 @@ pub packet-numbered : (κs : L.Lfts 8) (a : _) (r : _) (x : _) → cuts.Post κs
 unfolding packetAnswer
 packet-numbered κs a r x k = subst (λ (h : Cut). Numbered ofCutting (h .refusal .number)) (sym (k .0)) (cutting _ _ _ _ _ _ _ _)
 
-pub arrive-numbered : (κs : L.Lfts 2) (a : _) (r : _) (x : _) → arrives.Post κs a r x → Numbered ofArrival (said r .number)
-arrive-numbered κs a r x k = subst (λ (h : Arrival). Numbered ofArrival (said h .number)) (sym (k .0)) (arrival _ _ _ _)
+pub arrive-numbered : (κs : L.Lfts 2) (a : _) (r : _) (x : _) → arrives.Post κs a r x → Numbered ofArrival (said r .refusal .number)
+arrive-numbered κs a r x k = subst (λ (h : Arrival). Numbered ofArrival (said h .refusal .number)) (sym (k .0)) (arrival _ _ _ _)
 
 pub take-numbered : (κs : L.Lfts 2) (a : _) (r : _) (x : _) → takes.Post κs a r x → Numbered ofTaking (r .refusal .number)
 take-numbered κs a r x k = subst (λ (h : Taken). Numbered ofTaking (h .refusal .number)) (sym (k .0)) (taking _ _ _ _)

@@ -7,8 +7,8 @@ use mathlib.Core.List.{List, [], _∷_, List·Memᴰ}
 use lib.ListN.{length}
 use lib.Dec.{eqb}
 use Rattle.walk.specs.declared.Settings.{Settings}
-use Rattle.walk.specs.declared.Refusal.{Refusal}
-use Rattle.walk.specs.Walk.{noRefusal, refusal, unless}
+use Rattle.walk.specs.declared.Tested.{Tested}
+use Rattle.walk.specs.Walk.{noneFailed, failed, unless}
 use Rattle.sender.specs.declared.Sender.{Sender}
 use Rattle.write.specs.declared.HeaderValues.{HeaderValues}
 use Rattle.write.specs.declared.PacketValues.{PacketValues}
@@ -16,26 +16,27 @@ use Rattle.write.specs.Given.{Lent, headerChecks, packetChecks, unlessAll}
 use Rattle.write.specs.Writing.{settingsTest, partsTest, sizeTests, valueRefusal, writeRefusal}
 use Rattle.cut.specs.Cutting.{limitTest, valueTests, messageTests, countRefusal, packetRefusal}
 use Rattle.numbers.specs.Lists.{Numbered, ofWriting, ofCount, ofCutting}
-use Rattle.numbers.proofs.Among.{has, among, among-all, picked}
+use Rattle.format.proofs.Refusals.{picked}
+use Rattle.numbers.proofs.Among.{has, among, among-all}
 
 module _ (l : List ℕ) where
-  abbrev Ok : Refusal → Type 0
+  abbrev Ok : Tested → Type 0
   Ok r = List·Memᴰ (r .number) l
 
-  unless-ok : (b : Bool) (k : ℕ) (r : Refusal) → has l k ≡ true → Ok r → Ok (unless b k r)
+  unless-ok : (b : Bool) (k : ℕ) (r : Tested) → has l k ≡ true → Ok r → Ok (unless b k r)
   unfolding unless
-  unless-ok b k r e h = picked Ok (eqb (r .number) 0) _ r (picked Ok b r (refusal k) h (among l k e)) h
+  unless-ok b k r e h = picked Ok (eqb (r .number) 0) _ r (picked Ok b r (failed k) h (among l k e)) h
 
-  all-ok : (bs : List Bool) (k : ℕ) (r : Refusal) → has l k ≡ true → Ok r → Ok (unlessAll bs k r)
+  all-ok : (bs : List Bool) (k : ℕ) (r : Tested) → has l k ≡ true → Ok r → Ok (unlessAll bs k r)
   unfolding unlessAll
   all-ok [] k r e h = h
   all-ok (b ∷ bs) k r e h = all-ok bs k (unless b k r) e (unless-ok b k r e h)
 
-  settings-ok : (s : Settings) (r : Refusal) → has l 15 ≡ true → Ok r → Ok (settingsTest s r)
+  settings-ok : (s : Settings) (r : Tested) → has l 15 ≡ true → Ok r → Ok (settingsTest s r)
   unfolding settingsTest
   settings-ok s r e h = unless-ok _ 15 _ e (unless-ok _ 15 r e h)
 
-  parts-ok : (t : Lent) (r : Refusal) → has l 13 ≡ true → Ok r → Ok (partsTest t r)
+  parts-ok : (t : Lent) (r : Tested) → has l 13 ≡ true → Ok r → Ok (partsTest t r)
   unfolding partsTest
   parts-ok t r e h = unless-ok _ 13 r e h
 
@@ -55,11 +56,11 @@ writing s v o t body room =
     (unless-ok W _ 23 _ refl
     (parts-ok W t _ refl
     (all-ok W (packetChecks o) 22 _ refl
-    (all-ok W (headerChecks s v t) 22 _ refl (settings-ok W s noRefusal refl (among W 0 refl))))))))
+    (all-ok W (headerChecks s v t) 22 _ refl (settings-ok W s noneFailed refl (among W 0 refl))))))))
 
 -- numbers too wide, given to be written
-pub write-wide : (s : Settings) → Numbered ofWriting (unless false 22 (settingsTest s noRefusal) .number)
-write-wide s = unless-ok W false 22 _ refl (settings-ok W s noRefusal refl (among W 0 refl))
+pub write-wide : (s : Settings) → Numbered ofWriting (unless false 22 (settingsTest s noneFailed) .number)
+write-wide s = unless-ok W false 22 _ refl (settings-ok W s noneFailed refl (among W 0 refl))
 
 -- ---- cutting
 
@@ -76,14 +77,14 @@ count s P v t B d =
     (parts-ok C t _ refl
     (unless-ok C _ 22 _ refl
     (all-ok C (headerChecks s v t) 22 _ refl
-    (unless-ok C _ 15 _ refl (unless-ok C _ 15 _ refl (settings-ok C s noRefusal refl (among C 0 refl))))))))))
+    (unless-ok C _ 15 _ refl (unless-ok C _ 15 _ refl (settings-ok C s noneFailed refl (among C 0 refl))))))))))
 
 -- numbers too wide, given to be cut
-pub count-wide : (s : Settings) (P : ℕ) → Numbered ofCount (unless false 22 (limitTest s P noRefusal) .number)
+pub count-wide : (s : Settings) (P : ℕ) → Numbered ofCount (unless false 22 (limitTest s P noneFailed) .number)
 unfolding limitTest
 count-wide s P =
     unless-ok C false 22 _ refl
-    (unless-ok C _ 15 _ refl (unless-ok C _ 15 _ refl (settings-ok C s noRefusal refl (among C 0 refl))))
+    (unless-ok C _ 15 _ refl (unless-ok C _ 15 _ refl (settings-ok C s noneFailed refl (among C 0 refl))))
 
 abbrev D : List ℕ
 D = 0 ∷ ofCutting
@@ -95,5 +96,5 @@ unfolding packetRefusal
 cutting s P v t body d i room =
     unless-ok D _ 21 _ refl (unless-ok D _ 26 _ refl (among-all C D refl _ (count s P v t (length body) d)))
 
-pub cut-wide : (s : Settings) (P : ℕ) → Numbered ofCutting (unless false 22 (limitTest s P noRefusal) .number)
+pub cut-wide : (s : Settings) (P : ℕ) → Numbered ofCutting (unless false 22 (limitTest s P noneFailed) .number)
 cut-wide s P = among-all C D refl _ (count-wide s P)

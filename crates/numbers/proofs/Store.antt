@@ -8,7 +8,7 @@ use mathlib.Core.List.{List, _∷_}
 use lib.ListN.{length}
 use lib.Dec.{leb, ltb, eqb}
 use Rattle.walk.specs.declared.Settings.{Settings}
-use Rattle.walk.specs.Walk.{begun}
+use Rattle.walk.specs.Walk.{begun, refusal}
 use Rattle.packet.specs.Reading.{readPacket, segmented}
 use Rattle.cells.specs.Segments.{Seg, segOf, sameRest}
 use Rattle.cells.specs.Order.{inOrder, countIn, gate}
@@ -22,21 +22,22 @@ use Rattle.join.specs.Told.{joinedOf}
 use Rattle.recording.specs.declared.Recorded.{Recorded}
 use Rattle.recording.specs.Ending.{recordedOf}
 use Rattle.numbers.specs.Lists.{Numbered, ofReading, ofArrival, ofTaking, ofJoining, ofOrder, ofRecording}
-use Rattle.numbers.proofs.Among.{has, among, among-all, picked}
+use Rattle.format.proofs.Refusals.{picked}
+use Rattle.numbers.proofs.Among.{has, among, among-all}
 use Rattle.numbers.proofs.Reading.{reading}
 
 -- settings and order: 15 or 16
 gated : (l : List ℕ) → has (0 ∷ l) 15 ≡ true → has (0 ∷ l) 16 ≡ true → (s : Settings) (Z : ℕ) (st : List ℕ) → Numbered l (gate s Z st)
 unfolding gate
 gated l a b s Z st =
-    picked (Numbered l) (eqb (begun s .refusal .number) 0) _ 15
+    picked (Numbered l) (eqb (begun s .refused) 0) _ 15
     (picked (Numbered l) (inOrder s Z st) 0 16 (among (0 ∷ l) 0 refl) (among (0 ∷ l) 16 b))
     (among (0 ∷ l) 15 a)
 
 -- ---- arrival
 
 abbrev Came : Arrived → Type 0
-Came a = Numbered ofArrival (said (arrivalOf a) .number)
+Came a = Numbered ofArrival (said (arrivalOf a) .refusal .number)
 
 came : (n : ℕ) → has (0 ∷ ofArrival) n ≡ true → Numbered ofArrival n
 came n e = among (0 ∷ ofArrival) n e
@@ -46,16 +47,16 @@ unfolding segmentArrived placed
 segment-came s Z st n t = go (look (cellsOf s Z st n) (t .key) (t .counter))
   where
     go : (o : Option Seg) → Came (beside o t (placed n (lowestFree s Z st n)))
-    go none = picked Came (ltb (lowestFree s Z st n) n) (stored (lowestFree s Z st n)) (refused 19) (came 0 refl) (came 19 refl)
-    go (some u) = picked Came (sameRest u t) again (refused 18) (came 0 refl) (came 18 refl)
+    go none = picked Came (ltb (lowestFree s Z st n) n) (stored (lowestFree s Z st n)) (refused (refusal 19)) (came 0 refl) (came 19 refl)
+    go (some u) = picked Came (sameRest u t) again (refused (refusal 18)) (came 0 refl) (came 18 refl)
 
-pub arrival : (s : Settings) (Z : ℕ) (st p : List ℕ) → Numbered ofArrival (said (arrivalOf (arrived s Z st p)) .number)
+pub arrival : (s : Settings) (Z : ℕ) (st p : List ℕ) → Numbered ofArrival (said (arrivalOf (arrived s Z st p)) .refusal .number)
 unfolding arrived arrivedIn
 arrival s Z st p =
-    picked Came (eqb (gate s Z st) 0) _ (refused (gate s Z st))
-    (picked Came (eqb (readPacket s p .refusal .number) 0) _ (refused (readPacket s p .refusal .number))
+    picked Came (eqb (gate s Z st) 0) _ (refused (refusal (gate s Z st)))
+    (picked Came (eqb (readPacket s p .refusal .number) 0) _ (refused (readPacket s p .refusal))
     (picked Came (segmented p) _ whole
-    (picked Came (leb (2 + length p) Z) _ (refused 17) (segment-came s Z st (countIn Z st) (segOf p (readPacket s p))) (came 17 refl))
+    (picked Came (leb (2 + length p) Z) _ (refused (refusal 17)) (segment-came s Z st (countIn Z st) (segOf p (readPacket s p))) (came 17 refl))
     (came 0 refl))
     (among-all (0 ∷ ofReading) (0 ∷ ofArrival) refl _ (reading s p)))
     (gated ofArrival refl refl s Z st)
@@ -93,14 +94,14 @@ join s Z st p long = go (arrived s Z st p) (arrival s Z st p)
     go whole h = among (0 ∷ ofJoining) 0 refl
     go (stored i) h = took-as (took s Z (storeWith Z st p (stored i)) long) (taking s Z (storeWith Z st p (stored i)) long)
     go again h = took-as (took s Z (storeWith Z st p again) long) (taking s Z (storeWith Z st p again) long)
-    go (refused k) h = among-all (0 ∷ ofArrival) (0 ∷ ofJoining) refl k h
+    go (refused k) h = among-all (0 ∷ ofArrival) (0 ∷ ofJoining) refl (k .number) h
 
 -- ---- the order of a store, and a whole recording
 
 pub order : (s : Settings) (Z : ℕ) (st : List ℕ) → Numbered ofOrder (gate s Z st)
 unfolding gate
 order s Z st =
-    picked (Numbered ofOrder) (eqb (begun s .refusal .number) 0) _ 15
+    picked (Numbered ofOrder) (eqb (begun s .refused) 0) _ 15
     (picked (Numbered ofOrder) (inOrder s Z st) 0 16 (among (0 ∷ ofOrder) 0 refl) (among (0 ∷ ofOrder) 16 refl)) (among (0 ∷ ofOrder) 15 refl)
 
 pub all : (long : ℕ) (x : List ℕ) → Numbered ofRecording (recordedOf long x .refusal .number)

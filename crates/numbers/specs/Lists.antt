@@ -7,9 +7,9 @@ use mathlib.Core.List.{List, [], _∷_, _++_, List·Memᴰ}
 abbrev pub Numbered : List ℕ → ℕ → Type 0
 Numbered l n = List·Memᴰ n (0 ∷ l)
 
--- what a packet alone is refused by, 14 last; between 5 and 14 the fields come from left to right
+-- what a packet alone is refused by, 14 last; between 27 and 14 the fields come from left to right
 abbrev pub ofPacket : List ℕ
-ofPacket = 1 ∷ 2 ∷ 3 ∷ 4 ∷ 5 ∷ 6 ∷ 7 ∷ 8 ∷ 9 ∷ 10 ∷ 11 ∷ 12 ∷ 13 ∷ 14 ∷ []
+ofPacket = 1 ∷ 2 ∷ 3 ∷ 4 ∷ 5 ∷ 27 ∷ 6 ∷ 7 ∷ 8 ∷ 9 ∷ 10 ∷ 11 ∷ 12 ∷ 13 ∷ 14 ∷ []
 
 abbrev pub ofReading : List ℕ
 ofReading = 15 ∷ ofPacket

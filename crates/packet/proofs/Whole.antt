@@ -1,13 +1,14 @@
 -- From the answers of the steps to the answer of reading, on plain values.
 -- Assumes nothing.
 use Prim.Native.Nat.{ℕ, _-_}
-use mathlib.Core.Path.{_≡_, ap, ap₂, sym, _∙_}
+use mathlib.Core.Path.{_≡_, refl, ap, ap₂, sym, _∙_}
 use mathlib.Core.Bool.{true}
 use mathlib.Core.List.{List}
 use lib.ListN.{length}
 use borrow.Author.Tests.{eq-eqb, ne-eqb}
 use Rattle.walk.specs.declared.Settings.{Settings}
 use Rattle.walk.specs.declared.Walk.{Walk}
+use Rattle.walk.specs.declared.Refusal.{Refusal}
 use Rattle.walk.specs.Walk.{Reading, Step, noRefusal, going, begun}
 use Rattle.walk.specs.Inner.{asWalk, ofWalk}
 use Rattle.fields.specs.Fields.{place}
@@ -19,7 +20,7 @@ use Rattle.packet.specs.declared.IdsStep.{IdsStep}
 use Rattle.packet.specs.declared.Texts.{Texts}
 use Rattle.packet.specs.declared.TextsStep.{TextsStep}
 use Rattle.packet.specs.FixedPart.{fixedOf, fixedEnd, presentOf}
-use Rattle.packet.specs.Reading.{primaryTests, primaryOf, idsOf, textsOf, bodyTest, startAt, hasAt, idsAt, textsAt, ended, counterSize, refusedHeader, acceptedHeader, readPacket}
+use Rattle.packet.specs.Reading.{primaryTests, primaryOf, idsOf, textsOf, bodyTest, startAt, hasAt, idsAt, textsAt, ended, counterSize, refusalOf, refusedHeader, acceptedHeader, readPacket}
 use Rattle.packet.specs.Inner.{fixedStep, asIds, asTexts}
 
 abbrev ofIds : IdsStep → Step Ids
@@ -32,6 +33,16 @@ ofTexts x = record { walk = ofWalk (x .walk); value = x .texts }
 pub accepts : (s : Settings) (p : List ℕ) → going (ended s p) ≡ true → readPacket s p ≡ acceptedHeader s p
 unfolding readPacket
 accepts s p h = rw h
+
+-- what a reading tells that is refused by 6
+pub ends-told :
+    (p : List ℕ) (w : Reading) {r : Refusal} {k : ℕ} → w .refused ≡ 6 → k ≡ w .at - 6 →
+    r ≡ record { number = w .refused; octets = 0; place = k } → r ≡ refusalOf p w
+unfolding refusalOf
+ends-told p w h e q =
+    let a : refusalOf p w .octets ≡ 0 = rw h refl in
+    let b : refusalOf p w .place ≡ w .at - 6 = rw h refl in
+    q ∙ (λ i. record { number = w .refused; octets = sym a i; place = (e ∙ sym b) i })
 
 module _
     (s : Settings)
@@ -72,14 +83,14 @@ module _
   ended-is : ended s p ≡ ofWalk w
   ended-is = ap (bodyTest p) (ap (λ (x : Step Texts). x .walk) texts-is) ∙ ap ofWalk (sym e5)
 
-  pub refused-whole : (w .refusal .number ≡ 0 → ⊥) → refusedHeader (w .refusal) ≡ readPacket s p
+  pub refused-whole : {r : Refusal} → (w .refused ≡ 0 → ⊥) → r ≡ refusalOf p (ofWalk w) → refusedHeader r ≡ readPacket s p
   unfolding readPacket
-  refused-whole h = rw (ended-is, ne-eqb (w .refusal .number) 0 h)
+  refused-whole h e = ap refusedHeader e ∙ rw (ended-is, ne-eqb (w .refused) 0 h)
 
   pub accepted-whole :
-      {m : Primary} {n : ℕ} {l : ℕ} → w .refusal .number ≡ 0 → m ≡ primaryOf p → n ≡ w .at - 6 - counterSize p → l ≡ length p - w .at →
+      {r : Refusal} {m : Primary} {n : ℕ} {l : ℕ} → w .refused ≡ 0 → r ≡ noRefusal → m ≡ primaryOf p → n ≡ w .at - 6 - counterSize p → l ≡ length p - w .at →
       record {
-        refusal = w .refusal;
+        refusal = r;
         primary = m;
         fixed = f .fixed;
         has = f .has;
@@ -90,15 +101,14 @@ module _
       }
       ≡ readPacket s p
   unfolding acceptedHeader
-  accepted-whole {m} {n} {l} h em en el =
-      let z : w .refusal ≡ noRefusal = ap (λ (k : ℕ). record { number = k }) h in
+  accepted-whole {r} {m} {n} {l} h er em en el =
       let at-is : w .at ≡ ended s p .at = ap (λ (v : Reading). v .at) (sym ended-is) in
       let h-is : n ≡ ended s p .at - 6 - counterSize p = en ∙ ap (λ (k : ℕ). k - 6 - counterSize p) at-is in
       let l-is : l ≡ length p - ended s p .at = el ∙ ap (λ (k : ℕ). length p - k) at-is in
       let same : _ ≡ acceptedHeader s p =
       λ j.
       record {
-        refusal = z j;
+        refusal = er j;
         primary = em j;
         fixed = sym fixed-is j;
         has = sym has-is j;
@@ -107,4 +117,4 @@ module _
         h = h-is j;
         body = record { at = at-is j; length = l-is j };
       } in
-      same ∙ sym (accepts s p (rw ended-is (eq-eqb (w .refusal .number) 0 h)))
+      same ∙ sym (accepts s p (rw ended-is (eq-eqb (w .refused) 0 h)))

@@ -67,7 +67,7 @@ values =
 abbrev pub header : Header
 header =
     record {
-      refusal = record { number = 0 };
+      refusal = record { number = 0; octets = 0; place = 0 };
       primary = record { «packet_type» = 1; apid = record { 0 = 5 }; flags = 3; «sequence_count» = record { 0 = 0 } };
       fixed =
           record {

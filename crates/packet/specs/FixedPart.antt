@@ -4,7 +4,7 @@ use Prim.Native.Nat.{ℕ, _+_, _*_, _/_, _%_}
 use mathlib.Core.List.{List}
 use lib.Dec.{ltb, eqb}
 use Rattle.octets.specs.Octets.{octetAt, number}
-use Rattle.walk.specs.Walk.{Reading, Step, octets, check}
+use Rattle.walk.specs.Walk.{Reading, Step, octets, check, fieldFrom}
 use Rattle.packet.specs.declared.Fixed.{Fixed}
 use Rattle.packet.specs.declared.Present.{Present}
 
@@ -38,9 +38,9 @@ afterVersion p w = octets p 1 (afterOperation p w)
 unfoldable pub afterSession : List ℕ → Reading → Reading
 afterSession p w = check (ltb (octetAt p (w .at) / 8 % 4) 3) 9 (octets p 1 w)
 
--- its low bits
+-- its low bits: the secondary APID is one field, which began in the octet before
 unfoldable pub afterSecondary : List ℕ → Reading → Reading
-afterSecondary p w = octets p 1 (afterSession p w)
+afterSecondary p w = fieldFrom w (octets p 1 (afterSession p w))
 
 unfoldable pub afterQualifier : List ℕ → Reading → Reading
 afterQualifier p w = octets p 2 (afterSecondary p w)

@@ -1,5 +1,6 @@
 pub mod Numbers
 pub mod Format
+pub mod Began
 pub mod FixedPart
 pub mod Reading
 pub mod Key

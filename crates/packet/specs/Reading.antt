@@ -21,12 +21,17 @@ use Rattle.packet.specs.FixedPart.{octetField, wideField, fixedEnd, fixe
 
 -- ---- the primary header, at its own places
 
--- SPEC R-1: 1 too short; 2 the version; 3 the secondary header flag; 4 the idle APID; 5 another length than the length field says
+-- the octets that a packet has by its length field
+abbrev pub wanted : List ℕ → ℕ
+wanted p = number 2 p 4 + 7
+
+-- SPEC R-1: 1 too short; 2 the version; 3 the secondary header flag; 4 the idle APID; 5 shorter than the length field says, 27 longer
 unfoldable pub primaryTests : List ℕ → Reading → Reading
 primaryTests p w =
-    check (eqb (length p) (number 2 p 4 + 7)) 5
+    check (leb (length p) (wanted p)) 27
+    (check (leb (wanted p) (length p)) 5
     (check (not (eqb (number 2 p 0 % 2048) 2047)) 4
-    (check (eqb (octetAt p 0 / 8 % 2) 1) 3 (check (ltb (octetAt p 0) 32) 2 (check (leb 6 (length p)) 1 w))))
+    (check (eqb (octetAt p 0 / 8 % 2) 1) 3 (check (ltb (octetAt p 0) 32) 2 (check (leb 6 (length p)) 1 w)))))
 
 unfoldable pub primaryOf : List ℕ → Primary
 primaryOf p =
@@ -98,7 +103,17 @@ textsAt s p = textsOf s (hasAt s p) p (idsAt s p .walk)
 abbrev pub ended : Settings → List ℕ → Reading
 ended s p = bodyTest p (textsAt s p .walk)
 
--- what a refusal answers: its number, every other answer zero
+-- SPEC R-10, what a refused reading tells: its number; beside 5 the octets that are missing, beside 27 those that are left over; beside 6 the
+-- place in the secondary header where the unfinished field began
+unfoldable pub refusalOf : List ℕ → Reading → Refusal
+refusalOf p w =
+    record {
+      number = w .refused;
+      octets = pick (eqb (w .refused) 5) (wanted p - length p) (pick (eqb (w .refused) 27) (length p - wanted p) 0);
+      place = pick (eqb (w .refused) 6) (w .at - 6) 0;
+    }
+
+-- what a refusal answers beside it: zeros
 abbrev pub noFixed : Fixed
 noFixed =
     record {
@@ -168,4 +183,4 @@ acceptedHeader s p =
     }
 
 unfoldable pub readPacket : Settings → List ℕ → Header
-readPacket s p = pick (going (ended s p)) (acceptedHeader s p) (refusedHeader (ended s p .refusal))
+readPacket s p = pick (going (ended s p)) (acceptedHeader s p) (refusedHeader (refusalOf p (ended s p)))

@@ -22,17 +22,19 @@ ghost use Rattle.fields.specs.Fields.{opt};
 ghost use Rattle.packet.specs.Numbers.{nextSequenceCount, sequenceCountAt};
 ghost use Rattle.packet.specs.FixedPart.{flagsOf, octetField, wideField, sduField};
 ghost use Rattle.packet.specs.Reading.{primaryTests, primaryOf, idsOf, textsOf, bodyTest, segmented as segmentedOf, counterSize};
-ghost use Rattle.packet.specs.Reading.{refusedHeader, noFixed, readPacket};
+ghost use Rattle.packet.specs.Reading.{refusalOf, refusedHeader, noFixed, readPacket};
 ghost use Rattle.packet.specs.Inner.{heldCount, namesOf, routingOf, fixedStep, asOctet, asWord, asCounter, asIds, asTexts};
 use fields::Place;
 use walk::REFUSED_BINDING;
 use walk::REFUSED_EMPTY_SEGMENT;
 use walk::REFUSED_FEW_OCTETS;
+use walk::REFUSED_HEADER_ENDS;
 use walk::REFUSED_IDLE;
-use walk::REFUSED_LENGTH;
+use walk::REFUSED_LONG;
 use walk::REFUSED_NO_SECONDARY;
 use walk::REFUSED_SDU_TYPE;
 use walk::REFUSED_SESSION;
+use walk::REFUSED_SHORT;
 use walk::REFUSED_VERSION;
 use walk::Refusal;
 use walk::Settings;
@@ -203,7 +205,7 @@ pub fn next_sequence_count(c: SequenceCount) -> SequenceCount
     sequence_count_after(c, 1)
 }
 
-// 1 to 5.
+// 1 to 4, then 5 or 27.
 fn primary_walk(p: &[u8], w: Walk) -> Walk
     ensures { λ r. ⌜ r ≡ asWalk (primaryTests (now (p .entry)) (ofWalk w)) ⌝ }
 {
@@ -214,7 +216,8 @@ fn primary_walk(p: &[u8], w: Walk) -> Walk
         .check(first < 32, REFUSED_VERSION);
     let b = a.check(first / 8 % 2 == 1, REFUSED_NO_SECONDARY)
         .check(id % 2048 != 2047, REFUSED_IDLE);
-    b.check(p.len() == want, REFUSED_LENGTH)
+    b.check(want <= p.len(), REFUSED_SHORT)
+        .check(p.len() <= want, REFUSED_LONG)
 }
 
 fn read_primary(p: &[u8]) -> Primary
@@ -303,7 +306,7 @@ fn read_routing(p: &[u8], w: Walk) -> Routing
     let aw = a.walk;
     let high = a.value;
     let b = read_octet(p, aw.check(high / 8 % 4 < 3, REFUSED_SESSION));
-    let bw = b.walk;
+    let bw = b.walk.field_from(w);
     let c = read_word(p, bw);
     let cw = c.walk;
     let secondary_apid = SecondaryApid((high % 8) as u16 * 256 + b.value as u16);
@@ -480,7 +483,25 @@ fn no_fixed() -> Fixed
     }
 }
 
-// What a refusal answers: its number, and zeros.
+// What a refused walk tells: beside 5 and 27 the octets missing or left over, beside 6 where in the secondary header the field began.
+fn refusal_of(p: &[u8], w: Walk) -> Refusal
+    ensures { λ r. ⌜ r ≡ refusalOf (now (p .entry)) (ofWalk w) ⌝ }
+{
+    let n = w.refused;
+    let want = octets::be16(p, 4) as usize + 7;
+    if n == REFUSED_SHORT {
+        return walk::telling(n, octets::less(want, p.len()), 0);
+    }
+    if n == REFUSED_LONG {
+        return walk::telling(n, octets::less(p.len(), want), 0);
+    }
+    if n == REFUSED_HEADER_ENDS {
+        return walk::telling(n, 0, octets::less(w.at as usize, 6));
+    }
+    walk::numbered(n)
+}
+
+// What a refusal answers beside it: zeros.
 fn refused_header(refusal: Refusal) -> Header
     ensures { λ r. ⌜ r ≡ refusedHeader refusal ⌝ }
 {
@@ -544,10 +565,10 @@ pub fn read(s: Settings, p: &[u8]) -> Header
     let t = read_texts(s, has, p, iw);
     let tw = t.walk;
     let w = body_walk(p, tw);
-    let refusal = w.refusal;
-    if refusal.number != 0 {
-        return refused_header(refusal);
+    if w.refused != 0 {
+        return refused_header(refusal_of(p, w));
     }
+    let refusal = walk::numbered(0);
     let end = w.at as usize;
     let primary = read_primary(p);
     let fixed = f.fixed;

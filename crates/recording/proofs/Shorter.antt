@@ -11,6 +11,7 @@ use lib.Dec.{leb, eqb}
 use Rattle.octets.specs.Octets.{pick, Octets}
 use Rattle.octets.proofs.Has.{octets-drop, octets-part}
 use Rattle.walk.specs.declared.Settings.{Settings}
+use Rattle.walk.specs.Walk.{refusal}
 use Rattle.cells.specs.Rows.{sizeIn}
 use Rattle.cells.specs.Order.{countIn, cellSize}
 use Rattle.arrival.specs.Arriving.{Arrived, whole as wholly', stored, again, refused as refused', arrived, storeWith}
@@ -36,7 +37,7 @@ module _ (s : Settings) (Z : ℕ) where
   took-by p x long (message' r) e = let a = taking-weighs s Z x long r e in omega (arith, framed-long (writing r))
   took-by p x long (unable k) e = go (eqb k 20)
     where
-      go : (b : Bool) → length (wrote p (pick b kept (refused k))) + weighs s Z x ≤ weighs s Z x
+      go : (b : Bool) → length (wrote p (pick b kept (refused (refusal k)))) + weighs s Z x ≤ weighs s Z x
       go true = omega arith
       go false = omega arith
 
@@ -54,7 +55,7 @@ module _ (s : Settings) (Z : ℕ) where
         let b = arrival-weighs s Z st p i o e in
         omega arith
     joined-by again e = let a = took-by p st room (took s Z st room) refl in omega arith
-    joined-by (refused' k) e = go (eqb k 20)
+    joined-by (refused' k) e = go (eqb (k .number) 20)
       where
         go : (b : Bool) → length (wrote p (pick b kept (refused k))) + weighs s Z st ≤ weighs s Z st + (2 + length p)
         go true = omega arith

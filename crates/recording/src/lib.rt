@@ -93,9 +93,7 @@ pub fn join_all(recording: &[u8], out: &mut [u8]) -> Recorded
     let n = recording.len();
     if out.len() < n {
         return Recorded {
-            refusal: Refusal {
-                number: REFUSED_OUTPUT,
-            },
+            refusal: walk::numbered(REFUSED_OUTPUT),
             why: Why::Unsaid,
             place: 0,
             written: 0,
@@ -108,7 +106,7 @@ pub fn join_all(recording: &[u8], out: &mut [u8]) -> Recorded
     let place = end.place;
     let why = why_at(&recording[place..n]);
     Recorded {
-        refusal: Refusal { number: 0 },
+        refusal: walk::numbered(0),
         why: why,
         place: place,
         written: end.written,

@@ -103,17 +103,17 @@ module _ (p out : List ℕ) where
     -- neither whole nor a message
     pub joins-left :
         (j : Joining) {d : Done} → a ≡ joinedOf j → x ≡ sets out 6 (takenIn j) → a .which ≡ Nothing →
-        d ≡ leftAs (a .refusal .number) (2 + length p) → Joins j d x
+        d ≡ leftAs (a .refusal) (2 + length p) → Joins j d x
     unfolding leftAs
     joins-left (inPacket place n) e ex w ed = let z : _≡_ {A = ℕ} 0 1 = cc in absurd (omega arith)
     joins-left (inOutput r) e ex w ed = let z : _≡_ {A = ℕ} 0 1 = cc in absurd (omega arith)
     joins-left (unjoined k) e ex w ed =
-        (ed ∙ ap (λ (b : Joined). leftAs (b .refusal .number) (2 + length p)) e ∙ answer (eqb k 20), ex ∙ output (eqb k 20))
+        (ed ∙ ap (λ (b : Joined). leftAs (b .refusal) (2 + length p)) e ∙ answer (eqb (k .number) 20), ex ∙ output (eqb (k .number) 20))
       where
         answer :
             (b : Bool) →
             pick b (record { what = Kept; refusal = refusal 0; used = 2 + length p; written = 0 })
-            (record { what = Refused; refusal = refusal k; used = 2 + length p; written = 0 })
+            (record { what = Refused; refusal = k; used = 2 + length p; written = 0 })
             ≡ doneCame p (pick b kept (passed k))
         answer true = refl
         answer false = refl

@@ -174,7 +174,7 @@ module _ (s : Settings) (Z : ℕ) (st w : List ℕ) (e : Bool) where
       joined : length p ≤ longest → (j : Joining) → joining s Z st p room ≡ j → length (wrote p (cameBy j)) ≤ 6 + room
       joined l (inPacket place n) h = omega (arith, framed-long (without p), without-long p)
       joined l (inOutput r) h = omega (arith, framed-long (writing r), joined-fits s Z st p room r h .fits)
-      joined l (unjoined k) h = left (eqb k 20)
+      joined l (unjoined k) h = left (eqb (k .number) 20)
         where
           left : (b : Bool) → length (wrote p (pick b kept (refused k))) ≤ 6 + room
           left true = omega arith

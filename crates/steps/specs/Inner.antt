@@ -7,7 +7,7 @@ use lib.Dec.{eqb}
 use Rattle.octets.specs.Octets.{pick}
 use Rattle.walk.specs.declared.Refusal.{Refusal}
 use Rattle.taking.specs.Taking.{writing}
-use Rattle.walk.specs.Walk.{refusal}
+use Rattle.walk.specs.Walk.{noRefusal}
 use Rattle.join.specs.Joining.{Joining, inPacket, inOutput, unjoined}
 use Rattle.steps.specs.declared.What.{What}
 use Rattle.steps.specs.declared.What.the-variants.{More, Refused, Kept}
@@ -18,13 +18,13 @@ use Rattle.steps.specs.Told.{still}
 abbrev pub takenIn : Joining → List ℕ
 takenIn (inPacket place long) = []
 takenIn (inOutput r) = writing r
-takenIn (unjoined k) = []
+takenIn (unjoined r) = []
 
 -- a packet that neither came whole nor completed a message
-unfoldable pub leftAs : ℕ → ℕ → Done
-leftAs k n =
-    pick (eqb k 20) (record { what = Kept; refusal = refusal 0; used = n; written = 0 })
-    (record { what = Refused; refusal = refusal k; used = n; written = 0 })
+unfoldable pub leftAs : Refusal → ℕ → Done
+leftAs r n =
+    pick (eqb (r .number) 20) (record { what = Kept; refusal = noRefusal; used = n; written = 0 })
+    (record { what = Refused; refusal = r; used = n; written = 0 })
 
 -- a step that writes a message of n octets after its mark and length
 abbrev pub framedAs : What → Refusal → ℕ → ℕ → Done

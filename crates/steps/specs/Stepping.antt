@@ -9,6 +9,7 @@ use lib.ListN.{length, take, drop}
 use lib.Dec.{leb, eqb}
 use Rattle.octets.specs.Octets.{pick, alike, wide}
 use Rattle.walk.specs.declared.Settings.{Settings}
+use Rattle.walk.specs.declared.Refusal.{Refusal}
 use Rattle.cells.specs.Rows.{sizeIn, packetIn}
 use Rattle.cells.specs.Messages.{Run}
 use Rattle.taking.specs.Taking.{writing}
@@ -50,7 +51,7 @@ room = 65536
 
 pub data Came : Type 0 where
   over : Came
-  refused : ℕ → Came
+  refused : Refusal → Came
   kept : Came
   wholly : Came
   message : Run → Came
@@ -59,7 +60,7 @@ pub data Came : Type 0 where
 abbrev pub cameBy : Joining → Came
 cameBy (inPacket place long) = wholly
 cameBy (inOutput r) = message r
-cameBy (unjoined k) = pick (eqb k 20) kept (refused k)
+cameBy (unjoined r) = pick (eqb (r .number) 20) kept (refused r)
 
 unfoldable pub cameOf : Settings → ℕ → List ℕ → List ℕ → Came
 cameOf s Z st p = pick (leb (length p) longest) (cameBy (joining s Z st p room)) over
@@ -80,7 +81,7 @@ without p = take 2 p ++ drop 6 p
 
 abbrev pub wrote : List ℕ → Came → List ℕ
 wrote p over = []
-wrote p (refused k) = []
+wrote p (refused r) = []
 wrote p kept = []
 wrote p wholly = framed (without p)
 wrote p (message r) = framed (writing r)

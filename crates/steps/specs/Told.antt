@@ -3,7 +3,8 @@
 use Prim.Native.Nat.{ℕ, _+_}
 use mathlib.Core.List.{List}
 use lib.ListN.{length}
-use Rattle.walk.specs.Walk.{refusal}
+use Rattle.walk.specs.declared.Refusal.{Refusal}
+use Rattle.walk.specs.Walk.{noRefusal}
 use Rattle.steps.specs.declared.What.{What}
 use Rattle.steps.specs.declared.What.the-variants.{More, Ended, Unmarked, Torn, Passed, Refused, Kept, Whole, Joined}
 use Rattle.steps.specs.declared.Stands.{Stands}
@@ -20,27 +21,27 @@ standsOf (whole p) = InFull
 
 abbrev pub whatCame : Came → What
 whatCame over = Passed
-whatCame (refused k) = Refused
+whatCame (refused r) = Refused
 whatCame kept = Kept
 whatCame wholly = Whole
 whatCame (message r) = Joined
 
 -- the refusal of a packet that is passed over for it
-abbrev pub numberCame : Came → ℕ
-numberCame over = 0
-numberCame (refused k) = k
-numberCame kept = 0
-numberCame wholly = 0
-numberCame (message r) = 0
+abbrev pub refusalCame : Came → Refusal
+refusalCame over = noRefusal
+refusalCame (refused r) = r
+refusalCame kept = noRefusal
+refusalCame wholly = noRefusal
+refusalCame (message r) = noRefusal
 
 -- a step that uses up no octet and writes none
 abbrev pub still : What → Done
-still w = record { what = w; refusal = refusal 0; used = 0; written = 0 }
+still w = record { what = w; refusal = noRefusal; used = 0; written = 0 }
 
 -- a step over a packet
 abbrev pub doneCame : List ℕ → Came → Done
 doneCame p c =
-    record { what = whatCame c; refusal = refusal (numberCame c); used = 2 + length p; written = length (wrote p c) }
+    record { what = whatCame c; refusal = refusalCame c; used = 2 + length p; written = length (wrote p c) }
 
 abbrev pub doneOf : Stepped → Done
 doneOf wanting = still More

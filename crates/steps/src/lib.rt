@@ -98,7 +98,7 @@ fn still(what: What) -> Done
 {
     Done {
         what: what,
-        refusal: Refusal { number: 0 },
+        refusal: walk::numbered(0),
         used: 0,
         written: 0,
     }
@@ -116,12 +116,12 @@ fn stop(ends: bool, what: What) -> Done
 
 // A packet that neither came whole nor completed a message; 20 refuses no packet.
 fn left(refusal: Refusal, used: usize) -> Done
-    ensures { λ r. ⌜ r ≡ leftAs (refusal .number) used ⌝ }
+    ensures { λ r. ⌜ r ≡ leftAs refusal used ⌝ }
 {
     if refusal.number == REFUSED_INCOMPLETE {
         return Done {
             what: What::Kept,
-            refusal: Refusal { number: 0 },
+            refusal: walk::numbered(0),
             used: used,
             written: 0,
         };
@@ -248,7 +248,7 @@ fn step_packet(
     if LONGEST < p.len() {
         return Done {
             what: What::Passed,
-            refusal: Refusal { number: 0 },
+            refusal: walk::numbered(0),
             used: 2 + p.len(),
             written: 0,
         };

@@ -33,7 +33,7 @@ drawn-tells (some m) long r e =
 
 -- the settings are in range, the store is in order, the message is the one that is picked, and it fits the output
 pub record Taken (s : Settings) (Z : ℕ) (st : List ℕ) (long : ℕ) (r : Run) : Type 0 where
-  pub settings : eqb (begun s .refusal .number) 0 ≡ true
+  pub settings : eqb (begun s .refused) 0 ≡ true
   pub order : inOrder s Z st ≡ true
   pub picked : picked suc top (cellsOf s Z st (countIn Z st)) ≡ some r
   pub fits : length (writing r) ≤ long

@@ -67,7 +67,7 @@ pub fn not_taken(k: u8) -> Taken
     ensures { λ r. ⌜ r ≡ takenOf (unable k) ⌝ }
 {
     Taken {
-        refusal: Refusal { number: k },
+        refusal: walk::numbered(k),
         header: 0,
         body: 0,
         counter: SegmentCounter(0),
@@ -366,7 +366,7 @@ fn draw(
     let key = cells::span(out, 0, 2 + t.header);
     crate::clearing::clear(s, store, n, zero, key, counter, t.steps);
     Taken {
-        refusal: Refusal { number: 0 },
+        refusal: walk::numbered(0),
         header: t.header,
         body: b,
         counter: counter,

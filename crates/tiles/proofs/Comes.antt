@@ -11,6 +11,8 @@ use native.Mathlib.Omega.{arith}
 use lib.ListN.{length}
 use lib.Dec.{eqb}
 use Rattle.octets.specs.Octets.{pick}
+use Rattle.walk.specs.declared.Refusal.{Refusal}
+use Rattle.walk.specs.Walk.{refusal}
 use Rattle.cells.specs.Messages.{Run, picked, top}
 use Rattle.arrival.specs.Arriving.{Arrived, whole, stored, again, refused, arrived, storeWith}
 use Rattle.taking.specs.Taking.{Took, message, unable, writing, took}
@@ -36,19 +38,19 @@ abbrev takenBy : List ℕ → List ℕ → ℕ → Arrived → Option Took
 takenBy st p long a = pick (goesOn a) (some (took settings Z (storeWith Z st p a) long)) none
 
 -- a refusal is no message
-no-message : (k : ℕ) (r : Run) (b : Bool) → pick b kept (refusedBy k) ≡ messageOf r → ⊥
+no-message : (k : Refusal) (r : Run) (b : Bool) → pick b kept (refusedBy k) ≡ messageOf r → ⊥
 no-message k r true d = let z : _≡_ {A = ℕ} 0 1 = cc d in omega arith
 no-message k r false d = let z : _≡_ {A = ℕ} 0 1 = cc d in omega arith
 
 took-by : (t : Took) (r : Run) → cameBy (tookAs t) ≡ messageOf r → t ≡ message r
 took-by (message q) r e = let d : q ≡ r = cc e in ap message d
-took-by (unable k) r e = absurd (no-message k r (eqb k 20) e)
+took-by (unable k) r e = absurd (no-message (refusal k) r (eqb k 20) e)
 
 came-by : (st p : List ℕ) (a : Arrived) (r : Run) → cameBy (joinedBy settings Z st p room a) ≡ messageOf r → takenBy st p room a ≡ some (message r)
 came-by st p whole r e = let z : _≡_ {A = ℕ} 0 1 = cc e in absurd (omega arith)
 came-by st p (stored i) r e = ap some (took-by (took settings Z (storeWith Z st p (stored i)) room) r e)
 came-by st p again r e = ap some (took-by (took settings Z (storeWith Z st p again) room) r e)
-came-by st p (refused k) r e = absurd (no-message k r (eqb k 20) e)
+came-by st p (refused k) r e = absurd (no-message k r (eqb (k .number) 20) e)
 
 by-came : (st p : List ℕ) (a : Arrived) (r : Run) → takenBy st p room a ≡ some (message r) → cameBy (joinedBy settings Z st p room a) ≡ messageOf r
 by-came st p whole r e = let z : _≡_ {A = ℕ} 0 1 = cc e in absurd (omega arith)

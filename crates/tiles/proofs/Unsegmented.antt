@@ -11,6 +11,8 @@ use lib.ListN.{length}
 use lib.Dec.{leb, ltb, eqb}
 use borrow.Author.Tests.{eqb-true, eq-eqb, leb-true, le-leb}
 use Rattle.octets.specs.Octets.{pick}
+use Rattle.walk.specs.declared.Refusal.{Refusal}
+use Rattle.walk.specs.Walk.{refusal}
 use Rattle.packet.specs.Reading.{readPacket, segmented}
 use Rattle.cells.specs.Segments.{Seg, segOf, sameRest}
 use Rattle.cells.specs.Messages.{cellsOf, look, bodyOf}
@@ -34,11 +36,11 @@ module _ (st p : List ℕ) where
   unfolding segmentArrived placed
   segment-no n t e = go (look (cellsOf settings Z st n) (t .key) (t .counter)) e
     where
-      new : (b : Bool) → pick b (stored (lowestFree settings Z st n)) (refused 19) ≡ whole → ⊥
+      new : (b : Bool) → pick b (stored (lowestFree settings Z st n)) (refused (refusal 19)) ≡ whole → ⊥
       new true d = let z : _≡_ {A = ℕ} 0 1 = cc d in omega arith
       new false d = let z : _≡_ {A = ℕ} 0 1 = cc d in omega arith
 
-      old : (b : Bool) → pick b again (refused 18) ≡ whole → ⊥
+      old : (b : Bool) → pick b again (refused (refusal 18)) ≡ whole → ⊥
       old true d = let z : _≡_ {A = ℕ} 0 1 = cc d in omega arith
       old false d = let z : _≡_ {A = ℕ} 0 1 = cc d in omega arith
 
@@ -54,7 +56,7 @@ module _ (st p : List ℕ) where
       k = readPacket settings p .refusal .number
 
       go : (a : Bool) → eqb (readPacket settings p .refusal .number) 0 ≡ a → (b c : Bool) →
-          pick a (pick b (pick c (segmentArrived settings Z st n (segOf p (readPacket settings p))) (refused 17)) whole) (refused k) ≡ whole →
+          pick a (pick b (pick c (segmentArrived settings Z st n (segOf p (readPacket settings p))) (refused (refusal 17))) whole) (refused (readPacket settings p .refusal)) ≡ whole →
           (readPacket settings p .refusal .number ≡ 0) × (b ≡ false)
       go true f false c d = (eqb-true k 0 f, refl)
       go true f true true d = absurd (segment-no n (segOf p (readPacket settings p)) d)
@@ -67,19 +69,19 @@ module _ (st p : List ℕ) where
 
   -- ---- and what it comes to
 
-  not-wholly : (k : ℕ) (b : Bool) → pick b kept (refusedBy k) ≡ wholly → ⊥
+  not-wholly : (k : Refusal) (b : Bool) → pick b kept (refusedBy k) ≡ wholly → ⊥
   not-wholly k true d = let z : _≡_ {A = ℕ} 0 1 = cc d in omega arith
   not-wholly k false d = let z : _≡_ {A = ℕ} 0 1 = cc d in omega arith
 
   took-no : (t : Took) → cameBy (tookAs t) ≡ wholly → ⊥
   took-no (message r) e = let z : _≡_ {A = ℕ} 0 1 = cc e in omega arith
-  took-no (unable k) e = not-wholly k (eqb k 20) e
+  took-no (unable k) e = not-wholly (refusal k) (eqb k 20) e
 
   wholly-by : (a : Arrived) → cameBy (joinedBy settings Z st p room a) ≡ wholly → a ≡ whole
   wholly-by whole e = refl
   wholly-by (stored i) e = absurd (took-no (took settings Z (storeWith Z st p (stored i)) room) e)
   wholly-by again e = absurd (took-no (took settings Z (storeWith Z st p again) room) e)
-  wholly-by (refused k) e = absurd (not-wholly k (eqb k 20) e)
+  wholly-by (refused k) e = absurd (not-wholly k (eqb (k .number) 20) e)
 
   came-whole : cameOf settings Z st p ≡ wholly → (short p ≡ true) × (arrived settings Z st p ≡ whole)
   unfolding cameOf joiningOf

@@ -11,8 +11,8 @@ use lib.Dec.{leb}
 use borrow.Author.Tests.{leb-true, le-leb, eq-eqb}
 use Rattle.octets.specs.Octets.{pick, Octets, most32}
 use Rattle.walk.specs.declared.Settings.{Settings}
-use Rattle.walk.specs.declared.Refusal.{Refusal}
-use Rattle.walk.specs.Walk.{noRefusal, timestampLeast, timestampMost}
+use Rattle.walk.specs.declared.Tested.{Tested}
+use Rattle.walk.specs.Walk.{noneFailed, timestampLeast, timestampMost}
 use Rattle.fields.specs.Fields.{partsMost}
 use Rattle.packet.specs.Format.{Values, segment, secondaryOctets, octetsOf, headerMost, packetMost}
 use Rattle.packet.specs.Numbers.{countMost}
@@ -94,13 +94,13 @@ module _ (s : Settings) (v : HeaderValues) (o : PacketValues) (t : Lent) (body :
     unfolding packetOf headOf
     parts-check = opt-parts (t .lengths) (t .domain) (k .adds) (v .has .domain) (k .range .head .domain)
 
-    settings-fine : settingsTest s noRefusal ≡ noRefusal
+    settings-fine : settingsTest s noneFailed ≡ noneFailed
     unfolding settingsTest
     settings-fine =
         unless-true (leb (s .t) timestampMost) 15 _ (le-leb (s .t) timestampMost (k .range .settings .t-top))
         ∙ unless-true (leb timestampLeast (s .t)) 15 _ (le-leb timestampLeast (s .t) (k .range .settings .t-low))
 
-    values-fine : valueRefusal s v o t ≡ noRefusal
+    values-fine : valueRefusal s v o t ≡ noneFailed
     unfolding valueRefusal partsTest
     values-fine =
         unless-true (leb (length (t .lengths)) partsMost) 13 _ (le-leb (length (t .lengths)) partsMost parts-check)
@@ -108,7 +108,7 @@ module _ (s : Settings) (v : HeaderValues) (o : PacketValues) (t : Lent) (body :
         ∙ unlessAll-true (headerChecks s v t) 22 _ header-checks
         ∙ settings-fine
 
-    pub written-fine : writeRefusal s v o t body room ≡ noRefusal
+    pub written-fine : writeRefusal s v o t body room ≡ noneFailed
     unfolding writeRefusal sizeTests packetOf
     written-fine =
         unless-true (leb (length (octetsOf s whole)) room) 21 _ (le-leb (length (octetsOf s whole)) room (k .fits))
@@ -119,7 +119,7 @@ module _ (s : Settings) (v : HeaderValues) (o : PacketValues) (t : Lent) (body :
         ∙ values-fine
 
   pub accepts : Writable s v o t body room → writeRefusal s v o t body room .number ≡ 0
-  accepts k = ap (λ (r : Refusal). r .number) (written-fine k)
+  accepts k = ap (λ (r : Tested). r .number) (written-fine k)
 
   -- so, of arguments as a call has them, exactly what can be written
   pub writes-exactly :

@@ -9,7 +9,7 @@ use lib.Seq.{take-at}
 use borrow.Author.Tests.{eq-eqb}
 use Rattle.octets.specs.Octets.{pick}
 use Rattle.walk.specs.declared.Settings.{Settings}
-use Rattle.walk.specs.Walk.{noRefusal}
+use Rattle.walk.specs.Walk.{refusal, noRefusal}
 use Rattle.packet.specs.Format.{octetsOf}
 use Rattle.write.specs.declared.HeaderValues.{HeaderValues}
 use Rattle.write.specs.declared.PacketValues.{PacketValues}
@@ -30,7 +30,7 @@ module _ (s : Settings) (v : HeaderValues) (o : PacketValues) (t : Lent) (body o
   answer-is =
       λ i.
       record {
-        refusal = record { number = z i };
+        refusal = refusal (z i);
         length = ap (λ (b : Bool). pick b (length packet) 0) all-fine i;
       }
 

@@ -10,7 +10,7 @@ pub fn order(c: &[u8], store: &[u8]) {
     print::numbers(&answer);
 }
 
-// Answers: the refusal, and 1 whole, 2 stored or 3 held.
+// Answers: the refusal; 1 whole, 2 stored or 3 held; what the refusal tells.
 pub fn arrive(c: &[u8], store: &mut [u8]) {
     let answer = flat_store::arrive(case::number(c, 1), store, case::part(c, 1));
     print::numbers(&answer);

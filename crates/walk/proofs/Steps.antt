@@ -8,7 +8,7 @@ use native.Mathlib.Omega.{arith}
 use mathlib.Core.Logic.{⊎-elim}
 use lib.ListN.{length, take, drop, length-take}
 use lib.Seq.{take-all}
-use lib.Dec.{leb}
+use lib.Dec.{leb, eqb}
 use borrow.Author.Tests.{eqb-true, leb-true, le-leb, lt-leb, eq-eqb}
 use Rattle.octets.specs.Octets.{pick, Octets}
 use Rattle.octets.proofs.Has.{has-inside, octets-take}
@@ -19,7 +19,7 @@ use Rattle.varint.specs.Answer.{found}
 use Rattle.varint.proofs.Told.{got, told}
 use Rattle.varint.proofs.Laws.{within, only-written}
 use Rattle.walk.specs.declared.Settings.{Settings}
-use Rattle.walk.specs.Walk.{Reading, goes, refused, going, headerEnd, octets, check, uintegerStep, uinteger}
+use Rattle.walk.specs.Walk.{Reading, goes, refused, going, headerEnd, octets, check, fieldFrom, uintegerStep, uinteger}
 
 -- ---- by cases
 
@@ -28,11 +28,11 @@ module _ (p : List ℕ) (n : ℕ) (w : Reading) where
   unfolding octets
   octets-refused h = simp h
 
-  pub octets-past : going w ≡ true → headerEnd < w .at + n → octets p n w ≡ refused 12
+  pub octets-past : going w ≡ true → headerEnd < w .at + n → octets p n w ≡ refused (w .at) 12
   unfolding octets
   octets-past h l = simp (h, lt-leb (w .at + n) headerEnd l)
 
-  pub octets-ends : going w ≡ true → w .at + n ≤ headerEnd → length p < w .at + n → octets p n w ≡ refused 6
+  pub octets-ends : going w ≡ true → w .at + n ≤ headerEnd → length p < w .at + n → octets p n w ≡ refused (w .at) 6
   unfolding octets
   octets-ends h l e = simp (h, le-leb (w .at + n) headerEnd l, lt-leb (w .at + n) (length p) e)
 
@@ -53,7 +53,7 @@ module _ (ok : Bool) (k : ℕ) (w : Reading) where
       same true = refl
       same false = refl
 
-  pub check-fails : going w ≡ true → ok ≡ false → check ok k w ≡ refused k
+  pub check-fails : going w ≡ true → ok ≡ false → check ok k w ≡ refused (w .at) k
   unfolding check
   check-fails h f = simp (h, f)
 
@@ -62,7 +62,7 @@ module _ (s : Settings) (p : List ℕ) (w : Reading) where
   unfolding uinteger
   number-refused h = simp h
 
-  pub number-found : going w ≡ true → {g : Got} → readAt 32 (take headerEnd p) (w .at) ≡ g → uinteger s p w ≡ uintegerStep p g
+  pub number-found : going w ≡ true → {g : Got} → readAt 32 (take headerEnd p) (w .at) ≡ g → uinteger s p w ≡ uintegerStep p (w .at) g
   unfolding uinteger
   number-found h e = simp (h, e)
 
@@ -76,7 +76,7 @@ pub record There (p : List ℕ) (n : ℕ) (w : Reading) : Type 0 where
 
 passed :
     (g l e : Bool) (w : Reading) (m : ℕ) → going w ≡ g →
-    going (pick g (pick l (pick e (goes m) (refused 6)) (refused 12)) w) ≡ true → (g ≡ true) × (l ≡ true) × (e ≡ true)
+    going (pick g (pick l (pick e (goes m) (refused (w .at) 6)) (refused (w .at) 12)) w) ≡ true → (g ≡ true) × (l ≡ true) × (e ≡ true)
 passed true true true w m q h = (refl, refl, refl)
 passed true true false w m q h = let z : _≡_ {A = ℕ} 0 1 = cc in absurd (omega arith)
 passed true false e w m q h = let z : _≡_ {A = ℕ} 0 1 = cc in absurd (omega arith)
@@ -101,11 +101,34 @@ unfolding check
 check-held ok k w g = go (going w) ok refl refl g
   where
     go :
-        (b o : Bool) → going w ≡ b → ok ≡ o → going (pick b (pick o w (refused (suc k))) w) ≡ true →
+        (b o : Bool) → going w ≡ b → ok ≡ o → going (pick b (pick o w (refused (w .at) (suc k))) w) ≡ true →
         Checked ok (suc k) w
     go true true e f h = record { went = e; held = f; same = check-ok ok (suc k) w f }
     go true false e f h = let z : suc k ≡ 0 = eqb-true (suc k) 0 h in absurd (omega arith)
     go false o e f h = let z : _≡_ {A = ℕ} 0 1 = cc in absurd (omega arith)
+
+-- ---- a field of several steps
+
+module _ (w r : Reading) where
+  pub field-goes : going r ≡ true → fieldFrom w r ≡ r
+  unfolding fieldFrom
+  field-goes h = simp h
+
+  pub field-refused : going r ≡ false → fieldFrom w r ≡ refused (w .at) (r .refused)
+  unfolding fieldFrom
+  field-refused h = simp h
+
+  pub field-number : fieldFrom w r .refused ≡ r .refused
+  unfolding fieldFrom
+  field-number = same (going r)
+    where
+      same : (b : Bool) → pick b r (refused (w .at) (r .refused)) .refused ≡ r .refused
+      same true = refl
+      same false = refl
+
+  -- one that goes on went through all its steps
+  pub field-went : going (fieldFrom w r) ≡ true → going r ≡ true
+  field-went h = ap (λ (k : ℕ). eqb k 0) (sym field-number) ∙ h
 
 -- ---- a number
 
@@ -143,5 +166,5 @@ module _ (s : Settings) (p : List ℕ) (w : Reading) {end : ℕ} {r q : Found}
   pub number-got : readAt 32 (take headerEnd p) (w .at) ≡ got q
   number-got = rw (limited p end e) at (told (readAt 32 (take (end - 0) (drop 0 p)) (w .at)) h d)
 
-  pub number-told : w .refusal .number ≡ 0 → uinteger s p w ≡ uintegerStep p (got q)
-  number-told g = number-found s p w (eq-eqb (w .refusal .number) 0 g) number-got
+  pub number-told : w .refused ≡ 0 → uinteger s p w ≡ uintegerStep p (w .at) (got q)
+  number-told g = number-found s p w (eq-eqb (w .refused) 0 g) number-got

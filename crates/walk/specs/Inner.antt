@@ -6,10 +6,10 @@ use Rattle.walk.specs.declared.UInteger.{UInteger}
 use Rattle.walk.specs.Walk.{Reading, Step}
 
 abbrev pub asWalk : Reading → Walk
-asWalk w = record { at = w .at; refusal = w .refusal }
+asWalk w = record { at = w .at; refused = w .refused }
 
 abbrev pub ofWalk : Walk → Reading
-ofWalk w = record { at = w .at; refusal = w .refusal }
+ofWalk w = record { at = w .at; refused = w .refused }
 
 abbrev pub asUInteger : Step ℕ → UInteger
 asUInteger n = record { walk = asWalk (n .walk); value = n .value }

@@ -9,7 +9,7 @@ ghost use lib.Dec.{leb};
 ghost use Rattle.octets.specs.Octets.{pick};
 ghost use lib.ListN.{length};
 ghost use Rattle.walk.specs.Walk.{goes as goesAt, refused as refusedBy, octets as octetsOf, check as checkOf, uinteger, begun};
-ghost use Rattle.walk.specs.Walk.{unless as unlessOf, headerEnd};
+ghost use Rattle.walk.specs.Walk.{unless as unlessOf, refusal as refusalOf, headerEnd, fieldFrom};
 ghost use Rattle.walk.specs.Inner.{asWalk, ofWalk, asUInteger};
 use varint::Found;
 
@@ -33,8 +33,8 @@ pub const REFUSED_NO_SECONDARY: u8 = 3;
 // APID 2047.
 pub const REFUSED_IDLE: u8 = 4;
 
-// The slice is not as long as the length field says.
-pub const REFUSED_LENGTH: u8 = 5;
+// The slice is shorter than its length field says.
+pub const REFUSED_SHORT: u8 = 5;
 
 // The data field ends inside the secondary header.
 pub const REFUSED_HEADER_ENDS: u8 = 6;
@@ -99,20 +99,31 @@ pub const REFUSED_COUNTER: u8 = 25;
 // No packet of that number.
 pub const REFUSED_NUMBER: u8 = 26;
 
+// The slice is longer than its length field says.
+pub const REFUSED_LONG: u8 = 27;
+
 // What both sides agreed on: T, the octets of a timestamp.
 pub struct Settings {
     pub t: usize,
 }
 
-// The number of a refusal of SPEC's list; 0 if there is none.
+// A refusal: its number of SPEC's list, 0 if there is none; beside 5 and 27 the octets that are missing or left over; beside 6 the place in
+// the secondary header where the unfinished field began. What is not told is 0.
 pub struct Refusal {
+    pub number: u8,
+    pub octets: usize,
+    pub place: usize,
+}
+
+// What tests of values have come to so far: the number of the first refusal, 0 if there is none.
+pub struct Tested {
     pub number: u8,
 }
 
-// A reading: the next place, or a refusal.
+// A reading: the next place; or the number of its refusal, and where the field began in which it was refused.
 pub struct Walk {
     pub at: u16,
-    pub refusal: Refusal,
+    pub refused: u8,
 }
 
 // A number that was read, and the reading behind it.
@@ -121,8 +132,26 @@ pub struct UInteger {
     pub value: u32,
 }
 
+// The one place where a refusal is made.
+pub fn telling(k: u8, octets: usize, place: usize) -> Refusal
+    ensures { λ r. ⌜ r ≡ record { number = k; octets = octets; place = place } ⌝ }
+{
+    Refusal {
+        number: k,
+        octets: octets,
+        place: place,
+    }
+}
+
+// The refusal of a number that tells nothing beside it; 0 is none.
+pub fn numbered(k: u8) -> Refusal
+    ensures { λ r. ⌜ r ≡ refusalOf k ⌝ }
+{
+    telling(k, 0, 0)
+}
+
 // The refusal k unless the test holds; one that is there stays.
-pub fn unless(r: Refusal, ok: bool, k: u8) -> Refusal
+pub fn unless(r: Tested, ok: bool, k: u8) -> Tested
     ensures { λ q. ⌜ q ≡ unlessOf ok k r ⌝ }
 {
     if r.number != 0 {
@@ -131,28 +160,20 @@ pub fn unless(r: Refusal, ok: bool, k: u8) -> Refusal
     if ok {
         return r;
     }
-    Refusal { number: k }
+    Tested { number: k }
 }
 
 pub fn goes(at: u16) -> Walk
     ensures { λ r. ⌜ r ≡ asWalk (goesAt at) ⌝ }
 {
-    let none = Refusal { number: 0 };
-    Walk {
-        at: at,
-        refusal: none,
-    }
+    Walk { at: at, refused: 0 }
 }
 
 // The one place where a reading is refused.
-pub fn refused(k: u8) -> Walk
-    ensures { λ r. ⌜ r ≡ asWalk (refusedBy k) ⌝ }
+pub fn refused(at: u16, k: u8) -> Walk
+    ensures { λ r. ⌜ r ≡ asWalk (refusedBy at k) ⌝ }
 {
-    let refusal = Refusal { number: k };
-    Walk {
-        at: 0,
-        refusal: refusal,
-    }
+    Walk { at: at, refused: k }
 }
 
 impl Walk {
@@ -161,17 +182,17 @@ impl Walk {
         ensures { λ r. ⌜ r ≡ asWalk (octetsOf (now (p .entry)) n (ofWalk self)) ⌝ }
     {
         let at = self.at as usize;
-        if self.refusal.number != 0 {
+        if self.refused != 0 {
             return self;
         }
         if HEADER_END < at {
-            return refused(REFUSED_HEADER_LONG);
+            return refused(self.at, REFUSED_HEADER_LONG);
         }
         if HEADER_END - at < n {
-            return refused(REFUSED_HEADER_LONG);
+            return refused(self.at, REFUSED_HEADER_LONG);
         }
         if p.len() < at + n {
-            return refused(REFUSED_HEADER_ENDS);
+            return refused(self.at, REFUSED_HEADER_ENDS);
         }
         goes((at + n) as u16)
     }
@@ -180,13 +201,23 @@ impl Walk {
     pub fn check(self, ok: bool, k: u8) -> Walk
         ensures { λ r. ⌜ r ≡ asWalk (checkOf ok k (ofWalk self)) ⌝ }
     {
-        if self.refusal.number != 0 {
+        if self.refused != 0 {
             return self;
         }
         if ok {
             return self;
         }
-        refused(k)
+        refused(self.at, k)
+    }
+
+    // The walk after a field of several steps that began at `start`: refused in any of them, it stands there.
+    pub fn field_from(self, start: Walk) -> Walk
+        ensures { λ r. ⌜ r ≡ asWalk (fieldFrom (ofWalk start) (ofWalk self)) ⌝ }
+    {
+        if self.refused != 0 {
+            return refused(start.at, self.refused);
+        }
+        self
     }
 }
 
@@ -214,7 +245,7 @@ fn end_refusal(p: &[u8]) -> u8
 pub fn read_uinteger(s: Settings, p: &[u8], w: Walk) -> UInteger
     ensures { λ r. ⌜ r ≡ asUInteger (uinteger s (now (p .entry)) (ofWalk w)) ⌝ }
 {
-    if w.refusal.number != 0 {
+    if w.refused != 0 {
         return UInteger { walk: w, value: 0 };
     }
     let at = w.at as usize;
@@ -230,14 +261,14 @@ pub fn read_uinteger(s: Settings, p: &[u8], w: Walk) -> UInteger
             }
         }
         Found::Ends => {
-            let walk = refused(ended);
+            let walk = refused(w.at, ended);
             UInteger {
                 walk: walk,
                 value: 0,
             }
         }
         Found::Bad => {
-            let walk = refused(REFUSED_VARINT);
+            let walk = refused(w.at, REFUSED_VARINT);
             UInteger {
                 walk: walk,
                 value: 0,

@@ -17,8 +17,8 @@ use Rattle.octets.proofs.Lists.{bool, below-or}
 use Rattle.octets.proofs.Numbers.{wide-length}
 use Rattle.octets.proofs.Laying.{lays-all}
 use Rattle.walk.specs.declared.Settings.{Settings}
-use Rattle.walk.specs.declared.Refusal.{Refusal}
-use Rattle.walk.specs.Walk.{unless}
+use Rattle.walk.specs.declared.Tested.{Tested}
+use Rattle.walk.specs.Walk.{refusal, unless}
 use Rattle.fields.specs.Inner.{capped, sizeMost}
 use Rattle.packet.specs.Format.{Values, segment, identification, headerOctets, secondaryOctets, dataOctets, octetsOf, headerMost, packetMost}
 use Rattle.format.proofs.Back.{data-long}
@@ -57,7 +57,7 @@ below-cap n m h =
     (λ k. le-leb (capped n) m (omega arith) ∙ sym (le-leb n m k))
     (below-or m n)
 
-pub shut : (x : Bool) (k : ℕ) (r : Refusal) → fine r ≡ false → unless x k r ≡ r
+pub shut : (x : Bool) (k : ℕ) (r : Tested) → fine r ≡ false → unless x k r ≡ r
 unfolding unless
 shut x k r e = simp e
 
@@ -68,7 +68,7 @@ pub cap-middle : (a b : ℕ) → capped (6 + capped a + b) ≡ capped (6 + a + b
 cap-middle a b = omega arith
 
 -- a test matters only where nothing refused before
-pub unless-same : (k : ℕ) (r : Refusal) {a b : Bool} → (fine r ≡ true → a ≡ b) → unless a k r ≡ unless b k r
+pub unless-same : (k : ℕ) (r : Tested) {a b : Bool} → (fine r ≡ true → a ≡ b) → unless a k r ≡ unless b k r
 unless-same k r {a} {b} h =
     ⊎-elim
     (λ e. ap (λ (x : Bool). unless x k r) (h e))
@@ -111,7 +111,7 @@ module _ (s : Settings) (v : HeaderValues) (o : PacketValues) (t : Lent) (body :
       ∙ ap capped (sym (packet-length s whole))
 
   -- the tests on sizes are the definition's
-  module _ (room : ℕ) {r q : Refusal} (er : r ≡ valueRefusal s v o t)
+  module _ (room : ℕ) {r q : Tested} (er : r ≡ valueRefusal s v o t)
       (eq : q ≡ unless (leb size room) 21 (unless (bodyFits (o .flags) (length body)) 14 (unless (leb second headerMost) 12 (unless (leb size packetMost) 23 r)))) where
     long-test : leb size packetMost ≡ leb (length (octetsOf s whole)) packetMost
     long-test = ap (λ (n : ℕ). leb n packetMost) size-is ∙ below-cap (length (octetsOf s whole)) packetMost (omega arith)
@@ -119,7 +119,7 @@ module _ (s : Settings) (v : HeaderValues) (o : PacketValues) (t : Lent) (body :
     head-test : leb second headerMost ≡ leb (length (secondaryOctets s whole)) headerMost
     head-test = ap (λ (n : ℕ). leb n headerMost) second-is ∙ below-cap (length (secondaryOctets s whole)) headerMost (omega arith)
 
-    abbrev inner : Refusal
+    abbrev inner : Tested
     inner =
         unless (bodyFits (o .flags) (length body)) 14
         (unless (leb (length (secondaryOctets s whole)) headerMost) 12 (unless (leb (length (octetsOf s whole)) packetMost) 23 r))
@@ -138,7 +138,7 @@ module _ (s : Settings) (v : HeaderValues) (o : PacketValues) (t : Lent) (body :
     refusal-is =
         eq ∙ rw (long-test, head-test) (unless-same 21 inner (λ g. ap (λ (n : ℕ). leb n room) (exact g)))
         ∙ ap
-        (λ (x : Refusal).
+        (λ (x : Tested).
         unless (leb (length (octetsOf s whole)) room) 21
         (unless (bodyFits (o .flags) (length body)) 14
         (unless (leb (length (secondaryOctets s whole)) headerMost) 12 (unless (leb (length (octetsOf s whole)) packetMost) 23 x))))
@@ -155,23 +155,24 @@ module _ (s : Settings) (v : HeaderValues) (o : PacketValues) (t : Lent) (body :
     fits z =
         let g : fine (writeRefusal s v o t body room) ≡ true = ap fine (sym refusal-is) ∙ eq-eqb (q .number) 0 z in
         let a = unless-fine (leb (length (octetsOf s whole)) room) 20 _ g in
-        let e = exact (ap (λ (x : Refusal). fine (unless (bodyFits (o .flags) (length body)) 14
+        let e = exact (ap (λ (x : Tested). fine (unless (bodyFits (o .flags) (length body)) 14
         (unless (leb (length (secondaryOctets s whole)) headerMost) 12 (unless (leb (length (octetsOf s whole)) packetMost) 23 x)))) er ∙ a .before) in
         record { size-exact = e; fits-room = leb-true (length (octetsOf s whole)) room (a .held); least = omega (arith, packet-least s whole) }
 
-    pub refused-answer : (q .number ≡ 0 → ⊥) → record { refusal = q; length = 0 } ≡ writeAnswer s v o t body room
+    pub refused-answer : (q .number ≡ 0 → ⊥) → record { refusal = refusal (q .number); length = 0 } ≡ writeAnswer s v o t body room
     unfolding writeAnswer
     refused-answer n =
         let f : fine (writeRefusal s v o t body room) ≡ false = ap fine (sym refusal-is) ∙ ne-eqb (q .number) 0 n in
-        λ i. record { refusal = refusal-is i; length = ap (λ (x : Bool). pick x (length (octetsOf s whole)) 0) (sym f) i }
+        λ i. record { refusal = refusal (refusal-is i .number); length = ap (λ (x : Bool). pick x (length (octetsOf s whole)) 0) (sym f) i }
 
-    pub written-answer : q .number ≡ 0 → record { refusal = q; length = size } ≡ writeAnswer s v o t body room
+    pub written-answer : q .number ≡ 0 → record { refusal = refusal 0; length = size } ≡ writeAnswer s v o t body room
     unfolding writeAnswer
     written-answer z =
         let f : fine (writeRefusal s v o t body room) ≡ true = ap fine (sym refusal-is) ∙ eq-eqb (q .number) 0 z in
-        λ i. record { refusal = refusal-is i; length = (fits z .size-exact ∙ ap (λ (x : Bool). pick x (length (octetsOf s whole)) 0) (sym f)) i }
+        let n : 0 ≡ writeRefusal s v o t body room .number = sym z ∙ ap (λ (x : Tested). x .number) refusal-is in
+        λ i. record { refusal = refusal (n i); length = (fits z .size-exact ∙ ap (λ (x : Bool). pick x (length (octetsOf s whole)) 0) (sym f)) i }
 
-  module _ (out : List ℕ) {r q : Refusal} (er : r ≡ valueRefusal s v o t)
+  module _ (out : List ℕ) {r q : Tested} (er : r ≡ valueRefusal s v o t)
       (eq : q ≡ unless (leb size (length out)) 21 (unless (bodyFits (o .flags) (length body)) 14 (unless (leb second headerMost) 12 (unless (leb size packetMost) 23 r)))) where
     pub refused-output : (q .number ≡ 0 → ⊥) → out ≡ writeOutput s v o t body out
     unfolding writeOutput

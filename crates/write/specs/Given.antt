@@ -9,7 +9,7 @@ use lib.ListN.{length}
 use lib.Dec.{ltb, leb, eqb}
 use Rattle.octets.specs.Octets.{pick, most8, most16, most32}
 use Rattle.walk.specs.declared.Settings.{Settings}
-use Rattle.walk.specs.declared.Refusal.{Refusal}
+use Rattle.walk.specs.declared.Tested.{Tested}
 use Rattle.walk.specs.Walk.{unless}
 use Rattle.fields.specs.Form.{split}
 use Rattle.packet.specs.Format.{Head, Values, segment, textMost}
@@ -154,6 +154,6 @@ packetChecks o =
     leb (o .flags) flagsMost ∷ leb (o .«sequence_count» .0) countMost ∷ numberFits (segment (o .flags)) (o .counter .0) most32 ∷ []
 
 -- the refusal k unless all of them hold
-unfoldable pub unlessAll : List Bool → ℕ → Refusal → Refusal
+unfoldable pub unlessAll : List Bool → ℕ → Tested → Tested
 unlessAll [] k r = r
 unlessAll (b ∷ bs) k r = unlessAll bs k (unless b k r)

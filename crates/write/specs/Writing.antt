@@ -8,8 +8,8 @@ use lib.ListN.{length, drop}
 use lib.Dec.{leb, eqb}
 use Rattle.octets.specs.Octets.{pick}
 use Rattle.walk.specs.declared.Settings.{Settings}
-use Rattle.walk.specs.declared.Refusal.{Refusal}
-use Rattle.walk.specs.Walk.{noRefusal, unless, timestampLeast, timestampMost}
+use Rattle.walk.specs.declared.Tested.{Tested}
+use Rattle.walk.specs.Walk.{refusal, noneFailed, unless, timestampLeast, timestampMost}
 use Rattle.fields.specs.Fields.{partsMost}
 use Rattle.packet.specs.Format.{Values, segment, octetsOf, secondaryOctets, packetMost, headerMost}
 use Rattle.write.specs.declared.HeaderValues.{HeaderValues}
@@ -18,11 +18,11 @@ use Rattle.write.specs.declared.Written.{Written}
 use Rattle.write.specs.Given.{Lent, headOf, packetOf, headerChecks, packetChecks, unlessAll}
 
 -- 15: T outside its range
-unfoldable pub settingsTest : Settings → Refusal → Refusal
+unfoldable pub settingsTest : Settings → Tested → Tested
 settingsTest s r = unless (leb (s .t) timestampMost) 15 (unless (leb timestampLeast (s .t)) 15 r)
 
 -- 13: more than sixteen domain parts
-unfoldable pub partsTest : Lent → Refusal → Refusal
+unfoldable pub partsTest : Lent → Tested → Tested
 partsTest t r = unless (leb (length (t .lengths)) partsMost) 13 r
 
 -- 14: a segmented packet with an empty body
@@ -34,30 +34,30 @@ abbrev pub givenPacket : HeaderValues → PacketValues → Lent → List ℕ →
 givenPacket v o t body = packetOf (headOf v t) o body
 
 -- 23 a packet above 65,542; 12 a secondary header past 256; 14; 21 an output too short
-unfoldable pub sizeTests : Settings → Values → ℕ → Refusal → Refusal
+unfoldable pub sizeTests : Settings → Values → ℕ → Tested → Tested
 sizeTests s v room r =
     unless (leb (length (octetsOf s v)) room) 21
     (unless (bodyFits (v .flags) (length (v .body))) 14
     (unless (leb (length (secondaryOctets s v)) headerMost) 12 (unless (leb (length (octetsOf s v)) packetMost) 23 r)))
 
 -- 15, 22, 13: the tests on the values alone
-unfoldable pub valueRefusal : Settings → HeaderValues → PacketValues → Lent → Refusal
+unfoldable pub valueRefusal : Settings → HeaderValues → PacketValues → Lent → Tested
 valueRefusal s v o t =
-    partsTest t (unlessAll (packetChecks o) 22 (unlessAll (headerChecks s v t) 22 (settingsTest s noRefusal)))
+    partsTest t (unlessAll (packetChecks o) 22 (unlessAll (headerChecks s v t) 22 (settingsTest s noneFailed)))
 
 -- all of them, in their order
-unfoldable pub writeRefusal : Settings → HeaderValues → PacketValues → Lent → List ℕ → ℕ → Refusal
+unfoldable pub writeRefusal : Settings → HeaderValues → PacketValues → Lent → List ℕ → ℕ → Tested
 writeRefusal s v o t body room = sizeTests s (givenPacket v o t body) room (valueRefusal s v o t)
 
 -- whether there is none
-abbrev pub fine : Refusal → Bool
+abbrev pub fine : Tested → Bool
 fine r = eqb (r .number) 0
 
 -- the octets written, or the refusal and 0
 unfoldable pub writeAnswer : Settings → HeaderValues → PacketValues → Lent → List ℕ → ℕ → Written
 writeAnswer s v o t body room =
     record {
-      refusal = writeRefusal s v o t body room;
+      refusal = refusal (writeRefusal s v o t body room .number);
       length = pick (fine (writeRefusal s v o t body room)) (length (octetsOf s (givenPacket v o t body))) 0;
     }
 

@@ -40,6 +40,7 @@ use walk::REFUSED_SETTINGS;
 use walk::REFUSED_VALUE;
 use walk::Refusal;
 use walk::Settings;
+use walk::Tested;
 
 pub const TEXT_MOST: usize = 65535;
 
@@ -123,7 +124,7 @@ pub struct Written {
 // ---- the tests
 
 // 15: T.
-pub fn test_settings(s: Settings, r: Refusal) -> Refusal
+pub fn test_settings(s: Settings, r: Tested) -> Tested
     ensures { λ q. ⌜ q ≡ settingsTest s r ⌝ }
 {
     let a = walk::unless(r, walk::TIMESTAMP_LEAST <= s.t, REFUSED_SETTINGS);
@@ -182,7 +183,7 @@ fn lengths_fit(there: bool, lengths: &[u64], n: usize) -> bool
     lengths.len() == 0
 }
 
-fn test_names(v: HeaderValues, r: Refusal) -> Refusal
+fn test_names(v: HeaderValues, r: Tested) -> Tested
     ensures { λ q. ⌜ q ≡ unlessAll (nameChecks v) 22 r ⌝ }
 {
     let apid = v.apid;
@@ -195,7 +196,7 @@ fn test_names(v: HeaderValues, r: Refusal) -> Refusal
     walk::unless(f, v.version <= VERSION_MOST, REFUSED_VALUE)
 }
 
-fn test_routing(v: HeaderValues, r: Refusal) -> Refusal
+fn test_routing(v: HeaderValues, r: Tested) -> Tested
     ensures { λ q. ⌜ q ≡ unlessAll (routingChecks v) 22 r ⌝ }
 {
     let secondary_apid = v.secondary_apid;
@@ -206,7 +207,7 @@ fn test_routing(v: HeaderValues, r: Refusal) -> Refusal
     walk::unless(d, v.qualifier <= MOST_16, REFUSED_VALUE)
 }
 
-fn test_ids(v: HeaderValues, r: Refusal) -> Refusal
+fn test_ids(v: HeaderValues, r: Tested) -> Tested
     ensures { λ q. ⌜ q ≡ unlessAll (idChecks v) 22 r ⌝ }
 {
     let has = v.has;
@@ -234,8 +235,8 @@ fn test_texts(
     domain: &[u8],
     lengths: &[u64],
     id: &[u8],
-    r: Refusal,
-) -> Refusal
+    r: Tested,
+) -> Tested
     ensures { λ q. ⌜ q ≡ unlessAll (textChecks s v (lent (now (time .entry)) (now (zone .entry)) (now (name .entry)) (now (domain .entry))
         (now (lengths .entry)) (now (id .entry)))) 22 r ⌝ }
 {
@@ -262,8 +263,8 @@ pub fn test_header(
     domain: &[u8],
     lengths: &[u64],
     id: &[u8],
-    r: Refusal,
-) -> Refusal
+    r: Tested,
+) -> Tested
     ensures { λ q. ⌜ q ≡ unlessAll (headerChecks s v (lent (now (time .entry)) (now (zone .entry)) (now (name .entry)) (now (domain .entry))
         (now (lengths .entry)) (now (id .entry)))) 22 r ⌝ }
 {
@@ -281,7 +282,7 @@ fn segmented(flags: u8) -> bool
 }
 
 // 22, as far as a packet's own values go.
-fn test_packet(o: PacketValues, r: Refusal) -> Refusal
+fn test_packet(o: PacketValues, r: Tested) -> Tested
     ensures { λ q. ⌜ q ≡ unlessAll (packetChecks o) 22 r ⌝ }
 {
     let sequence_count = o.sequence_count;
@@ -296,7 +297,7 @@ fn test_packet(o: PacketValues, r: Refusal) -> Refusal
 }
 
 // 13.
-pub fn test_parts(count: usize, r: Refusal) -> Refusal
+pub fn test_parts(count: usize, r: Tested) -> Tested
     ensures { λ q. ⌜ q ≡ unless (leb count partsMost) 13 r ⌝ }
 {
     walk::unless(r, count <= fields::PARTS, REFUSED_MANY_PARTS)
@@ -588,8 +589,8 @@ fn test_sizes(
     flags: u8,
     body: usize,
     room: usize,
-    r: Refusal,
-) -> Refusal
+    r: Tested,
+) -> Tested
     ensures { λ q. ⌜ q ≡ unless (leb size room) 21 (unless (bodyFits flags body) 14
         (unless (leb secondary headerMost) 12 (unless (leb size packetMost) 23 r))) ⌝ }
 {
@@ -610,11 +611,11 @@ fn test_values(
     domain: &[u8],
     lengths: &[u64],
     id: &[u8],
-) -> Refusal
+) -> Tested
     ensures { λ q. ⌜ q ≡ valueRefusal s v o (lent (now (time .entry)) (now (zone .entry)) (now (name .entry)) (now (domain .entry))
         (now (lengths .entry)) (now (id .entry))) ⌝ }
 {
-    let none = Refusal { number: 0 };
+    let none = Tested { number: 0 };
     let a = test_settings(s, none);
     let b = test_header(s, v, time, zone, name, domain, lengths, id, a);
     let c = test_packet(o, b);
@@ -648,14 +649,14 @@ pub fn write(
     let r = test_sizes(secondary, size, o.flags, body.len(), out.len(), values);
     if r.number != 0 {
         return Written {
-            refusal: r,
+            refusal: walk::numbered(r.number),
             length: 0,
         };
     }
     let n = size - 7;
     put_packet(s, out, v, o, n, time, zone, name, domain, lengths, id, body);
     Written {
-        refusal: r,
+        refusal: walk::numbered(0),
         length: size,
     }
 }

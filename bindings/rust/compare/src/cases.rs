@@ -9,7 +9,10 @@ use orlyukan::{
     SequenceCount, Taken, Which, Written,
 };
 
-/// The cases of a call, or nothing, with a word, if the folder is missing.
+/// The change requests that have landed and have cases of their own, in the order in which they landed.
+const LANDED: [&str; 1] = ["T-01"];
+
+/// The cases of a call, from the latest folder that has some, or nothing, with a word, if the folder is missing.
 pub fn load(call: &str) -> Option<Vec<Json>> {
     let here = PathBuf::from(env!("CARGO_MANIFEST_DIR"));
     let folder = env::var_os("ORLYUKAN_VECTORS").map_or_else(|| here.join("../../../../shared/vectors"), PathBuf::from);
@@ -17,7 +20,10 @@ pub fn load(call: &str) -> Option<Vec<Json>> {
         println!("skipped: no folder {} with cases", folder.display());
         return None;
     }
-    let text = fs::read_to_string(folder.join(format!("{call}.jsonl"))).expect("the folder has a file for each call");
+    let name = format!("{call}.jsonl");
+    let of_request = LANDED.iter().rev().map(|request| folder.join(request).join(&name)).find(|file| file.is_file());
+    let file = of_request.unwrap_or_else(|| folder.join(&name));
+    let text = fs::read_to_string(file).expect("the folder has a file for each call");
     let cases: Vec<Json> = text.lines().map(parse).collect();
     println!("{call}: {} cases", cases.len());
     Some(cases)
@@ -145,6 +151,8 @@ pub fn reading(t: u64, json: &Json) -> Reading {
         authentication: place(json.get("authentication")),
         h: n("H"),
         body: place(json.get("body")),
+        off: n("off"),
+        began: n("began"),
     }
 }
 
@@ -170,7 +178,7 @@ pub fn arrived(json: &Json) -> Arrived {
             None
         }
     };
-    Arrived { refusal: json.number("refusal"), kind }
+    Arrived { refusal: json.number("refusal"), kind, off: json.number("off"), began: json.number("began") }
 }
 
 pub fn taken(json: &Json) -> Taken {
@@ -199,5 +207,7 @@ pub fn joined(json: &Json) -> Joined {
         h,
         b,
         counter,
+        off: json.number("off"),
+        began: json.number("began"),
     }
 }

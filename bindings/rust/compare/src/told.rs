@@ -1,4 +1,4 @@
-//! The model's answers in the library's terms: on a refusal its number and zeros.
+//! The model's answers in the library's terms: on a refusal its number, what it tells if it is one of reading, and zeros.
 
 use model::Refusal;
 use orlyukan::{
@@ -48,7 +48,9 @@ pub fn values<'a>(h: &Header<'a>) -> model::Values<'a> {
 pub fn reading(t: u64, answer: Result<model::Reading, Refusal>) -> Reading {
     let r = match answer {
         Ok(reading) => reading,
-        Err(Refusal(number)) => return Reading { refusal: number.into(), ..Reading::default() },
+        Err(Refusal { number, off, began }) => {
+            return Reading { refusal: number.into(), off: off.into(), began: began.into(), ..Reading::default() }
+        }
     };
     let has = |k| u64::from(r.has(k));
     Reading {
@@ -88,18 +90,20 @@ pub fn reading(t: u64, answer: Result<model::Reading, Refusal>) -> Reading {
         authentication: place(r.authentication),
         h: r.h.into(),
         body: place(r.body),
+        off: 0,
+        began: 0,
     }
 }
 
 pub fn written(answer: Result<usize, Refusal>) -> Written {
     match answer {
         Ok(length) => Written { refusal: 0, length: length as u64 },
-        Err(Refusal(number)) => Written { refusal: number.into(), length: 0 },
+        Err(Refusal { number, .. }) => Written { refusal: number.into(), length: 0 },
     }
 }
 
 pub fn refusal(refused: Refusal) -> orlyukan::Refusal {
-    orlyukan::Refusal(refused.0.into())
+    orlyukan::Refusal { number: refused.number.into(), off: refused.off.into(), began: refused.began.into() }
 }
 
 pub fn sender(sender: model::Sender) -> Sender {
@@ -110,7 +114,7 @@ pub fn sender(sender: model::Sender) -> Sender {
 pub fn cut(given: Sender, answer: Result<(u64, model::Sender), Refusal>) -> Cut {
     match answer {
         Ok((count, after)) => Cut { refusal: 0, count, sender: sender(after) },
-        Err(Refusal(number)) => Cut { refusal: number.into(), count: 0, sender: given },
+        Err(Refusal { number, .. }) => Cut { refusal: number.into(), count: 0, sender: given },
     }
 }
 
@@ -122,17 +126,20 @@ pub fn cut_packet(given: Sender, answer: Result<usize, Refusal>) -> CutPacket {
 pub fn order(answer: Result<model::Order, Refusal>) -> Order {
     match answer {
         Ok(order) => Order { refusal: 0, cells: order.cells as u64 },
-        Err(Refusal(number)) => Order { refusal: number.into(), cells: 0 },
+        Err(Refusal { number, .. }) => Order { refusal: number.into(), cells: 0 },
     }
 }
 
 pub fn arrived(answer: Result<model::Kind, Refusal>) -> Arrived {
-    match answer {
-        Ok(model::Kind::Whole) => Arrived { refusal: 0, kind: Some(Kind::Whole) },
-        Ok(model::Kind::Stored) => Arrived { refusal: 0, kind: Some(Kind::Stored) },
-        Ok(model::Kind::Held) => Arrived { refusal: 0, kind: Some(Kind::Held) },
-        Err(Refusal(number)) => Arrived { refusal: number.into(), kind: None },
-    }
+    let kind = match answer {
+        Ok(model::Kind::Whole) => Kind::Whole,
+        Ok(model::Kind::Stored) => Kind::Stored,
+        Ok(model::Kind::Held) => Kind::Held,
+        Err(Refusal { number, off, began }) => {
+            return Arrived { refusal: number.into(), kind: None, off: off.into(), began: began.into() }
+        }
+    };
+    Arrived { refusal: 0, kind: Some(kind), off: 0, began: 0 }
 }
 
 pub fn taken(answer: Result<model::Taken, Refusal>) -> Taken {
@@ -140,14 +147,16 @@ pub fn taken(answer: Result<model::Taken, Refusal>) -> Taken {
         Ok(model::Taken { h, b, counter }) => {
             Taken { refusal: 0, h: h as u64, b: b as u64, counter: SegmentCounter(counter.into()) }
         }
-        Err(Refusal(number)) => Taken { refusal: number.into(), ..Taken::default() },
+        Err(Refusal { number, .. }) => Taken { refusal: number.into(), ..Taken::default() },
     }
 }
 
 pub fn joined(answer: Result<model::Joined, Refusal>) -> Joined {
     let j = match answer {
         Ok(joined) => joined,
-        Err(Refusal(number)) => return Joined { refusal: number.into(), ..Joined::default() },
+        Err(Refusal { number, off, began }) => {
+            return Joined { refusal: number.into(), off: off.into(), began: began.into(), ..Joined::default() }
+        }
     };
     let which = match j.which {
         model::Which::Nothing => Which::Nothing,
@@ -155,7 +164,7 @@ pub fn joined(answer: Result<model::Joined, Refusal>) -> Joined {
         model::Which::Joined => Which::Joined,
     };
     let counter = SegmentCounter(j.counter.into());
-    Joined { refusal: 0, which, place: j.place as u64, length: j.length as u64, h: j.h as u64, b: j.b as u64, counter }
+    Joined { which, place: j.place as u64, length: j.length as u64, h: j.h as u64, b: j.b as u64, counter, ..Joined::default() }
 }
 
 pub fn recording(written: usize, (place, stop): (usize, model::Stop)) -> Recording {

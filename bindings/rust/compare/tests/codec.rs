@@ -19,7 +19,7 @@ fn read() {
         assert_eq!(ours, theirs, "case {case}: T {t}, {packet:02x?}");
         tally.meet(ours.refusal);
     }
-    tally.close(&(1..=15).collect::<Vec<u64>>(), CASES);
+    tally.close(&(1..=15).chain([27]).collect::<Vec<u64>>(), CASES);
 }
 
 /// The largest packets, and slices that are too long to be one.

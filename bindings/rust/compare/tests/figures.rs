@@ -2,6 +2,7 @@
 //! library and by the model.
 
 use compare::calls::{Calls, Library, Model};
+use orlyukan::{Answer, Refusal};
 
 const FIGURE_14: [u8; 27] = [0x18, 0x05, 0xc0, 0, 0, 0x14, 0, 0, 1, 0, 2, 0, 3, 1, 0x20, 6, 0, 7, 0, 0, 0, 0, 0, 0, 0, 9, 0];
 
@@ -81,4 +82,39 @@ fn read_near_the_figures() {
     }
     println!("read near figures 7 to 12 and 14: {cases} cases, {refused} of them refused");
     assert!(cases > 150_000 && refused > 10_000);
+}
+
+/// Figure 14's header with a short and with the longest length field, on slices of every length up to above the largest packet: how many
+/// octets are missing or left over.
+#[test]
+fn read_at_every_length() {
+    let mut octets = FIGURE_14.to_vec();
+    octets.resize(66_000, 0);
+    for field in [20u16, 65_535] {
+        octets[4..6].copy_from_slice(&field.to_be_bytes());
+        let said = u64::from(field) + 7;
+        for length in 0..=octets.len() {
+            let (ours, theirs) = (Library.read(8, &octets[..length]), Model.read(8, &octets[..length]));
+            assert_eq!(ours, theirs, "{length} octets, {said} by the length field");
+            let (number, off) = match length as u64 {
+                ..6 => (1, 0),
+                n if n < said => (5, said - n),
+                n => (if n > said { 27 } else { 0 }, n - said),
+            };
+            assert_eq!((ours.refusal, ours.off, ours.began), (number, off, 0), "{length} octets, {said} by the length field");
+        }
+    }
+}
+
+/// A refusal made a `Result`: it tells the same, and says it in words.
+#[test]
+fn refusals() {
+    let refused = |octets: &[u8]| Library.read(8, octets).accepted().expect_err("a bad packet").to_string();
+    assert_eq!(refused(&FIGURE_14[..26]), "refusal 5: octets missing: 1");
+    assert_eq!(refused(&[&FIGURE_14[..], &[0]].concat()), "refusal 27: octets left over: 1");
+    let mut cut_off = FIGURE_14[..15].to_vec();
+    cut_off[5] = 8;
+    assert_eq!(refused(&cut_off), "refusal 6: the packet ends in the field at octet 8 of its secondary header");
+    assert_eq!(Library.read(8, &cut_off).refused(), Refusal { number: 6, off: 0, began: 8 });
+    assert_eq!(refused(&[]), "refusal 1");
 }

@@ -30,6 +30,7 @@ fn fields() {
         ("orl_sender", "RawSender"),
         ("orl_header", "RawHeader"),
         ("orl_after_answer", "RawAfter"),
+        ("orl_arrive_answer", "RawArrived"),
         ("orl_take_answer", "RawTaken"),
         ("orl_join_answer", "RawJoined"),
         ("orl_join_recording_answer", "RawRecording"),

@@ -7,8 +7,10 @@ use compare::calls::{Calls, Library, Numbers};
 use compare::packets;
 use compare::random::Random;
 use compare::stores;
-use orlyukan::raw::{self, RawAfter, RawCut, RawHeader, RawJoined, RawNumber, RawRecording, RawSender, RawTaken, RawView};
-use orlyukan::{Header, Next, Place, Reading, SegmentCounter, Sender, SequenceCount};
+use orlyukan::raw::{
+    self, RawAfter, RawArrived, RawCut, RawHeader, RawJoined, RawNumber, RawRecording, RawSender, RawTaken, RawView,
+};
+use orlyukan::{Header, Joined, Next, Place, Reading, SegmentCounter, Sender, SequenceCount};
 
 const CASES: u64 = 20_000;
 
@@ -34,10 +36,11 @@ fn answers_are_filled() {
         assert_eq!(reading, Library.read(t, &packet), "case {case}");
 
         let (mut one, mut other) = (store.octets.clone(), store.octets.clone());
-        let mut arrived: RawNumber = spoiled();
+        let mut arrived: RawArrived = spoiled();
         unsafe { raw::orl_arrive(t, one.as_mut_ptr(), one.len(), packet.as_ptr(), packet.len(), &mut arrived) };
         let answer = Library.arrive(t, &mut other, &packet);
-        assert_eq!(arrived, RawNumber { refusal: answer.refusal, number: answer.kind.map_or(0, |kind| kind as u64 + 1) });
+        let kind = answer.kind.map_or(0, |kind| kind as u64 + 1);
+        assert_eq!(arrived, RawArrived { refusal: answer.refusal, kind, off: answer.off, began: answer.began });
 
         let (mut out, mut second) = (vec![0; 3000], vec![0; 3000]);
         let mut taken: RawTaken = spoiled();
@@ -50,8 +53,8 @@ fn answers_are_filled() {
         unsafe { raw::orl_join(t, one.as_mut_ptr(), one.len(), packet.as_ptr(), packet.len(), to, room, &mut joined) };
         let a = Library.join(t, &mut other, &packet, &mut second);
         let which = a.which as u64;
-        let expected =
-            RawJoined { refusal: a.refusal, which, place: a.place, length: a.length, h: a.h, b: a.b, counter: a.counter.0 };
+        let Joined { refusal, place, length, h, b, counter, off, began, .. } = a;
+        let expected = RawJoined { refusal, which, place, length, h, b, counter: counter.0, off, began };
         assert_eq!(joined, expected, "case {case}");
         assert!(one == other && out == second, "case {case}: buffers differ");
 
@@ -228,14 +231,15 @@ fn recordings() {
 fn wrapped_senders() {
     let at = |counter| Next::At(SegmentCounter(counter));
     let sender = |sequence_count, counter| Sender { sequence_count: SequenceCount(sequence_count), counter };
+    let refused = orlyukan::Refusal { number: 22, ..orlyukan::Refusal::default() };
     assert_eq!(orlyukan::next_sequence_count(SequenceCount(0)), Ok(SequenceCount(1)));
     assert_eq!(orlyukan::next_sequence_count(SequenceCount(16_383)), Ok(SequenceCount(0)));
     assert_eq!(orlyukan::next_sequence_count(SequenceCount(65_535)), Ok(SequenceCount(0)));
     for too_wide in [65_536, 65_537, 1 << 32, u64::MAX] {
-        assert_eq!(orlyukan::next_sequence_count(SequenceCount(too_wide)), Err(orlyukan::Refusal(22)));
+        assert_eq!(orlyukan::next_sequence_count(SequenceCount(too_wide)), Err(refused));
     }
     assert_eq!(orlyukan::after_packet(sender(7, at(5))), Ok(sender(8, at(5))));
     assert_eq!(orlyukan::after_segment(sender(16_383, at(4_294_967_295))), Ok(sender(0, Next::NoneLeft)));
     assert_eq!(orlyukan::after_segment(sender(1, Next::NoneLeft)), Ok(sender(2, Next::NoneLeft)));
-    assert_eq!(orlyukan::after_segment(sender(1 << 20, at(0))), Err(orlyukan::Refusal(22)));
+    assert_eq!(orlyukan::after_segment(sender(1 << 20, at(0))), Err(refused));
 }

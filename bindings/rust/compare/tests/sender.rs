@@ -25,7 +25,7 @@ fn sender(r: &mut Random) -> Sender {
 }
 
 fn refusal<A>(answer: Result<A, Refusal>) -> u64 {
-    answer.err().map_or(0, |Refusal(number)| number)
+    answer.err().map_or(0, |refusal| refusal.number)
 }
 
 #[test]

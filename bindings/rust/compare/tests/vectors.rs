@@ -120,7 +120,7 @@ fn varint_read() {
     for case in cases::load("varint_read").unwrap_or_default() {
         let (value, next, refusal) = match model::read_varint(&case.octets("octets"), case.number("at") as usize) {
             Ok((value, next)) => (value.into(), next as u64, 0),
-            Err(model::Refusal(number)) => (0, 0, number.into()),
+            Err(model::Refusal { number, .. }) => (0, 0, number.into()),
         };
         let expect = case.get("expect").get("answer");
         assert_eq!(
@@ -137,7 +137,7 @@ fn varint_write() {
         let mut out = case.octets("out");
         let (refusal, length) = match model::write_varint(case.number("value"), &mut out) {
             Ok(length) => (0, length as u64),
-            Err(model::Refusal(number)) => (number.into(), 0),
+            Err(model::Refusal { number, .. }) => (number.into(), 0),
         };
         let expect = case.get("expect");
         assert_eq!(

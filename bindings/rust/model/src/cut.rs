@@ -1,6 +1,6 @@
 //! Cutting a message into packets of at most P octets.
 
-use crate::values::{hold, test_timestamp, Refusal, Sender, Values};
+use crate::values::{hold, refusal, test_timestamp, Refusal, Sender, Values};
 use crate::write::{header_size, lay, test_values, Sequence};
 use crate::{CONTINUATION, FIRST, HEADER_LIMIT, LAST, LAST_COUNTER, PACKET_LIMIT, PRIMARY, SEQUENCE_COUNTS, UNSEGMENTED};
 
@@ -29,9 +29,9 @@ fn plan(t: u64, p: u64, v: &Values, body: u64, sender: Sender) -> Result<Plan, R
         return Ok(Plan { header, count: 1, carried: body as usize });
     }
     hold(header + 4 <= HEADER_LIMIT, 12)?;
-    let carried = (p as usize).checked_sub(header + 10).filter(|c| *c > 0).ok_or(Refusal(24))?;
+    let carried = (p as usize).checked_sub(header + 10).filter(|c| *c > 0).ok_or(refusal(24))?;
     let count = body.div_ceil(carried as u64);
-    let start = sender.counter.ok_or(Refusal(25))?;
+    let start = sender.counter.ok_or(refusal(25))?;
     hold(start + (count - 1) <= LAST_COUNTER, 25)?;
     Ok(Plan { header, count, carried })
 }
@@ -59,7 +59,7 @@ pub fn packet(t: u64, p: u64, v: &Values, body: &[u8], sender: Sender, i: u64, o
     };
     let counted = if flags == UNSEGMENTED { 0 } else { 4 };
     let size = PRIMARY + plan.header + counted + (to - from);
-    let out = out.get_mut(..size).ok_or(Refusal(21))?;
+    let out = out.get_mut(..size).ok_or(refusal(21))?;
     let sequence_count = ((sender.sequence_count + i) % SEQUENCE_COUNTS) as u16;
     let counter = (sender.counter.unwrap_or(0) + i) as u32;
     lay(v, Sequence { flags, sequence_count, counter }, &body[from..to], out);

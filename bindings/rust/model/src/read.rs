@@ -1,6 +1,6 @@
 //! Reading one packet.
 
-use crate::values::{hold, test_timestamp, Refusal};
+use crate::values::{hold, refusal, test_timestamp, Refusal};
 use crate::varint::varint_step;
 use crate::{HEADER_LIMIT, PARTS, PRIMARY, UNSEGMENTED};
 
@@ -58,24 +58,39 @@ impl Reading {
 struct Walk<'a> {
     packet: &'a [u8],
     at: usize,
+    /// Where the field at hand began.
+    began: usize,
 }
 
 /// The place after the last octet that a secondary header may have.
 const LIMIT: usize = PRIMARY + HEADER_LIMIT;
 
 impl Walk<'_> {
+    /// A field begins here.
+    fn field(&mut self) -> &mut Self {
+        self.began = self.at;
+        self
+    }
+
+    /// The packet ends inside the field at hand, or just before it.
+    fn ends(&self) -> Refusal {
+        Refusal { number: 6, off: 0, began: (self.began - PRIMARY) as u16 }
+    }
+
     /// A content of a known length, tested whole for 12 and then whole for 6: its place.
     fn content(&mut self, length: usize) -> Result<Span, Refusal> {
         let (place, end) = (self.at, self.at + length);
         hold(end <= LIMIT, 12)?;
-        hold(end <= self.packet.len(), 6)?;
+        if end > self.packet.len() {
+            return Err(self.ends());
+        }
         self.at = end;
         Ok(Span { place: place as u32, length: length as u32 })
     }
 
     fn octet(&mut self) -> Result<u8, Refusal> {
         hold(self.at < LIMIT, 12)?;
-        let octet = *self.packet.get(self.at).ok_or(Refusal(6))?;
+        let octet = *self.packet.get(self.at).ok_or_else(|| self.ends())?;
         self.at += 1;
         Ok(octet)
     }
@@ -105,12 +120,12 @@ impl Walk<'_> {
         self.content(length as usize)
     }
 
-    /// A count of parts, then each with its presence octet.
+    /// A count of parts, then each with its presence octet: as many fields, and one more.
     fn domain(&mut self, parts: &mut [Span; PARTS]) -> Result<u8, Refusal> {
-        let count = self.varint()?;
+        let count = self.field().varint()?;
         hold(count as usize <= PARTS, 13)?;
         for part in &mut parts[..count as usize] {
-            hold(self.octet()? == 1, 11)?;
+            hold(self.field().octet()? == 1, 11)?;
             *part = self.text()?;
         }
         Ok(count as u8)
@@ -121,21 +136,41 @@ fn number16(octets: &[u8; 21], at: usize) -> u16 {
     u16::from_be_bytes([octets[at], octets[at + 1]])
 }
 
-/// The primary header: 1 to 5.
+/// The octets missing or left over.
+fn wrong_length(number: u8, longer: usize, shorter: usize) -> Refusal {
+    Refusal { number, off: (longer - shorter) as u32, began: 0 }
+}
+
+/// The primary header: 1 to 4, then 5 or 27.
 fn read_primary(packet: &[u8], r: &mut Reading) -> Result<(), Refusal> {
-    let primary: &[u8; PRIMARY] = packet.first_chunk().ok_or(Refusal(1))?;
+    let primary: &[u8; PRIMARY] = packet.first_chunk().ok_or(refusal(1))?;
     let id = u16::from_be_bytes([primary[0], primary[1]]);
     let sequence = u16::from_be_bytes([primary[2], primary[3]]);
     let length = u16::from_be_bytes([primary[4], primary[5]]);
     hold(id >> 13 == 0, 2)?;
     hold(id & 0x0800 != 0, 3)?;
     hold(id & 0x07ff != 2047, 4)?;
-    hold(packet.len() == usize::from(length) + 7, 5)?;
+    let said = usize::from(length) + 7;
+    if packet.len() < said {
+        return Err(wrong_length(5, said, packet.len()));
+    }
+    if packet.len() > said {
+        return Err(wrong_length(27, packet.len(), said));
+    }
     r.packet_type = (id >> 12 & 1) as u8;
     r.apid = id & 0x07ff;
     r.flags = (sequence >> 14) as u8;
     r.sequence_count = sequence & 0x3fff;
     Ok(())
+}
+
+/// Where the fields of the fixed part begin; error, QoS level, session and secondary APID share the octet at 8.
+const FIXED_FIELDS: [u16; 9] = [0, 1, 3, 5, 7, 8, 10, 12, 20];
+
+/// The data field ends after so many octets of the fixed part.
+fn fixed_ends(octets: usize) -> Refusal {
+    let began = FIXED_FIELDS.into_iter().rfind(|place| usize::from(*place) <= octets).unwrap_or(0);
+    Refusal { number: 6, off: 0, began }
 }
 
 /// The fixed part of the secondary header. A value is judged as soon as its octet is there, so 7, 8 and 9 may come before 6.
@@ -147,7 +182,7 @@ fn read_fixed(data: &[u8], r: &mut Reading) -> Result<(), Refusal> {
     if let Some(ninth) = data.get(8) {
         hold(ninth >> 3 & 3 != 3, 9)?;
     }
-    let fixed: &[u8; 21] = data.first_chunk().ok_or(Refusal(6))?;
+    let fixed: &[u8; 21] = data.first_chunk().ok_or_else(|| fixed_ends(data.len()))?;
     r.sdu = fixed[0] & 0x1f;
     r.area = number16(fixed, 1);
     r.service = number16(fixed, 3);
@@ -168,31 +203,31 @@ fn read_fixed(data: &[u8], r: &mut Reading) -> Result<(), Refusal> {
 /// What stands after the fixed part, each field only if present.
 fn read_optional(t: usize, walk: &mut Walk, r: &mut Reading) -> Result<(), Refusal> {
     if r.has(0) {
-        r.source = walk.octet()?;
+        r.source = walk.field().octet()?;
     }
     if r.has(1) {
-        r.destination = walk.octet()?;
+        r.destination = walk.field().octet()?;
     }
     if r.flags != UNSEGMENTED {
-        r.counter = walk.counter()?;
+        r.counter = walk.field().counter()?;
     }
     if r.has(2) {
-        r.priority = walk.varint()?;
+        r.priority = walk.field().varint()?;
     }
     if r.has(3) {
-        r.timestamp = walk.content(t)?.place;
+        r.timestamp = walk.field().content(t)?.place;
     }
     if r.has(4) {
-        r.zone = walk.text()?;
+        r.zone = walk.field().text()?;
     }
     if r.has(5) {
-        r.session_name = walk.text()?;
+        r.session_name = walk.field().text()?;
     }
     if r.has(6) {
         r.domain_count = walk.domain(&mut r.domain)?;
     }
     if r.has(7) {
-        r.authentication = walk.text()?;
+        r.authentication = walk.field().text()?;
     }
     Ok(())
 }
@@ -203,7 +238,7 @@ pub fn read(t: u64, packet: &[u8]) -> Result<Reading, Refusal> {
     let mut r = Reading::default();
     read_primary(packet, &mut r)?;
     read_fixed(&packet[PRIMARY..], &mut r)?;
-    let mut walk = Walk { packet, at: PRIMARY + 21 };
+    let mut walk = Walk { packet, at: PRIMARY + 21, began: PRIMARY + 21 };
     read_optional(t, &mut walk, &mut r)?;
     let counted = if r.flags == UNSEGMENTED { 0 } else { 4 };
     hold(counted == 0 || walk.at < packet.len(), 14)?;

@@ -5,7 +5,7 @@ use std::collections::HashMap;
 use crate::hash::Build;
 use crate::read::read;
 use crate::segment::Segment;
-use crate::values::{hold, test_timestamp, Refusal};
+use crate::values::{hold, refusal, test_timestamp, Refusal};
 use crate::{CONTINUATION, FIRST, LAST, PRIMARY, UNSEGMENTED};
 
 /// The octets of a cell.
@@ -57,7 +57,7 @@ fn look(t: u64, cell: &[u8]) -> Result<Option<Segment<'_>>, Refusal> {
     hold(length <= ROOM, 16)?;
     let (packet, tail) = cell[MARK..].split_at(length);
     hold(tail == &ZERO[..tail.len()], 16)?;
-    let reading = read(t, packet).map_err(|_| Refusal(16))?;
+    let reading = read(t, packet).map_err(|_| refusal(16))?;
     hold(reading.flags != UNSEGMENTED, 16)?;
     Ok(Some(Segment::new(packet, &reading)))
 }
@@ -139,7 +139,7 @@ pub fn arrive(t: u64, store: &mut [u8], packet: &[u8]) -> Result<Kind, Refusal> 
         hold(index.held(cell).same_rest(&segment), 18)?;
         return Ok(Kind::Held);
     }
-    let free = index.cells.iter().position(Option::is_none).ok_or(Refusal(19))?;
+    let free = index.cells.iter().position(Option::is_none).ok_or(refusal(19))?;
     let cell = &mut store[free * CELL..][..MARK + packet.len()];
     cell[..MARK].copy_from_slice(&HELD);
     cell[MARK..].copy_from_slice(packet);
@@ -150,11 +150,11 @@ pub fn arrive(t: u64, store: &mut [u8], packet: &[u8]) -> Result<Kind, Refusal> 
 pub fn take(t: u64, store: &mut [u8], out: &mut [u8]) -> Result<Taken, Refusal> {
     test_timestamp(t)?;
     let index = Index::new(t, store)?;
-    let run = index.complete().ok_or(Refusal(20))?;
+    let run = index.complete().ok_or(refusal(20))?;
     let first = index.held(run[0]);
     let b = run.iter().map(|cell| index.held(*cell).body().len()).sum();
     let taken = Taken { h: first.h(), b, counter: first.counter };
-    let out = out.get_mut(..2 + taken.h + taken.b).ok_or(Refusal(21))?;
+    let out = out.get_mut(..2 + taken.h + taken.b).ok_or(refusal(21))?;
     let (front, mut body) = out.split_at_mut(2 + taken.h);
     let (before, after) = first.header();
     front[..2].copy_from_slice(first.id());

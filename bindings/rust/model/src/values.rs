@@ -1,8 +1,18 @@
 //! What is lent to the writing calls, and what all calls answer on a refusal.
 
-/// The number of a refusal, from SPEC's table.
+/// A refusal: its number of SPEC's table; how many octets are missing (5) or left over (27); where in the secondary header the
+/// unfinished field began (6).
 #[derive(Clone, Copy, Debug, PartialEq, Eq)]
-pub struct Refusal(pub u8);
+pub struct Refusal {
+    pub number: u8,
+    pub off: u32,
+    pub began: u16,
+}
+
+/// A refusal that tells nothing beside its number.
+pub(crate) fn refusal(number: u8) -> Refusal {
+    Refusal { number, off: 0, began: 0 }
+}
 
 /// A header's values to write or to cut. Numbers are wider than their fields, so that a value out of range can be given.
 #[derive(Clone, Copy, Debug, Default)]
@@ -51,7 +61,7 @@ pub(crate) fn hold(test: bool, number: u8) -> Result<(), Refusal> {
     if test {
         Ok(())
     } else {
-        Err(Refusal(number))
+        Err(refusal(number))
     }
 }
 

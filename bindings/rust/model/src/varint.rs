@@ -1,6 +1,6 @@
 //! Varints of at most 32 bits: seven bits an octet, the lowest group first, the high bit set if more follow.
 
-use crate::values::{hold, Refusal};
+use crate::values::{hold, refusal, Refusal};
 
 /// The octets that the shortest writing of a number takes.
 pub(crate) fn varint_length(value: u32) -> usize {
@@ -25,7 +25,7 @@ pub fn read_varint(octets: &[u8], at: usize) -> Result<(u32, usize), Refusal> {
     let mut value = 0;
     for k in 0.. {
         let next = at + k as usize;
-        let octet = *octets.get(next).ok_or(Refusal(6))?;
+        let octet = *octets.get(next).ok_or(refusal(6))?;
         let (more, ends) = varint_step(value, k, octet)?;
         value = more;
         if ends {
@@ -37,7 +37,7 @@ pub fn read_varint(octets: &[u8], at: usize) -> Result<(u32, usize), Refusal> {
 
 /// Lays a Varint over the front of an output: the octets it took. 22 if the number is too wide, 21 if there is no room.
 pub fn write_varint(value: u64, out: &mut [u8]) -> Result<usize, Refusal> {
-    let value = u32::try_from(value).map_err(|_| Refusal(22))?;
+    let value = u32::try_from(value).map_err(|_| refusal(22))?;
     let length = varint_length(value);
     hold(length <= out.len(), 21)?;
     put_varint(value, &mut out[..length]);

@@ -1,6 +1,6 @@
 //! Writing one packet, and what cutting shares with it: the tests of values, the sizes, the octets of a header.
 
-use crate::values::{hold, test_timestamp, Refusal, Values};
+use crate::values::{hold, refusal, test_timestamp, Refusal, Values};
 use crate::varint::{put_varint, varint_length};
 use crate::{HEADER_LIMIT, PACKET_LIMIT, PARTS, PRIMARY, SEQUENCE_COUNTS, UNSEGMENTED};
 
@@ -198,7 +198,7 @@ pub fn write(
     hold(size <= PACKET_LIMIT, 23)?;
     hold(header <= HEADER_LIMIT, 12)?;
     hold(!segmented || !body.is_empty(), 14)?;
-    let out = out.get_mut(..size).ok_or(Refusal(21))?;
+    let out = out.get_mut(..size).ok_or(refusal(21))?;
     lay(v, Sequence { flags: flags as u8, sequence_count: sequence_count as u16, counter: counter as u32 }, body, out);
     Ok(size)
 }

@@ -16,12 +16,19 @@ header-size-requires c κs = search needs
 plan-of-requires : tie.Need-plan-of-requires
 plan-of-requires c κs = search needs
 
+numbered-requires : tie.Need-numbered-requires
+numbered-requires c κs = search needs
+
 returns : tie.Need-returns
 returns c =
-    let h = c .before .before .before in
+    let h = c .before .before .before .before in
     let g = h .before .before .before .before .before .before .before .before .before .args in
-    refused-count (g .s) (g .p) (g .v) _ (g .body) _ (h .before .before .test-message .ensures) (h .before .header-size .ensures) (h .plan-of .ensures)
-    (c .if1 .taken)
+    rw (c .numbered .ensures)
+    (refused-count (g .s) (g .p) (g .v) _ (g .body) _ (h .before .before .test-message .ensures) (h .before .header-size .ensures) (h .plan-of .ensures)
+    (c .before .if1 .taken))
+
+numbered-requires-2 : tie.Need-numbered-requires-2
+numbered-requires-2 c κs = search needs
 
 sent-as-requires : tie.Need-sent-as-requires
 sent-as-requires c κs = search needs
@@ -31,10 +38,11 @@ after-message-requires c κs = search needs
 
 returns-2 : tie.Need-returns-2
 returns-2 c =
-    let h = c .before .before .before .before .before in
+    let h = c .before .before .before .before .before .before in
     let g = h .before .before .before .before .before .before .before .before .before .args in
-    made-count (g .s) (g .p) (g .v) _ (g .body) _ (h .before .before .test-message .ensures) (h .before .header-size .ensures) (h .plan-of .ensures)
-    (c .before .before .if1 .left) (c .before .sent-as .ensures) (c .after-message .ensures)
+    rw (c .numbered2 .ensures)
+    (made-count (g .s) (g .p) (g .v) _ (g .body) _ (h .before .before .test-message .ensures) (h .before .header-size .ensures) (h .plan-of .ensures)
+    (c .before .before .before .if1 .left) (c .before .before .sent-as .ensures) (c .before .after-message .ensures))
 
 pub count-spec : {M : Type 1} → statement M
 count-spec =
@@ -43,7 +51,9 @@ count-spec =
     test-message-requires
     header-size-requires
     plan-of-requires
+    numbered-requires
     returns
     sent-as-requires
     after-message-requires
+    numbered-requires-2
     returns-2)

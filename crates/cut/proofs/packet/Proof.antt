@@ -107,25 +107,28 @@ sub-n c =
 put-packet-requires : tie.Need-put-packet-requires
 put-packet-requires c κs = search needs
 
+numbered-requires : tie.Need-numbered-requires
+numbered-requires c κs = search needs
+
 same-length : tie.Need-same-length
 same-length c = search needs
 
 returns-2 : tie.Need-returns-2
 returns-2 c =
-    let h = c .before .before .before .before .before .before .before .before .before in
+    let h = c .before .before .before .before .before .before .before .before .before .before in
     let k = h .before .before .before .before in
-    let l = c .before .before .before .before in
+    let l = c .before .before .before .before .before in
     let e = k .before .before .before .before .before .before in
     let a = e .before .before .before .before .before .before in
     let g = a .before .args in (
-      made-packet (g .s) (g .p) (g .v) _ _ _ (g .i) (k .before .before .before .before .test-message .ensures) (k .before .before .before .header-size .ensures)
+      rw (c .numbered .ensures) (made-packet (g .s) (g .p) (g .v) _ _ _ (g .i) (k .before .before .before .before .test-message .ensures) (k .before .before .before .header-size .ensures)
           (k .before .before .plan-of .ensures) (k .before .values-at .ensures) (k .from-of .ensures) (h .before .before .before .to-of .ensures)
           (h .before .secondary-size .ensures) (h .packet-size .ensures) _ (l .before .before .before .unless .ensures) (l .before .before .unless2 .ensures)
-          (l .if1 .left),
+          (l .if1 .left)),
       made-output (g .s) (g .p) (g .v) _ _ _ (g .i) (k .before .before .before .before .test-message .ensures)
           (k .before .before .before .header-size .ensures) (k .before .before .plan-of .ensures) (k .before .values-at .ensures) (k .from-of .ensures)
           (h .before .before .before .to-of .ensures) (h .before .secondary-size .ensures) (h .packet-size .ensures) _
-          (l .before .before .before .unless .ensures) (l .before .before .unless2 .ensures) (l .if1 .left) (c .before .before .put-packet .ensures),
+          (l .before .before .before .unless .ensures) (l .before .before .unless2 .ensures) (l .if1 .left) (c .before .before .before .put-packet .ensures),
       record {
         octets =
             record {
@@ -161,5 +164,6 @@ packet-spec =
     returns
     sub-n
     put-packet-requires
+    numbered-requires
     same-length
     returns-2)

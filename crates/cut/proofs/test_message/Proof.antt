@@ -21,11 +21,12 @@ test-parts-requires c κs = search needs
 returns : tie.Need-returns
 unfolding valueTests partsTest
 returns c =
+    let g = c .before .before .before in
     simp (
       c .test-parts .ensures,
       c .before .unless .ensures,
-      c .before .before .before .test-header .ensures,
-      c .before .before .before .before .test-limit .ensures,
+      g .test-header .ensures,
+      g .before .test-limit .ensures,
     )
 
 pub test-message-spec : {M : Type 1} → statement M

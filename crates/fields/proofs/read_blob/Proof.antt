@@ -14,13 +14,18 @@ cast-length c = search needs
 octets-requires : tie.Need-octets-requires
 octets-requires c κs = search needs
 
-cast-t9 : tie.Need-cast-t9
-cast-t9 c = search needs
+field-from-requires : tie.Need-field-from-requires
+field-from-requires c κs = search needs
+
+cast-t10 : tie.Need-cast-t10
+cast-t10 c = search needs
 
 returns : tie.Need-returns
 unfolding blob
-returns c = simp (c .before .octets .ensures, c .before .before .before .before .read-uinteger .ensures)
+returns c =
+    let g = c .before .before in
+    simp (c .before .field-from .ensures, g .octets .ensures, g .before .before .before .read-uinteger .ensures)
 
 pub read-blob-spec : {M : Type 1} → statement M
 read-blob-spec =
-    tie.close (tie.spec read-uinteger-requires cast-length octets-requires cast-t9 returns)
+    tie.close (tie.spec read-uinteger-requires cast-length octets-requires field-from-requires cast-t10 returns)

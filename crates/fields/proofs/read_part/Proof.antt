@@ -3,7 +3,7 @@
 use borrow.Author.Needs.{needs}
 use Rattle.fields.proofs.read_part.Statement.{statement}
 use Rattle.fields.proofs.read_part.Tie as tie
-use Rattle.fields.specs.Fields.{part}
+use Rattle.fields.specs.Fields.{markedText, part}
 
 cast-octet : tie.Need-cast-octet
 cast-octet c = search needs
@@ -20,11 +20,16 @@ check-requires c κs = search needs
 read-text-requires : tie.Need-read-text-requires
 read-text-requires c κs = search needs
 
+field-from-requires : tie.Need-field-from-requires
+field-from-requires c κs = search needs
+
 returns : tie.Need-returns
-unfolding part
-returns c = simp (c .read-text .ensures, c .before .check .ensures, c .before .before .octets .ensures, c .before .before .before .octet .ensures)
+unfolding part markedText
+returns c =
+    let g = c .before .before .before in
+    simp (c .field-from .ensures, g .read-text .ensures, g .before .check .ensures, g .before .before .octets .ensures, g .before .before .before .octet .ensures)
 
 pub read-part-spec : {M : Type 1} → statement M
 read-part-spec =
     tie.close
-    (tie.spec cast-octet octet-requires octets-requires check-requires read-text-requires returns)
+    (tie.spec cast-octet octet-requires octets-requires check-requires read-text-requires field-from-requires returns)

@@ -20,7 +20,9 @@ element-copy-out-t17 : tie.Need-element-copy-out-t17
 element-copy-out-t17 c = search needs
 
 returns : tie.Need-returns
-returns c = rw (c .before .before .before .too-wide .ensures, c .before .before .before .before .test-limit .ensures)
+returns c =
+    let g = c .before .before .before in
+    rw (g .too-wide .ensures, g .before .test-limit .ensures)
 
 pub cut-too-wide-spec : {M : Type 1} → statement M
 cut-too-wide-spec =

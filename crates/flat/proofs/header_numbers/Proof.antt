@@ -1,6 +1,7 @@
 -- `flat::header_numbers` meets its contract: its pieces fill the answer from the first number to the last.
 -- Assumes nothing.
 use Prim.Native.Nat.{ℕ}
+use mathlib.Core.Path.{refl}
 use borrow.Author.Needs.{needs}
 use lib.ListN.{replicate, length-replicate}
 use Rattle.flat.proofs.Answers.{header-laid}
@@ -37,10 +38,16 @@ array-write-answer-2 c = search needs
 put-place-requires : tie.Need-put-place-requires
 put-place-requires c κs = search needs
 
+array-write-answer-3 : tie.Need-array-write-answer-3
+array-write-answer-3 c = search needs
+
+array-write-answer-4 : tie.Need-array-write-answer-4
+array-write-answer-4 c = search needs
+
 returns : tie.Need-returns
 returns c =
     let g = c .before .before .before .before .before .before in
-    header-laid _ (replicate 72 0) _ _ _ _ _ _ _ (length-replicate {A = ℕ} 72 0)
+    header-laid _ (replicate 74 0) _ _ _ _ _ _ _ _ (length-replicate {A = ℕ} 74 0)
     (g .before .before .before .before .before .before .put-primary .ensures)
     (g .before .before .before .before .put-names .ensures)
     (g .before .before .put-routing .ensures)
@@ -48,6 +55,7 @@ returns c =
     (c .before .before .before .before .put-ids .ensures)
     (c .before .before .put-texts .ensures)
     (c .put-place .ensures)
+    refl
 
 pub header-numbers-spec : {M : Type 1} → statement M
 header-numbers-spec =
@@ -63,4 +71,6 @@ header-numbers-spec =
     put-texts-requires
     array-write-answer-2
     put-place-requires
+    array-write-answer-3
+    array-write-answer-4
     returns)

@@ -22,7 +22,7 @@ cast-t6 : tie.Need-cast-t6
 cast-t6 c = search needs
 
 returns : tie.Need-returns
-returns c = ap (λ (k : ℕ). 0 ∷ k ∷ []) (c .kind-number .ensures) ∙ sym (ap (λ (a : Arrival). arrivalNumbers a) (c .before .before .a .given .1))
+returns c = ap (λ (k : ℕ). 0 ∷ k ∷ 0 ∷ 0 ∷ []) (c .kind-number .ensures) ∙ sym (ap (λ (a : Arrival). arrivalNumbers a) (c .before .before .a .given .1))
 
 returns-2 : tie.Need-returns-2
 returns-2 c = sym (ap (λ (a : Arrival). arrivalNumbers a) (c .before .before .a2 .given .1))

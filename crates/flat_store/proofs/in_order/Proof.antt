@@ -13,18 +13,18 @@ begin-requires : tie.Need-begin-requires
 begin-requires c κs = search needs
 
 returns : tie.Need-returns
-returns c = order-15 _ 1024 _ (λ z. c .if1 .taken ((ap (λ (w : Walk). w .refusal .number) (c .before .before .before .begin .ensures)) ∙ z))
+returns c = order-15 _ 1024 _ (λ z. c .if1 .taken ((ap (λ (w : Walk). w .refused) (c .before .before .begin .ensures)) ∙ z))
 
 order-requires : tie.Need-order-requires
 order-requires c κs = search needs
 
 returns-2 : tie.Need-returns-2
 returns-2 c = order-16 _ 1024 _ (c .before .order .ensures)
-    (sym (ap (λ (w : Walk). w .refusal .number) (c .before .before .before .before .before .begin .ensures)) ∙ c .before .before .if1 .left) (c .if2 .taken)
+    (sym (ap (λ (w : Walk). w .refused) (c .before .before .before .before .begin .ensures)) ∙ c .before .before .if1 .left) (c .if2 .taken)
 
 returns-3 : tie.Need-returns-3
 returns-3 c = order-some _ 1024 _ (c .before .order .ensures)
-    (sym (ap (λ (w : Walk). w .refusal .number) (c .before .before .before .before .before .begin .ensures)) ∙ c .before .before .if1 .left) (c .if2 .left)
+    (sym (ap (λ (w : Walk). w .refused) (c .before .before .before .before .begin .ensures)) ∙ c .before .before .if1 .left) (c .if2 .left)
 
 pub in-order-spec : {M : Type 1} → statement M
 in-order-spec =

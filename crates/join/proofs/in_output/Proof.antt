@@ -12,11 +12,14 @@ refused-requires c κs = search needs
 returns : tie.Need-returns
 returns c = c .refused .ensures ∙ as-refused _ (c .before .if1 .taken)
 
-add-t6 : tie.Need-add-t6
-add-t6 c = search needs
+numbered-requires : tie.Need-numbered-requires
+numbered-requires c κs = search needs
+
+add-t7 : tie.Need-add-t7
+add-t7 c = search needs
 
 returns-2 : tie.Need-returns-2
-returns-2 c = as-taken _ (c .before .if1 .left)
+returns-2 c = as-taken _ (c .before .before .if1 .left) (c .before .numbered .ensures)
 
 pub in-output-spec : {M : Type 1} → statement M
-in-output-spec = tie.close (tie.spec refused-requires returns add-t6 returns-2)
+in-output-spec = tie.close (tie.spec refused-requires returns numbered-requires add-t7 returns-2)

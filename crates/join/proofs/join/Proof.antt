@@ -2,7 +2,7 @@
 -- Assumes nothing.
 use mathlib.Core.Path.{_∙_, refl}
 use denote.Ref.{now}
-use Rattle.cells.proofs.Gate.{opened-number, opened-gate, opened-cells}
+use Rattle.cells.proofs.Gate.{opened-refusal, opened-number, opened-gate, opened-cells}
 use Rattle.join.proofs.Joins.{join-shut}
 use Rattle.join.proofs.Inner.{joins-open}
 use borrow.Author.Needs.{needs}
@@ -23,8 +23,8 @@ same-length c = search needs
 
 returns : tie.Need-returns
 returns c =
-    let n = opened-number _ 1024 _ (c .before .before .before .before .check .ensures) in
-    join-shut _ 1024 _ _ _ (λ g. c .before .if1 .taken (n ∙ g)) n (c .refused .ensures)
+    let o = c .before .before .before .before .check .ensures in
+    join-shut _ 1024 _ _ _ (λ g. c .before .if1 .taken (opened-number _ 1024 _ o ∙ g)) (opened-refusal _ 1024 _ o) (c .refused .ensures)
 
 slice-aggregate-join-in : tie.Need-slice-aggregate-join-in
 slice-aggregate-join-in c = search needs

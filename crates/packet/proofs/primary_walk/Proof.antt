@@ -35,14 +35,18 @@ check-requires-4 c κs = search needs
 check-requires-5 : tie.Need-check-requires-5
 check-requires-5 c κs = search needs
 
+check-requires-6 : tie.Need-check-requires-6
+check-requires-6 c κs = search needs
+
 returns : tie.Need-returns
 unfolding primaryTests
 returns c =
-    let g = c .before .before .before in
+    let g = c .before .before .before .before in
     simp (
-      c .check5 .ensures,
-      c .before .check4 .ensures,
-      c .before .before .check3 .ensures,
+      c .check6 .ensures,
+      c .before .check5 .ensures,
+      c .before .before .check4 .ensures,
+      c .before .before .before .check3 .ensures,
       g .check2 .ensures,
       g .before .check .ensures,
       g .before .before .be162 .ensures,
@@ -64,4 +68,5 @@ primary-walk-spec =
     check-requires-3
     check-requires-4
     check-requires-5
+    check-requires-6
     returns)

@@ -24,17 +24,25 @@ read-texts-requires c κs = search needs
 body-walk-requires : tie.Need-body-walk-requires
 body-walk-requires c κs = search needs
 
+refusal-of-requires : tie.Need-refusal-of-requires
+refusal-of-requires c κs = search needs
+
 refused-header-requires : tie.Need-refused-header-requires
 refused-header-requires c κs = search needs
 
 returns : tie.Need-returns
 returns c =
-    let g = c .before .before .before .before .before .before .before .before .before .before .before in
-    let h = c .before .before .before .before in (
-      c .refused-header .ensures ∙ refused-whole _ _ (g .before .before .begin .ensures) (g .before .primary-walk .ensures) (g .read-fixed .ensures)
-          (h .before .before .before .before .read-ids .ensures) (h .before .before .read-texts .ensures) (h .body-walk .ensures) (c .before .if1 .taken),
+    let h = c .before .before .before .before in
+    let g = h .before .before .before .before .before .before .before in (
+      c .refused-header .ensures
+          ∙ refused-whole _ _ (g .before .before .begin .ensures) (g .before .primary-walk .ensures) (g .read-fixed .ensures)
+          (h .before .before .before .before .read-ids .ensures) (h .before .before .read-texts .ensures) (h .body-walk .ensures)
+          (c .before .before .if1 .taken) (c .before .refusal-of .ensures),
       λ i. g .before .before .before .shared-slice-known .given i .fits,
     )
+
+numbered-requires : tie.Need-numbered-requires
+numbered-requires c κs = search needs
 
 cast-end : tie.Need-cast-end
 cast-end c = search needs
@@ -60,8 +68,8 @@ returns-2 c =
     let h = g .before .before .before .before .before .before .before in
     let k = c .before .before .before .before .before .before .before in (
       accepted-whole _ _ (h .before .before .begin .ensures) (h .before .primary-walk .ensures) (h .read-fixed .ensures)
-          (g .before .before .before .before .read-ids .ensures) (g .before .before .read-texts .ensures) (g .body-walk .ensures) (k .before .before .if1 .left)
-          (k .read-primary .ensures) (simp (c .before .less2 .ensures, c .before .before .before .less .ensures, c .before .before .counter-size .ensures))
+          (g .before .before .before .before .read-ids .ensures) (g .before .before .read-texts .ensures) (g .body-walk .ensures) (k .before .before .before .if1 .left)
+          (k .before .before .numbered .ensures) (k .read-primary .ensures) (simp (c .before .less2 .ensures, c .before .before .before .less .ensures, c .before .before .counter-size .ensures))
           (c .less3 .ensures),
       λ i. h .before .before .before .shared-slice-known .given i .fits,
     )
@@ -76,8 +84,10 @@ read-spec =
     read-ids-requires
     read-texts-requires
     body-walk-requires
+    refusal-of-requires
     refused-header-requires
     returns
+    numbered-requires
     cast-end
     read-primary-requires
     less-requires

@@ -15,6 +15,9 @@ check-requires c κs = search needs
 read-octet-requires-2 : tie.Need-read-octet-requires-2
 read-octet-requires-2 c κs = search needs
 
+field-from-requires : tie.Need-field-from-requires
+field-from-requires c κs = search needs
+
 read-word-requires : tie.Need-read-word-requires
 read-word-requires c κs = search needs
 
@@ -33,8 +36,14 @@ add-t18 c = search needs
 returns : tie.Need-returns
 unfolding routingOf octetField wideField afterQualifier afterSecondary afterSession
 returns c =
-    let g = c .before .before .before .before in
-    simp (c .before .before .read-word .ensures, g .read-octet2 .ensures, g .before .check .ensures, g .before .before .before .read-octet .ensures)
+    let g = c .before .before .before in
+    simp (
+      c .before .before .read-word .ensures,
+      g .field-from .ensures,
+      g .before .read-octet2 .ensures,
+      g .before .before .check .ensures,
+      g .before .before .before .before .read-octet .ensures,
+    )
 
 pub read-routing-spec : {M : Type 1} → statement M
 read-routing-spec =
@@ -43,6 +52,7 @@ read-routing-spec =
     read-octet-requires
     check-requires
     read-octet-requires-2
+    field-from-requires
     read-word-requires
     cast-t15
     mul-t16

@@ -9,9 +9,13 @@ use Rattle.recording.proofs.join_all.Statement.{statement}
 use Rattle.recording.proofs.join_all.Tie as tie
 use Rattle.recording.proofs.Beginning.{spare-begins}
 
+numbered-requires : tie.Need-numbered-requires
+numbered-requires c κs = search needs
+
 returns : tie.Need-returns
 returns c =
-    (told-short (now (c .before .before .before .args .recording)) (now (c .before .before .before .args .out)) (c .if1 .taken), out-short _ _ (c .if1 .taken))
+    let g = c .before .before .before .before .args in
+    (rw (c .numbered .ensures) (told-short (now (g .recording)) (now (g .out)) (c .before .if1 .taken)), out-short _ _ (c .before .if1 .taken))
 
 slice-aggregate-along : tie.Need-slice-aggregate-along
 slice-aggregate-along c = search needs
@@ -47,18 +51,22 @@ part-why-at-end c = search needs
 why-at-requires : tie.Need-why-at-requires
 why-at-requires c κs = search needs
 
+numbered-requires-2 : tie.Need-numbered-requires-2
+numbered-requires-2 c κs = search needs
+
 same-length : tie.Need-same-length
 same-length c = search needs
 
 returns-2 : tie.Need-returns-2
 returns-2 c =
-    let g = c .before .before .before .before .before .before in
+    let g = c .before .before .before .before .before .before .before in
     let h = g .before .before .before .before .before in (
-      told-all _ (now (h .before .before .before .args .out)) (h .if1 .left) (g .along .ensures .0) (g .along .ensures .1 .0) refl (c .why-at .ensures),
+      rw (c .numbered2 .ensures)
+          (told-all _ (now (h .before .before .before .args .out)) (h .if1 .left) (g .along .ensures .0) (g .along .ensures .1 .0) refl (c .before .why-at .ensures)),
       out-all _ _ (h .if1 .left) (g .along .ensures .1 .1),
     )
 
 pub join-all-spec : {M : Type 1} → statement M
 join-all-spec =
-    tie.close (tie.spec returns slice-aggregate-along slice-aggregate-along-2 slice-aggregate-along-3 along-requires sub-why-at part-why-at-start
-    part-why-at-end why-at-requires same-length returns-2)
+    tie.close (tie.spec numbered-requires returns slice-aggregate-along slice-aggregate-along-2 slice-aggregate-along-3 along-requires sub-why-at part-why-at-start
+    part-why-at-end why-at-requires numbered-requires-2 same-length returns-2)

@@ -7,11 +7,14 @@ use borrow.Author.Needs.{needs}
 use Rattle.steps.proofs.step_packet.Statement.{statement}
 use Rattle.steps.proofs.step_packet.Tie as tie
 
+numbered-requires : tie.Need-numbered-requires
+numbered-requires c κs = search needs
+
 add-t12 : tie.Need-add-t12
 add-t12 c = search needs
 
 returns : tie.Need-returns
-returns c = passes-over _ _ _ _ _ (c .if1 .taken)
+returns c = rw (c .numbered .ensures) (passes-over _ _ _ _ _ (c .before .if1 .taken))
 
 join-packet-requires : tie.Need-join-packet-requires
 join-packet-requires c κs =
@@ -31,4 +34,4 @@ returns-2 c =
 
 pub step-packet-spec : {M : Type 1} → statement M
 step-packet-spec =
-    tie.close (tie.spec add-t12 returns join-packet-requires same-length same-length-2 returns-2)
+    tie.close (tie.spec numbered-requires add-t12 returns join-packet-requires same-length same-length-2 returns-2)

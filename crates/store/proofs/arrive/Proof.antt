@@ -8,7 +8,7 @@ use Rattle.arrival.specs.Told.{arrivalOf}
 use Rattle.arrival.specs.Arriving.{refused, storeWith, arrivedIn}
 use Rattle.arrival.proofs.Checked.{arrived-open, arrived-shut}
 use Rattle.cells.proofs.Chaining.{chained-none}
-use Rattle.cells.proofs.Gate.{opened-number, opened-gate, opened-cells}
+use Rattle.cells.proofs.Gate.{opened-refusal, opened-number, opened-gate, opened-cells}
 use borrow.Author.Needs.{needs}
 use Rattle.store.proofs.arrive.Statement.{statement}
 use Rattle.store.proofs.arrive.Tie as tie
@@ -25,9 +25,9 @@ same-length c = search needs
 returns : tie.Need-returns
 unfolding storeWith
 returns c =
-    let n = opened-number _ 1024 _ (c .before .before .before .check-by .ensures .0) in
-    let e = arrived-shut _ 1024 _ _ (λ g. c .if1 .taken (n ∙ g)) in
-    (ap arrivalOf (ap refused n ∙ sym e), ap (storeWith 1024 _ _) (sym e))
+    let o = c .before .before .before .check-by .ensures .0 in
+    let e = arrived-shut _ 1024 _ _ (λ g. c .if1 .taken (opened-number _ 1024 _ o ∙ g)) in
+    (ap arrivalOf (ap refused (opened-refusal _ 1024 _ o) ∙ sym e), ap (storeWith 1024 _ _) (sym e))
 
 slice-aggregate-arrive-by : tie.Need-slice-aggregate-arrive-by
 slice-aggregate-arrive-by c = search needs

@@ -35,6 +35,9 @@ span-requires c κs = search needs
 clear-requires : tie.Need-clear-requires
 clear-requires c κs = c .before .before .before .before .before .before .before .before .before .before .before .before .before .pre .0 .1
 
+numbered-requires : tie.Need-numbered-requires
+numbered-requires c κs = search needs
+
 same-length : tie.Need-same-length
 same-length c = search needs
 
@@ -43,19 +46,19 @@ same-length-2 c = search needs
 
 returns : tie.Need-returns
 returns c =
-    let u = c .before .before .before .before in
+    let u = c .before .before .before .before .before in
     let v = u .before .before .before .before .before .before in
     let w = v .before .before .before .before .before in
     let g = w .before in
     let h = v .copy-message .ensures in
     let k = g .pre .1 in (
-      draw-told _ _ _ (now (g .args .out)) _ _ _ (k .0) (k .1 .0 .0) (k .1 .0 .1) (k .1 .1) (h .0),
+      rw (c .numbered .ensures) (draw-told _ _ _ (now (g .args .out)) _ _ _ (k .0) (k .1 .0 .0) (k .1 .0 .1) (k .1 .1) (h .0)),
       (
         draw-out _ _ _ _ _ _ _ (k .0) (k .1 .0 .0) (k .1 .0 .1) (k .1 .1) (h .1),
         draw-store _ _ _ _ _ _ _ (k .0) (k .1 .0 .0) (k .1 .0 .1) (k .1 .1) (λ j. w .slice-known .given j .fits) (h .0) (h .1) (u .span .ensures)
-            (c .before .before .clear .ensures),
+            (c .before .before .before .clear .ensures),
       ),
     )
 
 pub draw-spec : {M : Type 1} → statement M
-draw-spec = tie.close (tie.spec copy-message-requires add-span span-requires clear-requires same-length same-length-2 returns)
+draw-spec = tie.close (tie.spec copy-message-requires add-span span-requires clear-requires numbered-requires same-length same-length-2 returns)

@@ -20,7 +20,13 @@ test-parts-requires c κs = search needs
 returns : tie.Need-returns
 unfolding valueRefusal partsTest
 returns c =
-    simp (c .test-parts .ensures, c .before .test-packet .ensures, c .before .before .test-header .ensures, c .before .before .before .test-settings .ensures)
+    let g = c .before .before in
+    simp (
+      c .test-parts .ensures,
+      c .before .test-packet .ensures,
+      g .test-header .ensures,
+      g .before .test-settings .ensures,
+    )
 
 pub test-values-spec : {M : Type 1} → statement M
 test-values-spec =

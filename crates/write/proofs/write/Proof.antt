@@ -24,17 +24,21 @@ packet-size-requires c κs = search needs
 test-sizes-requires : tie.Need-test-sizes-requires
 test-sizes-requires c κs = search needs
 
+numbered-requires : tie.Need-numbered-requires
+numbered-requires c κs = search needs
+
 returns : tie.Need-returns
 returns c =
-    let h = c .before .before .before in
+    let h = c .before .before .before .before in
     let k = h .before .before in
     let e = k .before .before .before in
     let a = e .before .before .before .before .before .before in
     let g = a .before .args in (
-      refused-answer (g .s) (g .v) (g .o) _ _ (k .header-size .ensures) (h .before .secondary-size .ensures) (h .packet-size .ensures) _
-          (k .before .test-values .ensures) (c .before .before .test-sizes .ensures) (c .if1 .taken),
+      rw (c .numbered .ensures)
+          (refused-answer (g .s) (g .v) (g .o) _ _ (k .header-size .ensures) (h .before .secondary-size .ensures) (h .packet-size .ensures) _
+          (k .before .test-values .ensures) (c .before .before .before .test-sizes .ensures) (c .before .if1 .taken)),
       refused-output (g .s) (g .v) (g .o) _ _ (k .header-size .ensures) (h .before .secondary-size .ensures) (h .packet-size .ensures) _
-          (k .before .test-values .ensures) (c .before .before .test-sizes .ensures) (c .if1 .taken),
+          (k .before .test-values .ensures) (c .before .before .before .test-sizes .ensures) (c .before .if1 .taken),
       record {
         octets =
             record {
@@ -62,21 +66,25 @@ sub-n c =
 put-packet-requires : tie.Need-put-packet-requires
 put-packet-requires c κs = search needs
 
+numbered-requires-2 : tie.Need-numbered-requires-2
+numbered-requires-2 c κs = search needs
+
 same-length : tie.Need-same-length
 same-length c = search needs
 
 returns-2 : tie.Need-returns-2
 returns-2 c =
-    let h = c .before .before .before .before .before .before in
+    let h = c .before .before .before .before .before .before .before in
     let k = h .before .before in
     let e = k .before .before .before .before in
     let a = e .before .before .before .before .before .before in
     let g = a .before .args in (
-      written-answer (g .s) (g .v) (g .o) _ _ (k .before .header-size .ensures) (k .secondary-size .ensures) (h .before .packet-size .ensures) _
-          (k .before .before .test-values .ensures) (h .test-sizes .ensures) (c .before .before .before .before .if1 .left),
+      rw (c .numbered2 .ensures)
+          (written-answer (g .s) (g .v) (g .o) _ _ (k .before .header-size .ensures) (k .secondary-size .ensures) (h .before .packet-size .ensures) _
+          (k .before .before .test-values .ensures) (h .test-sizes .ensures) (c .before .before .before .before .before .if1 .left)),
       written-output (g .s) (g .v) (g .o) _ _ (k .before .header-size .ensures) (k .secondary-size .ensures) (h .before .packet-size .ensures) _
-          (k .before .before .test-values .ensures) (h .test-sizes .ensures) (c .before .before .before .before .if1 .left)
-          (c .before .before .put-packet .ensures),
+          (k .before .before .test-values .ensures) (h .test-sizes .ensures) (c .before .before .before .before .before .if1 .left)
+          (c .before .before .before .put-packet .ensures),
       record {
         octets =
             record {
@@ -100,8 +108,10 @@ write-spec =
     secondary-size-requires
     packet-size-requires
     test-sizes-requires
+    numbered-requires
     returns
     sub-n
     put-packet-requires
+    numbered-requires-2
     same-length
     returns-2)

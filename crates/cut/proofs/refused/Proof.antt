@@ -1,0 +1,14 @@
+-- `cut::refused` meets its contract.
+-- Assumes nothing.
+use borrow.Author.Needs.{needs}
+use Rattle.cut.proofs.refused.Statement.{statement}
+use Rattle.cut.proofs.refused.Tie as tie
+
+numbered-requires : tie.Need-numbered-requires
+numbered-requires c κs = search needs
+
+returns : tie.Need-returns
+returns c = simp (c .numbered .ensures)
+
+pub refused-spec : {M : Type 1} → statement M
+refused-spec = tie.close (tie.spec numbered-requires returns)
