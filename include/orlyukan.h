@@ -56,10 +56,11 @@
  *   25  the segment counters that are left do not suffice
  *   26  there is no packet with this number
  *   27  the slice is longer than the packet's length field says: off octets are left over
+ *   28  a network zone, session name or domain part that is not well-formed UTF-8
  *
  * If several apply, the answer is the one that comes first: reading 15, 1 to 4, 5 or 27, then as the header is read from left to
- * right, 14; writing 15, 22, 13, 23, 12, 14, 21; cutting 15, 22, 13, 23, 12, 24, 25, 26, 21; arrival 15, 16, those of reading,
- * 17, 18, 19; taking 15, 16, 20, 21.
+ * right, 14; writing 15, 22, 13, 28, 23, 12, 14, 21; cutting 15, 22, 13, 28, 23, 12, 24, 25, 26, 21; arrival 15, 16, those of
+ * reading, 17, 18, 19; taking 15, 16, 20, 21.
  *
  * What 5, 27 and 6 tell, in the answers of reading, arrival and joining
  *
@@ -134,7 +135,8 @@ struct orl_header {
 /*
  * The texts of a header, in every call that takes one: a timestamp of T octets; network zone, session name and authentication
  * id of at most 65,535 octets each; and the domain as one text, all its parts one after the other, beside domain_count lengths
- * of at most sixteen parts, which add up to domain_length. An absent domain has no length.
+ * of at most sixteen parts, which add up to domain_length. An absent domain has no length. Zone, session name and each domain
+ * part by itself are well-formed UTF-8; the authentication id is octets of any value.
  */
 
 /* ---- the sequence count ---- */

@@ -24,7 +24,7 @@ import model
 
 CRATE = pathlib.Path(__file__).resolve().parent.parent / "crates" / "vectors"
 # The change requests that have landed and have cases of their own, in the order in which they landed.
-LANDED = ("T-01",)
+LANDED = ("T-01", "T-04")
 MOST_IN_PAIR = 255
 FIGURE_14 = bytes.fromhex("18 05 C0 00 00 14 00 00 01 00 02 00 03 01 20 06 00 07 00 00 00 00 00 00 00 09 00")
 
@@ -291,6 +291,12 @@ CALLS = {
         lambda row: [octets(row["stream"])],
         recording_line,
         out=recording_out,
+    ),
+    "utf8": Call(
+        13,
+        lambda row: [],
+        lambda row: [octets(row["text"])],
+        lambda row: line([answer(row)["refusal"]]),
     ),
     "count": Call(
         5,

@@ -61,10 +61,19 @@ class Data:
                 return value
         raise AssertionError("a fifth octet of at most 15 is the last one")
 
-    def text(self):
-        """A Varint length and that many octets."""
+    def blob(self):
+        """A Varint length and that many octets of any value."""
         length = self.varint()
         return {"place": self.content(length), "length": length}
+
+    def text(self):
+        """The same, and they must be well-formed UTF-8."""
+        found = self.blob()
+        try:
+            self.packet[found["place"] : self.at].decode("utf-8")
+        except UnicodeDecodeError:
+            raise Refused(28) from None
+        return found
 
 
 def nowhere():
@@ -165,7 +174,7 @@ def optional(a, data, t):
     if a["has_domain"]:
         domain(a, data)
     if a["has_authentication"]:
-        a["authentication"] = data.field().text()
+        a["authentication"] = data.field().blob()
 
 
 def read(t, packet):

@@ -8,7 +8,6 @@ program must end by itself, in time, write what tests/model.py writes, and count
 (`./orlyukan join` or `rt check join_recording`).
 """
 
-import json
 import multiprocessing
 import os
 import pathlib
@@ -87,13 +86,11 @@ def fault(stream):
 
 def vectors(folder):
     """The whole recordings of the cases, each held to the output that its case gives."""
-    with open(folder / "program.jsonl", encoding="ascii") as file:
-        for text in file:
-            row = json.loads(text)
-            stream, out = cases.octets(row["stream"]), cases.octets(row["expect"]["out"])
-            if model.Joining(stream).output != out:
-                sys.exit("recordings.py: tests/model.py disagrees with a case of program.jsonl")
-            yield stream
+    for row in cases.rows(folder, "program"):
+        stream, out = cases.octets(row["stream"]), cases.octets(row["expect"]["out"])
+        if model.Joining(stream).output != out:
+            sys.exit("recordings.py: tests/model.py disagrees with a case of program.jsonl")
+        yield stream
 
 
 def changed(pick, stream, samples):

@@ -18,7 +18,7 @@ VECTORS = pathlib.Path(os.environ.get("ORLYUKAN_VECTORS", ROOT.parent / "shared"
 FIGURE_14 = bytes.fromhex("18 05 C0 00 00 14 00 00 01 00 02 00 03 01 20 06 00 07 00 00 00 00 00 00 00 09 00")
 HUGE = (-1, 2**64, 2**64 + 5, -(2**70), 2**200)
 # The change requests that have landed and have cases of their own, in the order in which they landed.
-LANDED = ("T-01",)
+LANDED = ("T-01", "T-04")
 # The cases' names for what the calls name otherwise.
 NAMES = {"seq": "sequence_count", "c": "counter"}
 PRESENCE = "source destination priority timestamp zone session_name domain authentication".split()
@@ -203,7 +203,7 @@ class Names(unittest.TestCase):
         self.assertEqual(len(names), len(values))
         given = dict(zip(names, values)) | {"has_" + name: 1 for name in PRESENCE}
         texts = {"timestamp": b"7octets", "zone": b"zn", "session_name": b"ses", "authentication": b"authn"}
-        parts = [bytes([160 + k]) * (k + 1) for k in range(16)]
+        parts = [bytes([97 + k]) * (k + 1) for k in range(16)]
         domain = {"domain": b"".join(parts), "domain_lengths": [len(part) for part in parts]}
         out = bytearray(300)
         length = orlyukan.write(7, given | texts | domain, 1, 6699, 2172814212, b"tile", out).length
@@ -227,6 +227,19 @@ class Numbers(unittest.TestCase):
         self.assertEqual(bytes(out), FIGURE_14 + b"\xff")
         answer = orlyukan.read(8, bytearray(FIGURE_14))
         self.assertEqual((answer.refusal, answer.apid, answer["transaction"], answer.H, answer.body.place), (0, 5, 9, 21, 27))
+
+    def test_text(self):
+        """Zone, session name and each domain part are UTF-8; the authentication id is octets of any value."""
+        out = bytearray(64)
+        for name in ("zone", "session_name", "authentication"):
+            for text, refusal in (("\u20ac".encode(), 0), (b"", 0), (b"\xed\xa0\x80", 28), (b"\xff", 28)):
+                values = figure_14() | {"has_" + name: 1, name: text}
+                refusal = 0 if name == "authentication" else refusal
+                self.assertEqual(orlyukan.write(8, values, 3, 0, 0, b"", out).refusal, refusal, (name, text))
+                self.assertEqual(orlyukan.cut_count(8, 64, values, 5, self.sender).refusal, refusal, (name, text))
+        for lengths, refusal in (([2], 0), ([1, 1], 28), ([0, 2, 0], 0)):
+            values = figure_14() | {"has_domain": 1, "domain": b"\xc3\xa9", "domain_lengths": lengths}
+            self.assertEqual(orlyukan.write(8, values, 3, 0, 0, b"", out).refusal, refusal, lengths)
 
     def test_next_sequence_count(self):
         for given, refusal, following in ((0, 0, 1), (16382, 0, 16383), (16383, 0, 0), (65535, 0, 0), (65536, 22, 0)):

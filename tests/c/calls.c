@@ -132,6 +132,33 @@ static void writing(void) {
     expect("length of a refusal", a.length, 0);
 }
 
+/* Figure 14 with a zone, a session name, a domain of two parts or an authentication id of two octets: the refusal. */
+static uint64_t text(int field, uint8_t first, uint8_t second, uint64_t part) {
+    struct orl_header h = header_14();
+    struct orl_write_answer a;
+    uint8_t out[40];
+    const uint8_t octets[2] = {first, second};
+    const uint64_t lengths[2] = {part, 2 - part};
+    const size_t n[4] = {field == 0 ? 2u : 0u, field == 1 ? 2u : 0u, field == 2 ? 2u : 0u, field == 3 ? 2u : 0u};
+    h.has_zone = field == 0;
+    h.has_session_name = field == 1;
+    h.has_domain = field == 2;
+    h.has_authentication = field == 3;
+    orl_write(8, &h, none, 0, octets, n[0], octets, n[1], octets, n[2], lengths, n[2], octets, n[3], 3, 0, 0, none, 0, out,
+              sizeof out, &a);
+    return a.refusal;
+}
+
+static void texts(void) {
+    expect("a zone", text(0, 0xC3, 0xA9, 0), 0);
+    expect("a zone that is no text", text(0, 0xC3, 0xC3, 0), 28);
+    expect("a session name", text(1, 0x00, 0x7F, 0), 0);
+    expect("a session name that is no text", text(1, 0x7F, 0x80, 0), 28);
+    expect("a domain part of two octets", text(2, 0xC3, 0xA9, 2), 0);
+    expect("the same in two parts", text(2, 0xC3, 0xA9, 1), 28);
+    expect("an authentication id", text(3, 0xFF, 0x80, 0), 0);
+}
+
 static void next_count(uint64_t sequence_count, uint64_t refusal, uint64_t next) {
     struct orl_next_sequence_count_answer n;
     orl_next_sequence_count(sequence_count, &n);
@@ -328,6 +355,7 @@ int main(void) {
     reading();
     refusals();
     writing();
+    texts();
     numbers();
     cutting();
     storing();

@@ -14,19 +14,19 @@
 #define COUNTER 0x81828384u
 
 static const uint8_t timestamp[T] = {0x91, 0x92, 0x93, 0x94, 0x95, 0x96, 0x97};
-static const uint8_t zone[2] = {0xB1, 0xB2};
-static const uint8_t session_name[3] = {0xC1, 0xC2, 0xC3};
+static const uint8_t zone[2] = {0x79, 0x7A};
+static const uint8_t session_name[3] = {0x75, 0x76, 0x77};
 static const uint8_t authentication[5] = {0xD1, 0xD2, 0xD3, 0xD4, 0xD5};
 static const uint8_t body[BODY] = {0xE0, 0xE1, 0xE2, 0xE3, 0xE4, 0xE5, 0xE6, 0xE7, 0xE8, 0xE9};
 
-/* The domain: part k has k + 1 octets 0xA0 + k. */
+/* The domain: part k has k + 1 octets 0x30 + k. */
 static uint8_t domain[PARTS * (PARTS + 1) / 2];
 static uint64_t domain_lengths[PARTS];
 
 static void fill_domain(void) {
     size_t at = 0;
     for (size_t k = 0; k < PARTS; k++) {
-        memset(domain + at, (int)(0xA0 + k), k + 1);
+        memset(domain + at, (int)(0x30 + k), k + 1);
         domain_lengths[k] = k + 1;
         at += k + 1;
     }
@@ -88,7 +88,7 @@ static size_t segment(unsigned i, uint8_t *out) {
     static const uint8_t front[50] = {0x19, 0x23, 0x5A, 0x2B, 0x00, 0xDD, 0x11, 0x11, 0x12, 0x21, 0x22, 0x31, 0x32,
                                       0x41, 0x73, 0x45, 0x51, 0x52, 0x61, 0x62, 0x63, 0x64, 0x65, 0x66, 0x67, 0x68,
                                       0xFF, 0x71, 0x72, 0x81, 0x82, 0x83, 0x84, 0xAC, 0x02, 0x91, 0x92, 0x93, 0x94,
-                                      0x95, 0x96, 0x97, 0x02, 0xB1, 0xB2, 0x03, 0xC1, 0xC2, 0xC3, 0x10};
+                                      0x95, 0x96, 0x97, 0x02, 0x79, 0x7A, 0x03, 0x75, 0x76, 0x77, 0x10};
     static const uint8_t flags[3] = {0x40, 0x00, 0x80};
     size_t at = sizeof front, carried = i < 2 ? 4 : 2;
     memcpy(out, front, sizeof front);
@@ -99,7 +99,7 @@ static size_t segment(unsigned i, uint8_t *out) {
     for (size_t k = 0; k < PARTS; k++) {
         out[at] = 1;
         out[at + 1] = (uint8_t)(k + 1);
-        memset(out + at + 2, (int)(0xA0 + k), k + 1);
+        memset(out + at + 2, (int)(0x30 + k), k + 1);
         at += k + 3;
     }
     out[at] = sizeof authentication;

@@ -101,6 +101,7 @@ pub struct Header<'a> {
     pub destination: u64,
     pub priority: u64,
     pub timestamp: &'a [u8],
+    /// Well-formed UTF-8, as the session name and each domain part; the authentication id is octets of any value.
     pub zone: &'a [u8],
     pub session_name: &'a [u8],
     /// The text of all parts, and the length of each.

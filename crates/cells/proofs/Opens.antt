@@ -9,10 +9,11 @@ use mathlib.Core.List.{List}
 use lib.Dec.{leb, eqb}
 use Rattle.octets.specs.Octets.{pick, octetAt}
 use Rattle.octets.proofs.Lists.{bool}
+use Rattle.utf8.specs.Test.{isText}
 use Rattle.walk.specs.declared.Settings.{Settings}
 use Rattle.walk.specs.Walk.{Reading, Step, going, octets, check, uinteger}
 use Rattle.walk.proofs.Steps.{field-went, octets-there, check-held, number-refused}
-use Rattle.fields.specs.Fields.{markedText, opt, nowhere, block, blob, text, part, domain, partAt, partsTo, Parts, noParts, partsMost}
+use Rattle.fields.specs.Fields.{markedText, opt, nowhere, contentAt, block, blob, text, part, domain, partAt, partsTo, Parts, noParts, partsMost}
 use Rattle.packet.specs.declared.Present.{Present}
 use Rattle.packet.specs.FixedPart.{octetField, wideField, afterSdu, afterArea, afterService, afterOperation, afterVersion, afterSession}
 use Rattle.packet.specs.FixedPart.{afterSecondary, afterQualifier, afterTransaction, afterPresence, fixedEnd}
@@ -41,7 +42,7 @@ module _ (s : Settings) (p : List ℕ) where
 
   stays-text : Stays (λ w. text s p w .walk)
   unfolding text
-  stays-text w g = stays-blob w g
+  stays-text w g = stays-blob w (check-held (isText (contentAt p (blob s p w .value))) 27 (blob s p w .walk) g .went)
 
   stays-block : (n : ℕ) → Stays (λ w. block n p w .walk)
   unfolding block

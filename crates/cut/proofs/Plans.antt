@@ -15,6 +15,7 @@ use Rattle.walk.specs.declared.Tested.{Tested}
 use Rattle.walk.specs.Walk.{refusal, noneFailed, unless}
 use Rattle.fields.specs.Inner.{capped}
 use Rattle.fields.specs.Fields.{partsMost}
+use Rattle.fields.specs.Form.{split}
 use Rattle.packet.specs.Format.{headerMost, packetMost}
 use Rattle.packet.specs.Numbers.{countMost}
 use Rattle.sender.specs.declared.Sender.{Sender}
@@ -22,8 +23,8 @@ use Rattle.sender.specs.declared.Sent.{Sent}
 use Rattle.sender.specs.declared.Sent.the-variants.{Whole, Segments}
 use Rattle.sender.specs.Sending.{afterPacket, afterSegments, afterMessage}
 use Rattle.write.specs.declared.HeaderValues.{HeaderValues}
-use Rattle.write.specs.Given.{Lent, headerChecks, unlessAll}
-use Rattle.write.specs.Writing.{settingsTest, partsTest, fine}
+use Rattle.write.specs.Given.{Lent, headerChecks, utf8Checks, unlessAll}
+use Rattle.write.specs.Writing.{settingsTest, partsTest, textTest, fine}
 use Rattle.write.proofs.Tests.{unless-fine, unlessAll-fine, AllHold}
 use Rattle.write.proofs.Answers.{shut, below-cap, cap-middle}
 use Rattle.cut.specs.declared.Plan.{Plan}
@@ -34,10 +35,11 @@ use Rattle.cut.specs.Inner.{singleOf, packetsOf, planRefusal, planOf}
 -- ---- the tests before the plan
 
 abbrev pub before : Settings → ℕ → HeaderValues → Lent → Sender → Tested
-before s P v t d = partsTest t (valueTests s v t d (limitTest s P noneFailed))
+before s P v t d = textTest t (partsTest t (valueTests s v t d (limitTest s P noneFailed)))
 
 -- what holds where none of them refused
 pub record Good (s : Settings) (P : ℕ) (v : HeaderValues) (t : Lent) (d : Sender) : Type 0 where
+  pub texts : AllHold (utf8Checks (t .zone) (t .session-name) (split (t .lengths) (t .domain)))
   pub parts : length (t .lengths) ≤ partsMost
   pub sequence-count : d .«sequence_count» .0 ≤ countMost
   pub checks : AllHold (headerChecks s v t)
@@ -46,14 +48,16 @@ pub record Good (s : Settings) (P : ℕ) (v : HeaderValues) (t : Lent) (d : Send
   pub settings : fine (settingsTest s noneFailed) ≡ true
 
 pub good : (s : Settings) (P : ℕ) (v : HeaderValues) (t : Lent) (d : Sender) → fine (before s P v t d) ≡ true → Good s P v t d
-unfolding partsTest valueTests limitTest
+unfolding textTest partsTest valueTests limitTest
 good s P v t d g =
-    let a = unless-fine (leb (length (t .lengths)) partsMost) 12 (valueTests s v t d (limitTest s P noneFailed)) g in
+    let u = unlessAll-fine (utf8Checks (t .zone) (t .session-name) (split (t .lengths) (t .domain))) 27 (partsTest t (valueTests s v t d (limitTest s P noneFailed))) g in
+    let a = unless-fine (leb (length (t .lengths)) partsMost) 12 (valueTests s v t d (limitTest s P noneFailed)) (u .0) in
     let b = unless-fine (leb (d .«sequence_count» .0) countMost) 21 (unlessAll (headerChecks s v t) 22 (limitTest s P noneFailed)) (a .before) in
     let c = unlessAll-fine (headerChecks s v t) 21 (limitTest s P noneFailed) (b .before) in
     let e = unless-fine (leb P packetMost) 14 (unless (leb limitLeast P) 15 (settingsTest s noneFailed)) (c .0) in
     let f = unless-fine (leb limitLeast P) 14 (settingsTest s noneFailed) (e .before) in
     record {
+      texts = u .1;
       parts = leb-true (length (t .lengths)) partsMost (a .held);
       sequence-count = leb-true (d .«sequence_count» .0) countMost (b .held);
       checks = c .1;

@@ -19,7 +19,7 @@ use Rattle.sender.specs.declared.Next.the-variants.{At, NoneLeft}
 use Rattle.sender.specs.Sending.{afterPacket, afterSegments, stepsOf}
 use Rattle.write.specs.declared.HeaderValues.{HeaderValues}
 use Rattle.write.specs.Given.{Lent, headOf, headerChecks, unlessAll}
-use Rattle.write.specs.Writing.{settingsTest, partsTest, fine}
+use Rattle.write.specs.Writing.{settingsTest, partsTest, textTest, fine}
 use Rattle.cut.specs.declared.Counted.{Counted}
 use Rattle.cut.specs.declared.Cut.{Cut}
 
@@ -77,9 +77,9 @@ limitTest s P r = unless (leb P packetMost) 15 (unless (leb limitLeast P) 15 (se
 unfoldable pub valueTests : Settings → HeaderValues → Lent → Sender → Tested → Tested
 valueTests s v t d r = unless (leb (d .«sequence_count» .0) countMost) 22 (unlessAll (headerChecks s v t) 22 r)
 
--- 15, 22, 13: the tests on the values alone
+-- 15, 22, 13, 28: the tests on the values alone
 abbrev pub valueRefusal : Settings → ℕ → HeaderValues → Lent → Sender → Tested
-valueRefusal s P v t d = partsTest t (valueTests s v t d (limitTest s P noneFailed))
+valueRefusal s P v t d = textTest t (partsTest t (valueTests s v t d (limitTest s P noneFailed)))
 
 -- 23: the body; 12: the header; 24: C below 1; 25: the counters
 unfoldable pub messageTests : ℕ → ℕ → ℕ → Sender → Tested → Tested
@@ -92,7 +92,7 @@ messageTests P H B d r =
 abbrev pub headerLength : Settings → HeaderValues → Lent → ℕ
 headerLength s v t = length (headerOctets s (headOf v t))
 
--- 15, 22, 13, 23, 12, 24, 25
+-- 15, 22, 13, 28, 23, 12, 24, 25
 unfoldable pub countRefusal : Settings → ℕ → HeaderValues → Lent → ℕ → Sender → Tested
 countRefusal s P v t B d = messageTests P (headerLength s v t) B d (valueRefusal s P v t d)
 

@@ -77,7 +77,7 @@ pub fn test_limit(s: Settings, p: usize, r: Tested) -> Tested
     walk::unless(b, p <= write::PACKET_MOST, REFUSED_SETTINGS)
 }
 
-// 15, 22, 13.
+// 15, 22, 13, 28.
 fn test_message(
     s: Settings,
     p: usize,
@@ -98,7 +98,8 @@ fn test_message(
     let a = test_limit(s, p, none);
     let b = write::test_header(s, v, time, zone, name, domain, lengths, id, a);
     let c = walk::unless(b, sequence_count.0 <= packet::COUNT_MOST, REFUSED_VALUE);
-    write::test_parts(lengths.len(), c)
+    let e = write::test_parts(lengths.len(), c);
+    write::test_utf8(zone, name, domain, lengths, e)
 }
 
 // C.

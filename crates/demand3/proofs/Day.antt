@@ -14,9 +14,10 @@ use borrow.Author.Tests.{ltb-true}
 use Rattle.octets.specs.Octets.{Octets, wide, number as numberAt}
 use Rattle.octets.proofs.Lists.{below-or}
 use Rattle.octets.proofs.Has.{octets-nil, octets-one, octets-append}
+use Rattle.utf8.specs.Test.{ended, accepts, isText}
 use Rattle.walk.specs.declared.Settings.{Settings}
 use Rattle.walk.specs.Walk.{begun, check, octets, fieldFrom, unless}
-use Rattle.fields.specs.Form.{split}
+use Rattle.fields.specs.Form.{split, allText}
 use Rattle.packet.specs.Format.{presence, identification, fixedOctets, frontOctets, backOctets, headerOctets, InRange}
 use Rattle.packet.specs.FixedPart.{octetField, wideField, sduField, afterSdu, afterArea, afterService, afterOperation, afterVersion, afterSession}
 use Rattle.packet.specs.FixedPart.{afterSecondary, afterQualifier, afterTransaction, afterPresence, fixedOf, flagsOf, presentOf}
@@ -24,8 +25,8 @@ use Rattle.packet.specs.Reading.{primaryTests, primaryOf, idsOf, textsOf, bodyT
 use Rattle.packet.specs.Key.{counterPlace, keyOf}
 use Rattle.sender.specs.declared.Next.the-variants.{At}
 use Rattle.sender.specs.Sending.{stepsOf}
-use Rattle.write.specs.Given.{headOf, sum, nameChecks, routingChecks, idChecks, textChecks, headerChecks, unlessAll}
-use Rattle.write.specs.Writing.{settingsTest, partsTest}
+use Rattle.write.specs.Given.{headOf, sum, nameChecks, routingChecks, idChecks, textChecks, utf8Checks, headerChecks, unlessAll}
+use Rattle.write.specs.Writing.{settingsTest, partsTest, textTest}
 use Rattle.write.specs.Lending.{Lends}
 use Rattle.write.specs.Figure14.{header as values, texts}
 use Rattle.cut.specs.Cutting.{countersFit, packets, rounded, limitTest, valueTests, messageTests, countRefusal, countAnswer, bodyAt}
@@ -146,13 +147,15 @@ lends =
     }
 
 three-counts : countOf settings cutting .refusal .number ≡ 0
-unfolding countAnswer countRefusal messageTests limitTest valueTests settingsTest partsTest unless unlessAll headerChecks nameChecks routingChecks
-    idChecks textChecks sum packets rounded countersFit headOf split headerOctets fixedOctets frontOctets backOctets wide
+unfolding countAnswer countRefusal messageTests limitTest valueTests settingsTest partsTest textTest utf8Checks allText isText accepts ended unless
+    unlessAll headerChecks nameChecks routingChecks idChecks textChecks sum packets rounded countersFit headOf split headerOctets fixedOctets
+    frontOctets backOctets wide
 three-counts = refl
 
 three-count : countOf settings cutting .count ≡ 3
-unfolding countAnswer countRefusal messageTests limitTest valueTests settingsTest partsTest unless unlessAll headerChecks nameChecks routingChecks
-    idChecks textChecks sum packets rounded countersFit headOf split headerOctets fixedOctets frontOctets backOctets wide
+unfolding countAnswer countRefusal messageTests limitTest valueTests settingsTest partsTest textTest utf8Checks allText isText accepts ended unless
+    unlessAll headerChecks nameChecks routingChecks idChecks textChecks sum packets rounded countersFit headOf split headerOctets fixedOctets
+    frontOctets backOctets wide
 three-count = refl
 
 -- a packet has at most P octets
@@ -227,18 +230,21 @@ two-at i l t e c h =
     repeat-event settings cellSize two two-cut i k c h ∙ ap arrives e
 
 pub is-seven : (c : ℕ) → c < 16384 → eventOf settings cellSize (of-three 0 c) ≡ arrives (seg 7 1 (1 ∷ 2 ∷ 3 ∷ []))
-unfolding stepsOf place flagsIn firstOf bodyAt countAnswer countRefusal messageTests limitTest valueTests settingsTest partsTest unless unlessAll
-    headerChecks nameChecks routingChecks idChecks textChecks sum packets rounded countersFit headOf split headerOctets fixedOctets frontOctets backOctets wide identification presence
+unfolding stepsOf place flagsIn firstOf bodyAt countAnswer countRefusal messageTests limitTest valueTests settingsTest partsTest textTest utf8Checks
+    allText isText accepts ended unless unlessAll headerChecks nameChecks routingChecks idChecks textChecks sum packets rounded countersFit headOf
+    split headerOctets fixedOctets frontOctets backOctets wide identification presence
 is-seven = three-at 0 (omega arith) (seg 7 1 (1 ∷ 2 ∷ 3 ∷ [])) refl
 
 pub is-eight : (c : ℕ) → c < 16384 → eventOf settings cellSize (of-three 1 c) ≡ arrives (seg 8 0 (4 ∷ 5 ∷ 6 ∷ []))
-unfolding stepsOf place flagsIn firstOf bodyAt countAnswer countRefusal messageTests limitTest valueTests settingsTest partsTest unless unlessAll
-    headerChecks nameChecks routingChecks idChecks textChecks sum packets rounded countersFit headOf split headerOctets fixedOctets frontOctets backOctets wide identification presence
+unfolding stepsOf place flagsIn firstOf bodyAt countAnswer countRefusal messageTests limitTest valueTests settingsTest partsTest textTest utf8Checks
+    allText isText accepts ended unless unlessAll headerChecks nameChecks routingChecks idChecks textChecks sum packets rounded countersFit headOf
+    split headerOctets fixedOctets frontOctets backOctets wide identification presence
 is-eight = three-at 1 (omega arith) (seg 8 0 (4 ∷ 5 ∷ 6 ∷ [])) refl
 
 pub is-nine : (c : ℕ) → c < 16384 → eventOf settings cellSize (of-three 2 c) ≡ arrives (seg 9 2 (7 ∷ 8 ∷ []))
-unfolding stepsOf place flagsIn firstOf bodyAt countAnswer countRefusal messageTests limitTest valueTests settingsTest partsTest unless unlessAll
-    headerChecks nameChecks routingChecks idChecks textChecks sum packets rounded countersFit headOf split headerOctets fixedOctets frontOctets backOctets wide identification presence
+unfolding stepsOf place flagsIn firstOf bodyAt countAnswer countRefusal messageTests limitTest valueTests settingsTest partsTest textTest utf8Checks
+    allText isText accepts ended unless unlessAll headerChecks nameChecks routingChecks idChecks textChecks sum packets rounded countersFit headOf
+    split headerOctets fixedOctets frontOctets backOctets wide identification presence
 is-nine = three-at 2 (omega arith) (seg 9 2 (7 ∷ 8 ∷ [])) refl
 
 pub is-ten : (c : ℕ) → c < 16384 → eventOf settings cellSize (of-two 0 c) ≡ arrives (seg 10 1 (21 ∷ 22 ∷ 23 ∷ []))

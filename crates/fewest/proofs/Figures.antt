@@ -9,8 +9,9 @@ use native.Mathlib.Omega.{arith}
 use lib.ListN.{length}
 use Rattle.octets.specs.Octets.{Octets, wide, number as numberAt}
 use Rattle.octets.proofs.Has.{octets-nil}
+use Rattle.utf8.specs.Test.{ended, accepts, isText}
 use Rattle.walk.specs.Walk.{begun, check, octets, fieldFrom, unless}
-use Rattle.fields.specs.Form.{joined, split}
+use Rattle.fields.specs.Form.{joined, split, allText}
 use Rattle.packet.specs.Figure14.{settings, zeros}
 use Rattle.packet.specs.Numbers.{countAt}
 use Rattle.packet.specs.Format.{presence, identification, fixedOctets, frontOctets, counterOctets, backOctets, headerOctets, secondaryOctets, dataOctets, octetsOf}
@@ -19,8 +20,8 @@ use Rattle.packet.specs.FixedPart.{afterTransaction, afterPresence, fixedOf, fl
 use Rattle.packet.specs.Reading.{primaryTests, primaryOf, idsOf, textsOf, bodyTest, acceptedHeader, readPacket}
 use Rattle.sender.specs.declared.Next.the-variants.{NoneLeft}
 use Rattle.sender.specs.Sending.{nextCounter, afterSegment, afterSegments, stepsOf}
-use Rattle.write.specs.Given.{headOf, sum, nameChecks, routingChecks, idChecks, textChecks, headerChecks, unlessAll}
-use Rattle.write.specs.Writing.{settingsTest, partsTest}
+use Rattle.write.specs.Given.{headOf, sum, nameChecks, routingChecks, idChecks, textChecks, utf8Checks, headerChecks, unlessAll}
+use Rattle.write.specs.Writing.{settingsTest, partsTest, textTest}
 use Rattle.write.specs.Lending.{Lends}
 use Rattle.write.specs.Figure14.{header as values, texts}
 use Rattle.cut.specs.declared.Counted.{Counted}
@@ -34,8 +35,9 @@ use Rattle.fewest.proofs.Delivering.{not-refused}
 
 -- figure 12: the largest counter is used, and then none is left
 pub twelve-none : countAnswer settings 64 values texts 38 (sender 4294967294) .sender .next ≡ NoneLeft
-unfolding countAnswer countRefusal messageTests limitTest valueTests settingsTest partsTest unless unlessAll headerChecks nameChecks routingChecks
-    idChecks textChecks sum packets rounded countersFit headOf split headerOctets fixedOctets frontOctets backOctets wide senderAfter afterSegments afterSegment nextCounter
+unfolding countAnswer countRefusal messageTests limitTest valueTests settingsTest partsTest textTest utf8Checks allText isText accepts ended unless
+    unlessAll headerChecks nameChecks routingChecks idChecks textChecks sum packets rounded countersFit headOf split headerOctets fixedOctets
+    frontOctets backOctets wide senderAfter afterSegments afterSegment nextCounter
 twelve-none = refl
 
 -- ---- figure 8's message, and the wrong programs
@@ -61,8 +63,9 @@ lends =
     }
 
 counts : countRefusal settings 64 values texts 38 (sender 0) .number ≡ 0
-unfolding countRefusal messageTests limitTest valueTests settingsTest partsTest unless unlessAll headerChecks nameChecks routingChecks idChecks
-    textChecks sum packets rounded countersFit headOf split headerOctets fixedOctets frontOctets backOctets wide
+unfolding countRefusal messageTests limitTest valueTests settingsTest partsTest textTest utf8Checks allText isText accepts ended unless unlessAll
+    headerChecks nameChecks routingChecks idChecks textChecks sum packets rounded countersFit headOf split headerOctets fixedOctets frontOctets
+    backOctets wide
 counts = refl
 
 -- the laws speak of it: its two packets read back, and carry it
@@ -102,8 +105,9 @@ pub repeats-not-promised :
 repeats-not-promised e = let l = ap length e in omega (arith, long-at)
 
 eight-count : countAnswer settings 64 values texts 38 (sender 0) .count ≡ 2
-unfolding countAnswer countRefusal messageTests limitTest valueTests settingsTest partsTest unless unlessAll headerChecks nameChecks routingChecks
-    idChecks textChecks sum packets rounded countersFit headOf split headerOctets fixedOctets frontOctets backOctets wide
+unfolding countAnswer countRefusal messageTests limitTest valueTests settingsTest partsTest textTest utf8Checks allText isText accepts ended unless
+    unlessAll headerChecks nameChecks routingChecks idChecks textChecks sum packets rounded countersFit headOf split headerOctets fixedOctets
+    frontOctets backOctets wide
 eight-count = refl
 
 eight-number : number settings 64 values texts (zeros 38) (sender 0) ≡ 2

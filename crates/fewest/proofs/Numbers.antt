@@ -153,7 +153,7 @@ module _ (s : Settings) (P : ℕ) (v : HeaderValues) (t : Lent) (body : List ℕ
       let c = count-mod (d .«sequence_count» .0) i (k .sequence-count) in
       record {
         settings = settings-range;
-        head = checks-range s v t (k .checks) (k .parts) (w .transaction) (lent-texts v t body (w .octets));
+        head = checks-range s v t (k .checks) (k .texts) (k .parts) (w .transaction) (lent-texts v t body (w .octets));
         flags = flags-top P H B i;
         sequence-count = omega arith;
         counter =

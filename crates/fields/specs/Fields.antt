@@ -1,13 +1,14 @@
 -- The optional fields that have a length: texts, the authentication id, the domain; and fields that may be absent.
 -- SPEC P-8 to P-10: a zone, a session name and an authentication id are a length, a Varint, and so many octets; a domain is the
--- number of its parts, and of each part an octet of 1, a length and so many octets. What the octets say is not looked at.
+-- number of its parts, and of each part an octet of 1, a length and so many octets. Of a text they are well-formed UTF-8.
 -- Assumes nothing: these are definitions.
 use Prim.Native.Nat.{ℕ, zero, suc}
 use mathlib.Core.List.{List}
 use mathlib.Core.Bool.{Bool, false}
 use lib.ListN.{set, replicate}
 use lib.Dec.{leb, eqb}
-use Rattle.octets.specs.Octets.{pick, octetAt}
+use Rattle.octets.specs.Octets.{pick, octetAt, part as stretch}
+use Rattle.utf8.specs.Test.{isText}
 use Rattle.walk.specs.declared.Settings.{Settings}
 use Rattle.walk.specs.Walk.{Reading, Step, octets, check, fieldFrom, uinteger}
 use Rattle.fields.specs.declared.Place.{Place}
@@ -35,9 +36,13 @@ blob s p w =
       value = place (uinteger s p w .walk .at) (uinteger s p w .value);
     }
 
--- a text: zone, session name, domain part. Its octets are not looked at
+-- the octets at a place
+abbrev pub contentAt : List ℕ → Place → List ℕ
+contentAt p a = stretch p (a .at) (a .length)
+
+-- a text: zone, session name, domain part. The same, and its content, once it is there, is tested for 28
 unfoldable pub text : Settings → List ℕ → Reading → Step Place
-text s p w = blob s p w
+text s p w = record { walk = check (isText (contentAt p (blob s p w .value))) 28 (blob s p w .walk); value = blob s p w .value }
 
 -- a domain part, one field: an octet of 1, else 11, and a text
 unfoldable pub markedText : Settings → List ℕ → Reading → Step Place

@@ -2,7 +2,9 @@
 -- Assumes nothing: these are definitions.
 use Prim.Native.Nat.{ℕ}
 use mathlib.Core.List.{List, [], _∷_, _++_}
+use mathlib.Core.Bool.{Bool, true}
 use lib.ListN.{length, take, drop}
+use Rattle.utf8.specs.Test.{both, isText}
 use Rattle.varint.specs.Varint.{write}
 use Rattle.walk.specs.declared.Settings.{Settings}
 
@@ -34,3 +36,8 @@ domainOctets s ts = uintegerOctets s (length ts) ++ joined (partOctets s) ts
 unfoldable pub split : List ℕ → List ℕ → List (List ℕ)
 split [] x = []
 split (n ∷ ns) x = take n x ∷ split ns (drop n x)
+
+-- each of the parts is text by itself
+unfoldable pub allText : List (List ℕ) → Bool
+allText [] = true
+allText (t ∷ ts) = both (isText t) (allText ts)

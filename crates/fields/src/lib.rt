@@ -4,21 +4,25 @@
 //   domain:                   count (Varint)  | 1 | length | octets | 1 | length | octets ..
 //
 // A step of reading takes any slice and any walk, and answers the walk behind the field and where its content stands. A writing
-// takes any buffer and any place: piece by piece, each whole or not at all, and answers the place behind. `text` and `blob` are two
-// names for what is the same today: text is taken as octets of any value.
+// takes any buffer and any place: piece by piece, each whole or not at all, and answers the place behind. A `blob` is octets of any
+// value; a `text` is written the same, and its octets are well-formed UTF-8, by crate `utf8`. Reading tests that; who writes has tested
+// it before.
 ghost use mathlib.Core.Path.{_≡_};
 ghost use Prim.Native.Nat.{_+_, _<_, _≤_};
 ghost use lib.ListN.{length};
 ghost use mathlib.Core.List.{[], _∷_};
+ghost use Rattle.octets.specs.Octets.{part as stretch};
 ghost use Rattle.octets.specs.Laying.{laid, Lays};
+ghost use Rattle.utf8.specs.Test.{isText};
 ghost use Rattle.walk.specs.Inner.{ofWalk, asUInteger};
 ghost use Rattle.walk.specs.Walk.{uinteger};
 ghost use Rattle.fields.specs.Fields.{nowhere, opt, block, blob, text, part, noParts, partsTo, domain};
-ghost use Rattle.fields.specs.Form.{uintegerOctets, domainOctets, split};
+ghost use Rattle.fields.specs.Form.{uintegerOctets, domainOctets, split, allText};
 ghost use Rattle.fields.specs.Inner.{asText, asDomain, ofDomain, blobPieces, textPieces, partPieces, partsPieces, domainPieces, capped};
 use varint::Wrote;
 use walk::REFUSED_DOMAIN_PART;
 use walk::REFUSED_MANY_PARTS;
+use walk::REFUSED_TEXT;
 use walk::Settings;
 use walk::UInteger;
 use walk::Walk;
@@ -95,10 +99,35 @@ pub fn read_blob(s: Settings, p: &[u8], w: Walk) -> Text
     }
 }
 
+// n octets from a place on, as far as there are any, are text.
+fn is_text_at(p: &[u8], at: usize, n: usize) -> bool
+    ensures { λ r. ⌜ r ≡ isText (stretch (now (p .entry)) at n) ⌝ }
+{
+    if p.len() < at {
+        return true;
+    }
+    let end = octets::within(p.len(), at, n);
+    utf8::is_text(&p[at..end])
+}
+
+// A text: the same, tested for 28. If it was refused there is nothing to test.
 pub fn read_text(s: Settings, p: &[u8], w: Walk) -> Text
     ensures { λ r. ⌜ r ≡ asText (text s (now (p .entry)) (ofWalk w)) ⌝ }
 {
-    read_blob(s, p, w)
+    let t = read_blob(s, p, w);
+    let end = t.walk;
+    let place = t.place;
+    if end.refused != 0 {
+        return t;
+    }
+    if is_text_at(p, place.at, place.length) {
+        return t;
+    }
+    let tested = walk::refused(end.at, REFUSED_TEXT);
+    Text {
+        walk: tested,
+        place: place,
+    }
 }
 
 // An authentication id if it is there.
@@ -300,4 +329,26 @@ pub fn domain_size(s: Settings, x: &[u8], lengths: &[u64]) -> usize
         k += 1;
     }
     size
+}
+
+// ---- what is text
+
+// Each part of a text, as long as its length says, as far as the text goes, is text by itself.
+pub fn parts_are_text(x: &[u8], lengths: &[u64]) -> bool
+    ensures { λ r. ⌜ r ≡ allText (split (now (lengths .entry)) (now (x .entry))) ⌝ }
+{
+    if utf8::all_single(x) {
+        return true;
+    }
+    let mut so_far = true;
+    let mut from: usize = 0;
+    let mut k: usize = 0;
+    while k < lengths.len() {
+        let n = lengths[k] as usize;
+        let end = octets::within(x.len(), from, n);
+        so_far = octets::both(so_far, utf8::is_text(&x[from..end]));
+        from = end;
+        k += 1;
+    }
+    so_far
 }

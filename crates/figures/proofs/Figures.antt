@@ -5,16 +5,17 @@ use mathlib.Core.Path.{_≡_, ap, ap₂}
 use mathlib.Core.List.{[], _∷_, _++_, map}
 use lib.ListN.{take, drop}
 use Rattle.octets.specs.Octets.{wide, number as numberAt}
+use Rattle.utf8.specs.Test.{ended, accepts, isText}
 use Rattle.varint.specs.Varint.{write, octetsOf as varintOctets, final, after, read}
 use Rattle.walk.specs.Walk.{begun, check, octets, fieldFrom, unless, uinteger, uintegerStep}
-use Rattle.fields.specs.Form.{split}
+use Rattle.fields.specs.Form.{split, allText}
 use Rattle.packet.specs.Numbers.{nextCount, countAt}
 use Rattle.packet.specs.Format.{presence, identification, fixedOctets, frontOctets, counterOctets, backOctets, headerOctets, secondaryOctets, dataOctets, octetsOf}
 use Rattle.packet.specs.FixedPart.{octetField, wideField, sduField, afterSdu, afterArea, afterService, afterOperation, afterVersion, afterSession}
 use Rattle.packet.specs.FixedPart.{afterSecondary, afterQualifier, afterTransaction, afterPresence, fixedOf, flagsOf, presentOf}
 use Rattle.packet.specs.Reading.{primaryTests, primaryOf, idsOf, textsOf, bodyTest, refusedHeader, acceptedHeader, readPacket}
-use Rattle.write.specs.Given.{headOf, packetOf, sum, nameChecks, routingChecks, idChecks, textChecks, headerChecks, packetChecks, unlessAll}
-use Rattle.write.specs.Writing.{settingsTest, partsTest, sizeTests, valueRefusal, writeRefusal, writeOutput}
+use Rattle.write.specs.Given.{headOf, packetOf, sum, nameChecks, routingChecks, idChecks, textChecks, utf8Checks, headerChecks, packetChecks, unlessAll}
+use Rattle.write.specs.Writing.{settingsTest, partsTest, textTest, sizeTests, valueRefusal, writeRefusal, writeOutput}
 use Rattle.cut.specs.Cutting.{countersFit, counterAt, packets, rounded, limitTest, valueTests, messageTests}
 use Rattle.cut.specs.Cutting.{countRefusal, countAnswer, flagsAt, bodyAt, packetAt, packetRefusal, packetAnswer, packetOutput}
 use Rattle.recording.proofs.Figure.{figure-14}
@@ -25,10 +26,11 @@ use Rattle.sender.specs.Sending.{stepsOf}
 pub figures : map (λ (r : Row). r .computed) table ≡ map (λ (r : Row). r .said) table
 unfolding nextCount wide numberAt write varintOctets final after read begun check octets unless uinteger uintegerStep split presence identification
     fixedOctets frontOctets counterOctets backOctets headerOctets secondaryOctets dataOctets octetsOf primaryTests primaryOf octetField wideField
-    sduField afterSdu afterArea afterService afterOperation afterVersion afterSession afterSecondary fieldFrom afterQualifier afterTransaction afterPresence
-    fixedOf flagsOf presentOf idsOf textsOf bodyTest refusedHeader acceptedHeader readPacket headOf packetOf sum nameChecks routingChecks idChecks
-    textChecks headerChecks packetChecks unlessAll settingsTest partsTest sizeTests valueRefusal writeRefusal writeOutput countersFit counterAt
-    stepsOf countAt packets rounded limitTest valueTests messageTests countRefusal countAnswer flagsAt bodyAt packetAt packetRefusal packetAnswer packetOutput
+    sduField afterSdu afterArea afterService afterOperation afterVersion afterSession afterSecondary fieldFrom afterQualifier afterTransaction
+    afterPresence fixedOf flagsOf presentOf idsOf textsOf bodyTest refusedHeader acceptedHeader readPacket headOf packetOf sum nameChecks
+    routingChecks idChecks textChecks headerChecks packetChecks unlessAll settingsTest partsTest textTest utf8Checks allText isText accepts ended
+    sizeTests valueRefusal writeRefusal writeOutput countersFit counterAt stepsOf countAt packets rounded limitTest valueTests messageTests
+    countRefusal countAnswer flagsAt bodyAt packetAt packetRefusal packetAnswer packetOutput
 figures =
     ap₂ (λ (x y : Said). map (λ (r : Row). r .said) (take 26 table) ++ (x ∷ map (λ (r : Row). r .said) (take 2 (drop 27 table)) ++ (y ∷ [])))
     thirteen (ap said-octets figure-14)

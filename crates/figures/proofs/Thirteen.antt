@@ -6,16 +6,17 @@ use mathlib.Core.Path.{_≡_, refl, ap, ap₂, _∙_}
 use mathlib.Core.List.{List, [], _∷_}
 use native.Mathlib.Omega.{arith}
 use Rattle.octets.specs.Octets.{wide, alike, number as numberAt}
+use Rattle.utf8.specs.Test.{ended, accepts, isText}
 use Rattle.walk.specs.Walk.{begun, check, octets, fieldFrom, unless}
-use Rattle.fields.specs.Form.{split}
+use Rattle.fields.specs.Form.{split, allText}
 use Rattle.packet.specs.Numbers.{nextCount, countAt}
 use Rattle.packet.specs.Format.{presence, identification, fixedOctets, frontOctets, counterOctets, backOctets, headerOctets, secondaryOctets, dataOctets, octetsOf}
 use Rattle.packet.specs.FixedPart.{octetField, wideField, sduField, afterSdu, afterArea, afterService, afterOperation, afterVersion, afterSession}
 use Rattle.packet.specs.FixedPart.{afterSecondary, afterQualifier, afterTransaction, afterPresence, fixedOf, flagsOf, presentOf}
 use Rattle.packet.specs.Reading.{primaryTests, primaryOf, idsOf, textsOf, bodyTest, refusedHeader, acceptedHeader, readPacket}
 use Rattle.packet.specs.Key.{counterPlace, keyOf}
-use Rattle.write.specs.Given.{headOf, sum, nameChecks, routingChecks, idChecks, textChecks, headerChecks, unlessAll}
-use Rattle.write.specs.Writing.{settingsTest, partsTest}
+use Rattle.write.specs.Given.{headOf, sum, nameChecks, routingChecks, idChecks, textChecks, utf8Checks, headerChecks, unlessAll}
+use Rattle.write.specs.Writing.{settingsTest, partsTest, textTest}
 use Rattle.cut.specs.Cutting.{countersFit, counterAt, packets, rounded, limitTest, valueTests, messageTests, countRefusal, flagsAt, bodyAt, packetAt, packetRefusal, packetOutput}
 use Rattle.packet.specs.Figure14.{settings, zeros}
 use Rattle.cells.specs.Segments.{Seg, segOf, carries}
@@ -47,17 +48,19 @@ closes = record { key = key; counter = 1; flags = 2; body = zeros 5 }
 first-comes : eventOf settings 1024 (packet 64 38 0 64) ≡ arrives opens
 unfolding nextCount wide alike numberAt begun check octets unless split presence identification fixedOctets frontOctets counterOctets backOctets
     headerOctets secondaryOctets dataOctets octetsOf primaryTests primaryOf octetField wideField sduField afterSdu afterArea afterService
-    afterOperation afterVersion afterSession afterSecondary fieldFrom afterQualifier afterTransaction afterPresence fixedOf flagsOf presentOf idsOf textsOf
-    bodyTest refusedHeader acceptedHeader readPacket counterPlace keyOf headOf sum nameChecks routingChecks idChecks textChecks headerChecks unlessAll
-    settingsTest partsTest countersFit counterAt stepsOf countAt packets rounded limitTest valueTests messageTests countRefusal flagsAt bodyAt packetAt packetRefusal packetOutput segOf mayHold
+    afterOperation afterVersion afterSession afterSecondary fieldFrom afterQualifier afterTransaction afterPresence fixedOf flagsOf presentOf idsOf
+    textsOf bodyTest refusedHeader acceptedHeader readPacket counterPlace keyOf headOf sum nameChecks routingChecks idChecks textChecks headerChecks
+    unlessAll settingsTest partsTest textTest utf8Checks allText isText accepts ended countersFit counterAt stepsOf countAt packets rounded limitTest
+    valueTests messageTests countRefusal flagsAt bodyAt packetAt packetRefusal packetOutput segOf mayHold
 first-comes = refl
 
 last-comes : eventOf settings 1024 (packet 64 38 1 36) ≡ arrives closes
 unfolding nextCount wide alike numberAt begun check octets unless split presence identification fixedOctets frontOctets counterOctets backOctets
     headerOctets secondaryOctets dataOctets octetsOf primaryTests primaryOf octetField wideField sduField afterSdu afterArea afterService
-    afterOperation afterVersion afterSession afterSecondary fieldFrom afterQualifier afterTransaction afterPresence fixedOf flagsOf presentOf idsOf textsOf
-    bodyTest refusedHeader acceptedHeader readPacket counterPlace keyOf headOf sum nameChecks routingChecks idChecks textChecks headerChecks unlessAll
-    settingsTest partsTest countersFit counterAt stepsOf countAt packets rounded limitTest valueTests messageTests countRefusal flagsAt bodyAt packetAt packetRefusal packetOutput segOf mayHold
+    afterOperation afterVersion afterSession afterSecondary fieldFrom afterQualifier afterTransaction afterPresence fixedOf flagsOf presentOf idsOf
+    textsOf bodyTest refusedHeader acceptedHeader readPacket counterPlace keyOf headOf sum nameChecks routingChecks idChecks textChecks headerChecks
+    unlessAll settingsTest partsTest textTest utf8Checks allText isText accepts ended countersFit counterAt stepsOf countAt packets rounded limitTest
+    valueTests messageTests countRefusal flagsAt bodyAt packetAt packetRefusal packetOutput segOf mayHold
 last-comes = refl
 
 events : eventsIn settings 1024 (emptyStore 1024 2) arrivals ≡ arrives opens ∷ arrives closes ∷ []

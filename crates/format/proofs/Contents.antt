@@ -8,6 +8,9 @@ use lib.ListN.{length, length-append}
 use lib.Dec.{eqb}
 use borrow.Author.Tests.{eqb-true}
 use Rattle.octets.specs.Octets.{Octets, wide}
+use Rattle.utf8.specs.Text.{Text}
+use Rattle.utf8.specs.Test.{isText}
+use Rattle.utf8.proofs.Laws.{is-text, text-octets}
 use Rattle.walk.specs.declared.Settings.{Settings}
 use Rattle.walk.specs.Walk.{Reading, headerEnd}
 use Rattle.fields.specs.Fields.{blob, text, markedText, part}
@@ -49,28 +52,35 @@ module _ (s : Settings) (p : List ℕ) where
       told p (formed p sized (blobOctets s) Octets blob-form blob-fit (λ x f. f .0 .1 .1)) (λ w. blob s p w .walk)
       (λ w. content p (blob s p w .value)) (λ w. blob s p w .value ∷ []) blob-step blob-value blob-spots
 
-  -- ---- a text: the same
+  -- ---- a text: the same, and its content is tested, else 28
 
-  pub text-form : (x : List ℕ) → textOctets s x ≡ blobF .form x
+  abbrev pub testedBlob : Field p (List ℕ)
+  testedBlob = tested p isText 27 blobF
+
+  pub text-form : (x : List ℕ) → textOctets s x ≡ testedBlob .form x
   unfolding textOctets
   text-form x = refl
 
-  pub text-step : (w : Reading) → text s p w .walk ≡ blobF .step w
+  pub text-fit : (x : List ℕ) → Text x → length (textOctets s x) ≤ headerEnd → testedBlob .Fit x
+  text-fit x f l = (text-octets f, is-text x .1 f)
+
+  pub text-step : (w : Reading) → text s p w .walk ≡ testedBlob .step w
   unfolding text
   text-step w = refl
 
-  pub text-value : (w : Reading) → content p (text s p w .value) ≡ blobF .value w
+  pub text-value : (w : Reading) → content p (text s p w .value) ≡ testedBlob .value w
   unfolding text
   text-value w = refl
 
-  pub text-spots : (w : Reading) → text s p w .value ∷ [] ≡ blobF .spots w
+  pub text-spots : (w : Reading) → text s p w .value ∷ [] ≡ testedBlob .spots w
   unfolding text
   text-spots w = refl
 
   abbrev pub textF : Field p (List ℕ)
   textF =
-      told p (formed p blobF (textOctets s) Octets text-form (λ x f l. f) (λ x f. f)) (λ w. text s p w .walk)
-      (λ w. content p (text s p w .value)) (λ w. text s p w .value ∷ []) text-step text-value text-spots
+      told p
+      (formed p testedBlob (textOctets s) Text text-form text-fit (λ x f. is-text x .0 (f .1)))
+      (λ w. text s p w .walk) (λ w. content p (text s p w .value)) (λ w. text s p w .value ∷ []) text-step text-value text-spots
 
   -- ---- a domain part
 
@@ -88,7 +98,7 @@ module _ (s : Settings) (p : List ℕ) where
   unfolding partOctets wide
   part-form x = refl
 
-  pub part-fit : (x : List ℕ) → Octets x → length (partOctets s x) ≤ headerEnd → markedF .Fit x
+  pub part-fit : (x : List ℕ) → Text x → length (partOctets s x) ≤ headerEnd → markedF .Fit x
   part-fit x f l = (((omega arith, refl), f), refl)
 
   pub part-step : (w : Reading) → part s p w .walk ≡ markedF .step w
@@ -106,5 +116,5 @@ module _ (s : Settings) (p : List ℕ) where
   abbrev pub partF : Field p (List ℕ)
   partF =
       told p
-      (formed p markedF (partOctets s) Octets part-form part-fit (λ x f. f .0 .1))
+      (formed p markedF (partOctets s) Text part-form part-fit (λ x f. f .0 .1))
       (λ w. part s p w .walk) (λ w. content p (part s p w .value)) (λ w. part s p w .value ∷ []) part-step part-value part-spots

@@ -7,6 +7,8 @@ use mathlib.Core.Bool.{Bool, true}
 use lib.ListN.{length}
 use lib.Dec.{leb, ltb, eqb}
 use Rattle.octets.specs.Octets.{pick, Octets, octetAt, wide}
+use Rattle.utf8.specs.Text.{Text}
+use Rattle.utf8.specs.Test.{isText}
 use Rattle.walk.specs.declared.Settings.{Settings}
 use Rattle.walk.specs.Walk.{Reading, goes, refused, headerEnd, uinteger}
 use Rattle.fields.specs.Fields.{nowhere, block, blob, text, domain, noParts, partsMost}
@@ -15,9 +17,11 @@ use Rattle.packet.specs.declared.Present.{Present}
 use Rattle.packet.specs.FixedPart.{octetField, wideField}
 use Rattle.packet.specs.Format.{Values, segment, presence}
 use Rattle.packet.specs.Began.{fixedFields, domainFields, optionalFields, secondaryFields, began}
+use Rattle.format.specs.Told.{content}
 use Rattle.format.proofs.Field.{Field}
 use Rattle.format.proofs.Numbers.{wideF, octetF, numberF}
-use Rattle.format.proofs.Contents.{sized, blob-form, blob-fit, blob-step, text-form, text-step, part-form, part-fit, part-step, blobF, textF, mark, markedF, partF}
+use Rattle.format.proofs.Contents.{sized, blob-form, blob-fit, blob-step, blobF, testedBlob, text-form, text-fit, text-step, textF}
+use Rattle.format.proofs.Contents.{mark, markedF, part-form, part-fit, part-step, partF}
 use Rattle.format.proofs.Domain.{counted, DomainFit, domain-form, domain-fit, domain-step, domainF}
 use Rattle.format.proofs.FixedPart.{Fixed, word, pack, PackedFit, firstOctet, sdu-fit, sduF, highOctet, packedVia, packed-form, packed-fit, packedF, presentF, fixedF}
 use Rattle.format.proofs.Flags.{flagOctet, flag-top}
@@ -38,8 +42,9 @@ module _ (s : Settings) (p : List ℕ) where
 
   pub text-cut : Cut p (textF s p) (λ x. textOctets s x ∷ [])
   text-cut =
+      let tests = tested-cut p blob-cut (λ w. isText (content p (blob s p w .value))) 28 (testedBlob s p .Fit) (λ x t. t .0) in
       cut-as p (λ x. textOctets s x ∷ []) (λ x. ap (λ (l : List ℕ). l ∷ []) (sym (text-form s p x)))
-      (told-cut p (formed-cut p blob-cut (textOctets s) Octets (text-form s p) (λ x f l. f)) _ (text-step s p))
+      (told-cut p (formed-cut p tests (textOctets s) Text (text-form s p) (text-fit s p)) _ (text-step s p))
 
   mark-cut : Cut p (mark s p) (λ x. wide 1 x ∷ [])
   mark-cut = tested-cut p (wide-cut p 1) (λ w. eqb (octetAt p (w .at)) 1) 11 (mark s p .Fit) (λ x t. t .0)
@@ -48,7 +53,7 @@ module _ (s : Settings) (p : List ℕ) where
   part-cut =
       let marked = via-cut p (then-cut p (mark s p) mark-cut (λ x. text-cut)) (λ (x : List ℕ). (1, x)) (markedF s p .Fit) (λ x t. t .0) in
       cut-as p (λ x. partOctets s x ∷ []) (λ x. ap (λ (l : List ℕ). l ∷ []) (sym (part-form s p x)))
-      (told-cut p (formed-cut p (whole-cut p marked) (partOctets s) Octets (part-form s p) (part-fit s p)) _ (part-step s p))
+      (told-cut p (formed-cut p (whole-cut p marked) (partOctets s) Text (part-form s p) (part-fit s p)) _ (part-step s p))
 
   parts-are : (x : List (List ℕ)) → manyFields p (partF s p) part-cut x ≡ map (partOctets s) x
   unfolding manyFields

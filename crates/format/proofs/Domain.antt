@@ -10,7 +10,8 @@ use lib.ListN.{length, take, length-set, length-replicate}
 use lib.Seq.{take-suc-set}
 use lib.Dec.{leb}
 use borrow.Author.Tests.{leb-true, le-leb}
-use Rattle.octets.specs.Octets.{pick, Octets}
+use Rattle.octets.specs.Octets.{pick}
+use Rattle.utf8.specs.Text.{Text}
 use Rattle.walk.specs.declared.Settings.{Settings}
 use Rattle.walk.specs.Walk.{Reading, Step, headerEnd, check, uinteger}
 use Rattle.fields.specs.declared.Place.{Place}
@@ -125,7 +126,7 @@ module _ (s : Settings) (p : List ℕ) where
   domain-all w = which-all (leb (uinteger s p w .value) partsMost) (uinteger s p w .value) (uinteger s p w .walk)
 
   abbrev pub DomainFit : List (List ℕ) → Type 0
-  DomainFit x = (length x ≤ partsMost) × Each Octets x
+  DomainFit x = (length x ≤ partsMost) × Each Text x
 
   pub domain-form : (x : List (List ℕ)) → domainOctets s x ≡ counted .form x
   unfolding domainOctets

@@ -8,6 +8,8 @@ use mathlib.Core.Bool.{true}
 use native.Mathlib.Omega.{arith}
 use Rattle.octets.specs.Octets.{wide}
 use Rattle.octets.proofs.Has.{octets-nil, octets-one, octets-append}
+use Rattle.utf8.specs.Test.{ended, begins, follows, accepts, isText}
+use Rattle.utf8.proofs.Laws.{is-text}
 use Rattle.varint.specs.Varint.{octetsOf as varintOctets, write}
 use Rattle.walk.specs.declared.Settings.{Settings}
 use Rattle.packet.specs.declared.Header.{Header}
@@ -114,7 +116,7 @@ full-octets = refl
 
 pub full-in-range : InRange two full
 unfolding octetsOf identification dataOctets secondaryOctets fixedOctets presence frontOctets counterOctets backOctets wide uintegerOctets blobOctets
-    textOctets partOctets joined domainOctets write varintOctets Each
+    textOctets partOctets joined domainOctets write varintOctets Each isText accepts ended begins follows
 full-in-range =
     record {
       settings = record { t-low = omega arith; t-top = omega arith };
@@ -137,9 +139,9 @@ full-in-range =
             destination = omega arith;
             priority = omega arith;
             timestamp = (refl, octets-append (1 ∷ []) (2 ∷ []) (octets-one 1 (omega arith)) (octets-one 2 (omega arith)));
-            zone = octets-one 65 (omega arith);
-            session-name = octets-nil;
-            domain = (omega arith, (octets-one 66 (omega arith), (octets-nil, tt)));
+            zone = is-text (65 ∷ []) .0 refl;
+            session-name = is-text [] .0 refl;
+            domain = (omega arith, (is-text (66 ∷ []) .0 refl, (is-text [] .0 refl, tt)));
             authentication = octets-append (255 ∷ []) (0 ∷ []) (octets-one 255 (omega arith)) (octets-one 0 (omega arith));
           };
       flags = omega arith;

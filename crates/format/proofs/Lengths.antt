@@ -38,6 +38,7 @@ module _ (A B : Type 0) where
         twelve = (λ e. absurd (omega (arith, e)), λ e. absurd (omega (arith, e)));
         thirteen = (λ e. absurd (omega (arith, e)), λ e. absurd (omega (arith, e)));
         fourteen = (λ e. absurd (omega (arith, e)), λ e. absurd (omega (arith, e)));
+        twenty-eight = (λ e. absurd (omega (arith, e)), λ e. absurd (omega (arith, e)));
       }
 
   other : (n : ℕ) → (n ≡ 5 → ⊥) → (n ≡ 27 → ⊥) → Lengthy A B n

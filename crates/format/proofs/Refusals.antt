@@ -34,6 +34,7 @@ pub record OfFields (P : ℕ → Type 0) : Type 0 where
   pub twelve : P 12
   pub thirteen : P 13
   pub fourteen : P 14
+  pub twenty-eight : P 28
 
 -- those of the settings and the primary header; 5 and 27 only if the slice is too short or too long
 pub record OfStart (p : List ℕ) (P : ℕ → Type 0) : Type 0 where
@@ -102,7 +103,7 @@ module _ (P : ℕ → Type 0) (k : OfFields P) where
 
     text-ok : Keeps (text s p)
     unfolding text
-    text-ok w h = blob-ok w h
+    text-ok w h = check-ok _ 28 _ (k .twenty-eight) (blob-ok w h)
 
     part-ok : Keeps (part s p)
     unfolding part markedText

@@ -1,47 +1,47 @@
 // What a run counts: a list of numbers, each at its own place.
 //
-// Places 1 to 27 count the packets refused with that number; from `BEGAN` on those refused with 6 are counted by where in the secondary
+// Places 1 to 63 count the packets refused with that number; from `BEGAN` on those refused with 6 are counted by where in the secondary
 // header the unfinished field began. A number that would pass 64 bits stays at the largest.
 use steps::What;
 use walk::REFUSED_HEADER_ENDS;
 use walk::Refusal;
 
-pub const COUNTS: usize = 295;
+pub const COUNTS: usize = 331;
 
 // What the findings tell, in this order: packets seen; those that came whole, that completed a message, that were stored or held
 // already, that were too long; the segments left in the store and their keys; the octets written; the packets refused; the octets read,
 // and those of them that packets used up.
-pub const SEEN: usize = 28;
+pub const SEEN: usize = 64;
 
-pub const WHOLE: usize = 29;
+pub const WHOLE: usize = 65;
 
-pub const JOINED: usize = 30;
+pub const JOINED: usize = 66;
 
-pub const KEPT: usize = 31;
+pub const KEPT: usize = 67;
 
-pub const PASSED: usize = 32;
+pub const PASSED: usize = 68;
 
-pub const SEGMENTS: usize = 33;
+pub const SEGMENTS: usize = 69;
 
-pub const KEYS: usize = 34;
+pub const KEYS: usize = 70;
 
-pub const WRITTEN: usize = 35;
+pub const WRITTEN: usize = 71;
 
-pub const REFUSED: usize = 36;
+pub const REFUSED: usize = 72;
 
-pub const READ: usize = 37;
+pub const READ: usize = 73;
 
-pub const USED: usize = 38;
+pub const USED: usize = 74;
 
 pub const TOLD: usize = 11;
 
 // The places of a secondary header, which has at most 256 octets.
-const BEGAN: usize = 39;
+const BEGAN: usize = 75;
 
 const PLACES: usize = 256;
 
-// The largest refusal number.
-pub const NUMBERS: usize = 27;
+// The largest refusal number that has a place: more than there are.
+pub const NUMBERS: usize = 63;
 
 // The place of a step that is no packet.
 const NOWHERE: usize = 0;

@@ -32,6 +32,7 @@ fields =
       twelve = known 12 refl;
       thirteen = known 13 refl;
       fourteen = known 14 refl;
+      twenty-eight = known 28 refl;
     }
 
 start : (p : List ℕ) → OfStart p Known

@@ -13,7 +13,7 @@ use Rattle.sender.specs.declared.Sender.{Sender}
 use Rattle.write.specs.declared.HeaderValues.{HeaderValues}
 use Rattle.write.specs.declared.PacketValues.{PacketValues}
 use Rattle.write.specs.Given.{Lent, headerChecks, packetChecks, unlessAll}
-use Rattle.write.specs.Writing.{settingsTest, partsTest, sizeTests, valueRefusal, writeRefusal}
+use Rattle.write.specs.Writing.{settingsTest, partsTest, textTest, sizeTests, valueRefusal, writeRefusal}
 use Rattle.cut.specs.Cutting.{limitTest, valueTests, messageTests, countRefusal, packetRefusal}
 use Rattle.numbers.specs.Lists.{Numbered, ofWriting, ofCount, ofCutting}
 use Rattle.format.proofs.Refusals.{picked}
@@ -40,6 +40,10 @@ module _ (l : List ℕ) where
   unfolding partsTest
   parts-ok t r e h = unless-ok _ 13 r e h
 
+  text-ok : (t : Lent) (r : Tested) → has l 28 ≡ true → Ok r → Ok (textTest t r)
+  unfolding textTest
+  text-ok t r e h = all-ok _ 28 r e h
+
 -- ---- writing
 
 abbrev W : List ℕ
@@ -54,9 +58,10 @@ writing s v o t body room =
     (unless-ok W _ 14 _ refl
     (unless-ok W _ 12 _ refl
     (unless-ok W _ 23 _ refl
+    (text-ok W t _ refl
     (parts-ok W t _ refl
     (all-ok W (packetChecks o) 22 _ refl
-    (all-ok W (headerChecks s v t) 22 _ refl (settings-ok W s noneFailed refl (among W 0 refl))))))))
+    (all-ok W (headerChecks s v t) 22 _ refl (settings-ok W s noneFailed refl (among W 0 refl)))))))))
 
 -- numbers too wide, given to be written
 pub write-wide : (s : Settings) → Numbered ofWriting (unless false 22 (settingsTest s noneFailed) .number)
@@ -74,10 +79,11 @@ count s P v t B d =
     (unless-ok C _ 24 _ refl
     (unless-ok C _ 12 _ refl
     (unless-ok C _ 23 _ refl
+    (text-ok C t _ refl
     (parts-ok C t _ refl
     (unless-ok C _ 22 _ refl
     (all-ok C (headerChecks s v t) 22 _ refl
-    (unless-ok C _ 15 _ refl (unless-ok C _ 15 _ refl (settings-ok C s noneFailed refl (among C 0 refl))))))))))
+    (unless-ok C _ 15 _ refl (unless-ok C _ 15 _ refl (settings-ok C s noneFailed refl (among C 0 refl)))))))))))
 
 -- numbers too wide, given to be cut
 pub count-wide : (s : Settings) (P : ℕ) → Numbered ofCount (unless false 22 (limitTest s P noneFailed) .number)

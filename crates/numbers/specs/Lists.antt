@@ -9,7 +9,7 @@ Numbered l n = List·Memᴰ n (0 ∷ l)
 
 -- what a packet alone is refused by, 14 last; between 27 and 14 the fields come from left to right
 abbrev pub ofPacket : List ℕ
-ofPacket = 1 ∷ 2 ∷ 3 ∷ 4 ∷ 5 ∷ 27 ∷ 6 ∷ 7 ∷ 8 ∷ 9 ∷ 10 ∷ 11 ∷ 12 ∷ 13 ∷ 14 ∷ []
+ofPacket = 1 ∷ 2 ∷ 3 ∷ 4 ∷ 5 ∷ 27 ∷ 6 ∷ 7 ∷ 8 ∷ 9 ∷ 10 ∷ 11 ∷ 12 ∷ 13 ∷ 28 ∷ 14 ∷ []
 
 abbrev pub ofReading : List ℕ
 ofReading = 15 ∷ ofPacket
@@ -25,7 +25,7 @@ abbrev pub ofJoining : List ℕ
 ofJoining = ofArrival ++ (20 ∷ 21 ∷ [])
 
 abbrev pub ofWriting : List ℕ
-ofWriting = 15 ∷ 22 ∷ 13 ∷ 23 ∷ 12 ∷ 14 ∷ 21 ∷ []
+ofWriting = 15 ∷ 22 ∷ 13 ∷ 28 ∷ 23 ∷ 12 ∷ 14 ∷ 21 ∷ []
 
 -- a whole recording joined: the output is too short
 abbrev pub ofRecording : List ℕ
@@ -41,7 +41,7 @@ ofWidths = 22 ∷ []
 
 -- the count leaves out the last two of cutting's
 abbrev pub ofCount : List ℕ
-ofCount = 15 ∷ 22 ∷ 13 ∷ 23 ∷ 12 ∷ 24 ∷ 25 ∷ []
+ofCount = 15 ∷ 22 ∷ 13 ∷ 28 ∷ 23 ∷ 12 ∷ 24 ∷ 25 ∷ []
 
 abbrev pub ofCutting : List ℕ
 ofCutting = ofCount ++ (26 ∷ 21 ∷ [])

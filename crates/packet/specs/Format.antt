@@ -7,6 +7,7 @@ use mathlib.Core.Bool.{Bool, true, false, not}
 use lib.ListN.{length}
 use lib.Dec.{eqb}
 use Rattle.octets.specs.Octets.{pick, Octets, wide}
+use Rattle.utf8.specs.Text.{Text}
 use Rattle.walk.specs.declared.Settings.{Settings}
 use Rattle.walk.specs.Walk.{timestampLeast, timestampMost}
 use Rattle.fields.specs.Fields.{partsMost}
@@ -150,7 +151,8 @@ pub record SettingsInRange (s : Settings) : Type 0 where
   pub t-low : timestampLeast ≤ s .t
   pub t-top : s .t ≤ timestampMost
 
--- a header's fields within their widths and ranges, absent ones without a value (22), at most sixteen parts (13)
+-- a header's fields within their widths and ranges, absent ones without a value (22), at most sixteen parts (13); zone, session name
+-- and each part text (28)
 pub record HeadInRange (s : Settings) (h : Head) : Type 0 where
   pub packet-type : h .packet-type < 2
   pub apid : h .apid < 2047
@@ -169,9 +171,9 @@ pub record HeadInRange (s : Settings) (h : Head) : Type 0 where
   pub destination : Opt (h .has-destination) (λ x. x < 256) 0 (h .destination)
   pub priority : Opt (h .has-priority) (λ x. x < 4294967296) 0 (h .priority)
   pub timestamp : Opt (h .has-timestamp) (λ x. (length x ≡ s .t) × Octets x) [] (h .timestamp)
-  pub zone : Opt (h .has-zone) Octets [] (h .zone)
-  pub session-name : Opt (h .has-session-name) Octets [] (h .session-name)
-  pub domain : Opt (h .has-domain) (λ x. (length x ≤ partsMost) × Each Octets x) [] (h .domain)
+  pub zone : Opt (h .has-zone) Text [] (h .zone)
+  pub session-name : Opt (h .has-session-name) Text [] (h .session-name)
+  pub domain : Opt (h .has-domain) (λ x. (length x ≤ partsMost) × Each Text x) [] (h .domain)
   pub authentication : Opt (h .has-authentication) Octets [] (h .authentication)
 
 -- and the values of a packet: 22, 23, 12, 14

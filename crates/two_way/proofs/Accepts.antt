@@ -19,13 +19,13 @@ use Rattle.packet.specs.Numbers.{countMost}
 use Rattle.write.specs.declared.HeaderValues.{HeaderValues}
 use Rattle.write.specs.declared.PacketValues.{PacketValues}
 use Rattle.write.specs.Given.{Lent, headOf, packetOf, headerChecks, packetChecks}
-use Rattle.write.specs.Writing.{settingsTest, partsTest, bodyFits, givenPacket, sizeTests, valueRefusal, writeRefusal}
+use Rattle.write.specs.Writing.{settingsTest, partsTest, textTest, bodyFits, givenPacket, sizeTests, valueRefusal, writeRefusal}
 use Rattle.write.proofs.Tests.{unless-fine, unless-true, AllHold, unlessAll-fine, unlessAll-true}
 use Rattle.write.proofs.Answers.{secondary-length}
 use Rattle.write.specs.Lending.{Bits64, LentOctets}
 use Rattle.two_way.specs.Writable.{Writable}
 use Rattle.two_way.proofs.Fits.{number-opt, opt-number, opt-parts}
-use Rattle.two_way.proofs.Headers.{PlainTexts, checks-sum, checks-range, range-checks}
+use Rattle.two_way.proofs.Headers.{PlainTexts, texts28, checks-sum, checks-range, range-checks, range-utf8}
 use Rattle.two_way.proofs.Texts.{lent-texts}
 
 -- 14, each way
@@ -41,17 +41,18 @@ module _ (s : Settings) (v : HeaderValues) (o : PacketValues) (t : Lent) (body :
   abbrev whole : Values
   whole = givenPacket v o t body
 
-  -- what is accepted can be written; the texts that are there are octets
+  -- what is accepted can be written; what is there of octets of any value is octets
   pub accepted-plain :
       PlainTexts (headOf v t) → Octets body → Bits64 (v .transaction) → writeRefusal s v o t body room .number ≡ 0 →
       Writable s v o t body room
-  unfolding writeRefusal sizeTests valueRefusal partsTest settingsTest packetOf packetChecks AllHold
+  unfolding writeRefusal sizeTests valueRefusal textTest partsTest settingsTest packetOf packetChecks AllHold
   accepted-plain p q w z =
       let a = unless-fine (leb (length (octetsOf s whole)) room) 20 _ (eq-eqb (writeRefusal s v o t body room .number) 0 z) in
       let b = unless-fine (bodyFits (o .flags) (length body)) 13 _ (a .before) in
       let c = unless-fine (leb (length (secondaryOctets s whole)) headerMost) 11 _ (b .before) in
       let d = unless-fine (leb (length (octetsOf s whole)) packetMost) 22 _ (c .before) in
-      let e = unless-fine (leb (length (t .lengths)) partsMost) 12 _ (d .before) in
+      let u = unlessAll-fine (texts28 s v t) 27 _ (d .before) in
+      let e = unless-fine (leb (length (t .lengths)) partsMost) 12 _ (u .0) in
       let f = unlessAll-fine (packetChecks o) 21 _ (e .before) in
       let g = unlessAll-fine (headerChecks s v t) 21 _ (f .0) in
       let i = unless-fine (leb (s .t) timestampMost) 14 _ (g .0) in
@@ -60,7 +61,7 @@ module _ (s : Settings) (v : HeaderValues) (o : PacketValues) (t : Lent) (body :
         range =
             record {
               settings = record { t-low = leb-true timestampLeast (s .t) (j .held); t-top = leb-true (s .t) timestampMost (i .held) };
-              head = checks-range s v t (g .1) (leb-true (length (t .lengths)) partsMost (e .held)) w p;
+              head = checks-range s v t (g .1) (u .1) (leb-true (length (t .lengths)) partsMost (e .held)) w p;
               flags = omega (arith, leb-true (o .flags) 3 (f .1 .0));
               sequence-count = omega (arith, leb-true (o .«sequence_count» .0) countMost (f .1 .1 .0));
               counter = number-opt (segment (o .flags)) (o .counter .0) most32 4294967296 refl (f .1 .1 .1 .0);
@@ -79,6 +80,10 @@ module _ (s : Settings) (v : HeaderValues) (o : PacketValues) (t : Lent) (body :
     unfolding packetOf
     header-checks =
         range-checks s v t (k .range .head) (k .adds) (omega (arith, k .range .header, secondary-length s whole))
+
+    utf8-checks : AllHold (texts28 s v t)
+    unfolding packetOf
+    utf8-checks = range-utf8 s v t (k .range .head) (k .adds) (omega (arith, k .range .header, secondary-length s whole))
 
     packet-checks : AllHold (packetChecks o)
     unfolding packetOf packetChecks AllHold
@@ -101,9 +106,10 @@ module _ (s : Settings) (v : HeaderValues) (o : PacketValues) (t : Lent) (body :
         ∙ unless-true (leb timestampLeast (s .t)) 15 _ (le-leb timestampLeast (s .t) (k .range .settings .t-low))
 
     values-fine : valueRefusal s v o t ≡ noneFailed
-    unfolding valueRefusal partsTest
+    unfolding valueRefusal textTest partsTest
     values-fine =
-        unless-true (leb (length (t .lengths)) partsMost) 13 _ (le-leb (length (t .lengths)) partsMost parts-check)
+        unlessAll-true (texts28 s v t) 28 _ utf8-checks
+        ∙ unless-true (leb (length (t .lengths)) partsMost) 13 _ (le-leb (length (t .lengths)) partsMost parts-check)
         ∙ unlessAll-true (packetChecks o) 22 _ packet-checks
         ∙ unlessAll-true (headerChecks s v t) 22 _ header-checks
         ∙ settings-fine

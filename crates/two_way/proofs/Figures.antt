@@ -8,8 +8,9 @@ use mathlib.Core.List.{List, [], _∷_, _++_, map}
 use native.Mathlib.Omega.{arith}
 use lib.ListN.{length, take}
 use Rattle.octets.specs.Octets.{octetAt, wide}
+use Rattle.utf8.specs.Test.{ended, accepts as acceptsFrom, isText}
 use Rattle.walk.specs.Walk.{unless, noRefusal, refusal}
-use Rattle.fields.specs.Form.{split}
+use Rattle.fields.specs.Form.{split, allText}
 use Rattle.packet.specs.declared.Header.{Header}
 use Rattle.packet.specs.Figure14.{settings, packet, zeros}
 use Rattle.packet.specs.Format.{presence, identification, fixedOctets, frontOctets, counterOctets, backOctets, secondaryOctets, dataOctets, octetsOf}
@@ -18,8 +19,8 @@ use Rattle.write.specs.declared.HeaderValues.{HeaderValues}
 use Rattle.write.specs.declared.PacketValues.{PacketValues}
 use Rattle.write.specs.declared.Written.{Written}
 use Rattle.write.specs.Figure14.{header, own, texts}
-use Rattle.write.specs.Given.{Lent, lent, headOf, packetOf, sum, nameChecks, routingChecks, idChecks, textChecks, headerChecks, packetChecks, unlessAll}
-use Rattle.write.specs.Writing.{settingsTest, partsTest, givenPacket, sizeTests, valueRefusal, writeRefusal, writeAnswer, writeOutput}
+use Rattle.write.specs.Given.{Lent, lent, headOf, packetOf, sum, nameChecks, routingChecks, idChecks, textChecks, utf8Checks, headerChecks, packetChecks, unlessAll}
+use Rattle.write.specs.Writing.{settingsTest, partsTest, textTest, givenPacket, sizeTests, valueRefusal, writeRefusal, writeAnswer, writeOutput}
 use Rattle.format.proofs.Start.{answer}
 use Rattle.format.proofs.Examples.{two, full, full-in-range, full-octets}
 use Rattle.two_way.specs.Writable.{Writable}
@@ -43,8 +44,9 @@ pub figure-written :
     ∷ record { refusal = refusal 21; length = 0 }
     ∷ [])
     × ((outputs 27 ≡ packet) × ((outputs 30 ≡ packet ++ (0 ∷ 0 ∷ 0 ∷ [])) × (outputs 26 ≡ zeros 26)))
-unfolding writeAnswer writeOutput writeRefusal sizeTests valueRefusal partsTest settingsTest unlessAll unless headerChecks nameChecks routingChecks
-    idChecks textChecks packetChecks headOf packetOf split sum octetsOf identification dataOctets secondaryOctets fixedOctets presence frontOctets counterOctets backOctets wide
+unfolding writeAnswer writeOutput writeRefusal sizeTests valueRefusal partsTest textTest utf8Checks allText isText acceptsFrom ended settingsTest
+    unlessAll unless headerChecks nameChecks routingChecks idChecks textChecks packetChecks headOf packetOf split sum octetsOf identification
+    dataOctets secondaryOctets fixedOctets presence frontOctets counterOctets backOctets wide
 figure-written = (refl, (refl, (refl, refl)))
 
 -- ---- a writer that writes nothing

@@ -1,31 +1,31 @@
--- A header's values: the writer's checks behind 22 and 13 hold exactly if the header is in range and the domain's lengths add up.
+-- A header's values: the writer's checks behind 22, 13 and 28 hold exactly if the header is in range and the domain's lengths add up.
 -- That a text has at most 65,535 octets follows from the header's limit.
 -- Assumes nothing.
 use Prim.Native.Nat.{ℕ, _+_, _≤_, _<_}
 use mathlib.Core.Path.{_≡_, refl}
 use mathlib.Core.Bool.{Bool, true, false}
-use mathlib.Core.List.{_++_}
+use mathlib.Core.List.{List, _++_}
 use native.Mathlib.Omega.{arith}
 use lib.ListN.{length, length-append}
 use borrow.Author.Tests.{leb-true, ltb-true, le-leb, lt-ltb}
 use Rattle.octets.specs.Octets.{pick, Octets, most8, most16, most32}
+use Rattle.utf8.specs.Text.{Text}
+use Rattle.utf8.proofs.Laws.{is-text}
 use Rattle.walk.specs.declared.Settings.{Settings}
 use Rattle.fields.specs.Fields.{partsMost}
-use Rattle.fields.specs.Form.{uintegerOctets, partOctets, joined, domainOctets}
-use Rattle.packet.specs.Format.{Head, Each, headerOctets, textMost, HeadInRange}
+use Rattle.fields.specs.Form.{uintegerOctets, partOctets, joined, domainOctets, split}
+use Rattle.packet.specs.Format.{Head, headerOctets, textMost, HeadInRange}
 use Rattle.write.specs.declared.HeaderValues.{HeaderValues}
-use Rattle.write.specs.Given.{Lent, headOf, sum, nameChecks, routingChecks, idChecks, textChecks, headerChecks}
+use Rattle.write.specs.Given.{Lent, headOf, sum, nameChecks, routingChecks, idChecks, textChecks, utf8Checks, headerChecks}
 use Rattle.write.proofs.Tests.{AllHold, hold-append, hold-first, hold-second}
 use Rattle.write.proofs.Sizes.{header-length}
 use Rattle.two_way.proofs.Lists.{joined-least}
-use Rattle.two_way.proofs.Fits.{number-opt, text-opt, exact-opt, domain-opt, fits-sum, opt-number, opt-text, opt-exact, opt-lengths, opt-domain}
+use Rattle.two_way.proofs.Fits.{number-opt, text-opt, exact-opt, domain-opt, fits-sum, each-text}
+use Rattle.two_way.proofs.Fits.{opt-number, opt-text, opt-exact, opt-lengths, opt-domain, opt-utf8, opt-each}
 
--- the texts that are there are octets
+-- what is there of octets of any value is octets
 pub record PlainTexts (h : Head) : Type 0 where
   pub timestamp : h .has-timestamp ≡ true → Octets (h .timestamp)
-  pub zone : h .has-zone ≡ true → Octets (h .zone)
-  pub session-name : h .has-session-name ≡ true → Octets (h .session-name)
-  pub domain : h .has-domain ≡ true → Each Octets (h .domain)
   pub authentication : h .has-authentication ≡ true → Octets (h .authentication)
 
 -- ---- a text that is there is no longer than the header
@@ -60,6 +60,10 @@ module _ (s : Settings) (h : Head) where
       )
 
 module _ (s : Settings) (v : HeaderValues) (t : Lent) where
+  -- the checks behind 28
+  abbrev pub texts28 : List Bool
+  texts28 = utf8Checks (t .zone) (t .session-name) (split (t .lengths) (t .domain))
+
   -- ---- from the checks to the range
 
   module _ (a : AllHold (headerChecks s v t)) where
@@ -88,9 +92,10 @@ module _ (s : Settings) (v : HeaderValues) (t : Lent) where
     checks-sum = fits-sum (v .has .domain) (t .lengths) (t .domain) (texts .1 .1 .1 .0) (texts .1 .1 .1 .1 .0)
 
     pub checks-range :
-        length (t .lengths) ≤ partsMost → v .transaction < 18446744073709551616 → PlainTexts (headOf v t) → HeadInRange s (headOf v t)
-    unfolding AllHold nameChecks routingChecks idChecks textChecks headOf
-    checks-range l w p =
+        AllHold texts28 → length (t .lengths) ≤ partsMost → v .transaction < 18446744073709551616 → PlainTexts (headOf v t) →
+        HeadInRange s (headOf v t)
+    unfolding AllHold nameChecks routingChecks idChecks textChecks utf8Checks headOf
+    checks-range u l w p =
         let n = names in
         let r = routing in
         let i = ids in
@@ -113,10 +118,11 @@ module _ (s : Settings) (v : HeaderValues) (t : Lent) where
           destination = number-opt (v .has .destination) (v .destination) most8 256 refl (i .1 .0);
           priority = number-opt (v .has .priority) (v .priority) most32 4294967296 refl (i .1 .1 .0);
           timestamp = exact-opt (v .has .timestamp) (t .timestamp) (s .t) (p .timestamp) (x .0);
-          zone = text-opt (v .has .zone) (t .zone) (p .zone) (x .1 .0);
-          session-name = text-opt (v .has .«session_name») (t .session-name) (p .session-name) (x .1 .1 .0);
-          domain = domain-opt (v .has .domain) (t .lengths) (t .domain) (p .domain) l (x .1 .1 .1 .1 .0);
-          authentication = text-opt (v .has .authentication) (t .authentication) (p .authentication) (x .1 .1 .1 .1 .1 .0);
+          zone = text-opt Text (v .has .zone) (t .zone) (λ e. is-text (t .zone) .0 (u .0)) (x .1 .0);
+          session-name = text-opt Text (v .has .«session_name») (t .session-name) (λ e. is-text (t .session-name) .0 (u .1 .0)) (x .1 .1 .0);
+          domain =
+              domain-opt (v .has .domain) (t .lengths) (t .domain) (each-text (split (t .lengths) (t .domain)) (u .1 .1 .0)) l (x .1 .1 .1 .1 .0);
+          authentication = text-opt Octets (v .has .authentication) (t .authentication) (p .authentication) (x .1 .1 .1 .1 .1 .0);
         }
 
   -- ---- and back
@@ -176,15 +182,15 @@ module _ (s : Settings) (v : HeaderValues) (t : Lent) where
     texts-hold = (
       opt-exact (v .has .timestamp) (t .timestamp) (s .t) (r .timestamp),
       (
-        opt-text (v .has .zone) (t .zone) (r .zone) (λ h. omega (arith, zone-long s (headOf v t) h)),
+        opt-text Text (v .has .zone) (t .zone) (r .zone) (λ h. omega (arith, zone-long s (headOf v t) h)),
         (
-          opt-text (v .has .«session_name») (t .session-name) (r .session-name) (λ h. omega (arith, name-long s (headOf v t) h)),
+          opt-text Text (v .has .«session_name») (t .session-name) (r .session-name) (λ h. omega (arith, name-long s (headOf v t) h)),
           (
             opt-domain (t .lengths) (t .domain) e (v .has .domain) (r .domain) domain-most,
             (
               opt-lengths (t .lengths) (t .domain) e (v .has .domain) (r .domain),
               (
-                opt-text (v .has .authentication) (t .authentication) (r .authentication)
+                opt-text Octets (v .has .authentication) (t .authentication) (r .authentication)
                     (λ h. omega (arith, authentication-long s (headOf v t) h)),
                 tt,
               ),
@@ -200,3 +206,13 @@ module _ (s : Settings) (v : HeaderValues) (t : Lent) where
         hold-append (nameChecks v) (routingChecks v ++ (idChecks v ++ textChecks s v t)) names-hold
         (hold-append (routingChecks v) (idChecks v ++ textChecks s v t) routing-hold
         (hold-append (idChecks v) (textChecks s v t) ids-hold texts-hold))
+
+    pub range-utf8 : AllHold texts28
+    unfolding AllHold utf8Checks headOf
+    range-utf8 = (
+      opt-utf8 (v .has .zone) (t .zone) (r .zone),
+      (
+        opt-utf8 (v .has .«session_name») (t .session-name) (r .session-name),
+        (opt-each (v .has .domain) (split (t .lengths) (t .domain)) (r .domain), tt),
+      ),
+    )

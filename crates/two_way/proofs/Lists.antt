@@ -7,13 +7,12 @@ use native.Mathlib.Omega.{arith}
 use lib.ListN.{length, getD, take, drop, length-append, length-drop, take-append-drop}
 use lib.Seq.{take-at, drop-at, length-take-le}
 use Rattle.octets.specs.Octets.{Octets}
-use Rattle.octets.proofs.Has.{octets-nil, octets-append, octets-take, octets-drop, octets-part, part-length}
+use Rattle.octets.proofs.Has.{octets-nil, octets-append, octets-part, part-length}
 use Rattle.octets.proofs.Laying.{empty}
 use Rattle.walk.specs.declared.Settings.{Settings}
 use Rattle.fields.specs.declared.Place.{Place}
 use Rattle.fields.specs.Fields.{nowhere}
-use Rattle.fields.specs.Form.{uintegerOctets, blobOctets, textOctets, partOctets, joined, split}
-use Rattle.packet.specs.Format.{Each}
+use Rattle.fields.specs.Form.{blobOctets, textOctets, partOctets, joined, split}
 use Rattle.write.specs.Given.{sum}
 use Rattle.format.specs.Told.{content}
 
@@ -27,25 +26,6 @@ octets-left (x ∷ a) b o (suc i) = octets-left a b (λ j. o (suc j)) i
 pub octets-right : (a b : List ℕ) → Octets (a ++ b) → Octets b
 octets-right [] b o i = o i
 octets-right (x ∷ a) b o i = octets-right a b (λ j. o (suc j)) i
-
--- a text of octets, cut, gives parts of octets
-pub split-octets : (ns x : List ℕ) → Octets x → Each Octets (split ns x)
-unfolding split Each
-split-octets [] x o = tt
-split-octets (n ∷ ns) x o = (octets-take n x o, split-octets ns (drop n x) (octets-drop n x o))
-
--- parts whose writing is octets are octets
-pub text-octets : (s : Settings) (x : List ℕ) → Octets (textOctets s x) → Octets x
-unfolding textOctets blobOctets
-text-octets s x o = octets-right (uintegerOctets s (length x)) x o
-
-pub parts-octets : (s : Settings) (ts : List (List ℕ)) → Octets (joined (partOctets s) ts) → Each Octets ts
-unfolding joined partOctets Each
-parts-octets s [] o = tt
-parts-octets s (t ∷ ts) o = (
-  text-octets s t (octets-right (1 ∷ []) (textOctets s t) (octets-left (partOctets s t) (joined (partOctets s) ts) o)),
-  parts-octets s ts (octets-right (partOctets s t) (joined (partOctets s) ts) o),
-)
 
 -- ---- parts joined, and their lengths
 

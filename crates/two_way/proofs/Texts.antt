@@ -1,4 +1,4 @@
--- The texts and the body of a packet are octets if what is lent is, or if the packet is.
+-- The timestamp, the authentication id and the body of a packet are octets if what is lent is, or if the packet is.
 -- Assumes nothing.
 use Prim.Native.Nat.{ℕ, _+_, _-_, _*_}
 use mathlib.Core.Path.{_≡_}
@@ -8,12 +8,12 @@ use native.Mathlib.Omega.{arith}
 use lib.ListN.{length}
 use Rattle.octets.specs.Octets.{Octets, wide}
 use Rattle.walk.specs.declared.Settings.{Settings}
-use Rattle.fields.specs.Form.{uintegerOctets, blobOctets, textOctets, partOctets, joined, domainOctets}
-use Rattle.packet.specs.Format.{Head, Values, Each, when, identification, fixedOctets, frontOctets, counterOctets, backOctets, secondaryOctets, dataOctets, octetsOf}
+use Rattle.fields.specs.Form.{uintegerOctets, blobOctets, textOctets, domainOctets}
+use Rattle.packet.specs.Format.{Head, Values, when, identification, fixedOctets, frontOctets, counterOctets, backOctets, secondaryOctets, dataOctets, octetsOf}
 use Rattle.write.specs.declared.HeaderValues.{HeaderValues}
 use Rattle.write.specs.Given.{Lent, headOf}
 use Rattle.write.specs.Lending.{LentOctets}
-use Rattle.two_way.proofs.Lists.{octets-left, octets-right, split-octets, text-octets, parts-octets}
+use Rattle.two_way.proofs.Lists.{octets-left, octets-right}
 use Rattle.two_way.proofs.Headers.{PlainTexts}
 
 -- by what is lent
@@ -22,9 +22,6 @@ unfolding headOf
 lent-texts v t body p =
     record {
       timestamp = λ e. p .timestamp;
-      zone = λ e. p .zone;
-      session-name = λ e. p .session-name;
-      domain = λ e. split-octets (t .lengths) (t .domain) (p .domain);
       authentication = λ e. p .authentication;
     }
 
@@ -37,10 +34,6 @@ blob-octets : (s : Settings) (x : List ℕ) → Octets (blobOctets s x) → Octe
 unfolding blobOctets
 blob-octets s x o = octets-right (uintegerOctets s (length x)) x o
 
-domain-octets : (s : Settings) (ts : List (List ℕ)) → Octets (domainOctets s ts) → Each Octets ts
-unfolding domainOctets
-domain-octets s ts o = parts-octets s ts (octets-right (uintegerOctets s (length ts)) (joined (partOctets s) ts) o)
-
 back-texts : (s : Settings) (h : Head) → Octets (backOctets s h) → PlainTexts h
 unfolding backOctets
 back-texts s h o =
@@ -51,14 +44,6 @@ back-texts s h o =
     let f = octets-right (when (h .has-domain) (domainOctets s (h .domain))) _ d in
     record {
       timestamp = λ e. when-octets (h .has-timestamp) (h .timestamp) (octets-left (when (h .has-timestamp) (h .timestamp)) _ a) e;
-      zone =
-          λ e. text-octets s (h .zone) (when-octets (h .has-zone) (textOctets s (h .zone)) (octets-left (when (h .has-zone) (textOctets s (h .zone))) _ b) e);
-      session-name =
-          λ e. text-octets s (h .session-name) (when-octets (h .has-session-name) (textOctets s (h .session-name)) (octets-left (when (h .has-session-name) (textOctets s (h .session-name))) _ c) e);
-      domain =
-          λ e.
-          domain-octets s (h .domain)
-          (when-octets (h .has-domain) (domainOctets s (h .domain)) (octets-left (when (h .has-domain) (domainOctets s (h .domain))) _ d) e);
       authentication =
           λ e. blob-octets s (h .authentication) (when-octets (h .has-authentication) (blobOctets s (h .authentication)) f e);
     }

@@ -56,20 +56,20 @@ judging-first o = record { most = omega arith; told = refl; ends = refl }
 
 module _ {o : List ℕ} {flag end : Bool} {at : ℕ} (p : Judging o flag end at) where
   -- a block of single octets
-  pub judging-singles : 64 ≤ length o - at → all (singleAt o) at 64 ≡ true → Judging o (both flag end) true (at + 64)
+  pub judging-singles : 32 ≤ length o - at → all (singleAt o) at 32 ≡ true → Judging o (both flag end) true (at + 32)
   judging-singles h e =
       record {
         most = omega (arith, p .most);
-        told = ap₂ both (p .told) (p .ends ∙ sym (singles-follow o at 63 e)) ∙ sym (all-after (followsAt o) at 64);
-        ends = sym (singles-end o at 61 e);
+        told = ap₂ both (p .told) (p .ends ∙ sym (singles-follow o at 31 e)) ∙ sym (all-after (followsAt o) at 32);
+        ends = sym (singles-end o at 29 e);
       }
 
   -- any other
-  pub judging-others : 64 ≤ length o - at → Judging o (both flag (all (followsAt o) at 64)) (endedAt o (at + 64)) (at + 64)
+  pub judging-others : 32 ≤ length o - at → Judging o (both flag (all (followsAt o) at 32)) (endedAt o (at + 32)) (at + 32)
   judging-others h =
       record {
         most = omega (arith, p .most);
-        told = ap (λ (b : Bool). both b (all (followsAt o) at 64)) (p .told) ∙ sym (all-after (followsAt o) at 64);
+        told = ap (λ (b : Bool). both b (all (followsAt o) at 32)) (p .told) ∙ sym (all-after (followsAt o) at 32);
         ends = refl;
       }
 

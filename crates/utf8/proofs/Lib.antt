@@ -6,3 +6,4 @@ pub mod Laws
 mod Passing
 mod Blocks
 mod Judging
+pub mod Single

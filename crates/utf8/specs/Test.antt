@@ -46,3 +46,8 @@ accepts a b c (d ∷ o) = both (follows a b c d) (accepts b c d o)
 -- before the first octet three are taken that end characters
 unfoldable pub isText : List ℕ → Bool
 isText o = accepts 0 0 0 o
+
+-- every octet is a character by itself
+unfoldable pub allSingle : List ℕ → Bool
+allSingle [] = true
+allSingle (d ∷ o) = both (ltb d 0x80) (allSingle o)

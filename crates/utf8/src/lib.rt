@@ -10,13 +10,14 @@ ghost use mathlib.Core.Path.{_≡_};
 ghost use Prim.Native.Nat.{_+_, _≤_, _<_};
 ghost use lib.ListN.{length};
 ghost use Rattle.utf8.specs.Test.{isText, ended as endedTest, begins as beginsTest, continues as continuesTest, follows as followsTest};
-ghost use Rattle.utf8.specs.Test.{both as bothOf, lowest as lowestOf, highest as highestOf};
+ghost use Rattle.utf8.specs.Test.{both as bothOf, lowest as lowestOf, highest as highestOf, allSingle};
 ghost use Rattle.utf8.specs.Places.{octetBefore, endedAt, followsAt, singleAt, all};
 use octets::both;
 use octets::either;
 
-// How many octets are tested as one block.
-const BLOCK: usize = 64;
+// How many octets are tested as one block: so few that a character of several octets now and then costs little beside the blocks of
+// single octets about it.
+const BLOCK: usize = 32;
 
 // No character is unfinished after three octets.
 fn ended(a: u8, b: u8, c: u8) -> bool
@@ -196,4 +197,11 @@ pub fn is_text(x: &[u8]) -> bool
         at += BLOCK;
     }
     both(so_far, rest_ends(x, at, x.len() - at))
+}
+
+// Whether every octet is a character by itself: then all of it is text, and so is each part.
+pub fn all_single(x: &[u8]) -> bool
+    ensures { λ r. ⌜ r ≡ allSingle (now (x .entry)) ⌝ }
+{
+    singles(x, 0, x.len())
 }

@@ -19,6 +19,7 @@ mod packets;
 mod print;
 mod recordings;
 mod stores;
+mod texts;
 mod varints;
 
 ghost use Prim.Native.Nat.{_<_};
@@ -48,6 +49,8 @@ const VIEW: u64 = 11;
 
 const RECORDING: u64 = 12;
 
+const TEXT: u64 = 13;
+
 // How many parts a domain has at most.
 const LENGTHS: usize = 384;
 
@@ -72,6 +75,9 @@ fn run_reads(tag: u64, c: &[u8]) {
     }
     if tag == VIEW {
         joins::view(c);
+    }
+    if tag == TEXT {
+        texts::test(c);
     }
 }
 

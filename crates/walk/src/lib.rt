@@ -102,6 +102,9 @@ pub const REFUSED_NUMBER: u8 = 26;
 // The slice is longer than its length field says.
 pub const REFUSED_LONG: u8 = 27;
 
+// A text that is not well-formed UTF-8.
+pub const REFUSED_TEXT: u8 = 28;
+
 // What both sides agreed on: T, the octets of a timestamp.
 pub struct Settings {
     pub t: usize,

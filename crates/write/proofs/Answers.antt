@@ -1,10 +1,10 @@
 -- From the sizes and tests of the code to the answer and the output of writing, on plain values.
 -- Assumes nothing.
 use Prim.Native.Nat.{ℕ, _+_, _-_, _≤_, _<_}
-use mathlib.Core.Path.{_≡_, ap, sym, _∙_}
+use mathlib.Core.Path.{_≡_, refl, ap, sym, _∙_}
 use mathlib.Core.Logic.{⊎-elim}
 use mathlib.Core.Bool.{Bool, true, false}
-use mathlib.Core.List.{List, _++_}
+use mathlib.Core.List.{List, [], _∷_, _++_}
 use native.Mathlib.Omega.{arith}
 use native.Mathlib.Nat.{zero-add}
 use lib.ListN.{length, drop, length-append}
@@ -25,7 +25,7 @@ use Rattle.format.proofs.Back.{data-long}
 use Rattle.format.proofs.Stretches.{counter-long}
 use Rattle.write.specs.declared.HeaderValues.{HeaderValues}
 use Rattle.write.specs.declared.PacketValues.{PacketValues}
-use Rattle.write.specs.Given.{Lent, headOf, packetOf}
+use Rattle.write.specs.Given.{Lent, headOf, packetOf, unlessAll}
 use Rattle.write.specs.Writing.{bodyFits, givenPacket, sizeTests, valueRefusal, writeRefusal, fine, writeAnswer, writeOutput}
 use Rattle.write.specs.Inner.{packetPieces}
 use Rattle.write.proofs.Tests.{unless-fine}
@@ -60,6 +60,11 @@ below-cap n m h =
 pub shut : (x : Bool) (k : ℕ) (r : Tested) → fine r ≡ false → unless x k r ≡ r
 unfolding unless
 shut x k r e = simp e
+
+pub all-shut : (bs : List Bool) (k : ℕ) (r : Tested) → fine r ≡ false → unlessAll bs k r ≡ r
+unfolding unlessAll
+all-shut [] k r e = refl
+all-shut (b ∷ bs) k r e = ap (unlessAll bs k) (shut b k r e) ∙ all-shut bs k r e
 
 cap-left : (a b : ℕ) → capped (capped a + b) ≡ capped (a + b)
 cap-left a b = omega arith

@@ -1,6 +1,6 @@
--- The values to write as they are given, and which of them are refused by 22.
+-- The values to write as they are given, and which of them are refused by 22 or by 28.
 -- SPEC W-2: too wide or out of range, a value for a field that is absent, a timestamp of another length than T, a text that is too
--- long, lengths that do not make up the domain.
+-- long, lengths that do not make up the domain. SPEC W-3: a zone, session name or domain part that is not text.
 -- Assumes nothing: these are definitions.
 use Prim.Native.Nat.{ℕ, _+_}
 use mathlib.Core.List.{List, [], _∷_, _++_}
@@ -8,10 +8,11 @@ use mathlib.Core.Bool.{Bool}
 use lib.ListN.{length}
 use lib.Dec.{ltb, leb, eqb}
 use Rattle.octets.specs.Octets.{pick, most8, most16, most32}
+use Rattle.utf8.specs.Test.{isText}
 use Rattle.walk.specs.declared.Settings.{Settings}
 use Rattle.walk.specs.declared.Tested.{Tested}
 use Rattle.walk.specs.Walk.{unless}
-use Rattle.fields.specs.Form.{split}
+use Rattle.fields.specs.Form.{split, allText}
 use Rattle.packet.specs.Format.{Head, Values, segment, textMost}
 use Rattle.packet.specs.Numbers.{countMost}
 use Rattle.write.specs.declared.HeaderValues.{HeaderValues}
@@ -152,6 +153,11 @@ headerChecks s v t = nameChecks v ++ (routingChecks v ++ (idChecks v ++ textChec
 unfoldable pub packetChecks : PacketValues → List Bool
 packetChecks o =
     leb (o .flags) flagsMost ∷ leb (o .«sequence_count» .0) countMost ∷ numberFits (segment (o .flags)) (o .counter .0) most32 ∷ []
+
+-- ---- the checks behind 28: zone, session name, each domain part by itself
+
+unfoldable pub utf8Checks : List ℕ → List ℕ → List (List ℕ) → List Bool
+utf8Checks zone name parts = isText zone ∷ isText name ∷ allText parts ∷ []
 
 -- the refusal k unless all of them hold
 unfoldable pub unlessAll : List Bool → ℕ → Tested → Tested

@@ -1,5 +1,5 @@
 -- What writing one packet answers and writes, with its order of refusals.
--- SPEC W-2, W-3: first 15, then 22, 13, 23, 12, 14, 21.
+-- SPEC W-2, W-3: first 15, then 22, 13, 28, 23, 12, 14, 21.
 -- Assumes nothing: these are definitions.
 use Prim.Native.Nat.{ℕ}
 use mathlib.Core.List.{List, _++_}
@@ -11,11 +11,12 @@ use Rattle.walk.specs.declared.Settings.{Settings}
 use Rattle.walk.specs.declared.Tested.{Tested}
 use Rattle.walk.specs.Walk.{refusal, noneFailed, unless, timestampLeast, timestampMost}
 use Rattle.fields.specs.Fields.{partsMost}
+use Rattle.fields.specs.Form.{split}
 use Rattle.packet.specs.Format.{Values, segment, octetsOf, secondaryOctets, packetMost, headerMost}
 use Rattle.write.specs.declared.HeaderValues.{HeaderValues}
 use Rattle.write.specs.declared.PacketValues.{PacketValues}
 use Rattle.write.specs.declared.Written.{Written}
-use Rattle.write.specs.Given.{Lent, headOf, packetOf, headerChecks, packetChecks, unlessAll}
+use Rattle.write.specs.Given.{Lent, headOf, packetOf, headerChecks, packetChecks, utf8Checks, unlessAll}
 
 -- 15: T outside its range
 unfoldable pub settingsTest : Settings → Tested → Tested
@@ -24,6 +25,10 @@ settingsTest s r = unless (leb (s .t) timestampMost) 15 (unless (leb timestampLe
 -- 13: more than sixteen domain parts
 unfoldable pub partsTest : Lent → Tested → Tested
 partsTest t r = unless (leb (length (t .lengths)) partsMost) 13 r
+
+-- 28: a zone, a session name or a domain part that is not text
+unfoldable pub textTest : Lent → Tested → Tested
+textTest t r = unlessAll (utf8Checks (t .zone) (t .session-name) (split (t .lengths) (t .domain))) 28 r
 
 -- 14: a segmented packet with an empty body
 abbrev pub bodyFits : ℕ → ℕ → Bool
@@ -40,10 +45,10 @@ sizeTests s v room r =
     (unless (bodyFits (v .flags) (length (v .body))) 14
     (unless (leb (length (secondaryOctets s v)) headerMost) 12 (unless (leb (length (octetsOf s v)) packetMost) 23 r)))
 
--- 15, 22, 13: the tests on the values alone
+-- 15, 22, 13, 28: the tests on the values alone
 unfoldable pub valueRefusal : Settings → HeaderValues → PacketValues → Lent → Tested
 valueRefusal s v o t =
-    partsTest t (unlessAll (packetChecks o) 22 (unlessAll (headerChecks s v t) 22 (settingsTest s noneFailed)))
+    textTest t (partsTest t (unlessAll (packetChecks o) 22 (unlessAll (headerChecks s v t) 22 (settingsTest s noneFailed))))
 
 -- all of them, in their order
 unfoldable pub writeRefusal : Settings → HeaderValues → PacketValues → Lent → List ℕ → ℕ → Tested

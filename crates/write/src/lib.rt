@@ -20,7 +20,7 @@ ghost use Rattle.fields.specs.Form.{uintegerOctets, split};
 ghost use Rattle.fields.specs.Inner.{blobPieces, textPieces, domainPieces, capped};
 ghost use Rattle.packet.specs.Format.{segment, headerOctets, headerMost, packetMost, when};
 ghost use Rattle.write.specs.Given.{lent, headOf, numberFits, textFits, exactFits, lengthsFit, sum, nameChecks, routingChecks};
-ghost use Rattle.write.specs.Given.{idChecks, textChecks, headerChecks, packetChecks, unlessAll};
+ghost use Rattle.write.specs.Given.{idChecks, textChecks, headerChecks, packetChecks, utf8Checks, unlessAll};
 ghost use Rattle.write.specs.Lending.{Lends};
 ghost use Rattle.write.specs.Writing.{settingsTest, bodyFits, valueRefusal, writeAnswer, writeOutput};
 ghost use Rattle.write.specs.Inner.{primaryPieces, namePieces, routingPieces, presentOctet, frontPieces, middlePieces, endPieces};
@@ -37,6 +37,7 @@ use walk::REFUSED_LARGE;
 use walk::REFUSED_MANY_PARTS;
 use walk::REFUSED_OUTPUT;
 use walk::REFUSED_SETTINGS;
+use walk::REFUSED_TEXT;
 use walk::REFUSED_VALUE;
 use walk::Refusal;
 use walk::Settings;
@@ -301,6 +302,18 @@ pub fn test_parts(count: usize, r: Tested) -> Tested
     ensures { λ q. ⌜ q ≡ unless (leb count partsMost) 13 r ⌝ }
 {
     walk::unless(r, count <= fields::PARTS, REFUSED_MANY_PARTS)
+}
+
+// 28: zone, session name and each domain part. After a refusal nothing is looked through.
+pub fn test_utf8(zone: &[u8], name: &[u8], domain: &[u8], lengths: &[u64], r: Tested) -> Tested
+    ensures { λ q. ⌜ q ≡ unlessAll (utf8Checks (now (zone .entry)) (now (name .entry)) (split (now (lengths .entry)) (now (domain .entry)))) 28 r ⌝ }
+{
+    if r.number != 0 {
+        return r;
+    }
+    let a = walk::unless(r, utf8::is_text(zone), REFUSED_TEXT);
+    let b = walk::unless(a, utf8::is_text(name), REFUSED_TEXT);
+    walk::unless(b, fields::parts_are_text(domain, lengths), REFUSED_TEXT)
 }
 
 // ---- sizes
@@ -600,7 +613,7 @@ fn test_sizes(
     walk::unless(c, size <= room, REFUSED_OUTPUT)
 }
 
-// 15, 22 and 13: the tests on the values alone.
+// 15, 22, 13 and 28: the tests on the values alone.
 fn test_values(
     s: Settings,
     v: HeaderValues,
@@ -619,7 +632,8 @@ fn test_values(
     let a = test_settings(s, none);
     let b = test_header(s, v, time, zone, name, domain, lengths, id, a);
     let c = test_packet(o, b);
-    test_parts(lengths.len(), c)
+    let d = test_parts(lengths.len(), c);
+    test_utf8(zone, name, domain, lengths, d)
 }
 
 // Writes one packet, or refuses and changes nothing.

@@ -94,8 +94,9 @@ fn domain(r: &mut Random, o: &mut Owned, left: &mut usize) {
         *left -= most - own;
         o.domain_lengths.push(length as u64);
     }
-    let total: u64 = o.domain_lengths.iter().sum();
-    o.domain = r.octets(total as usize);
+    for length in &o.domain_lengths {
+        o.domain.extend(r.text(*length as usize));
+    }
 }
 
 /// A header in range, whose H is mostly at most 256; now and then just at the limit.
@@ -135,11 +136,11 @@ pub fn fitting(r: &mut Random, t: u64) -> Owned {
     let mut left = 228 - o.timestamp.len().min(100);
     if has(4) == 1 {
         let length = text_length(r, &mut left);
-        o.zone = r.octets(length);
+        o.zone = r.text(length);
     }
     if has(5) == 1 {
         let length = text_length(r, &mut left);
-        o.session_name = r.octets(length);
+        o.session_name = r.text(length);
     }
     if has(6) == 1 {
         domain(r, &mut o, &mut left);
@@ -186,9 +187,9 @@ fn set_number(n: &mut RawHeader, k: usize, value: u64) {
 const VALUES: [u64; 24] =
     [2, 2047, 22, 65_536, 65_536, 65_536, 256, 2, 4, 3, 2048, 65_536, u64::MAX, 2, 2, 2, 2, 2, 2, 2, 2, 256, 256, 1 << 32];
 
-/// Changes one place so that 22, 13 or 12 may follow.
+/// Changes one place so that 22, 13, 28 or 12 may follow.
 pub fn spoil(r: &mut Random, o: &mut Owned) {
-    match r.below(12) {
+    match r.below(16) {
         0..=4 => {
             let k = r.index(24);
             let wide = if VALUES[k] == u64::MAX { u64::MAX } else { r.too_wide(VALUES[k]) };
@@ -209,6 +210,9 @@ pub fn spoil(r: &mut Random, o: &mut Owned) {
             let length = o.domain_lengths.len() - usize::from(r.once_in(5));
             o.domain = r.octets(length);
         }
+        9 | 10 => (o.n.has_zone, o.zone) = (1, r.no_text()),
+        11 => (o.n.has_session_name, o.session_name) = (1, r.no_text()),
+        12 | 13 => spoil_parts(r, o),
         _ => {
             let length = r.pick(&[65_535, 65_536, 300, 234, 235, 236, 128, 1]) as usize;
             let (text, present) = match r.below(4) {
@@ -224,6 +228,19 @@ pub fn spoil(r: &mut Random, o: &mut Owned) {
             *present = u64::from(!r.once_in(8));
         }
     }
+}
+
+/// A domain with a part that is no text, or one that is text as a whole and is cut in the middle of a character.
+fn spoil_parts(r: &mut Random, o: &mut Owned) {
+    o.n.has_domain = 1;
+    if r.once_in(2) {
+        o.domain = r.no_text();
+    } else {
+        let length = r.index(60);
+        o.domain = r.text(length);
+    }
+    let cut = r.index(o.domain.len() + 1);
+    o.domain_lengths = vec![cut as u64, (o.domain.len() - cut) as u64];
 }
 
 fn spoil_domain(r: &mut Random, o: &mut Owned) {

@@ -65,6 +65,54 @@ impl Random {
         }
     }
 
+    /// Text of just so many octets: of single octets, or of characters of one to four, often the first or the last of their length or
+    /// beside the surrogates.
+    pub fn text(&mut self, length: usize) -> Vec<u8> {
+        const EDGES: [u32; 12] = [0, 0x7f, 0x80, 0x7ff, 0x800, 0xd7ff, 0xe000, 0xfeff, 0xfffe, 0xffff, 0x1_0000, 0x10_ffff];
+        let single = self.once_in(2);
+        let mut made = String::new();
+        while made.len() < length {
+            let any = self.below(0x11_0000) as u32;
+            let number = if self.once_in(2) { any } else { self.pick(&EDGES) };
+            let next = char::from_u32(number).unwrap_or('m');
+            let fits = !single && made.len() + next.len_utf8() <= length;
+            made.push(if fits { next } else { char::from(self.below(128) as u8) });
+        }
+        made.into_bytes()
+    }
+
+    /// Octets that are no text, or were one until a part was cut off, or one that an octet was changed in.
+    pub fn no_text(&mut self) -> Vec<u8> {
+        const BAD: [&[u8]; 14] = [
+            &[0x80],
+            &[0xff],
+            &[0xc0, 0x80],
+            &[0xc1, 0xbf],
+            &[0xc3],
+            &[0xe0, 0x9f, 0xbf],
+            &[0xe2, 0x82],
+            &[0xed, 0xa0, 0x80],
+            &[0xed, 0xbf, 0xbf],
+            &[0xf0, 0x8f, 0xbf, 0xbf],
+            &[0xf0, 0x9f, 0x9a],
+            &[0xf4, 0x90, 0x80, 0x80],
+            &[0xf5, 0x80, 0x80, 0x80],
+            &[0xc3, 0xa9, 0xa9],
+        ];
+        let (before, after) = (self.index(70), self.index(70));
+        let mut made = self.text(before);
+        if self.once_in(3) {
+            let bad = self.pick(&BAD);
+            made.extend(bad);
+            made.extend(self.text(after));
+        } else if !made.is_empty() {
+            let at = self.index(made.len());
+            made[at] = self.any() as u8;
+            made.truncate(before - self.index(2));
+        }
+        made
+    }
+
     /// A length for a lent output that should hold `wanted` octets: mostly enough, else one short or far too short.
     pub fn room(&mut self, wanted: usize) -> usize {
         match self.below(8) {

@@ -19,7 +19,7 @@ fn read() {
         assert_eq!(ours, theirs, "case {case}: T {t}, {packet:02x?}");
         tally.meet(ours.refusal);
     }
-    tally.close(&(1..=15).chain([27]).collect::<Vec<u64>>(), CASES);
+    tally.close(&(1..=15).chain([27, 28]).collect::<Vec<u64>>(), CASES);
 }
 
 /// The largest packets, and slices that are too long to be one.
@@ -82,7 +82,7 @@ fn write() {
         assert!(answer.refusal == 0 || ours == given, "case {case}: octets changed on a refusal");
         tally.meet(answer.refusal);
     }
-    tally.close(&[12, 13, 14, 15, 21, 22, 23], CASES);
+    tally.close(&[12, 13, 14, 15, 21, 22, 23, 28], CASES);
 }
 
 /// A message to cut: T, P, header, the body's length and the sender, near the edges where answers change.
@@ -137,7 +137,7 @@ fn cut_count() {
         assert_eq!(ours, theirs, "case {case}: T {}, P {}, B {}, {:?}, {:?}", m.t, m.p, m.body, m.sender, m.owned);
         tally.meet(ours.refusal);
     }
-    tally.close(&[12, 13, 15, 22, 23, 24, 25], CASES);
+    tally.close(&[12, 13, 15, 22, 23, 24, 25, 28], CASES);
 }
 
 #[test]
@@ -165,5 +165,47 @@ fn cut_packet() {
         assert!(answer.refusal == 0 || ours == before, "case {case}: octets changed on a refusal");
         tally.meet(answer.refusal);
     }
-    tally.close(&[12, 13, 15, 21, 22, 23, 24, 25, 26], CASES);
+    tally.close(&[12, 13, 15, 21, 22, 23, 24, 25, 26, 28], CASES);
+}
+
+/// The count for a header whose zone is this text: what it is refused by, if it is, in both programs.
+fn zone_refusal(zone: &[u8]) -> u64 {
+    let mut owned = Owned { zone: zone.to_vec(), ..Owned::default() };
+    owned.n.has_zone = 1;
+    let sender = Sender { sequence_count: SequenceCount(0), counter: Next::At(SegmentCounter(0)) };
+    let ours = Library.cut_count(8, 300, &owned.header(), 1, sender);
+    assert_eq!(ours, Model.cut_count(8, 300, &owned.header(), 1, sender), "zone {zone:02x?}");
+    ours.refusal
+}
+
+/// Every text of two octets; every truncation of every form of a character, at every place about a block's end; texts up to the longest,
+/// and the same with an octet changed.
+#[test]
+fn texts() {
+    let mut tally = Tally::new("texts");
+    for two in 0..=u16::MAX {
+        tally.meet(zone_refusal(&two.to_be_bytes()));
+    }
+    let forms = ['\0', '\u{7f}', '\u{80}', '\u{7ff}', '\u{800}', '\u{d7ff}', '\u{e000}', '\u{ffff}', '\u{10000}', '\u{10ffff}'];
+    for (before, form) in (0..70).flat_map(|before| forms.map(|form| (before, form))) {
+        let mut octets = [0; 4];
+        let octets = form.encode_utf8(&mut octets).as_bytes();
+        for (cut, after) in (0..=octets.len()).flat_map(|cut| [0, 1, 2, 3, 40].map(|after| (cut, after))) {
+            let text = [&vec![0x61; before][..], &octets[..cut], &vec![0x62; after]].concat();
+            tally.meet(zone_refusal(&text));
+        }
+    }
+    let mut r = Random::new(6);
+    for length in (0..300).chain([4096, 65_533, 65_534, 65_535]) {
+        let mut text = r.text(length);
+        tally.meet(zone_refusal(&text));
+        for _ in 0..20.min(length) {
+            let at = r.index(length);
+            let was = std::mem::replace(&mut text[at], r.any() as u8);
+            tally.meet(zone_refusal(&text));
+            text[at] = was;
+        }
+        tally.meet(zone_refusal(&r.octets(length)));
+    }
+    tally.close(&[12, 28], 80_000);
 }

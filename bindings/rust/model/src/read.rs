@@ -1,6 +1,6 @@
 //! Reading one packet.
 
-use crate::values::{hold, refusal, test_timestamp, Refusal};
+use crate::values::{hold, is_text, refusal, test_timestamp, Refusal};
 use crate::varint::varint_step;
 use crate::{HEADER_LIMIT, PARTS, PRIMARY, UNSEGMENTED};
 
@@ -114,10 +114,17 @@ impl Walk<'_> {
         Ok(value)
     }
 
-    /// A length and that many octets.
-    fn text(&mut self) -> Result<Span, Refusal> {
+    /// A length and that many octets of any value.
+    fn blob(&mut self) -> Result<Span, Refusal> {
         let length = self.varint()?;
         self.content(length as usize)
+    }
+
+    /// The same, and they must be text.
+    fn text(&mut self) -> Result<Span, Refusal> {
+        let span = self.blob()?;
+        hold(is_text(&self.packet[span.place as usize..self.at]), 28)?;
+        Ok(span)
     }
 
     /// A count of parts, then each with its presence octet: as many fields, and one more.
@@ -227,7 +234,7 @@ fn read_optional(t: usize, walk: &mut Walk, r: &mut Reading) -> Result<(), Refus
         r.domain_count = walk.domain(&mut r.domain)?;
     }
     if r.has(7) {
-        r.authentication = walk.field().text()?;
+        r.authentication = walk.field().blob()?;
     }
     Ok(())
 }

@@ -70,3 +70,8 @@ pub(crate) fn test_timestamp(t: u64) -> Result<usize, Refusal> {
     hold((1..=16).contains(&t), 15)?;
     Ok(t as usize)
 }
+
+/// Whether octets are well-formed text.
+pub(crate) fn is_text(octets: &[u8]) -> bool {
+    std::str::from_utf8(octets).is_ok()
+}

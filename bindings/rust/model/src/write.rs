@@ -1,6 +1,6 @@
 //! Writing one packet, and what cutting shares with it: the tests of values, the sizes, the octets of a header.
 
-use crate::values::{hold, refusal, test_timestamp, Refusal, Values};
+use crate::values::{hold, is_text, refusal, test_timestamp, Refusal, Values};
 use crate::varint::{put_varint, varint_length};
 use crate::{HEADER_LIMIT, PACKET_LIMIT, PARTS, PRIMARY, SEQUENCE_COUNTS, UNSEGMENTED};
 
@@ -31,7 +31,17 @@ fn domain_adds_up(v: &Values) -> bool {
     sum == Some(v.domain.len() as u64) && (v.has_domain == 1 || v.domain_lengths.is_empty())
 }
 
-/// 22 for any value out of its range, then 13.
+/// Each part of a domain whose lengths add up is text by itself.
+fn domain_is_text(v: &Values) -> bool {
+    let mut rest = v.domain;
+    v.domain_lengths.iter().all(|length| {
+        let (part, after) = rest.split_at(*length as usize);
+        rest = after;
+        is_text(part)
+    })
+}
+
+/// 22 for any value out of its range, then 13, then 28.
 pub(crate) fn test_values(t: usize, v: &Values) -> Result<(), Refusal> {
     let plain = v.packet_type <= 1
         && v.apid < 2047
@@ -55,7 +65,8 @@ pub(crate) fn test_values(t: usize, v: &Values) -> Result<(), Refusal> {
         && optional_text(v.has_authentication, v.authentication)
         && domain_adds_up(v);
     hold(plain && numbers && timestamp && texts, 22)?;
-    hold(v.domain_lengths.len() <= PARTS, 13)
+    hold(v.domain_lengths.len() <= PARTS, 13)?;
+    hold(is_text(v.zone) && is_text(v.session_name) && domain_is_text(v), 28)
 }
 
 fn text_size(present: u64, text: &[u8]) -> usize {

@@ -4,7 +4,7 @@ use borrow.Author.Needs.{needs}
 use Rattle.cut.proofs.test_message.Statement.{statement}
 use Rattle.cut.proofs.test_message.Tie as tie
 use Rattle.cut.specs.Cutting.{valueTests}
-use Rattle.write.specs.Writing.{partsTest}
+use Rattle.write.specs.Writing.{partsTest, textTest}
 
 test-limit-requires : tie.Need-test-limit-requires
 test-limit-requires c κs = search needs
@@ -18,18 +18,22 @@ unless-requires c κs = search needs
 test-parts-requires : tie.Need-test-parts-requires
 test-parts-requires c κs = search needs
 
+test-utf8-requires : tie.Need-test-utf8-requires
+test-utf8-requires c κs = search needs
+
 returns : tie.Need-returns
-unfolding valueTests partsTest
+unfolding valueTests partsTest textTest
 returns c =
     let g = c .before .before .before in
     simp (
-      c .test-parts .ensures,
-      c .before .unless .ensures,
-      g .test-header .ensures,
-      g .before .test-limit .ensures,
+      c .test-utf8 .ensures,
+      c .before .test-parts .ensures,
+      c .before .before .unless .ensures,
+      g .before .test-header .ensures,
+      g .before .before .test-limit .ensures,
     )
 
 pub test-message-spec : {M : Type 1} → statement M
 test-message-spec =
     tie.close
-    (tie.spec test-limit-requires test-header-requires unless-requires test-parts-requires returns)
+    (tie.spec test-limit-requires test-header-requires unless-requires test-parts-requires test-utf8-requires returns)

@@ -3,7 +3,7 @@
 use borrow.Author.Needs.{needs}
 use Rattle.write.proofs.test_values.Statement.{statement}
 use Rattle.write.proofs.test_values.Tie as tie
-use Rattle.write.specs.Writing.{valueRefusal, partsTest}
+use Rattle.write.specs.Writing.{valueRefusal, partsTest, textTest}
 
 test-settings-requires : tie.Need-test-settings-requires
 test-settings-requires c κs = search needs
@@ -17,15 +17,19 @@ test-packet-requires c κs = search needs
 test-parts-requires : tie.Need-test-parts-requires
 test-parts-requires c κs = search needs
 
+test-utf8-requires : tie.Need-test-utf8-requires
+test-utf8-requires c κs = search needs
+
 returns : tie.Need-returns
-unfolding valueRefusal partsTest
+unfolding valueRefusal partsTest textTest
 returns c =
     let g = c .before .before in
     simp (
-      c .test-parts .ensures,
-      c .before .test-packet .ensures,
-      g .test-header .ensures,
-      g .before .test-settings .ensures,
+      c .test-utf8 .ensures,
+      c .before .test-parts .ensures,
+      g .test-packet .ensures,
+      g .before .test-header .ensures,
+      g .before .before .test-settings .ensures,
     )
 
 pub test-values-spec : {M : Type 1} → statement M
@@ -36,4 +40,5 @@ test-values-spec =
     test-header-requires
     test-packet-requires
     test-parts-requires
+    test-utf8-requires
     returns)
