@@ -16,7 +16,7 @@ use Rattle.walk.specs.declared.Tested.{Tested}
 abbrev pub settingsOf : ℕ → Settings
 settingsOf t = record { t = t }
 
--- the next place; or the number of the refusal, and where the field began in which it was refused
+-- the next place; or the number of the refusal, and where it was refused: if octets were missing, where their field began
 pub record Reading : Type 0 where
   pub at : ℕ
   pub refused : ℕ
@@ -48,7 +48,7 @@ unless ok k r = pick (eqb (r .number) 0) (pick ok r (failed k)) r
 abbrev pub goes : ℕ → Reading
 goes at = record { at = at; refused = 0 }
 
--- a reading that was refused by k, in the field that began at a place
+-- a reading that was refused by k at a place
 abbrev pub refused : ℕ → ℕ → Reading
 refused at k = record { at = at; refused = k }
 

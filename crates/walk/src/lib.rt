@@ -123,7 +123,7 @@ pub struct Tested {
     pub number: u8,
 }
 
-// A reading: the next place; or the number of its refusal, and where the field began in which it was refused.
+// A reading: the next place; or the number of its refusal, and where it was refused: if octets were missing, where their field began.
 pub struct Walk {
     pub at: u16,
     pub refused: u8,
