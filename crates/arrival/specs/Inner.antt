@@ -8,6 +8,7 @@ use Rattle.octets.specs.Octets.{pick, part}
 use Rattle.walk.specs.declared.Settings.{Settings}
 use Rattle.walk.specs.Walk.{refusal}
 use Rattle.packet.specs.declared.Header.{Header}
+use Rattle.packet.specs.Format.{flagsWhole}
 use Rattle.packet.specs.Reading.{readPacket}
 use Rattle.packet.specs.Key.{keyOf}
 use Rattle.cells.specs.Segments.{Seg, both}
@@ -20,8 +21,8 @@ segWith s p flags at long c =
 
 -- an accepted segment, its packet so long, that fits a cell of Z octets
 abbrev pub segmentFits : Header → ℕ → ℕ → Bool
-segmentFits h long Z = both (both (eqb (h .refusal .number) 0) (not (eqb (h .primary .flags) 3))) (leb (2 + long) Z)
+segmentFits h long Z = both (both (eqb (h .refusal .number) 0) (not (eqb (h .primary .flags) flagsWhole))) (leb (2 + long) Z)
 
 -- what any other packet comes to
 unfoldable pub unstoredOf : Header → Arrived
-unstoredOf h = pick (eqb (h .refusal .number) 0) (pick (eqb (h .primary .flags) 3) whole (refused (refusal 17))) (refused (h .refusal))
+unstoredOf h = pick (eqb (h .refusal .number) 0) (pick (eqb (h .primary .flags) flagsWhole) whole (refused (refusal 17))) (refused (h .refusal))

@@ -85,7 +85,7 @@ pub extern "C" fn orl_after_segment(sender: &[u64; 3], answer: &mut [u64; 4])
     *answer = flat::after_segment(sender);
 }
 
-// How many packets a message is cut into, and the sender's numbers behind it.
+// How many packets a message is cut into, and the sender's numbers after it.
 #[no_mangle]
 pub extern "C" fn orl_cut_count(
     t: u64,

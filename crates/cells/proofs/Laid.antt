@@ -1,4 +1,4 @@
--- A packet laid over a free cell makes a held one: the zeros behind it are there.
+-- A packet laid over a free cell makes a held one: the zeros after it are there.
 -- Assumes nothing.
 use Prim.Native.Nat.{ℕ, suc, _+_, _-_, _*_, _≤_, _<_}
 use mathlib.Core.Path.{_≡_, refl, ap, sym, _∙_}
@@ -23,7 +23,7 @@ sets-there l at (v ∷ x) h =
     shift : (a k : ℕ) → suc a + k ≡ a + suc k
     shift a k = omega arith
 
--- what lies behind is not touched
+-- what lies after is not touched
 behind : (l : List ℕ) (at : ℕ) (x : List ℕ) (n : ℕ) → at + length x ≤ n → getD (sets l at x) n 0 ≡ getD l n 0
 behind l at [] n h = refl
 behind l at (v ∷ x) n h =

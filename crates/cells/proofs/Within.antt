@@ -25,7 +25,7 @@ use Rattle.cells.proofs.Mixing.{key-asked}
 
 -- ---- a key
 
--- a list beside two others, one behind the other
+-- a list beside two others, one after the other
 alike-parts : (k a b : List ℕ) → alike k (a ++ b) ≡ both (alike (take (length a) k) a) (alike (drop (length a) k) b)
 unfolding alike
 alike-parts k [] b = refl

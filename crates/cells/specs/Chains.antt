@@ -9,7 +9,8 @@ use Rattle.octets.specs.Octets.{part}
 use Rattle.walk.specs.declared.Settings.{Settings}
 use Rattle.cells.specs.Rows.{Cell, segmentIn, bySegment}
 use Rattle.cells.specs.Order.{cellsMost, cellAt}
-use Rattle.cells.specs.Inner.{secondaryAt, counterWidth, placeIn}
+use Rattle.packet.specs.Format.{counterWidth}
+use Rattle.cells.specs.Inner.{secondaryAt, placeIn}
 
 -- how many chains there are
 abbrev pub chainsAll : ℕ

@@ -8,6 +8,7 @@ use lib.ListN.{length, getD, drop, set}
 use lib.Dec.{eqb}
 use Rattle.octets.specs.Octets.{pick, Octets, octetAt, part, number, alike}
 use Rattle.walk.specs.declared.Settings.{Settings}
+use Rattle.packet.specs.Format.{primarySize, fixedSize, counterWidth}
 use Rattle.packet.specs.Reading.{readPacket, segmented}
 use Rattle.cells.specs.Segments.{Seg, both}
 use Rattle.cells.specs.declared.Content.{Content}
@@ -21,18 +22,15 @@ unfoldable pub heldRowTest : List ℕ → ℕ → List ℕ → Bool
 heldRowTest r n z =
     both (eqb (octetAt r 0) markFirst) (both (eqb (octetAt r 1) markSecond) (both (eqb (length r) (length z)) (alike (drop n r) (drop n z))))
 
--- places in a packet: the secondary header, its presence octet, and what comes after that; and the octets of a segment counter
+-- places in a packet: the secondary header, its presence octet, and what comes after that
 abbrev pub secondaryAt : ℕ
-secondaryAt = 6
+secondaryAt = primarySize
 
 abbrev pub presenceAt : ℕ
 presenceAt = 26
 
 abbrev pub optionalAt : ℕ
-optionalAt = 27
-
-abbrev pub counterWidth : ℕ
-counterWidth = 4
+optionalAt = primarySize + fixedSize
 
 -- where a packet's segment counter stands, by its presence octet, and the counter
 unfoldable pub placeIn : List ℕ → ℕ

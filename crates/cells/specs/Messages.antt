@@ -10,6 +10,7 @@ use mathlib.Core.Option.{Option, none, some, Option·map}
 use lib.Dec.{eqb}
 use Rattle.octets.specs.Octets.{pick, most32}
 use Rattle.walk.specs.declared.Settings.{Settings}
+use Rattle.packet.specs.Format.{flagsFirst, flagsLast}
 use Rattle.cells.specs.Segments.{Seg, carries}
 use Rattle.cells.specs.Rows.{Cell, segmentIn, bySegment}
 use Rattle.cells.specs.Order.{cellAt}
@@ -51,7 +52,7 @@ pub data Role : Type 0 where
   last : Role
 
 unfoldable pub roleOf : ℕ → Role
-roleOf f = pick (eqb f 1) first (pick (eqb f 2) last middle)
+roleOf f = pick (eqb f flagsFirst) first (pick (eqb f flagsLast) last middle)
 
 -- a message that was found: its first, and the others in order
 pub record Run : Type 0 where

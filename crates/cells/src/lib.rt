@@ -56,17 +56,15 @@ const MARK_SECOND: u8 = 0x53;
 
 pub const MARK_SIZE: usize = 2;
 
-// The octets of a packet's identification, and of a segment counter.
+// The octets of a packet's identification.
 pub const IDENTIFICATION: usize = 2;
 
-pub const COUNTER: usize = 4;
-
 // Places in a packet: the secondary header, its presence octet, and what comes after that.
-pub const SECONDARY_AT: usize = 6;
+pub const SECONDARY_AT: usize = packet::PRIMARY;
 
-const PRESENCE_AT: usize = 26;
+const PRESENCE_AT: usize = OPTIONAL_AT - 1;
 
-const OPTIONAL_AT: usize = 27;
+const OPTIONAL_AT: usize = packet::PRIMARY + packet::FIXED;
 
 // Where the transaction id of a packet stands.
 const TRANSACTION_PLACE: usize = 18;
@@ -125,8 +123,16 @@ pub fn same_key(p: &[u8], body_at: usize, q: &[u8], q_body_at: usize) -> bool
         span(q, SECONDARY_AT, d - SECONDARY_AT),
     );
     let aft = octets::same(
-        span(p, c + COUNTER, octets::less(body_at, c + COUNTER)),
-        span(q, d + COUNTER, octets::less(q_body_at, d + COUNTER)),
+        span(
+            p,
+            c + packet::COUNTER,
+            octets::less(body_at, c + packet::COUNTER),
+        ),
+        span(
+            q,
+            d + packet::COUNTER,
+            octets::less(q_body_at, d + packet::COUNTER),
+        ),
     );
     octets::both(long, octets::both(ids, octets::both(fore, aft)))
 }
@@ -311,7 +317,11 @@ fn is_key(k: &[u8], p: &[u8], body_at: usize) -> bool
     let c = counter_place(p);
     let ids = span(p, 0, IDENTIFICATION);
     let fore = span(p, SECONDARY_AT, c - SECONDARY_AT);
-    let aft = span(p, c + COUNTER, octets::less(body_at, c + COUNTER));
+    let aft = span(
+        p,
+        c + packet::COUNTER,
+        octets::less(body_at, c + packet::COUNTER),
+    );
     let first = octets::same(span(k, 0, ids.len()), ids);
     let second = octets::same(span(k, ids.len(), fore.len()), fore);
     let third = octets::same(tail(k, ids.len() + fore.len()), aft);
@@ -404,8 +414,8 @@ pub fn put_cell(store: &mut [u8], z: usize, i: usize, p: &[u8])
     ensures { λ r. ⌜ now (store .exit) ≡ sets (now (store .entry)) (i * z) (markFirst ∷ markSecond ∷ now (p .entry)) ⌝ }
 {
     let at = octets::place(store.len(), z, i);
-    let behind = octets::lay_number(store, at, MARK_SIZE, MARK);
-    octets::lay(store, behind, p);
+    let after = octets::lay_number(store, at, MARK_SIZE, MARK);
+    octets::lay(store, after, p);
 }
 
 // A number mixed into another.
@@ -445,7 +455,11 @@ pub fn bucket(q: &[u8], body_at: usize, c: SegmentCounter) -> usize
     let fore = mix(ids, span(q, SECONDARY_AT, d - SECONDARY_AT));
     let aft = mix(
         fore,
-        span(q, d + COUNTER, octets::less(body_at, d + COUNTER)),
+        span(
+            q,
+            d + packet::COUNTER,
+            octets::less(body_at, d + packet::COUNTER),
+        ),
     );
     chain(aft, c)
 }

@@ -11,7 +11,8 @@ use Rattle.octets.specs.Octets.{pick, part, most32}
 use Rattle.walk.specs.declared.Settings.{Settings}
 use Rattle.walk.specs.declared.Tested.{Tested}
 use Rattle.walk.specs.Walk.{refusal, noneFailed, unless}
-use Rattle.packet.specs.Format.{Head, Values, headerOctets, octetsOf, packetMost, headerMost}
+use Rattle.packet.specs.Format.{Head, Values, primarySize, counterWidth, flagsBetween, flagsFirst, flagsLast, flagsWhole, headerOctets, octetsOf}
+use Rattle.packet.specs.Format.{packetMost, headerMost}
 use Rattle.packet.specs.Numbers.{countMost, countAt}
 use Rattle.sender.specs.declared.Sender.{Sender}
 use Rattle.sender.specs.declared.Next.{Next}
@@ -29,13 +30,6 @@ limitLeast = 27
 
 abbrev pub bodyMost : ℕ
 bodyMost = 1048576
-
--- the octets of the primary header and of a segment counter
-abbrev pub primarySize : ℕ
-primarySize = 6
-
-abbrev pub counterWidth : ℕ
-counterWidth = 4
 
 -- ---- the formula
 
@@ -115,7 +109,7 @@ countAnswer s P v t B d =
 -- sequence flags: 11 unsegmented, 01 first, 10 last, 00 between
 unfoldable pub flagsAt : ℕ → ℕ → ℕ → ℕ → ℕ
 flagsAt P H B i =
-    pick (single P H B) 3 (pick (eqb i 0) 1 (pick (eqb (suc i) (packets P H B)) 2 0))
+    pick (single P H B) flagsWhole (pick (eqb i 0) flagsFirst (pick (eqb (suc i) (packets P H B)) flagsLast flagsBetween))
 
 -- its part of the body
 unfoldable pub bodyAt : ℕ → ℕ → List ℕ → ℕ → List ℕ

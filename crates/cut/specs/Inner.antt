@@ -7,14 +7,14 @@ use Rattle.octets.specs.Octets.{pick, roomOf}
 use Rattle.walk.specs.declared.Tested.{Tested}
 use Rattle.walk.specs.Walk.{unless}
 use Rattle.fields.specs.Inner.{capped}
-use Rattle.packet.specs.Format.{headerMost}
+use Rattle.packet.specs.Format.{primarySize, counterWidth, flagsBetween, flagsFirst, flagsLast, flagsWhole, headerMost}
 use Rattle.packet.specs.Numbers.{sequenceCountAt}
 use Rattle.sender.specs.declared.Sender.{Sender}
 use Rattle.sender.specs.declared.Next.{Next}
 use Rattle.sender.specs.Sending.{counterNumber, counterAfter}
 use Rattle.write.specs.declared.PacketValues.{PacketValues}
 use Rattle.cut.specs.declared.Plan.{Plan}
-use Rattle.cut.specs.Cutting.{primarySize, counterWidth, countersFit, bodyMost, chunk, rounded}
+use Rattle.cut.specs.Cutting.{countersFit, bodyMost, chunk, rounded}
 
 abbrev pub singleOf : ℕ → ℕ → ℕ → Bool
 singleOf P h B = leb (capped (primarySize + h + B)) P
@@ -52,7 +52,7 @@ toOf one from C B = pick one B (from + roomOf B from C)
 unfoldable pub valuesOf : Bool → ℕ → Sender → ℕ → PacketValues
 valuesOf one n d i =
     record {
-      flags = pick one 3 (pick (eqb i 0) 1 (pick (eqb (suc i) n) 2 0));
+      flags = pick one flagsWhole (pick (eqb i 0) flagsFirst (pick (eqb (suc i) n) flagsLast flagsBetween));
       «sequence_count» = sequenceCountAt (d .«sequence_count») i;
       counter = record { 0 = counterOf one (d .next) i };
     }

@@ -16,7 +16,8 @@ ghost use Rattle.walk.specs.Walk.{refusal, unless};
 ghost use Rattle.write.specs.Given.{lent};
 ghost use Rattle.write.specs.Lending.{Lends};
 ghost use Rattle.sender.specs.declared.Sent.the-variants.{Whole, Segments};
-ghost use Rattle.cut.specs.Cutting.{counterWidth, countersFit, limitTest, valueRefusal, chunk as chunkOf, rounded};
+ghost use Rattle.packet.specs.Format.{counterWidth, flagsBetween, flagsFirst, flagsLast, flagsWhole};
+ghost use Rattle.cut.specs.Cutting.{countersFit, limitTest, valueRefusal, chunk as chunkOf, rounded};
 ghost use Rattle.cut.specs.Cutting.{countAnswer, packetAnswer, packetOutput};
 ghost use Rattle.cut.specs.Inner.{packetsOf, planOf, counterOf, fromOf, toOf, valuesOf};
 use packet::SegmentCounter;
@@ -41,8 +42,8 @@ pub const LIMIT_LEAST: usize = 27;
 
 pub const BODY_MOST: usize = 1048576;
 
-// What a segment has beside H and its part of the body: the primary header and the counter.
-const AROUND: usize = 10;
+// What a segment has beside H and its part of the body.
+const AROUND: usize = packet::PRIMARY + packet::COUNTER;
 
 // What the count answers: a refusal, or the number of packets; and the sender.
 pub struct Counted {
@@ -58,7 +59,7 @@ pub struct Cut {
     pub sender: Sender,
 }
 
-// A message's plan: whether one packet is enough, the body octets of a packet where it is not, and how many packets.
+// A message's plan: whether one packet is enough, the body octets of a packet if it is not, and how many packets.
 struct Plan {
     tested: Tested,
     single: bool,
@@ -109,7 +110,7 @@ fn chunk_of(p: usize, h: usize) -> usize
     octets::less(octets::less(p, h), AROUND)
 }
 
-// B / C rounded up, 0 where C is.
+// B / C rounded up, 0 if C is.
 fn parts_of(b: usize, c: usize) -> usize
     ensures { λ r. ⌜ r ≡ rounded b c ⌝ }
 {
@@ -151,7 +152,7 @@ fn header_of(single: bool, h: usize) -> usize
     if single {
         return h;
     }
-    fields::plus(h, write::COUNTER)
+    fields::plus(h, packet::COUNTER)
 }
 
 // 23, 12, 24, 25, and the numbers that they are judged on.
@@ -199,7 +200,7 @@ fn counter_at(single: bool, next: Next, i: usize) -> SegmentCounter
 
 // The sequence flags of packet i.
 fn flags_at(single: bool, count: usize, i: usize) -> u8
-    ensures { λ r. ⌜ r ≡ pick single 3 (pick (eqb i 0) 1 (pick (eqb (suc i) count) 2 0)) ⌝ }
+    ensures { λ r. ⌜ r ≡ pick single flagsWhole (pick (eqb i 0) flagsFirst (pick (eqb (suc i) count) flagsLast flagsBetween)) ⌝ }
 {
     if single {
         return packet::UNSEGMENTED;

@@ -1,6 +1,6 @@
 -- Which messages demand 3 speaks of, in plain numbers: header values in range, at most 256 octets of secondary header with the counter,
 -- two or more bodies of octets, none empty and of any lengths, no counter above 4,294,967,295, and 10 + H octets and each body fit a
--- cell behind its mark.
+-- cell after its mark.
 -- Assumes nothing.
 use Prim.Native.Nat.{ℕ, suc, _+_, _≤_, _<_}
 use mathlib.Core.Path.{_≡_, ap, sym, _∙_, subst}

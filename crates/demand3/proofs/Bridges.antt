@@ -1,5 +1,5 @@
 -- From the generated contracts of the public calls to the steps of demand 3 (J-9): what `store::arrive`, `store::take` and `join::join`
--- leave is the store and the output behind the call, and they answer what it comes to; what `cut::count` answers and `cut::packet`
+-- leave is the store and the output after the call, and they answer what it comes to; what `cut::count` answers and `cut::packet`
 -- writes are a message's count and its packets. So where demand 3 says that a call hands out a message, its answer and its output do.
 -- Assumes nothing.
 use Prim.Native.Nat.{ℕ, zero, suc, _+_, _-_}

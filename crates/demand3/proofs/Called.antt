@@ -1,5 +1,5 @@
--- What a call leaves, by its arrival and its taking: the store behind its arrival, and where it goes on to a taking, that store and the
--- output behind the taking. For an arrival or a taking alone this is what its definition says; for a joining, by what its arrival
+-- What a call leaves, by its arrival and its taking: the store after its arrival, and where it goes on to a taking, that store and the
+-- output after the taking. For an arrival or a taking alone this is what its definition says; for a joining, by what its arrival
 -- comes to.
 -- Assumes nothing.
 use Prim.Native.Nat.{ℕ}

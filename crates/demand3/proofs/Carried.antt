@@ -149,7 +149,7 @@ module _ (s : Settings) (Z n : ℕ) where
     abbrev zeros : List ℕ
     zeros = emptyStore Z n
 
-    -- the cells behind calls from the empty store on
+    -- the cells after calls from the empty store on
     pub behind-cells : (cs : List Call) → cellsOf s Z (storeBehind s Z n cs) n ≡ after suc top (empty n) (eventsIn s Z zeros cs)
     behind-cells cs =
         run-cells s Z n cs zeros (begins s Z n one z)

@@ -177,7 +177,7 @@ handed =
     first-counter : 7 ≡ segmentAt settings three 0 .counter
     first-counter = omega (arith, the-start, steps-suc 0 (startOf settings three))
 
--- identification, header and body, and behind them the output as it was
+-- identification, header and body, and after them the output as it was
 pub written : outBy settings Z (storeBehind settings Z 4 morning) atNoon ≡ 0x18 ∷ 5 ∷ header ++ (1 ∷ 2 ∷ 3 ∷ 4 ∷ 5 ∷ 6 ∷ 7 ∷ 8 ∷ lentOut 4)
 unfolding headOf split identification headerOctets fixedOctets presence frontOctets backOctets wide
 written = cutter-hands-out settings Z cutting succeeds 4 (storeBehind settings Z 4 morning) atNoon handed .1

@@ -48,7 +48,7 @@ module _ {A B : Type 0} (f : A → B) where
       let v = map-split l x e y t in
       (a ∷ v .0, v .1, v .2, ap (λ (z : List A). a ∷ z) {y = v .0 ++ v .1 ∷ v .2} (v .3), cc (v .4, g), v .5)
 
--- what is written, and behind it the output as it was
+-- what is written, and after it the output as it was
 written-out : (out w : List ℕ) (r : Run) → writing r ≡ w → length (writing r) ≤ length out → outWith out (message r) ≡ w ++ drop (length w) out
 unfolding outWith
 written-out out w r e l =

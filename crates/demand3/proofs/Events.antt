@@ -1,5 +1,5 @@
 -- Calls on a store's octets, one after the other, are events of its cells: a joining is an arrival, and a taking where it goes on.
--- The cells behind the calls are the cells behind the events; each event comes from one of the calls.
+-- The cells after the calls are the cells after the events; each event comes from one of the calls.
 -- Assumes nothing.
 use Prim.Native.Nat.{ℕ}
 use mathlib.Core.Path.{_≡_, refl, ap, sym, _∙_}
@@ -62,7 +62,7 @@ module _ (s : Settings) (Z : ℕ) where
   eventsIn st [] = []
   eventsIn st (c ∷ cs) = eventsBy st c ++ eventsIn (storeBy s Z st c) cs
 
-  -- ---- one list of calls behind another
+  -- ---- one list of calls after another
 
   pub store-append : (x y : List Call) (st : List ℕ) → storeAfter s Z st (x ++ y) ≡ storeAfter s Z (storeAfter s Z st x) y
   unfolding storeAfter

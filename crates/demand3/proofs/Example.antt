@@ -41,7 +41,7 @@ counters-in m t h = go (List·Memᴰ·cases-cons h)
           omega (arith, z .1, z .2, steps-suc (z .0) (suc (r .head .counter)), sent-start suc m, sent-length suc m, steps-suc (stepsIn m) (m .start)),
         )
 
--- two messages whose counters lie one behind the other
+-- two messages whose counters lie one after the other
 pub behind : (m w : Sent) → final m < w .start → (t u : Seg) → Mem t (segmentsOf suc m) → Mem u (segmentsOf suc w) →
     t .counter ≢ u .counter
 behind m w l t u h g e = let a = counters-in m t h in let b = counters-in w u g in omega (arith, a .1, b .0)

@@ -1,4 +1,4 @@
--- A message at the store behind some calls, from demand 3 over cells: what of the promise holds without the room, and what with it.
+-- A message at the store after some calls, from demand 3 over cells: what of the promise holds without the room, and what with it.
 -- Assumes nothing.
 use Prim.Native.Nat.{ℕ, suc, _≤_}
 use mathlib.Core.Path.{_≡_, refl, ap, sym, _∙_, subst}
@@ -45,7 +45,7 @@ handed-more l p q h = go (List·Memᴰ·append-cases l (h .1))
     go (inl k) = inl (h .0, k, h .2)
     go (inr k) = inr (only (List·Memᴰ·cases-cons k))
 
--- the store behind one arrival more
+-- the store after one arrival more
 pub arrived-more : (s : Settings) (Z : ℕ) (st : List ℕ) (l : List Call) (p : List ℕ) →
     storeAfter s Z st (l ++ arrival p ∷ []) ≡ arrivedStore s Z (storeAfter s Z st l) p
 unfolding storeAfter storeBy
@@ -172,7 +172,7 @@ module _ (Z : ℕ) (one : 1 ≤ Z) (s : Settings) (n : ℕ) (u : InUse s n) wher
         v : CellDelivery suc top (Done01 (sentOf s m)) n (sentOf s m) (cellsIn s Z n st)
         v = sound-now since g .1
 
-        -- behind one packet more
+        -- after one packet more
         more-takes : (p : List ℕ) → Octets p × MayCome s Z ms p →
             Gives suc top (sentOf s m) (cellsIn s Z n (arrivedStore s Z st p)) × Output suc top (sentOf s m) (cellsIn s Z n (arrivedStore s Z st p))
         more-takes p o =
@@ -189,7 +189,7 @@ module _ (Z : ℕ) (one : 1 ≤ Z) (s : Settings) (n : ℕ) (u : InUse s n) wher
             let w = more-takes p (f p (inr (out, refl))) in
             takes-of s Z n m k st (joining p out) (at-keeps s Z n st kept (joining p out)) (w .0) (w .1)
 
-        -- behind more calls
+        -- after more calls
         done-then : IsComplete s Z n m st → (more : List Call) → Untaken s Z m st more →
             Done01 (sentOf s m) (cellsIn s Z n (storeAfter s Z st more)) × Gives suc top (sentOf s m) (cellsIn s Z n (storeAfter s Z st more)) ×
             Output suc top (sentOf s m) (cellsIn s Z n (storeAfter s Z st more)) ×

@@ -1,6 +1,6 @@
 -- Wrong programs that demand 3 shuts out (E-5): a store that refuses all or keeps nothing, so that its octets stay
 -- zero whatever arrives; a joining that works once and then pretends; one that calls a message complete by number alone; one that
--- matches by transaction id alone. The first three are any program at all of which this is said: what it leaves behind a list of calls,
+-- matches by transaction id alone. The first three are any program at all of which this is said: what it leaves after a list of calls,
 -- or what a call then takes. The last two are programs of `Ways`. Each fails a part of demand 3 on the run of `Day`; the store meets it.
 -- Assumes nothing.
 use Prim.Native.Nat.{ℕ, suc, _+_, _≤_, _<_}
@@ -197,7 +197,7 @@ tells-it x y c r d e i =
 told-body : (r : Run) → some (takenOf (message r)) ≡ some told → length (bodyOf r) ≡ 8
 told-body r h = let e : takenOf (message r) ≡ told = cc h in ap (λ (x : Taken). x .body) e
 
--- behind these calls a joining of the first: of the key there are then three segments, as many as the counters 7 to 9, and 8 is missing
+-- after these calls a joining of the first: of the key there are then three segments, as many as the counters 7 to 9, and 8 is missing
 abbrev thirdComes : List Call
 thirdComes =
     arrival (of-three 2 2) ∷ taking (lentOut 100) ∷ arrival (of-two 0 3) ∷ arrival stub ∷ arrival single ∷ []

@@ -1,4 +1,4 @@
--- The cells behind a list of calls are the cells behind its events; what a call takes is what the event takes; and a packet was
+-- The cells after a list of calls are the cells after its events; what a call takes is what the event takes; and a packet was
 -- handed over exactly if its event is among them.
 -- Assumes nothing.
 use Prim.Native.Nat.{ℕ, suc}

@@ -186,7 +186,7 @@ module _ (s : Settings) (Z n : ℕ) (st : List ℕ) (k : Kept s Z n st) where
         go none e = new-cells h e
         go (some u) e = same u (sameRest u (segment s p))
 
-    -- the cells behind an arrival
+    -- the cells after an arrival
     pub arrival-cells : cellsOf s Z (arrivedStore s Z st p) n ≡ stepped suc top cs (eventOf s Z p)
     unfolding stepped
     arrival-cells = ap (λ (x : Arrived). cellsOf s Z (storeWith Z st p x) n) arrived-is ∙ go (bool (mayHold s Z p))
@@ -218,7 +218,7 @@ module _ (s : Settings) (Z n : ℕ) (st : List ℕ) (k : Kept s Z n st) where
         sym (took-open s Z st long (gate-by s Z st (k .settings) (k .order)))
         ∙ ap (λ (x : ℕ). tookIn s Z st x long) (k .count)
 
-    -- the cells behind it
+    -- the cells after it
     pub taking-cells : cellsOf s Z (lessTaken s Z st long) n ≡ stepped suc top cs (takes long)
     unfolding stepped storeLess
     taking-cells =

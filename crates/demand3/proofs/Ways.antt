@@ -56,7 +56,7 @@ module _ (w : Way) where
   eventsFor cs (draw long) = takes long ∷ []
   eventsFor cs (meets e long) = e ∷ pick (joins cs e) (takes long ∷ []) []
 
-  -- the cells behind a list of calls
+  -- the cells after a list of calls
   unfoldable pub behind : List Cell → List Act → List Cell
   behind cs [] = cs
   behind cs (a ∷ l) = behind (goesOn cs (eventsFor cs a)) l
@@ -67,7 +67,7 @@ module _ (w : Way) where
   takenBy cs (draw long) = some (drawn (w .choose cs) long)
   takenBy cs (meets e long) = pick (joins cs e) (some (drawn (w .choose (goes cs e)) long)) none
 
-  -- and behind some calls, from an empty store of n cells on
+  -- and after some calls, from an empty store of n cells on
   abbrev pub by : Settings → ℕ → ℕ → List Call → Call → Option Took
   by s Z n cs c = takenBy (behind (empty n) (map (actOf s Z) cs)) (actOf s Z c)
 

@@ -1,4 +1,4 @@
--- What SPEC's figures on cutting show beside their numbers: behind figure 12's two segments no counter is left, the laws speak of
+-- What SPEC's figures on cutting show beside their numbers: after figure 12's two segments no counter is left, the laws speak of
 -- figure 8's message, and three of the wrong programs are refuted on it (E-5): a cutter that repeats packet 0, one that refuses, and an invented count.
 -- The header is figure 14's, H 21, and a body is so many zeros.
 -- Assumes nothing.

@@ -1,5 +1,5 @@
 -- What one message does to the sender's two numbers, refused or not: the sequence counts go on by one for each packet, the counters by
--- one for each segment. And what two lists of packets do, sent one behind the other.
+-- one for each segment. And what two lists of packets do, sent one after the other.
 -- Assumes nothing.
 use Prim.Native.Nat.{ℕ, zero, suc, _+_, _≤_}
 use mathlib.Core.Path.{_≡_, refl, ap, ap₂, sym, _∙_, subst}
@@ -63,7 +63,7 @@ unfolding countAt
 count-more c n zero = ap (countAt c) (sym (add-zero n))
 count-more c n (suc i) = let e : suc (n + i) ≡ n + suc i = omega arith in ap nextCount (count-more c n i) ∙ ap (countAt c) e
 
--- ---- one list of packets behind the other
+-- ---- one list of packets after the other
 
 place-top : (n : Next) → Bits32 n → place n ≤ 4294967296
 unfolding place
@@ -116,7 +116,7 @@ goes-on {d} {e} {f} l m a b =
 
 -- ---- one message
 
--- behind n segments
+-- after n segments
 place-after : (c : SegmentCounter) (n : ℕ) → c .0 ≤ most32 → c .0 + n ≤ 4294967296 → place (counterAfter n (At c)) ≡ c .0 + n
 unfolding place
 place-after c n h l =

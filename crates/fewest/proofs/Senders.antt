@@ -1,4 +1,4 @@
--- The sender over several messages: the numbers behind a run are those behind its last message, sequence counts go on by one for each
+-- The sender over several messages: the numbers after a run are those after its last message, sequence counts go on by one for each
 -- packet, and counters by one for each segment, so that each is larger than all before it and none is given twice; and none is left
 -- exactly once 4,294,967,295 has been used, from when on no segment is sent.
 -- Assumes nothing.
@@ -26,7 +26,7 @@ run d (m ∷ ms) h =
     let k = one-goes d m h in
     goes-on (packetsOf d m) (sent (counted d m .sender) ms) k (run (counted d m .sender) ms (k .bits))
 
--- the numbers behind a run are those that the count of its last message answers
+-- the numbers after a run are those that the count of its last message answers
 pub run-last : (d : Sender) (ms : List Message) (m : Message) → afterRun d (ms ++ (m ∷ [])) ≡ counted (afterRun d ms) m .sender
 unfolding afterRun
 run-last d [] m = refl

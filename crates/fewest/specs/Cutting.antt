@@ -9,7 +9,7 @@ use Rattle.octets.specs.Octets.{Octets, most32}
 use Rattle.walk.specs.declared.Settings.{Settings}
 use Rattle.fields.specs.Form.{joined}
 use Rattle.packet.specs.declared.SegmentCounter.{SegmentCounter}
-use Rattle.packet.specs.Format.{Values, identification, headerOctets, octetsOf, InRange}
+use Rattle.packet.specs.Format.{Values, flagsBetween, flagsFirst, flagsLast, flagsWhole, identification, headerOctets, octetsOf, InRange}
 use Rattle.packet.specs.Numbers.{nextCount, countAt, countMost}
 use Rattle.packet.specs.Reading.{segmented, readPacket}
 use Rattle.packet.specs.Key.{keyOf}
@@ -52,11 +52,11 @@ module _ (s : Settings) (P : ℕ) (v : HeaderValues) (t : Lent) (body : List ℕ
     -- it is a segment
     pub is-segment : segmented p ≡ true
     -- the first has the flags 01
-    pub first : i ≡ 0 → told s p .flags ≡ 1
+    pub first : i ≡ 0 → told s p .flags ≡ flagsFirst
     -- the last has 10
-    pub last : suc i ≡ number → told s p .flags ≡ 2
+    pub last : suc i ≡ number → told s p .flags ≡ flagsLast
     -- those between have 00
-    pub between : (i ≡ 0 → ⊥) → (suc i ≡ number → ⊥) → told s p .flags ≡ 0
+    pub between : (i ≡ 0 → ⊥) → (suc i ≡ number → ⊥) → told s p .flags ≡ flagsBetween
     -- the sender had a counter to start from
     pub start : SegmentCounter
     pub starts : d .next ≡ At start
@@ -92,7 +92,7 @@ module _ (s : Settings) (P : ℕ) (v : HeaderValues) (t : Lent) (body : List ℕ
     -- it has at most P octets
     pub limit : length p ≤ P
     -- if one packet is enough: unsegmented, flags 11
-    pub whole : oneEnough ≡ true → (segmented p ≡ false) × (told s p .flags ≡ 3)
+    pub whole : oneEnough ≡ true → (segmented p ≡ false) × (told s p .flags ≡ flagsWhole)
     -- if cutting is needed
     pub segment : oneEnough ≡ false → Segment i p
 

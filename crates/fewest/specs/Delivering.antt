@@ -8,7 +8,7 @@ use Rattle.walk.specs.declared.Settings.{Settings}
 use Rattle.fields.specs.Form.{joined}
 use Rattle.packet.specs.declared.Header.{Header}
 use Rattle.packet.specs.declared.SegmentCounter.{SegmentCounter}
-use Rattle.packet.specs.Format.{identification, headerOctets}
+use Rattle.packet.specs.Format.{flagsBetween, flagsFirst, flagsLast, flagsWhole, identification, headerOctets}
 use Rattle.packet.specs.Key.{keyOf}
 use Rattle.sender.specs.Sending.{stepsOf}
 use Rattle.sender.specs.declared.Sender.{Sender}
@@ -31,13 +31,13 @@ module _ (s : Settings) (P : ℕ) (v : HeaderValues) (t : Lent) (d : Sender) (n 
     -- its sequence count is the sender's, moved on by one for each packet before; 0 follows 16,383
     pub count : h .primary .«sequence_count» .0 ≡ (d .«sequence_count» .0 + i) % 16384
     -- if it is the only one it is unsegmented, flags 11
-    pub whole : n ≡ 1 → h .primary .flags ≡ 3
+    pub whole : n ≡ 1 → h .primary .flags ≡ flagsWhole
     -- if there are more, the first has the flags 01
-    pub first : 2 ≤ n → i ≡ 0 → h .primary .flags ≡ 1
+    pub first : 2 ≤ n → i ≡ 0 → h .primary .flags ≡ flagsFirst
     -- the last has 10
-    pub last : 2 ≤ n → suc i ≡ n → h .primary .flags ≡ 2
+    pub last : 2 ≤ n → suc i ≡ n → h .primary .flags ≡ flagsLast
     -- those between have 00
-    pub between : 2 ≤ n → (i ≡ 0 → ⊥) → (suc i ≡ n → ⊥) → h .primary .flags ≡ 0
+    pub between : 2 ≤ n → (i ≡ 0 → ⊥) → (suc i ≡ n → ⊥) → h .primary .flags ≡ flagsBetween
     -- and its counter is i steps from the one that the sender had to start from
     pub counter : 2 ≤ n → (c : SegmentCounter) × (d .next ≡ At c) × (h .ids .counter .0 ≡ stepsOf suc i (c .0))
 

@@ -3,8 +3,8 @@
 //   text, authentication id:  length (Varint) | octets
 //   domain:                   count (Varint)  | 1 | length | octets | 1 | length | octets ..
 //
-// A step of reading takes any slice and any walk, and answers the walk behind the field and where its content stands. A writing
-// takes any buffer and any place: piece by piece, each whole or not at all, and answers the place behind. A `blob` is octets of any
+// A step of reading takes any slice and any walk, and answers the walk after the field and where its content stands. A writing
+// takes any buffer and any place: piece by piece, each whole or not at all, and answers the place after it. A `blob` is octets of any
 // value; a `text` is written the same, and its octets are well-formed UTF-8, by crate `utf8`. Reading tests that; who writes has tested
 // it before.
 ghost use mathlib.Core.Path.{_≡_};
@@ -33,7 +33,7 @@ pub const PARTS: usize = 16;
 // The size that stands for all above the largest packet.
 pub const SIZE_MOST: usize = 65543;
 
-// Where a content stands and how long it is; zeros where there is none.
+// Where a content stands and how long it is; zeros if there is none.
 pub struct Place {
     pub at: usize,
     pub length: usize,
@@ -51,7 +51,7 @@ pub struct Domain {
 }
 
 // A number if it is there, else 0.
-pub fn number_if(there: bool, s: Settings, p: &[u8], w: Walk) -> UInteger
+pub fn uinteger_if(there: bool, s: Settings, p: &[u8], w: Walk) -> UInteger
     ensures { λ r. ⌜ r ≡ asUInteger (opt there 0 (uinteger s (now (p .entry))) (ofWalk w)) ⌝ }
 {
     if there {
@@ -233,9 +233,9 @@ pub fn domain_if(there: bool, s: Settings, p: &[u8], w: Walk) -> Domain
     no_parts(w, 0)
 }
 
-// ---- writing: each field at a place of a lent buffer, and the place behind it
+// ---- writing: each field at a place of a lent buffer, and the place after it
 
-pub fn put_number(s: Settings, out: &mut [u8], at: usize, n: u64) -> usize
+pub fn put_uinteger(s: Settings, out: &mut [u8], at: usize, n: u64) -> usize
     ensures { λ r. ⌜ Lays (laid (now (out .entry)) at) (uintegerOctets s n ∷ []) (now (out .exit)) r ⌝ }
 {
     match varint::put(out, at, n) {
@@ -247,7 +247,7 @@ pub fn put_number(s: Settings, out: &mut [u8], at: usize, n: u64) -> usize
 pub fn put_blob(s: Settings, out: &mut [u8], at: usize, x: &[u8]) -> usize
     ensures { λ r. ⌜ Lays (laid (now (out .entry)) at) (blobPieces s (now (x .entry))) (now (out .exit)) r ⌝ }
 {
-    let start = put_number(s, out, at, x.len() as u64);
+    let start = put_uinteger(s, out, at, x.len() as u64);
     octets::lay(out, start, x)
 }
 
@@ -285,7 +285,7 @@ fn put_parts(s: Settings, out: &mut [u8], at: usize, x: &[u8], lengths: &[u64]) 
 pub fn put_domain(s: Settings, out: &mut [u8], at: usize, x: &[u8], lengths: &[u64]) -> usize
     ensures { λ r. ⌜ Lays (laid (now (out .entry)) at) (domainPieces s (split (now (lengths .entry)) (now (x .entry)))) (now (out .exit)) r ⌝ }
 {
-    let start = put_number(s, out, at, lengths.len() as u64);
+    let start = put_uinteger(s, out, at, lengths.len() as u64);
     put_parts(s, out, start, x, lengths)
 }
 
@@ -303,7 +303,7 @@ pub fn plus(a: usize, b: usize) -> usize
     a + b
 }
 
-pub fn number_size(s: Settings, n: u64) -> usize
+pub fn uinteger_size(s: Settings, n: u64) -> usize
     ensures { λ r. ⌜ r ≡ length (uintegerOctets s n) ⌝ }
 {
     varint::size(n)
@@ -313,13 +313,13 @@ pub fn number_size(s: Settings, n: u64) -> usize
 pub fn text_size(s: Settings, n: usize) -> usize
     ensures { λ r. ⌜ r ≡ capped (length (uintegerOctets s n) + n) ⌝ }
 {
-    plus(number_size(s, n as u64), n)
+    plus(uinteger_size(s, n as u64), n)
 }
 
 pub fn domain_size(s: Settings, x: &[u8], lengths: &[u64]) -> usize
     ensures { λ r. ⌜ r ≡ capped (length (domainOctets s (split (now (lengths .entry)) (now (x .entry))))) ⌝ }
 {
-    let mut size = plus(0, number_size(s, lengths.len() as u64));
+    let mut size = plus(0, uinteger_size(s, lengths.len() as u64));
     let mut from: usize = 0;
     let mut k: usize = 0;
     while k < lengths.len() {

@@ -1,4 +1,4 @@
--- The pieces of reading's answer, laid one behind the other, are its numbers from the first to the last.
+-- The pieces of reading's answer, laid one after the other, are its numbers from the first to the last.
 -- Assumes nothing.
 use Prim.Native.Nat.{ℕ, _+_}
 use mathlib.Core.Path.{_≡_, ap, sym, _∙_}

@@ -1,4 +1,4 @@
--- Places laid one after another: behind k of them stands the next.
+-- Places laid one after another: after k of them stands the next.
 -- Assumes nothing.
 use Prim.Native.Nat.{ℕ, zero, suc, _+_, _*_, _≤_}
 use mathlib.Core.Path.{_≡_, refl, ap, _∙_}
@@ -20,7 +20,7 @@ places-length (suc k) ps =
     let b = places-length k ps in
     omega (arith, a, b)
 
--- k places lie behind place at of l
+-- k places lie after place at of l
 pub record Placed (l : List ℕ) (at : ℕ) (ps : List Place) (m : List ℕ) (k : ℕ) : Type 0 where
   pub within : k ≤ 16
   pub same : m ≡ sets l at (placesTo k ps)

@@ -1,7 +1,7 @@
 // The calls over plain numbers and slices, which `capi` hands to other languages.
 //
 // Every number is one of 64 bits, and an answer is an array of them, the refusal first. A number is tested against the type of its
-// field before it is made narrower: one too wide is 22, behind 15 for T or P. Then the call itself is made, and its answer told.
+// field before it is made narrower: one too wide is 22, after 15 for T or P. Then the call itself is made, and its answer told.
 ghost use mathlib.Core.Path.{_≡_};
 ghost use mathlib.Core.Bool.{true, false};
 ghost use Prim.Native.Nat.{_+_, _≤_};
@@ -288,7 +288,7 @@ fn packet_of(flags: u64, sequence_count: u64, counter: u64) -> PacketValues
     }
 }
 
-// Whether a sender's numbers fit: where no counter is left, its counter is 0.
+// Whether a sender's numbers fit: if no counter is left, its counter is 0.
 fn sender_fits(d: &[u64; SENDER]) -> bool
     ensures { λ r. ⌜ r ≡ senderFits (now (d .entry)) ⌝ }
 {
@@ -326,7 +326,7 @@ fn left_number(n: Next) -> u64
     }
 }
 
-// The counter, 0 where none is left.
+// The counter, 0 if none is left.
 fn counter_number(n: Next) -> u64
     ensures { λ r. ⌜ r ≡ counterNumber n ⌝ }
 {
@@ -375,7 +375,7 @@ pub fn next_sequence_count(sequence_count: u64) -> [u64; 2]
     [0, next.0 as u64]
 }
 
-// The refusal of a number that does not fit, behind that of the settings.
+// The refusal of a number that does not fit, after that of the settings.
 fn too_wide(r: Tested) -> u64
     ensures { λ q. ⌜ q ≡ tooWide r ⌝ }
 {
@@ -473,7 +473,7 @@ fn cut_too_wide(t: u64, p: u64, sender: &[u64; SENDER]) -> [u64; CUT]
     [number, 0, sender[0], sender[1], sender[2]]
 }
 
-// The number of packets of a message, and the sender's numbers behind it.
+// The number of packets of a message, and the sender's numbers after it.
 pub fn cut_count(
     t: u64,
     p: u64,

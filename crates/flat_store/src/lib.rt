@@ -1,7 +1,7 @@
 // The store's calls over plain numbers: what `capi` hands to other languages.
 //
 // Every number is one of 64 bits, and none is made narrower before it is tested. An answer is an array of numbers, the refusal first;
-// where the call is refused the others are 0, but for what a refusal of reading tells, which stands last.
+// if the call is refused the others are 0, but for what a refusal of reading tells, which stands last.
 pub mod recordings;
 
 ghost use mathlib.Core.Path.{_≡_};
@@ -115,7 +115,7 @@ pub fn join(t: u64, store: &mut [u8], packet: &[u8], out: &mut [u8]) -> [u64; 9]
     joined_numbers(join::join(s, store, packet, out))
 }
 
-// The part at a place, where it lies inside a buffer of n octets.
+// The part at a place, if it lies inside a buffer of n octets.
 fn inside(n: usize, place: u64, long: u64) -> [u64; 3]
     ensures { λ r. ⌜ r ≡ insideNumbers n place long ⌝ }
 {

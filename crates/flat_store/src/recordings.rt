@@ -1,6 +1,6 @@
 // A whole recording joined over plain numbers: what `capi` hands to other languages, as `flat_store` has the store's calls.
 //
-// The answer is an array of numbers, the refusal first; where the call is refused the others are 0.
+// The answer is an array of numbers, the refusal first; if the call is refused the others are 0.
 ghost use mathlib.Core.Path.{_≡_};
 ghost use lib.ListN.{length};
 ghost use Rattle.recording.specs.Ending.{recordedOf, outRecorded};

@@ -1,4 +1,4 @@
--- A written packet: reading accepts it, goes on to the place behind its secondary header, and tells its values. By the laws of the
+-- A written packet: reading accepts it, goes on to the place after its secondary header, and tells its values. By the laws of the
 -- secondary header's field and of the primary header.
 -- Assumes nothing.
 use Prim.Native.Nat.{ℕ, _+_, _-_, _≤_}

@@ -33,7 +33,7 @@ unfolding InOrder
 order-lower lo low hi [] l o = omega arith
 order-lower lo low hi (a ∷ x) l o = (omega (arith, o .0), o .1)
 
--- one list of places behind another
+-- one list of places after another
 pub order-both : (lo mid hi : ℕ) (x y : List Place) → InOrder lo x mid → InOrder mid y hi → InOrder lo (x ++ y) hi
 unfolding InOrder
 order-both lo mid hi [] y o q = order-lower mid lo hi y o q

@@ -98,7 +98,7 @@ module _
     (o : Octets p)
     (h : Has p 0 (octetsOf s v))
     (l : length p ≡ length (octetsOf s v)) where
-  -- the three words and what is behind them
+  -- the three words and what is after them
   record Words : Type 0 where
     w0 : number 2 p 0 ≡ v .head .packet-type * 4096 + 2048 + v .head .apid
     w2 : number 2 p 2 ≡ v .flags * 16384 + v .sequence-count

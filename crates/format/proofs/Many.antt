@@ -1,4 +1,4 @@
--- A field a number of times, one behind the other. Carries the laws of the field.
+-- A field a number of times, one after the other. Carries the laws of the field.
 -- Assumes nothing.
 use Prim.Native.Nat.{ℕ, zero, suc, _+_, _≤_}
 use mathlib.Core.Path.{_≡_, refl, ap, _∙_}

@@ -1,4 +1,4 @@
--- Where the contents of an accepted packet stand: in order, behind the fixed part and before the body; and so each of them.
+-- Where the contents of an accepted packet stand: in order, after the fixed part and before the body; and so each of them.
 -- Assumes nothing.
 use Prim.Native.Nat.{ℕ, zero, suc, _+_, _≤_, _<_}
 use mathlib.Core.Path.{_≡_, refl, ap, _∙_, subst}

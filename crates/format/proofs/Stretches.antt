@@ -1,5 +1,5 @@
 -- Where the parts of a packet's secondary header stand: the key is the identification and the header around the counter, the counter
--- stands at its place, and H is the rest. Over any packet that has the secondary header of some values behind its primary one.
+-- stands at its place, and H is the rest. Over any packet that has the secondary header of some values after its primary one.
 -- Assumes nothing.
 use Prim.Native.Nat.{ℕ, _+_, _-_, _≤_}
 use mathlib.Core.Path.{_≡_, refl, ap, _∙_}

@@ -12,12 +12,12 @@ use Rattle.walk.specs.Walk.{headerEnd}
 use Rattle.fields.specs.declared.Place.{Place}
 use Rattle.fields.specs.Fields.{nowhere, partsMost}
 use Rattle.packet.specs.declared.Header.{Header}
-use Rattle.packet.specs.Format.{Values, segment, identification, frontOctets, headerOctets, secondaryOctets, headerMost, packetMost}
+use Rattle.packet.specs.Format.{Values, primarySize, counterWidth, segment, identification, frontOctets, headerOctets, secondaryOctets, headerMost, packetMost}
 use Rattle.packet.specs.Reading.{segmented, counterSize}
 use Rattle.packet.specs.Key.{counterPlace, keyOf}
 use Rattle.format.specs.Told.{valuesOf, spotsOf, InOrder}
 
--- the optional fields stand from here on, behind the primary header and the fixed part of the secondary one
+-- the optional fields stand from here on, after the primary header and the fixed part of the secondary one
 abbrev pub optionalPlace : ℕ
 optionalPlace = 27
 
@@ -25,7 +25,7 @@ optionalPlace = 27
 abbrev pub fixedSize : ℕ
 fixedSize = 21
 
--- a content that stands behind the fixed part and before the body
+-- a content that stands after the fixed part and before the body
 pub record Inside (h : Header) (a : Place) : Type 0 where
   pub low : optionalPlace ≤ a .at
   pub top : a .at + a .length ≤ h .body .at
@@ -34,14 +34,14 @@ pub record Inside (h : Header) (a : Place) : Type 0 where
 pub record Accepted (s : Settings) (p : List ℕ) (h : Header) : Type 0 where
   -- a packet has at most 65,542 octets
   pub packet-top : length p ≤ packetMost
-  -- the body stands behind the fixed part
+  -- the body stands after the fixed part
   pub body-low : optionalPlace ≤ h .body .at
   -- and within the header's limit
   pub body-top : h .body .at ≤ headerEnd
   -- it goes to the packet's end
   pub body-end : h .body .at + h .body .length ≡ length p
   -- before it stand the primary header, H octets and the counter
-  pub body-place : 6 + h .h + counterSize p ≡ h .body .at
+  pub body-place : primarySize + h .h + counterSize p ≡ h .body .at
   -- a segmented packet has some body
   pub body-some : segmented p ≡ true → 1 ≤ h .body .length
   -- H counts the fixed part
@@ -52,7 +52,7 @@ pub record Accepted (s : Settings) (p : List ℕ) (h : Header) : Type 0 where
   pub h-is : h .h ≡ length (headerOctets s (valuesOf p h .head))
   -- the sequence flags that it tells are the packet's
   pub segments : segment (valuesOf p h .flags) ≡ segmented p
-  -- the contents stand one behind the other, behind the fixed part and before the body
+  -- the contents stand one after the other, after the fixed part and before the body
   pub order : InOrder optionalPlace (spotsOf h) (h .body .at)
   -- so each stands there: the timestamp
   pub timestamp : h .has .timestamp ≡ true → Inside h (h .texts .timestamp)
@@ -73,7 +73,7 @@ pub record Accepted (s : Settings) (p : List ℕ) (h : Header) : Type 0 where
   -- the key is the identification and the secondary header without its counter
   pub key : keyOf p h ≡ identification (valuesOf p h .head) ++ headerOctets s (valuesOf p h .head)
   -- the counter stands at its place
-  pub counter : segmented p ≡ true → part p (counterPlace h) 4 ≡ wide 4 (valuesOf p h .counter)
+  pub counter : segmented p ≡ true → part p (counterPlace h) counterWidth ≡ wide counterWidth (valuesOf p h .counter)
   -- and ends before the body
   pub counter-end : counterPlace h + counterSize p ≤ h .body .at
 
@@ -87,11 +87,11 @@ pub record Written (s : Settings) (v : Values) (p : List ℕ) (h : Header) : Typ
   pub key : keyOf p h ≡ identification (v .head) ++ headerOctets s (v .head)
   -- H is the octets of that header
   pub h-is : h .h ≡ length (headerOctets s (v .head))
-  -- the body stands behind the primary and the secondary header
-  pub body-at : h .body .at ≡ 6 + length (secondaryOctets s v)
+  -- the body stands after the primary and the secondary header
+  pub body-at : h .body .at ≡ primarySize + length (secondaryOctets s v)
   -- and is as long as the values' body
   pub body-long : h .body .length ≡ length (v .body)
-  -- the counter stands behind the fixed part, source id and destination id
+  -- the counter stands after the fixed part, source id and destination id
   pub counter-place : counterPlace h ≡ optionalPlace + length (frontOctets (v .head))
   -- where there is one
-  pub counter : segment (v .flags) ≡ true → part p (counterPlace h) 4 ≡ wide 4 (v .counter)
+  pub counter : segment (v .flags) ≡ true → part p (counterPlace h) counterWidth ≡ wide counterWidth (v .counter)

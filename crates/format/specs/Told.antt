@@ -71,7 +71,7 @@ spotsOf h =
     ++ (spot (h .has .«session_name») (h .texts .«session_name»)
     ++ (pick (h .has .domain) (take (h .texts .count) (h .texts .parts)) [] ++ spot (h .has .authentication) (h .texts .authentication))))
 
--- places that stand one behind the other, from one place on and up to another
+-- places that stand one after the other, from one place on and up to another
 unfoldable pub InOrder : ℕ → List Place → ℕ → Type 0
 InOrder lo [] hi = lo ≤ hi
 InOrder lo (a ∷ l) hi = (lo ≤ a .at) × InOrder (a .at + a .length) l hi

@@ -70,7 +70,7 @@ module _ (s : Settings) (Z : ℕ) (st p : List ℕ) where
       not-whole : (k : ℕ) → refused (refusal k) ≡ whole → ⊥
       not-whole k d = let z : _≡_ {A = ℕ} 0 1 = cc in omega arith
 
--- the body of an accepted unsegmented packet stands behind 6 + H octets and goes to the packet's end
+-- the body of an accepted unsegmented packet stands after 6 + H octets and goes to the packet's end
 pub whole-place :
     (s : Settings) (p : List ℕ) → Octets p → readPacket s p .refusal .number ≡ 0 → segmented p ≡ false →
     (readPacket s p .body .at ≡ bodyFrom s p) × (readPacket s p .body .length ≡ length p - bodyFrom s p)

@@ -23,7 +23,7 @@ module _ (s : Settings) (Z : ℕ) (st p : List ℕ) {n : ℕ} (g : gate s Z st �
   arrives : arrivedIn s Z st n p ≡ arrived s Z st p
   arrives = ap (λ (m : ℕ). arrivedIn s Z st m p) en ∙ arrived-open s Z st p g
 
-  -- the store behind the arrival has as many cells, and is in order
+  -- the store after the arrival has as many cells, and is in order
   module _ (b : Arrived) (eb : b ≡ arrived s Z st p) where
     abbrev x : List ℕ
     x = storeWith Z st p b

@@ -70,7 +70,7 @@ module _ (s : Settings) (Z : ℕ) (st p out : List ℕ) (n : ℕ) where
       (j ≡ joinedOf (joiningIn s Z st n p (length out)))
       × ((x ≡ storeJoinedIn s Z st n p (length out)) × (y ≡ outJoinedIn s Z st n p out))
 
-  -- a taking from the store behind the arrival
+  -- a taking from the store after the arrival
   pub record Takes (x : List ℕ) (j : Joined) (after left : List ℕ) : Type 0 where
     pub taken : Taken
     pub told : taken ≡ takenOf (tookIn s Z x n (length out))

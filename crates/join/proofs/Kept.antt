@@ -15,7 +15,7 @@ use Rattle.arrival.proofs.Keeps.{arrive-long, arrive-keeps}
 use Rattle.taking.proofs.Keeps.{take-long, take-keeps}
 use Rattle.join.specs.Joining.{lessTaken, storeBy, outBy, storeJoined, outJoined}
 
--- an output is as long behind a taking as before
+-- an output is as long after a taking as before
 out-long : (out : List ℕ) (t : Took) → length (outWith out t) ≡ length out
 unfolding outWith
 out-long out (message r) = length-sets out 0 (writing r)

@@ -48,7 +48,7 @@ inside-is b place long h = ap (λ (t : Bool). pick t (part b place long) []) (le
 
 -- ---- a message
 
--- a body laid behind its key, where both fit
+-- a body laid after its key, where both fit
 laid-body :
     (k b out : List ℕ) (at : ℕ) → at ≡ length k → length (k ++ b) ≤ length out → inside (sets out 0 (k ++ b)) at (length b) ≡ b
 laid-body k b out at e h =

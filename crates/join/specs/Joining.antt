@@ -9,6 +9,7 @@ use lib.ListN.{length}
 use Rattle.walk.specs.declared.Settings.{Settings}
 use Rattle.walk.specs.declared.Refusal.{Refusal}
 use Rattle.walk.specs.Walk.{refusal}
+use Rattle.packet.specs.Format.{primarySize}
 use Rattle.packet.specs.Reading.{readPacket}
 use Rattle.cells.specs.Order.{countIn}
 use Rattle.cells.specs.Messages.{Run}
@@ -23,7 +24,7 @@ pub data Joining : Type 0 where
 
 -- where the body of a packet begins that came whole: after the primary header and the H octets of the secondary one
 abbrev pub bodyFrom : Settings → List ℕ → ℕ
-bodyFrom s p = 6 + readPacket s p .h
+bodyFrom s p = primarySize + readPacket s p .h
 
 -- taking's answer
 abbrev pub tookAs : Took → Joining

@@ -1,4 +1,4 @@
-// Joining: a packet arrives, and where it came whole its body is told, else what is complete is taken out; and the view of a body.
+// Joining: a packet arrives, and if it came whole its body is told, else what is complete is taken out; and the view of a body.
 //
 // Joining tells where the body is: in which buffer, from which place on, how long; the view hands that part out, read only. For a
 // packet that came whole neither the store nor the output is touched. If taking refuses, the arrived segment stays in the store. T
@@ -22,7 +22,7 @@ use taking::Taken;
 use walk::Refusal;
 use walk::Settings;
 
-// Which buffer holds a body: the packet as it arrived, or the one where it was joined; nothing where there is no body.
+// Which buffer holds a body: the packet as it arrived, or the one where it was joined; nothing if there is no body.
 pub enum Which {
     Packet,
     Joined,
@@ -41,7 +41,7 @@ pub struct Joined {
     pub counter: SegmentCounter,
 }
 
-// The part of a buffer at a place, empty where it does not lie inside.
+// The part of a buffer at a place, empty if it does not lie inside.
 fn part_inside(x: &[u8], place: usize, long: usize) -> &[u8]
     ensures { λ r. ⌜ now r ≡ inside (now (x .entry)) place long ⌝ }
 {
@@ -159,7 +159,7 @@ pub fn join_in(
     in_output(taking::take_in(s, store, n, zero, out))
 }
 
-// A packet arrives; its body is told where it came whole, else the complete message with its first in the lowest cell is taken out.
+// A packet arrives; its body is told if it came whole, else the complete message with its first in the lowest cell is taken out.
 pub fn join(s: Settings, store: &mut [u8], p: &[u8], out: &mut [u8]) -> Joined
     ensures { λ r. ⌜ r ≡ joinedOf (joining s cellSize (now (store .entry)) (now (p .entry)) (length (now (out .entry)))) ⌝ }
     ensures { λ r. ⌜ now (store .exit) ≡ storeJoined s cellSize (now (store .entry)) (now (p .entry)) (length (now (out .entry))) ⌝ }

@@ -54,7 +54,7 @@ fn sum(a: u64, b: u64) -> u64 {
     u64::MAX
 }
 
-// The number at a place; 0 where there is none.
+// The number at a place; 0 if there is none.
 pub fn at(counts: &[u64; COUNTS], k: usize) -> u64 {
     if k < COUNTS {
         return counts[k];

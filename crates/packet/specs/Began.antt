@@ -9,7 +9,7 @@ use lib.Dec.{ltb}
 use Rattle.octets.specs.Octets.{pick, wide}
 use Rattle.walk.specs.declared.Settings.{Settings}
 use Rattle.fields.specs.Form.{uintegerOctets, blobOctets, textOctets, partOctets}
-use Rattle.packet.specs.Format.{Head, Values, segment, when, presence}
+use Rattle.packet.specs.Format.{Head, Values, primarySize, counterWidth, segment, when, presence}
 
 unfoldable pub fixedFields : Head → List (List ℕ)
 fixedFields h =
@@ -34,7 +34,7 @@ optionalFields s v =
     let h = v .head in
     when (h .has-source) (wide 1 (h .source) ∷ [])
     ++ (when (h .has-destination) (wide 1 (h .destination) ∷ [])
-    ++ (when (segment (v .flags)) (wide 4 (v .counter) ∷ [])
+    ++ (when (segment (v .flags)) (wide counterWidth (v .counter) ∷ [])
     ++ (when (h .has-priority) (uintegerOctets s (h .priority) ∷ [])
     ++ (when (h .has-timestamp) (h .timestamp ∷ [])
     ++ (when (h .has-zone) (textOctets s (h .zone) ∷ [])
@@ -51,4 +51,4 @@ began (f ∷ fs) k = pick (ltb k (length f)) 0 (length f + began fs (k - length 
 
 -- a packet cut off inside its data field: its first four octets, the length field set right, and m octets of the data field
 unfoldable pub cutOff : ℕ → List ℕ → List ℕ
-cutOff m p = take 4 p ++ (wide 2 (m - 1) ++ take m (drop 6 p))
+cutOff m p = take 4 p ++ (wide 2 (m - 1) ++ take m (drop primarySize p))

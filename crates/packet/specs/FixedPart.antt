@@ -52,7 +52,7 @@ afterTransaction p w = octets p 8 w
 unfoldable pub afterPresence : List ℕ → Reading → Reading
 afterPresence p w = octets p 1 (afterTransaction p w)
 
--- the readings behind the area version, the qualifier, and the whole fixed part
+-- the readings after the area version, the qualifier, and the whole fixed part
 abbrev pub namesEnd : List ℕ → Reading → Reading
 namesEnd p w = afterVersion p w
 

@@ -53,9 +53,32 @@ pub record Values : Type 0 where
   pub counter : ℕ
   pub body : List ℕ
 
+-- octets of the primary header, of the fixed part of the secondary one, and of a segment counter
+abbrev pub primarySize : ℕ
+primarySize = 6
+
+abbrev pub fixedSize : ℕ
+fixedSize = 21
+
+abbrev pub counterWidth : ℕ
+counterWidth = 4
+
+-- SPEC P-4, the sequence flags: what a packet is in its message
+abbrev pub flagsBetween : ℕ
+flagsBetween = 0
+
+abbrev pub flagsFirst : ℕ
+flagsFirst = 1
+
+abbrev pub flagsLast : ℕ
+flagsLast = 2
+
+abbrev pub flagsWhole : ℕ
+flagsWhole = 3
+
 -- the segment counter is present exactly if the sequence flags aren't 11
 abbrev pub segment : ℕ → Bool
-segment flags = not (eqb flags 3)
+segment flags = not (eqb flags flagsWhole)
 
 -- what is there only if the flag says so: octets, or pieces of them
 abbrev pub when : {A : Type 0} → Bool → List A → List A
@@ -97,9 +120,9 @@ frontOctets h = when (h .has-source) (wide 1 (h .source)) ++ when (h .has-destin
 
 -- the segment counter, 32 bits
 unfoldable pub counterOctets : Values → List ℕ
-counterOctets v = when (segment (v .flags)) (wide 4 (v .counter))
+counterOctets v = when (segment (v .flags)) (wide counterWidth (v .counter))
 
--- and those behind it: priority, timestamp, network zone, session name, domain, authentication id
+-- and those after it: priority, timestamp, network zone, session name, domain, authentication id
 unfoldable pub backOctets : Settings → Head → List ℕ
 backOctets s h =
     when (h .has-priority) (uintegerOctets s (h .priority))

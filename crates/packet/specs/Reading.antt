@@ -17,6 +17,7 @@ use Rattle.packet.specs.declared.Present.{Present}
 use Rattle.packet.specs.declared.Ids.{Ids}
 use Rattle.packet.specs.declared.Texts.{Texts}
 use Rattle.packet.specs.declared.Header.{Header}
+use Rattle.packet.specs.Format.{primarySize, counterWidth, flagsWhole}
 use Rattle.packet.specs.FixedPart.{octetField, wideField, fixedEnd, fixedOf, presentOf}
 
 -- ---- the primary header, at its own places
@@ -31,7 +32,7 @@ primaryTests p w =
     check (leb (length p) (wanted p)) 27
     (check (leb (wanted p) (length p)) 5
     (check (not (eqb (number 2 p 0 % 2048) 2047)) 4
-    (check (eqb (octetAt p 0 / 8 % 2) 1) 3 (check (ltb (octetAt p 0) 32) 2 (check (leb 6 (length p)) 1 w)))))
+    (check (eqb (octetAt p 0 / 8 % 2) 1) 3 (check (ltb (octetAt p 0) 32) 2 (check (leb primarySize (length p)) 1 w)))))
 
 unfoldable pub primaryOf : List ℕ → Primary
 primaryOf p =
@@ -44,7 +45,7 @@ primaryOf p =
 
 -- the sequence flags aren't 11
 abbrev pub segmented : List ℕ → Bool
-segmented p = not (eqb (octetAt p 2 / 64) 3)
+segmented p = not (eqb (octetAt p 2 / 64) flagsWhole)
 
 -- ---- the optional fields
 
@@ -53,7 +54,7 @@ unfoldable pub idsOf : Settings → Present → List ℕ → Reading → Step Id
 idsOf s has p w =
     let a = opt (has .source) 0 (octetField p) w in
     let b = opt (has .destination) 0 (octetField p) (a .walk) in
-    let c = opt (segmented p) 0 (wideField 4 p) (b .walk) in
+    let c = opt (segmented p) 0 (wideField counterWidth p) (b .walk) in
     let d = opt (has .priority) 0 (uinteger s p) (c .walk) in
     record {
       walk = d .walk;
@@ -110,7 +111,7 @@ refusalOf p w =
     record {
       number = w .refused;
       octets = pick (eqb (w .refused) 5) (wanted p - length p) (pick (eqb (w .refused) 27) (length p - wanted p) 0);
-      place = pick (eqb (w .refused) 6) (w .at - 6) 0;
+      place = pick (eqb (w .refused) 6) (w .at - primarySize) 0;
     }
 
 -- what a refusal answers beside it: zeros
@@ -164,9 +165,9 @@ refusedHeader r =
       body = nowhere;
     }
 
--- the octets of a segment counter in the header: 4, or 0 where there is none
+-- the octets of a segment counter in the header: 4, or 0 if there is none
 abbrev pub counterSize : List ℕ → ℕ
-counterSize p = pick (segmented p) 4 0
+counterSize p = pick (segmented p) counterWidth 0
 
 -- the body stands from the header's end to the packet's; H never counts the counter
 unfoldable pub acceptedHeader : Settings → List ℕ → Header
@@ -178,7 +179,7 @@ acceptedHeader s p =
       has = hasAt s p;
       ids = idsAt s p .value;
       texts = textsAt s p .value;
-      h = ended s p .at - 6 - counterSize p;
+      h = ended s p .at - primarySize - counterSize p;
       body = place (ended s p .at) (length p - ended s p .at);
     }
 

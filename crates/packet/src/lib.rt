@@ -2,7 +2,7 @@
 //
 //   octets  0 1   version 3 | packet type 1 | secondary header flag 1 | APID 11
 //           2 3   sequence flags 2 | sequence count 14
-//           4 5   length field: the octets behind it, less one
+//           4 5   length field: the octets after it, less one
 //           6     binding version 3 | SDU type 5
 //           7 8   area        9 10   service        11 12   operation        13   area version
 //          14 15  error 1 | QoS level 2 | session 2 | secondary APID 11
@@ -62,6 +62,13 @@ pub const LAST: u8 = 2;
 
 pub const UNSEGMENTED: u8 = 3;
 
+// Octets of the primary header, of the fixed part of the secondary one, and of a segment counter.
+pub const PRIMARY: usize = 6;
+
+pub const FIXED: usize = 21;
+
+pub const COUNTER: usize = 4;
+
 // The primary header: packet type, APID, sequence flags, sequence count.
 pub struct Primary {
     pub packet_type: u8,
@@ -97,7 +104,7 @@ pub struct Present {
     pub authentication: bool,
 }
 
-// The optional numbers; 0 where absent.
+// The optional numbers; 0 if absent.
 pub struct Ids {
     pub source: u8,
     pub destination: u8,
@@ -408,7 +415,7 @@ fn read_ids(s: Settings, has: Present, p: &[u8], w: Walk) -> IdsStep
     let bw = b.walk;
     let c = counter_if(segmented(p), p, bw);
     let cw = c.walk;
-    let d = fields::number_if(has.priority, s, p, cw);
+    let d = fields::uinteger_if(has.priority, s, p, cw);
     let dw = d.walk;
     let counter = c.value;
     let ids = Ids {
@@ -546,7 +553,7 @@ fn counter_size(p: &[u8]) -> usize
     ensures { λ r. ⌜ r ≡ counterSize (now (p .entry)) ⌝ }
 {
     if segmented(p) {
-        return 4;
+        return COUNTER;
     }
     0
 }
@@ -574,7 +581,7 @@ pub fn read(s: Settings, p: &[u8]) -> Header
     let fixed = f.fixed;
     let ids = i.ids;
     let texts = t.texts;
-    let h = octets::less(octets::less(end, 6), counter_size(p));
+    let h = octets::less(octets::less(end, PRIMARY), counter_size(p));
     let body = Place {
         at: end,
         length: octets::less(p.len(), end),

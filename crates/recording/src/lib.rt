@@ -21,7 +21,7 @@ pub const CELLS: usize = 32;
 
 pub const STORE: usize = 32768;
 
-// Why a recording in hand was left: not said where it is refused; it ends there; no mark follows; a torn mark or packet follows.
+// Why a recording in hand was left: not said if it is refused; it ends there; no mark follows; a torn mark or packet follows.
 pub enum Why {
     Unsaid,
     Ended,
@@ -84,7 +84,7 @@ fn why_at(rest: &[u8]) -> Why
     }
 }
 
-// Joins a whole recording in hand, with T 8 and 32 cells, and writes its messages one behind the other. The output may not be
+// Joins a whole recording in hand, with T 8 and 32 cells, and writes its messages one after the other. The output may not be
 // shorter than the recording; what is written is never longer.
 pub fn join_all(recording: &[u8], out: &mut [u8]) -> Recorded
     ensures { λ r. ⌜ r ≡ recordedOf (length (now (out .entry))) (now (recording .entry)) ⌝ }

@@ -1,4 +1,4 @@
--- What a step lays over the output: a message behind the room for its mark and length, and then these.
+-- What a step lays over the output: a message after the room for its mark and length, and then these.
 -- Assumes nothing.
 use Prim.Native.Nat.{ℕ, suc, _+_, _≤_, _<_}
 use mathlib.Core.Path.{_≡_, refl, ap, ap₂, sym, _∙_}
@@ -55,7 +55,7 @@ sets-before l a b (v ∷ x) y h =
 
 -- ---- mark and length
 
--- put before a message that stands behind them
+-- put before a message that stands after them
 pub frame-before :
     (out m : List ℕ) {x y : List ℕ} {n : ℕ} → x ≡ sets out 6 m → n ≡ length m → y ≡ sets x 0 (0x4d ∷ 0x4d ∷ wide 4 n) →
     y ≡ sets out 0 (framed m)
@@ -80,7 +80,7 @@ two : (p : List ℕ) → together (take 2 p ∷ drop 6 p ∷ []) ≡ without p
 unfolding together
 two p = ap (λ (x : List ℕ). take 2 p ++ x) (append-nil (drop 6 p))
 
--- its two parts, one behind the other
+-- its two parts, one after the other
 pub whole-laid :
     (p out : List ℕ) {x y l k : List ℕ} {at end : ℕ} → 6 + length p ≤ length out → x ≡ part p 0 2 → y ≡ part p 6 (length p) →
     Lays (laid out 6) (x ∷ []) l at → Lays (laid l at) (y ∷ []) k end → (end ≡ 6 + length (without p)) × (k ≡ sets out 6 (without p))

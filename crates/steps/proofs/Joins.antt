@@ -1,4 +1,4 @@
--- A packet that is joined: what the output holds behind it, and how long a message is.
+-- A packet that is joined: what the output holds after it, and how long a message is.
 -- Assumes nothing.
 use Prim.Native.Nat.{ℕ, _+_, _≤_}
 use mathlib.Core.Path.{_≡_, refl, ap, ap₂, sym, _∙_}
@@ -95,7 +95,7 @@ module _ (s : Settings) (Z : ℕ) (st p : List ℕ) where
 -- ---- a step over a packet, by what joining comes to
 
 module _ (p out : List ℕ) where
-  -- the answer, and the output behind it
+  -- the answer, and the output after it
   abbrev pub Joins : Joining → Done → List ℕ → Type 0
   Joins j d y = (d ≡ doneCame p (cameBy j)) × (y ≡ sets out 0 (wrote p (cameBy j)))
 

@@ -10,7 +10,7 @@ use lib.Seq.{sets, length-sets, take-suc, getD-drop, getD-set-other, length-take
 use Rattle.octets.specs.Octets.{part}
 use Rattle.octets.proofs.Lists.{sets-append}
 
--- a list laid over a list leaves what is behind it
+-- a list laid over a list leaves what is after it
 behind-kept : (l x : List ℕ) (i j : ℕ) → i + length x ≤ j → getD (sets l i x) j 0 ≡ getD l j 0
 behind-kept l [] i j h = refl
 behind-kept l (v ∷ x) i j h =

@@ -89,12 +89,12 @@ other-tells x e = subst (Tells x) e (found-tells x)
 pub cut-tells : (x : List ℕ) → foundIn x ≡ cut → (begins x ≡ true) × (length x < 2 + sizeIn x)
 cut-tells x e = subst (Tells x) e (found-tells x)
 
--- a whole packet is the one behind the mark
+-- a whole packet is the one after the mark
 pub whole-tells :
     (x p : List ℕ) → foundIn x ≡ whole p → (begins x ≡ true) × ((2 + sizeIn x ≤ length x) × (p ≡ packetIn x))
 whole-tells x p e = subst (Tells x) e (found-tells x)
 
--- more octets behind other octets, or behind a whole packet, change nothing
+-- more octets after other octets, or after a whole packet, change nothing
 pub other-more : (w y : List ℕ) → foundIn w ≡ other → foundIn (w ++ y) ≡ other
 other-more w y e =
     let a = other-tells w e in

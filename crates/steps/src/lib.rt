@@ -28,7 +28,7 @@ use walk::Settings;
 // The longest packet that is joined.
 pub const LONGEST: usize = 32768;
 
-// The room for a message in the output, behind its mark and length.
+// The room for a message in the output, after its mark and length.
 pub const ROOM: usize = 65536;
 
 // The octets of the mark and the length before a message.
@@ -104,7 +104,7 @@ fn still(what: What) -> Done
     }
 }
 
-// A stop where the recording ends; more octets are wanted where it does not.
+// A stop if the recording ends; more octets are wanted if it does not.
 fn stop(ends: bool, what: What) -> Done
     ensures { λ r. ⌜ r ≡ stopAs ends what ⌝ }
 {
@@ -157,7 +157,7 @@ fn framed(out: &mut [u8], what: What, refusal: Refusal, used: usize, n: usize) -
     }
 }
 
-// A whole packet without its octets 2 to 5, behind the room for mark and length. How many octets that are.
+// A whole packet without its octets 2 to 5, after the room for mark and length. How many octets that are.
 fn put_whole(p: &[u8], out: &mut [u8]) -> usize
     requires { ⌜ 6 + length (now p) ≤ length (now out) ⌝ }
     ensures { λ r. ⌜ r ≡ length (without (now (p .entry))) ⌝ }
@@ -168,8 +168,8 @@ fn put_whole(p: &[u8], out: &mut [u8]) -> usize
     end - FRAME
 }
 
-// Joining, with a message behind the room for its mark and length.
-fn join_behind(
+// Joining, with a message after the room for its mark and length.
+fn join_after(
     s: Settings,
     store: &mut [u8],
     n: usize,
@@ -211,7 +211,7 @@ fn join_packet(
         (wrote (now (p .entry)) (cameBy (joining s (length (now (zero .entry))) (now (store .entry)) (now (p .entry)) room))) ⌝ }
 {
     let used = 2 + p.len();
-    let j = join_behind(s, store, n, zero, p, out);
+    let j = join_after(s, store, n, zero, p, out);
     let refusal = j.refusal;
     let place = j.place;
     let length = j.length;
@@ -325,7 +325,7 @@ fn step_spare(
     d
 }
 
-// The same where the output has room for the longest message behind the place.
+// The same if the output has room for the longest message from the place on.
 fn step_there(
     s: Settings,
     store: &mut [u8],

@@ -138,7 +138,7 @@ fn flags_in(row: &[u8]) -> u8
     octets::octet(row, 4) / 64
 }
 
-// The lowest of the first n cells whose packet is a last segment; n where there is none, and then no message is complete.
+// The lowest of the first n cells whose packet is a last segment; n if there is none, and then no message is complete.
 fn lowest_last(store: &[u8], n: usize, z: usize) -> usize
     ensures { λ r. ⌜ r ≡ lowest (endsAt z (now (store .entry))) n 0 ⌝ }
 {
@@ -218,7 +218,7 @@ fn pick_message(
     Picked::Nothing
 }
 
-// The key of a segment, told where its body begins, to the front of the output. The place behind it.
+// The key of a segment, told where its body begins, to the front of the output. The place after it.
 fn put_key(s: Settings, out: &mut [u8], q: &[u8], body_at: usize) -> usize
     requires { ⌜ Asked s (now q) «body_at» ⌝ }
     requires { ⌜ length (keyOf (now q) (readPacket s (now q))) ≤ length (now out) ⌝ }
@@ -231,7 +231,7 @@ fn put_key(s: Settings, out: &mut [u8], q: &[u8], body_at: usize) -> usize
     octets::lay(out, fore, cells::span(q, c + 4, body_at - (c + 4)))
 }
 
-// The body of the segment in a row to a place of the output. The place behind it.
+// The body of the segment in a row to a place of the output. The place after it.
 fn put_body(out: &mut [u8], at: usize, row: &[u8], t: Piece) -> usize
     requires { ⌜ at + length (part (packetIn (now row)) (t .at) (t .length)) ≤ length (now out) ⌝ }
     ensures { λ r. ⌜ r ≡ at + length (part (packetIn (now (row .entry))) (t .at) (t .length)) ⌝ }
@@ -373,7 +373,7 @@ fn draw(
     }
 }
 
-// Taking from the first n cells of any octets, by their chains where they are made.
+// Taking from the first n cells of any octets, by their chains if they are made.
 fn take_lowest(
     s: Settings,
     store: &mut [u8],

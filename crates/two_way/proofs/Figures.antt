@@ -37,7 +37,7 @@ answers n = writeAnswer settings header own texts [] (length (zeros n))
 abbrev outputs : ℕ → List ℕ
 outputs n = writeOutput settings header own texts [] (zeros n)
 
--- 27 octets are room enough, what is behind them stays; with one less it is 21, and all is as it was
+-- 27 octets are room enough, what is after them stays; with one less it is 21, and all is as it was
 pub figure-written :
     (map answers (27 ∷ 30 ∷ 26 ∷ [])
     ≡ record { refusal = noRefusal; length = 27 } ∷ record { refusal = noRefusal; length = 27 }

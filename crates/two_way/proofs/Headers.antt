@@ -1,4 +1,4 @@
--- A header's values: the writer's checks behind 22, 13 and 28 hold exactly if the header is in range and the domain's lengths add up.
+-- A header's values: the writer's checks after 22, 13 and 28 hold exactly if the header is in range and the domain's lengths add up.
 -- That a text has at most 65,535 octets follows from the header's limit.
 -- Assumes nothing.
 use Prim.Native.Nat.{ℕ, _+_, _≤_, _<_}
@@ -60,7 +60,7 @@ module _ (s : Settings) (h : Head) where
       )
 
 module _ (s : Settings) (v : HeaderValues) (t : Lent) where
-  -- the checks behind 28
+  -- the checks after 28
   abbrev pub texts28 : List Bool
   texts28 = utf8Checks (t .zone) (t .session-name) (split (t .lengths) (t .domain))
 

@@ -125,7 +125,7 @@ fn singles(x: &[u8], at: usize, n: usize) -> bool
     so_far
 }
 
-// Each of n octets may stand where it does. For the start, where fewer than three may be before it.
+// Each of n octets may stand where it does. For the start: there may be fewer than three before it.
 fn first_follow(x: &[u8], at: usize, n: usize) -> bool
     requires { ⌜ at + n ≤ length (now x) ⌝ }
     ensures { λ r. ⌜ r ≡ all (followsAt (now (x .entry))) at n ⌝ }

@@ -132,7 +132,7 @@ module _ (w r : Reading) where
 
 -- ---- a number
 
--- the place behind a number and its value are small
+-- the place after a number and its value are small
 pub record Small (v next : ℕ) : Type 0 where
   pub value-top : v < 4294967296
   pub next-top : next ≤ headerEnd

@@ -56,7 +56,7 @@ refused at k = record { at = at; refused = k }
 abbrev pub going : Reading → Bool
 going w = eqb (w .refused) 0
 
--- the secondary header stands behind the six octets of the primary one and has at most 256: it ends here at the latest
+-- the secondary header stands after the six octets of the primary one and has at most 256: it ends here at the latest
 abbrev pub headerEnd : ℕ
 headerEnd = 262
 
@@ -74,11 +74,11 @@ octets p n w =
     (pick (leb (w .at + n) headerEnd) (pick (leb (w .at + n) (length p)) (goes (w .at + n)) (refused (w .at) 6)) (refused (w .at) 12))
     w
 
--- a test on what was read: where it fails, the refusal k
+-- a test on what was read: if it fails, the refusal k
 unfoldable pub check : Bool → ℕ → Reading → Reading
 check ok k w = pick (going w) (pick ok w (refused (w .at) k)) w
 
--- a field of several steps, from w to r: where it is refused in any of them, it began at w
+-- a field of several steps, from w to r: if it is refused in any of them, it began at w
 unfoldable pub fieldFrom : Reading → Reading → Reading
 fieldFrom w r = pick (going r) r (refused (w .at) (r .refused))
 
@@ -92,6 +92,6 @@ uintegerStep p at bad = record { walk = refused at 10; value = 0 }
 unfoldable pub uinteger : Settings → List ℕ → Reading → Step ℕ
 uinteger s p w = pick (going w) (uintegerStep p (w .at) (readAt 32 (take headerEnd p) (w .at))) (record { walk = w; value = 0 })
 
--- where reading begins: 15 for T, and then the secondary header behind the six octets of the primary one
+-- where reading begins: 15 for T, and then the secondary header after the six octets of the primary one
 unfoldable pub begun : Settings → Reading
 begun s = check (leb (s .t) timestampMost) 15 (check (leb timestampLeast (s .t)) 15 (goes 6))

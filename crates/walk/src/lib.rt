@@ -2,7 +2,7 @@
 //
 // A `Walk` goes by value through every step; a refused one passes through unchanged, so the code above is straight-line. Two
 // steps test octets (`octets` and `read_uinteger`: 12, then 6, then 10), one tests a value (`check`). `Settings` is what both sides
-// agreed on. The number behind lengths, counts and priority is `read_uinteger`, and nothing else knows how it is written.
+// agreed on. Lengths, counts and the priority are read by `read_uinteger`, and nothing else knows how they are written.
 ghost use mathlib.Core.Path.{_≡_};
 ghost use Prim.Native.Nat.{min};
 ghost use lib.Dec.{leb};
@@ -129,7 +129,7 @@ pub struct Walk {
     pub refused: u8,
 }
 
-// A number that was read, and the reading behind it.
+// A number that was read, and the reading after it.
 pub struct UInteger {
     pub walk: Walk,
     pub value: u32,
@@ -239,9 +239,9 @@ fn end_refusal(p: &[u8]) -> u8
     ensures { λ r. ⌜ r ≡ pick (leb headerEnd (length (now (p .entry)))) 12 6 ⌝ }
 {
     if HEADER_END <= p.len() {
-        return 12;
+        return REFUSED_HEADER_LONG;
     }
-    6
+    REFUSED_HEADER_ENDS
 }
 
 // An unsigned number of at most 32 bits at the place, refused by 12, 6 or 10.

@@ -13,7 +13,7 @@ use Rattle.walk.specs.declared.Settings.{Settings}
 use Rattle.walk.specs.declared.Tested.{Tested}
 use Rattle.walk.specs.Walk.{unless}
 use Rattle.fields.specs.Form.{split, allText}
-use Rattle.packet.specs.Format.{Head, Values, segment, textMost}
+use Rattle.packet.specs.Format.{Head, Values, flagsWhole, segment, textMost}
 use Rattle.packet.specs.Numbers.{countMost}
 use Rattle.write.specs.declared.HeaderValues.{HeaderValues}
 use Rattle.write.specs.declared.PacketValues.{PacketValues}
@@ -69,7 +69,7 @@ headOf v t =
 unfoldable pub packetOf : Head → PacketValues → List ℕ → Values
 packetOf h o body = record { head = h; flags = o .flags; sequence-count = o .«sequence_count» .0; counter = o .counter .0; body = body }
 
--- ---- the checks behind 22
+-- ---- the checks of 22
 
 -- the largest values of fields that SPEC P-3 to P-6 limit below their types: packet type and error are one bit, APID 2047 is idle
 abbrev pub bitMost : ℕ
@@ -91,7 +91,7 @@ abbrev pub secondaryApidMost : ℕ
 secondaryApidMost = 2047
 
 abbrev pub flagsMost : ℕ
-flagsMost = 3
+flagsMost = flagsWhole
 
 -- a number at most so large if it is there, and 0 if it is not
 abbrev pub numberFits : Bool → ℕ → ℕ → Bool
@@ -154,7 +154,7 @@ unfoldable pub packetChecks : PacketValues → List Bool
 packetChecks o =
     leb (o .flags) flagsMost ∷ leb (o .«sequence_count» .0) countMost ∷ numberFits (segment (o .flags)) (o .counter .0) most32 ∷ []
 
--- ---- the checks behind 28: zone, session name, each domain part by itself
+-- ---- the checks of 28: zone, session name, each domain part by itself
 
 unfoldable pub utf8Checks : List ℕ → List ℕ → List (List ℕ) → List Bool
 utf8Checks zone name parts = isText zone ∷ isText name ∷ allText parts ∷ []

@@ -8,7 +8,7 @@ use Rattle.walk.specs.declared.Settings.{Settings}
 use Rattle.fields.specs.Form.{uintegerOctets, domainOctets, split}
 use Rattle.fields.specs.Inner.{blobPieces, textPieces, domainPieces, capped}
 use Rattle.packet.specs.declared.Present.{Present}
-use Rattle.packet.specs.Format.{segment, bit, when}
+use Rattle.packet.specs.Format.{counterWidth, segment, bit, when}
 use Rattle.write.specs.declared.HeaderValues.{HeaderValues}
 use Rattle.write.specs.declared.PacketValues.{PacketValues}
 use Rattle.write.specs.Given.{Lent}
@@ -59,7 +59,7 @@ routingPieces v =
 unfoldable pub frontPieces : HeaderValues → PacketValues → List (List ℕ)
 frontPieces v o =
     when (v .has .source) (wide 1 (v .source) ∷ [])
-    ++ (when (v .has .destination) (wide 1 (v .destination) ∷ []) ++ when (segment (o .flags)) (wide 4 (o .counter .0) ∷ []))
+    ++ (when (v .has .destination) (wide 1 (v .destination) ∷ []) ++ when (segment (o .flags)) (wide counterWidth (o .counter .0) ∷ []))
 
 unfoldable pub middlePieces : Settings → HeaderValues → List ℕ → List ℕ → List (List ℕ)
 middlePieces s v timestamp zone =

@@ -1,4 +1,4 @@
-// Writing one packet: the values to write, the tests behind each refusal, and the octets.
+// Writing one packet: the values to write, the tests of each refusal, and the octets.
 //
 // `write` takes any settings, values, texts, body and output. It answers the octets written, from the output's first octet on, or
 // one refusal, and then the output is as it was. A number that SPEC limits is held in a type wide enough for a bad value,
@@ -80,13 +80,6 @@ const ERROR_UNIT: u64 = 32768;
 const QOS_UNIT: u64 = 8192;
 
 const SESSION_UNIT: u64 = 2048;
-
-// Octets of the primary header, of the fixed part of the secondary one, of the segment counter.
-const PRIMARY: usize = 6;
-
-const FIXED: usize = 21;
-
-pub const COUNTER: usize = 4;
 
 // The values that all packets of a message share, but for its texts.
 pub struct HeaderValues {
@@ -340,7 +333,7 @@ fn middle_size(s: Settings, v: HeaderValues, time: usize, zone: usize) -> usize
     ensures { λ r. ⌜ r ≡ middleSize s v time zone ⌝ }
 {
     let has = v.has;
-    let a = size_if(has.priority, fields::number_size(s, v.priority));
+    let a = size_if(has.priority, fields::uinteger_size(s, v.priority));
     let b = size_if(has.timestamp, time);
     let c = size_if(has.zone, fields::text_size(s, zone));
     fields::plus(a, fields::plus(b, c))
@@ -378,13 +371,13 @@ pub fn header_size(
         (lent (now (time .entry)) (now (zone .entry)) (now (name .entry)) (now (domain .entry)) (now (lengths .entry)) (now (id .entry)))))) ⌝ }
 {
     let has = v.has;
-    let a = FIXED + front_size(has);
+    let a = packet::FIXED + front_size(has);
     let b = middle_size(s, v, time.len(), zone.len());
     let c = end_size(s, has, name.len(), domain, lengths, id.len());
     fields::plus(a, fields::plus(b, c))
 }
 
-// ---- the octets, piece by piece, and the place behind them
+// ---- the octets, piece by piece, and the place after them
 
 fn put_primary(out: &mut [u8], v: HeaderValues, o: PacketValues, n: usize) -> usize
     ensures { λ r. ⌜ Lays (laid (now (out .entry)) 0) (primaryPieces v o n) (now (out .exit)) r ⌝ }
@@ -452,14 +445,20 @@ fn put_front(out: &mut [u8], at: usize, v: HeaderValues, o: PacketValues) -> usi
     let counter = o.counter;
     let a = wide_if(has.source, out, at, 1, v.source as u64);
     let b = wide_if(has.destination, out, a, 1, v.destination as u64);
-    wide_if(segmented(o.flags), out, b, COUNTER, counter.0 as u64)
+    wide_if(
+        segmented(o.flags),
+        out,
+        b,
+        packet::COUNTER,
+        counter.0 as u64,
+    )
 }
 
-fn number_if(there: bool, s: Settings, out: &mut [u8], at: usize, n: u64) -> usize
+fn uinteger_if(there: bool, s: Settings, out: &mut [u8], at: usize, n: u64) -> usize
     ensures { λ r. ⌜ Lays (laid (now (out .entry)) at) (when there (uintegerOctets s n ∷ [])) (now (out .exit)) r ⌝ }
 {
     if there {
-        return fields::put_number(s, out, at, n);
+        return fields::put_uinteger(s, out, at, n);
     }
     at
 }
@@ -519,7 +518,7 @@ fn put_middle(
     ensures { λ r. ⌜ Lays (laid (now (out .entry)) at) (middlePieces s v (now (time .entry)) (now (zone .entry))) (now (out .exit)) r ⌝ }
 {
     let has = v.has;
-    let a = number_if(has.priority, s, out, at, v.priority);
+    let a = uinteger_if(has.priority, s, out, at, v.priority);
     let b = block_if(has.timestamp, out, a, time);
     text_if(has.zone, s, out, b, zone)
 }
@@ -543,7 +542,7 @@ fn put_end(
     blob_if(has.authentication, s, out, b, id)
 }
 
-// The whole packet from the first octet on; n is its length field. The place behind it.
+// The whole packet from the first octet on; n is its length field. The place after it.
 pub fn put_packet(
     s: Settings,
     out: &mut [u8],
@@ -576,14 +575,14 @@ pub fn put_packet(
 pub fn secondary_size(h: usize, flags: u8) -> usize
     ensures { λ r. ⌜ r ≡ capped (h + pick (segment flags) 4 0) ⌝ }
 {
-    fields::plus(h, size_if(segmented(flags), COUNTER))
+    fields::plus(h, size_if(segmented(flags), packet::COUNTER))
 }
 
 // A packet with this secondary header and body, told up to the limit.
 pub fn packet_size(secondary: usize, body: usize) -> usize
     ensures { λ r. ⌜ r ≡ capped (6 + secondary + body) ⌝ }
 {
-    fields::plus(fields::plus(PRIMARY, secondary), body)
+    fields::plus(fields::plus(packet::PRIMARY, secondary), body)
 }
 
 fn body_fits(flags: u8, n: usize) -> bool

@@ -1,4 +1,4 @@
--- `cells::is_key` meets its contract: its tests, one behind the other, are the definition's.
+-- `cells::is_key` meets its contract: its tests, one after the other, are the definition's.
 -- Assumes nothing.
 use denote.Ref.{now}
 use native.Mathlib.Omega.{arith}

@@ -14,14 +14,14 @@ Inv-loop s x lengths size₀ from₀ k₀ size from k = Sizing s x lengths size 
 abbrev μ-loop : tie.MeasureT-loop
 μ-loop s x lengths size₀ from₀ k₀ size from k = length lengths - k
 
-number-size-requires : tie.Need-number-size-requires Inv-loop μ-loop
-number-size-requires c κs = search needs
+uinteger-size-requires : tie.Need-uinteger-size-requires Inv-loop μ-loop
+uinteger-size-requires c κs = search needs
 
 plus-requires : tie.Need-plus-requires Inv-loop μ-loop
 plus-requires c κs = search needs
 
 loop-holds : tie.Need-loop-holds Inv-loop μ-loop
-loop-holds c = sizing-first _ _ _ (c .before .number-size .ensures) (c .plus .ensures)
+loop-holds c = sizing-first _ _ _ (c .before .uinteger-size .ensures) (c .plus .ensures)
 
 mul-within : tie.Need-mul-within Inv-loop μ-loop
 mul-within c = search needs
@@ -63,7 +63,7 @@ domain-size-spec =
     (tie.spec
     Inv-loop
     μ-loop
-    number-size-requires
+    uinteger-size-requires
     plus-requires
     loop-holds
     mul-within

@@ -6,8 +6,8 @@ use Rattle.fields.proofs.put_blob.Tie as tie
 use Rattle.fields.specs.Inner.{blobPieces}
 use Rattle.octets.proofs.Laying.{lays-both}
 
-put-number-requires : tie.Need-put-number-requires
-put-number-requires c κs = search needs
+put-uinteger-requires : tie.Need-put-uinteger-requires
+put-uinteger-requires c κs = search needs
 
 lay-requires : tie.Need-lay-requires
 lay-requires c κs = search needs
@@ -17,7 +17,7 @@ same-length c = search needs
 
 returns : tie.Need-returns
 unfolding blobPieces
-returns c = lays-both (c .before .before .before .before .before .before .put-number .ensures) (c .before .before .lay .ensures)
+returns c = lays-both (c .before .before .before .before .before .before .put-uinteger .ensures) (c .before .before .lay .ensures)
 
 pub put-blob-spec : {M : Type 1} → statement M
-put-blob-spec = tie.close (tie.spec put-number-requires lay-requires same-length returns)
+put-blob-spec = tie.close (tie.spec put-uinteger-requires lay-requires same-length returns)

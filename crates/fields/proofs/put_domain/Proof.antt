@@ -8,8 +8,8 @@ use Rattle.fields.proofs.put_domain.Tie as tie
 use Rattle.fields.specs.Inner.{domainPieces}
 use Rattle.octets.proofs.Laying.{lays-both}
 
-put-number-requires : tie.Need-put-number-requires
-put-number-requires c κs = search needs
+put-uinteger-requires : tie.Need-put-uinteger-requires
+put-uinteger-requires c κs = search needs
 
 put-parts-requires : tie.Need-put-parts-requires
 put-parts-requires c κs = search needs
@@ -21,7 +21,7 @@ returns : tie.Need-returns
 unfolding domainPieces
 returns c = rw (length-split (now (c .before .before .before .before .before .before .before .before .before .before .before .args .lengths))
     (now (c .before .before .before .before .before .before .before .before .before .before .before .args .x)))
-    (lays-both (c .before .before .before .before .before .before .put-number .ensures) (c .before .before .put-parts .ensures))
+    (lays-both (c .before .before .before .before .before .before .put-uinteger .ensures) (c .before .before .put-parts .ensures))
 
 pub put-domain-spec : {M : Type 1} → statement M
-put-domain-spec = tie.close (tie.spec put-number-requires put-parts-requires same-length returns)
+put-domain-spec = tie.close (tie.spec put-uinteger-requires put-parts-requires same-length returns)

@@ -1,4 +1,4 @@
--- `flat::put_place` meets its contract: two numbers, one behind the other.
+-- `flat::put_place` meets its contract: two numbers, one after the other.
 -- Assumes nothing.
 use borrow.Author.Needs.{needs}
 use native.Mathlib.Numerals.{add-one}

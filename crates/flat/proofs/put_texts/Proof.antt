@@ -1,4 +1,4 @@
--- `flat::put_texts` meets its contract: its pieces lie one behind the other.
+-- `flat::put_texts` meets its contract: its pieces lie one after the other.
 -- Assumes nothing.
 use borrow.Author.Needs.{needs}
 use Rattle.flat.proofs.Answers.{texts-laid}

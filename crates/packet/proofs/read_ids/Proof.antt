@@ -17,15 +17,15 @@ segmented-requires c κs = search needs
 counter-if-requires : tie.Need-counter-if-requires
 counter-if-requires c κs = search needs
 
-number-if-requires : tie.Need-number-if-requires
-number-if-requires c κs = search needs
+uinteger-if-requires : tie.Need-uinteger-if-requires
+uinteger-if-requires c κs = search needs
 
 returns : tie.Need-returns
 unfolding idsOf
 returns c =
     let g = c .before .before .before .before in
     simp (
-      c .before .before .number-if .ensures,
+      c .before .before .uinteger-if .ensures,
       g .counter-if .ensures,
       g .before .segmented .ensures,
       g .before .before .before .octet-if2 .ensures,
@@ -40,5 +40,5 @@ read-ids-spec =
     octet-if-requires-2
     segmented-requires
     counter-if-requires
-    number-if-requires
+    uinteger-if-requires
     returns)

@@ -15,8 +15,8 @@ use Rattle.steps.proofs.join_packet.Tie as tie
 add-used : tie.Need-add-used
 add-used c = search needs
 
-join-behind-requires : tie.Need-join-behind-requires
-join-behind-requires c κs =
+join-after-requires : tie.Need-join-after-requires
+join-after-requires c κs =
     let g = c .before .before .before .before .before .before .pre in
     (g .0, (g .1 .0, (g .1 .1 .0, g .1 .1 .1 .0)))
 
@@ -46,12 +46,12 @@ add-framed : tie.Need-add-framed
 add-framed c =
     omega (
       arith,
-      message-most _ _ _ _ (c .before .before .before .before .before .before .before .before .join-behind .ensures .0) (c .before .enum-told3 .given .1),
+      message-most _ _ _ _ (c .before .before .before .before .before .before .before .before .join-after .ensures .0) (c .before .enum-told3 .given .1),
     )
 
 framed-requires-2 : tie.Need-framed-requires-2
 framed-requires-2 c κs =
-    message-most _ _ _ _ (c .before .before .before .before .before .before .before .before .join-behind .ensures .0) (c .before .enum-told3 .given .1)
+    message-most _ _ _ _ (c .before .before .before .before .before .before .before .before .join-after .ensures .0) (c .before .enum-told3 .given .1)
 
 same-length : tie.Need-same-length
 same-length c = search needs
@@ -63,9 +63,9 @@ returns : tie.Need-returns
 returns c =
     let g = c .before .before .before .before .before .before .before .before in
     let h = g .before .before .before .before .before .before .before .args in
-    let k = joins-left (now (h .p)) (now (h .out)) (joining _ _ _ _ room) (g .join-behind .ensures .0) (g .join-behind .ensures .1 .1)
+    let k = joins-left (now (h .p)) (now (h .out)) (joining _ _ _ _ room) (g .join-after .ensures .0) (g .join-after .ensures .1 .1)
     (c .before .enum-told .given .1) (c .left .ensures) in
-    (k .0, (g .join-behind .ensures .1 .0, k .1))
+    (k .0, (g .join-after .ensures .1 .0, k .1))
 
 same-length-3 : tie.Need-same-length-3
 same-length-3 c = search needs
@@ -78,9 +78,9 @@ returns-2 c =
     let g = c .before .before .before .before .before .before .before .before .before .before .before .before .before .before .before in
     let h = c .before .before .before .before .before .before in
     let l = g .before .before .before .before .before .before .before .args in
-    let k = joins-whole (now (l .p)) (now (l .out)) (joining _ _ _ _ room) (g .join-behind .ensures .0) (g .join-behind .ensures .1 .1)
+    let k = joins-whole (now (l .p)) (now (l .out)) (joining _ _ _ _ room) (g .join-after .ensures .0) (g .join-after .ensures .1 .1)
     (h .before .before .enum-told2 .given .1) (h .put-whole .ensures .0) (h .put-whole .ensures .1) (c .before .before .framed .ensures .1) in
-    (c .before .before .framed .ensures .0 ∙ k .0, (g .join-behind .ensures .1 .0, k .1))
+    (c .before .before .framed .ensures .0 ∙ k .0, (g .join-after .ensures .1 .0, k .1))
 
 same-length-5 : tie.Need-same-length-5
 same-length-5 c = search needs
@@ -90,11 +90,11 @@ same-length-6 c = search needs
 
 returns-3 : tie.Need-returns-3
 returns-3 c =
-    let g = c .before .before .before .before .before .before .before .before .before .before .before .join-behind .ensures in
+    let g = c .before .before .before .before .before .before .before .before .before .before .before .join-after .ensures in
     let k = joins-message _ _ _ _ _ (g .0) (g .1 .1) (c .before .before .before .before .enum-told3 .given .1) refl (c .before .before .framed2 .ensures .1) in
     (c .before .before .framed2 .ensures .0 ∙ k .0, (g .1 .0, k .1))
 
 pub join-packet-spec : {M : Type 1} → statement M
 join-packet-spec =
-    tie.close (tie.spec add-used join-behind-requires enum-told left-requires enum-told-2 put-whole-requires framed-requires enum-told-3 add-framed
+    tie.close (tie.spec add-used join-after-requires enum-told left-requires enum-told-2 put-whole-requires framed-requires enum-told-3 add-framed
     framed-requires-2 same-length same-length-2 returns same-length-3 same-length-4 returns-2 same-length-5 same-length-6 returns-3)

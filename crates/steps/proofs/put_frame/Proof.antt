@@ -1,4 +1,4 @@
--- `steps::put_frame` meets its contract: the mark, and behind it the length.
+-- `steps::put_frame` meets its contract: the mark, and after it the length.
 -- Assumes nothing.
 use Prim.Native.Nat.{ℕ}
 use mathlib.Core.Path.{ap, _∙_}

@@ -1,4 +1,4 @@
--- `steps::put_whole` meets its contract: two parts of the packet, one behind the other.
+-- `steps::put_whole` meets its contract: two parts of the packet, one after the other.
 -- Assumes nothing.
 use denote.Ref.{now}
 use native.Mathlib.Omega.{arith}

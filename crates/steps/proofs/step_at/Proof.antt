@@ -1,4 +1,4 @@
--- `steps::step_at` meets its contract: by the room behind the place.
+-- `steps::step_at` meets its contract: by the room after the place.
 -- Assumes nothing.
 use native.Mathlib.Omega.{arith}
 use borrow.Author.Needs.{needs}

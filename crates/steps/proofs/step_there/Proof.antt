@@ -1,4 +1,4 @@
--- `steps::step_there` meets its contract: the step has the part of the output behind the place.
+-- `steps::step_there` meets its contract: the step has the part of the output after the place.
 -- Assumes nothing.
 use denote.Ref.{now}
 use Prim.Native.Nat.{_+_, _-_}

@@ -1,4 +1,4 @@
--- `taking::take_chained` meets its contract: at first no cell is on a chain, and behind the pass each held one is.
+-- `taking::take_chained` meets its contract: at first no cell is on a chain, and after the pass each held one is.
 -- Assumes nothing.
 use Prim.Native.Nat.{ℕ}
 use lib.ListN.{length-replicate}

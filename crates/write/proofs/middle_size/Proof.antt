@@ -5,8 +5,8 @@ use Rattle.write.proofs.middle_size.Statement.{statement}
 use Rattle.write.proofs.middle_size.Tie as tie
 use Rattle.write.specs.Inner.{middleSize}
 
-number-size-requires : tie.Need-number-size-requires
-number-size-requires c κs = search needs
+uinteger-size-requires : tie.Need-uinteger-size-requires
+uinteger-size-requires c κs = search needs
 
 size-if-requires : tie.Need-size-if-requires
 size-if-requires c κs = search needs
@@ -37,14 +37,14 @@ returns c =
       g .text-size .ensures,
       g .before .size-if2 .ensures,
       g .before .before .size-if .ensures,
-      g .before .before .before .number-size .ensures,
+      g .before .before .before .uinteger-size .ensures,
     )
 
 pub middle-size-spec : {M : Type 1} → statement M
 middle-size-spec =
     tie.close
     (tie.spec
-    number-size-requires
+    uinteger-size-requires
     size-if-requires
     size-if-requires-2
     text-size-requires

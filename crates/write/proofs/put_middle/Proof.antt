@@ -6,8 +6,8 @@ use Rattle.write.proofs.put_middle.Statement.{statement}
 use Rattle.write.proofs.put_middle.Tie as tie
 use Rattle.write.specs.Inner.{middlePieces}
 
-number-if-requires : tie.Need-number-if-requires
-number-if-requires c κs = search needs
+uinteger-if-requires : tie.Need-uinteger-if-requires
+uinteger-if-requires c κs = search needs
 
 block-if-requires : tie.Need-block-if-requires
 block-if-requires c κs = search needs
@@ -21,9 +21,9 @@ same-length c = search needs
 returns : tie.Need-returns
 unfolding middlePieces
 returns c =
-    lays-both (c .before .before .before .before .before .before .before .before .before .before .number-if .ensures)
+    lays-both (c .before .before .before .before .before .before .before .before .before .before .uinteger-if .ensures)
     (lays-both (c .before .before .before .before .before .before .block-if .ensures) (c .before .before .text-if .ensures))
 
 pub put-middle-spec : {M : Type 1} → statement M
 put-middle-spec =
-    tie.close (tie.spec number-if-requires block-if-requires text-if-requires same-length returns)
+    tie.close (tie.spec uinteger-if-requires block-if-requires text-if-requires same-length returns)

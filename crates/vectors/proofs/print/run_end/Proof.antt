@@ -1,4 +1,4 @@
--- `vectors::print::run_end` is safe and ends. The loop's invariant: the place is behind the first and inside.
+-- `vectors::print::run_end` is safe and ends. The loop's invariant: the place is after the first and inside.
 -- Assumes nothing.
 use Prim.Native.Nat.{_≤_, _<_, _-_}
 use borrow.Author.Needs.{needs}

@@ -1,9 +1,9 @@
--- `fields::put_number` meets its contract: the Varint is written whole or not at all.
+-- `fields::put_uinteger` meets its contract: the Varint is written whole or not at all.
 -- Assumes nothing.
 use borrow.Author.Needs.{needs}
 use Rattle.fields.proofs.Written.{number-done, number-full}
-use Rattle.fields.proofs.put_number.Statement.{statement}
-use Rattle.fields.proofs.put_number.Tie as tie
+use Rattle.fields.proofs.put_uinteger.Statement.{statement}
+use Rattle.fields.proofs.put_uinteger.Tie as tie
 
 put-requires : tie.Need-put-requires
 put-requires c κs = search needs
@@ -26,7 +26,7 @@ same-length-2 c = search needs
 returns-2 : tie.Need-returns-2
 returns-2 c = number-full _ _ _ _ _ (c .before .before .before .before .put .ensures .0) (c .before .before .before .before .put .ensures .1) (c .enum-told .given .1)
 
-pub put-number-spec : {M : Type 1} → statement M
-put-number-spec =
+pub put-uinteger-spec : {M : Type 1} → statement M
+put-uinteger-spec =
     tie.close
     (tie.spec put-requires enum-known-next enum-told same-length returns same-length-2 returns-2)

@@ -1,4 +1,4 @@
--- `steps::join_behind` meets its contract: joining has the part of the output behind the room for mark and length.
+-- `steps::join_after` meets its contract: joining has the part of the output after the room for mark and length.
 -- Assumes nothing.
 use denote.Ref.{now}
 use Prim.Native.Nat.{ℕ}
@@ -9,8 +9,8 @@ use Rattle.join.specs.Told.{joinedOf}
 use Rattle.join.proofs.Inner.{joining-open, store-open, out-open}
 use Rattle.steps.proofs.Joins.{lent-long, behind-out}
 use borrow.Author.Needs.{needs}
-use Rattle.steps.proofs.join_behind.Statement.{statement}
-use Rattle.steps.proofs.join_behind.Tie as tie
+use Rattle.steps.proofs.join_after.Statement.{statement}
+use Rattle.steps.proofs.join_after.Tie as tie
 
 add-to : tie.Need-add-to
 add-to c = search needs
@@ -48,5 +48,5 @@ returns c =
       ),
     )
 
-pub join-behind-spec : {M : Type 1} → statement M
-join-behind-spec = tie.close (tie.spec add-to sub-join-in part-join-in-start part-join-in-end join-in-requires same-length same-length-2 returns)
+pub join-after-spec : {M : Type 1} → statement M
+join-after-spec = tie.close (tie.spec add-to sub-join-in part-join-in-start part-join-in-end join-in-requires same-length same-length-2 returns)
