@@ -101,19 +101,24 @@ static void reading(struct rest in) {
     struct orl_read_answer r;
     memset(&r, 0xaa, sizeof r);
     orl_read(t, packet, length, &r);
-    hold(r.refusal <= 15 || r.refusal == 27, "reading gives 1 to 15 or 27");
+    hold(r.refusal <= 15 || r.refusal == 27 || r.refusal == 28, "reading gives 1 to 15, 27 or 28");
     hold_told(packet, length, r.refusal, r.off, r.began);
     if (r.refusal != 0) {
-        hold(all_zero(&r, offsetof(struct orl_read_answer, off)), "a refused reading tells zeros");
+        hold(all_zero(&r, offsetof(struct orl_read_answer, off)) && r.withdrawn == 0, "a refused reading tells zeros");
     } else {
         struct message m = {0};
         uint8_t room[256], *out = malloc(length);
         struct orl_write_answer w;
         hold(r.body.place + r.body.length == length, "the body ends the packet");
+        hold(r.withdrawn == r.has_zone, "a header with a zone is of the withdrawn kind");
         message_of(packet, &r, room, &m);
         orl_write(t, &m.header, TEXTS(&m), r.flags, r.sequence_count, r.counter, packet + r.body.place, r.body.length, out, length,
                   &w);
-        hold(w.refusal == 0 && w.length == length && memcmp(out, packet, length) == 0, "what reads writes back");
+        if (r.has_zone) {
+            hold(w.refusal == 30 && w.length == 0, "a zone is withdrawn");
+        } else {
+            hold(w.refusal == 0 && w.length == length && memcmp(out, packet, length) == 0, "what reads writes back");
+        }
         free(out);
     }
     free(packet);
@@ -125,6 +130,7 @@ static void any_message(struct rest *in, struct message *m, uint8_t *held[5]) {
     uint64_t *n = &m->header.packet_type, present = number(in, 1), wide = number(in, 1);
     for (int i = 0; i < 24; i++) n[i] = number(in, width[i]);
     for (int i = 0; i < 8; i++) n[13 + i] = present >> (7 - i) & 1;
+    if (wide % 8) n[17] = 0; /* a zone is withdrawn, and refused by 30 */
     n[0] &= 1, n[1] &= 2047, n[7] &= 1, n[8] &= 3, n[10] &= 2047;
     for (int i = 0; i < 3; i++) n[21 + i] *= n[13 + i];
     if (wide > 230) n[wide % 24] = number(in, 8);

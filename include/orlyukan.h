@@ -57,10 +57,11 @@
  *   26  there is no packet with this number
  *   27  the slice is longer than the packet's length field says: off octets are left over
  *   28  a network zone, session name or domain part that is not well-formed UTF-8
+ *   30  a network zone to write or to cut: it is withdrawn
  *
  * If several apply, the answer is the one that comes first: reading 15, 1 to 4, 5 or 27, then as the header is read from left to
- * right, 14; writing 15, 22, 13, 28, 23, 12, 14, 21; cutting 15, 22, 13, 28, 23, 12, 24, 25, 26, 21; arrival 15, 16, those of
- * reading, 17, 18, 19; taking 15, 16, 20, 21.
+ * right, 14; writing 15, 22, 30, 13, 28, 23, 12, 14, 21; cutting 15, 22, 30, 13, 28, 23, 12, 24, 25, 26, 21; arrival 15, 16, those
+ * of reading, 17, 18, 19; taking 15, 16, 20, 21.
  *
  * What 5, 27 and 6 tell, in the answers of reading, arrival and joining
  *
@@ -136,7 +137,8 @@ struct orl_header {
  * The texts of a header, in every call that takes one: a timestamp of T octets; network zone, session name and authentication
  * id of at most 65,535 octets each; and the domain as one text, all its parts one after the other, beside domain_count lengths
  * of at most sixteen parts, which add up to domain_length. An absent domain has no length. Zone, session name and each domain
- * part by itself are well-formed UTF-8; the authentication id is octets of any value.
+ * part by itself are well-formed UTF-8; the authentication id is octets of any value. A network zone is withdrawn: has_zone 1 is
+ * refused by 30, also with an empty zone. Packets with a zone are read, stored and taken as all others.
  */
 
 /* ---- the sequence count ---- */
@@ -194,6 +196,7 @@ struct orl_read_answer {
     struct orl_place body; /* of length 0 at the packet's end if it is empty */
     uint64_t off;          /* beside 5 and 27 */
     uint64_t began;        /* beside 6 */
+    uint64_t withdrawn;    /* 1 if the packet has a network zone, present and withdrawn; else 0 */
 };
 
 /* Reads one whole packet. */

@@ -9,9 +9,9 @@ is told in crates/vectors/src/main.rt; a call is added by a row of CALLS.
 To the cases of reading those of damaged() are added: figure 14 with each octet changed, cut and lengthened, its length field left or set
 right, and packets whose last field is not whole. Their answers are
 those of tests/model.py, which must agree with the file on every case of its own. To the cases of writing and cutting are added
-figure 14 written, and numbers one above what the type of their field holds, which are refused by 22 and never cut to the width. To
-those of the view are added views of no buffer, to those of a recording outputs just too short and just long enough. Where and why a
-recording stops is told by stop(), which knows marks and length fields and nothing else.
+figure 14 written, numbers one above what the type of their field holds, which are refused by 22 and never cut to the width, and headers
+with a zone, alone and beside every other fault. To those of the view are added views of no buffer, to those of a recording outputs just
+too short and just long enough. Where and why a recording stops is told by stop(), which knows marks and length fields and nothing else.
 """
 
 import itertools
@@ -24,7 +24,7 @@ import model
 
 CRATE = pathlib.Path(__file__).resolve().parent.parent / "crates" / "vectors"
 # The change requests that have landed and have cases of their own, in the order in which they landed.
-LANDED = ("T-01", "T-04")
+LANDED = ("T-01", "T-04", "T-12")
 MOST_IN_PAIR = 255
 FIGURE_14 = bytes.fromhex("18 05 C0 00 00 14 00 00 01 00 02 00 03 01 20 06 00 07 00 00 00 00 00 00 00 09 00")
 
@@ -120,7 +120,7 @@ def read_line(row):
     numbers += part(a["zone"]) + part(a["session_name"]) + [a["domain_count"]]
     for p in a["domain"]:
         numbers += part(p)
-    return line(numbers + part(a["authentication"]) + [a["H"]] + part(a["body"]) + told(a))
+    return line(numbers + part(a["authentication"]) + [a["H"]] + part(a["body"]) + told(a) + [a["withdrawn"]])
 
 
 HEADER_NUMBERS = (
@@ -397,9 +397,52 @@ def wide_cut_rows():
 
 
 def cut_row(changed, numbers, most, refusal):
-    row = {"T": 8, "P": most, "header": HEADER_14 | changed, "sender": numbers, "body_length": 6, "body": "01*6", "i": 0}
+    header = HEADER_14 | {name: value for name, value in changed.items() if name in HEADER_14}
+    row = {"T": changed.get("T", 8), "P": most, "header": header, "sender": numbers, "body_length": 6, "body": "01*6", "i": 0}
     told = {"refusal": refusal, "count": 0, "length": 0, "sender": numbers}
     return row | {"out": OUT_14, "expect": {"answer": told, "out": OUT_14}}
+
+
+# Headers with a zone, and what the writer and the cutter refuse them by: 30, unless 15 or 22 comes before it.
+ZONE = {"has_zone": 1, "zone": "61"}
+ZONES = [({"has_zone": 1, "zone": zone}, 30) for zone in ("", "61", "ff", "c3a9", "61*300", "61*65535")]
+ZONES += [({"has_zone": 1, "zone": "61*65536"}, 22), ({"zone": "61"}, 22), ({"zone": "61*65536"}, 22)]
+ZONES += [(ZONE | {name: value}, 22) for name, value in TOO_WIDE.items() if name != "has_zone"]
+ZONES += [
+    (ZONE | changed, refusal)
+    for changed, refusal in (
+        ({"T": 0}, 15),
+        ({"T": 17}, 15),
+        ({"apid": 2047}, 22),
+        ({"source": 1}, 22),
+        ({"session_name": "61"}, 22),
+        ({"has_timestamp": 1, "timestamp": "00*7"}, 22),
+        ({"has_domain": 1, "domain": "61", "domain_lengths": [2]}, 22),
+        ({"domain_lengths": [0]}, 22),
+        ({"has_authentication": 1, "authentication": "61*65536"}, 22),
+        ({"has_domain": 1, "domain": "61*17", "domain_lengths": [1] * 17}, 30),
+        ({"has_session_name": 1, "session_name": "ff"}, 30),
+        ({"has_domain": 1, "domain": "c3a9", "domain_lengths": [1, 1]}, 30),
+        ({"has_authentication": 1, "authentication": "61*300"}, 30),
+    )
+]
+
+
+def withdrawn_rows():
+    """A zone to write and to cut: alone, and beside every other fault."""
+    own = [({"flags": 4}, 22), ({"seq": 16384}, 22), ({"counter": 1}, 22), ({"body": "01*65536"}, 30), ({"flags": 1}, 30), ({"out": ""}, 30)]
+    for changed, refusal in ZONES + [(ZONE | changed, refusal) for changed, refusal in own]:
+        row = write_row(changed, refusal)
+        yield CALLS["write"], row | {"expect": row["expect"] | {"out": row["out"]}}
+    start, last, none = ({"seq": 5, "counter": counter} for counter in (7, (1 << 32) - 1, None))
+    rows = [cut_row(changed, start, 32, refusal) for changed, refusal in ZONES]
+    rows += [cut_row(ZONE, {"seq": 16384, "counter": 7}, 32, 22), cut_row(ZONE, {"seq": 5, "counter": 1 << 32}, 32, 22)]
+    rows += [cut_row(ZONE, start, most, refusal) for most, refusal in ((26, 15), (65543, 15), (27, 30), (65542, 30))]
+    rows += [cut_row(ZONE, sender, 64, 30) | {"body": "01*38", "body_length": 38} for sender in (start, last, none)]
+    rows += [cut_row(ZONE, start, 64, 30) | {"body": "01*1048577", "body_length": 1048577}, cut_row(ZONE, start, 64, 30) | {"i": 9}]
+    for row in rows:
+        yield CALLS["count"], row
+        yield CALLS["packet"], row
 
 
 def varint_figures():
@@ -497,6 +540,8 @@ def cases(vectors):
     for row in wide_cut_rows():
         yield "numbers too wide", CALLS["count"], row
         yield "numbers too wide", CALLS["packet"], row
+    for call, row in withdrawn_rows():
+        yield "zones to write", call, row
     for row in view_rows():
         yield "views of no buffer", CALLS["view"], row
     for row in short_rows():

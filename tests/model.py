@@ -88,7 +88,7 @@ def nothing():
     answer.update({"has_" + name: 0 for name in PRESENCE})
     answer.update(dict.fromkeys(("source", "destination", "counter", "priority", "timestamp"), 0))
     answer.update(zone=nowhere(), session_name=nowhere(), domain_count=0, domain=[nowhere() for _ in range(PARTS)],
-                  authentication=nowhere(), H=0, body=nowhere(), off=0, began=0)
+                  authentication=nowhere(), H=0, body=nowhere(), off=0, began=0, withdrawn=0)
     return answer
 
 
@@ -194,6 +194,7 @@ def read(t, packet):
         return nothing() | refused.told
     a["H"] = data.at - 6 - (4 if a["flags"] != 3 else 0)
     a["body"] = {"place": data.at, "length": body}
+    a["withdrawn"] = a["has_zone"]
     return a
 
 

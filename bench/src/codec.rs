@@ -107,10 +107,10 @@ fn cut() {
     line("cut", "1 MiB at P 1,022: the count and 1,059 packets", times, "-");
 }
 
-/// The count for a header with a long zone: all of it is looked through, and then it is refused by 12. The model goes by Rust's own
+/// The count for a header with a long session name: all of it is looked through, and then it is refused by 12. The model goes by Rust's own
 /// test of UTF-8, so that but for some tens of nanoseconds the ratio is that of the two tests.
-fn text(shape: &str, zone: &[u8]) {
-    let header = Header { has_zone: 1, zone, ..plain(9) };
+fn text(shape: &str, session_name: &[u8]) {
+    let header = Header { has_session_name: 1, session_name, ..plain(9) };
     let lent = values(&header);
     let given = Sender { sequence_count: SequenceCount(5), counter: Next::At(SegmentCounter(7)) };
     let model_given = model::Sender { sequence_count: 5, counter: Some(7) };
@@ -136,11 +136,14 @@ fn repeated(characters: &str, octets: usize) -> Vec<u8> {
 
 pub fn run() {
     read("60 octets, plain", &packet(&plain(9), 3, 3, 0, 60));
-    read("1,000 octets, every optional field, sixteen parts", &packet(&full(), 1, 3, 77, 1000));
+    read("1,000 octets, every optional field but a zone, sixteen parts", &packet(&full(), 1, 3, 77, 1000));
     write("60 octets, plain", &plain(9), 3, 0, 60);
-    write("1,000 octets, every optional field, sixteen parts", &full(), 1, 77, 1000);
+    write("1,000 octets, every optional field but a zone, sixteen parts", &full(), 1, 77, 1000);
     cut();
-    text("a zone of 65,535 octets, all ASCII", &repeated("pipe inspection, north ", 65_535));
-    text("a zone of 65,535 octets, each fourth character of two or three in turn", &repeated("pip\u{e9}nor\u{20ac}", 65_535));
-    text("a zone of 65,535 octets, all of three", &repeated("\u{20ac}", 65_535));
+    text("a session name of 65,535 octets, all ASCII", &repeated("pipe inspection, north ", 65_535));
+    text(
+        "a session name of 65,535 octets, each fourth character of two or three in turn",
+        &repeated("pip\u{e9}nor\u{20ac}", 65_535),
+    );
+    text("a session name of 65,535 octets, all of three", &repeated("\u{20ac}", 65_535));
 }

@@ -21,14 +21,13 @@ pub fn plain(transaction: u64) -> Header<'static> {
     }
 }
 
-/// Every optional field, and a domain of sixteen parts.
+/// Every optional field but a network zone, which is withdrawn, and a domain of sixteen parts.
 pub fn full() -> Header<'static> {
     Header {
         has_source: 1,
         has_destination: 1,
         has_priority: 1,
         has_timestamp: 1,
-        has_zone: 1,
         has_session_name: 1,
         has_domain: 1,
         has_authentication: 1,
@@ -36,7 +35,6 @@ pub fn full() -> Header<'static> {
         destination: 34,
         priority: 70_000,
         timestamp: b"8 octets",
-        zone: b"ground-1",
         session_name: b"pipe inspection",
         domain: b"esteamkm40lagthermalpodcameratilesnorthsouthflightpilotkeyab",
         domain_lengths: &[1, 5, 2, 2, 3, 7, 3, 6, 5, 5, 5, 6, 5, 1, 2, 2],

@@ -203,8 +203,9 @@ def after_segment(sender):
 
 
 def read(t, packet):
-    """Reads one packet whose timestamp, if it has one, is of t octets: every value of its header, every place, H and the body."""
-    n = _run("read", 74, _setting(t), *_lent(packet))
+    """Reads one packet whose timestamp, if it has one, is of t octets: every value of its header, every place, H and the body.
+    `withdrawn` is 1 if it has a network zone."""
+    n = _run("read", 75, _setting(t), *_lent(packet))
     timestamp, zone, session_name = _places(n[28:34])
     parts = _places(n[35 : 35 + 2 * _PARTS])
     authentication = _places(n[67:69])[0]
@@ -221,6 +222,7 @@ def read(t, packet):
         body=body,
         off=n[72],
         began=n[73],
+        withdrawn=n[74],
     )
 
 

@@ -18,7 +18,7 @@ VECTORS = pathlib.Path(os.environ.get("ORLYUKAN_VECTORS", ROOT.parent / "shared"
 FIGURE_14 = bytes.fromhex("18 05 C0 00 00 14 00 00 01 00 02 00 03 01 20 06 00 07 00 00 00 00 00 00 00 09 00")
 HUGE = (-1, 2**64, 2**64 + 5, -(2**70), 2**200)
 # The change requests that have landed and have cases of their own, in the order in which they landed.
-LANDED = ("T-01", "T-04")
+LANDED = ("T-01", "T-04", "T-12")
 # The cases' names for what the calls name otherwise.
 NAMES = {"seq": "sequence_count", "c": "counter"}
 PRESENCE = "source destination priority timestamp zone session_name domain authentication".split()
@@ -197,18 +197,18 @@ class Names(unittest.TestCase):
         self.assertEqual(orlyukan._NUMBERS, self.fields("header"))
 
     def test_every_field(self):
-        """One packet with every field, each of another value, written and read back, each compared by its name."""
+        """One packet with every field but a zone, each of another value, written and read back, each compared by its name."""
         names = [name for name in self.fields("header") if not name.startswith("has_")]
         values = (1, 291, 17, 4370, 8482, 12594, 65, 0, 3, 2, 837, 20818, 2**63 + 9, 113, 114, 300)
         self.assertEqual(len(names), len(values))
-        given = dict(zip(names, values)) | {"has_" + name: 1 for name in PRESENCE}
-        texts = {"timestamp": b"7octets", "zone": b"zn", "session_name": b"ses", "authentication": b"authn"}
+        given = dict(zip(names, values)) | {"has_" + name: 1 for name in PRESENCE} | {"has_zone": 0}
+        texts = {"timestamp": b"7octets", "zone": b"", "session_name": b"ses", "authentication": b"authn"}
         parts = [bytes([97 + k]) * (k + 1) for k in range(16)]
         domain = {"domain": b"".join(parts), "domain_lengths": [len(part) for part in parts]}
         out = bytearray(300)
         length = orlyukan.write(7, given | texts | domain, 1, 6699, 2172814212, b"tile", out).length
         answer = orlyukan.read(7, out[:length])
-        own = {"refusal": 0, "flags": 1, "sequence_count": 6699, "counter": 2172814212, "domain_count": 16, "H": 214}
+        own = {"refusal": 0, "flags": 1, "sequence_count": 6699, "counter": 2172814212, "domain_count": 16, "H": 211, "withdrawn": 0}
         for name, value in (given | own).items():
             self.assertEqual(answer[name], value, name)
         for name, text in (texts | {"body": b"tile"}).items():
@@ -229,9 +229,9 @@ class Numbers(unittest.TestCase):
         self.assertEqual((answer.refusal, answer.apid, answer["transaction"], answer.H, answer.body.place), (0, 5, 9, 21, 27))
 
     def test_text(self):
-        """Zone, session name and each domain part are UTF-8; the authentication id is octets of any value."""
+        """The session name and each domain part are UTF-8; the authentication id is octets of any value."""
         out = bytearray(64)
-        for name in ("zone", "session_name", "authentication"):
+        for name in ("session_name", "authentication"):
             for text, refusal in (("\u20ac".encode(), 0), (b"", 0), (b"\xed\xa0\x80", 28), (b"\xff", 28)):
                 values = figure_14() | {"has_" + name: 1, name: text}
                 refusal = 0 if name == "authentication" else refusal
@@ -240,6 +240,31 @@ class Numbers(unittest.TestCase):
         for lengths, refusal in (([2], 0), ([1, 1], 28), ([0, 2, 0], 0)):
             values = figure_14() | {"has_domain": 1, "domain": b"\xc3\xa9", "domain_lengths": lengths}
             self.assertEqual(orlyukan.write(8, values, 3, 0, 0, b"", out).refusal, refusal, lengths)
+
+    def test_withdrawn(self):
+        """A zone is refused by 30, after 15 and 22 and before all else; what has one is read, and told so, stored and taken."""
+        for changed, refusal in (
+            *(({"zone": zone}, 30) for zone in (b"", b"north", b"\xff", bytes(65535))),
+            *(({"zone": bytes(65536)}, 22), ({"zone": b"a", "has_zone": 0}, 22), ({"zone": b"a", "apid": 2047}, 22)),
+            ({"zone": b"a", "has_domain": 1, "domain": b"\xff" * 17, "domain_lengths": [1] * 17}, 30),
+        ):
+            values, out = figure_14() | {"has_zone": 1} | changed, bytearray(64)
+            self.assertEqual(told(orlyukan.write(8, values, 3, 0, 0, b"", out)), {"refusal": refusal, "length": 0})
+            self.assertEqual(orlyukan.cut_count(8, 64, values, 5, self.sender).refusal, refusal)
+            self.assertEqual(orlyukan.cut_packet(8, 64, values, b"12345", self.sender, 0, out).refusal, refusal)
+            self.assertEqual(orlyukan.write(0, values, 3, 0, 0, b"", out).refusal, 15)
+            self.assertEqual(out, bytes(64))
+        header, body = FIGURE_14[6:26] + b"\x08", b"tile"
+        store, out = bytearray(2048), bytearray(64)
+        for flags, counter, part in ((0x40, 7, body[:3]), (0x80, 8, body[3:])):
+            data = header + counter.to_bytes(4, "big") + b"\x05north" + part
+            packet = FIGURE_14[:2] + bytes([flags, 0]) + (len(data) - 1).to_bytes(2, "big") + data
+            answer = orlyukan.read(8, packet)
+            self.assertEqual((answer.refusal, answer.has_zone, answer.withdrawn), (0, 1, 1))
+            self.assertEqual(orlyukan.arrive(8, store, packet).kind, "stored")
+            self.assertEqual((orlyukan.read(8, packet[:-1]).refusal, orlyukan.read(8, packet[:-1]).withdrawn), (5, 0))
+        self.assertEqual(told(orlyukan.take(8, store, out)), {"refusal": 0, "H": 27, "B": 4, "counter": 7})
+        self.assertEqual(out[:33], FIGURE_14[:2] + header + b"\x05north" + body)
 
     def test_next_sequence_count(self):
         for given, refusal, following in ((0, 0, 1), (16382, 0, 16383), (16383, 0, 0), (65535, 0, 0), (65536, 22, 0)):

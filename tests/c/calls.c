@@ -150,13 +150,49 @@ static uint64_t text(int field, uint8_t first, uint8_t second, uint64_t part) {
 }
 
 static void texts(void) {
-    expect("a zone", text(0, 0xC3, 0xA9, 0), 0);
-    expect("a zone that is no text", text(0, 0xC3, 0xC3, 0), 28);
+    expect("a zone", text(0, 0xC3, 0xA9, 0), 30);
+    expect("a zone that is no text", text(0, 0xC3, 0xC3, 0), 30);
     expect("a session name", text(1, 0x00, 0x7F, 0), 0);
     expect("a session name that is no text", text(1, 0x7F, 0x80, 0), 28);
     expect("a domain part of two octets", text(2, 0xC3, 0xA9, 2), 0);
     expect("the same in two parts", text(2, 0xC3, 0xA9, 1), 28);
     expect("an authentication id", text(3, 0xFF, 0x80, 0), 0);
+}
+
+/* Figure 14 with a zone of so many octets, written and cut: the refusal of all three calls. */
+static void withdrawn(const char *what, uint64_t t, uint64_t apid, uint64_t has_zone, size_t length, size_t parts, uint64_t refusal) {
+    static uint8_t octets[65536];
+    static const uint64_t lengths[17] = {1, 1, 1, 1, 1, 1, 1, 1, 1, 1, 1, 1, 1, 1, 1, 1, 1};
+    struct orl_header h = header_14();
+    struct orl_sender s = sender(7, 1, 300);
+    struct orl_write_answer w;
+    struct orl_cut_count_answer c;
+    struct orl_cut_packet_answer p;
+    uint8_t out[40];
+    h.apid = apid;
+    h.has_zone = has_zone;
+    h.has_domain = parts > 0;
+    memset(out, 0xEE, sizeof out);
+    orl_write(t, &h, none, 0, octets, length, none, 0, octets, parts, lengths, parts, none, 0, 3, 0, 0, none, 0, out, sizeof out, &w);
+    expect(what, w.refusal, refusal);
+    orl_cut_count(t, 64, &h, none, 0, octets, length, none, 0, octets, parts, lengths, parts, none, 0, 5, &s, &c);
+    expect(what, c.refusal, refusal);
+    expect_sender(what, c.sender, s);
+    orl_cut_packet(t, 64, &h, none, 0, octets, length, none, 0, octets, parts, lengths, parts, none, 0, octets, 5, &s, 0, out, sizeof out,
+                   &p);
+    expect(what, p.refusal, refusal);
+    expect_sender(what, p.sender, s);
+    expect("untouched", out[0], 0xEE);
+}
+
+static void zones(void) {
+    withdrawn("an empty zone", 8, 5, 1, 0, 0, 30);
+    withdrawn("the longest zone", 8, 5, 1, 65535, 0, 30);
+    withdrawn("a zone of one octet more", 8, 5, 1, 65536, 0, 22);
+    withdrawn("an absent zone with text", 8, 5, 0, 1, 0, 22);
+    withdrawn("a zone, T 0", 0, 5, 1, 1, 0, 15);
+    withdrawn("a zone, APID 2047", 8, 2047, 1, 1, 0, 22);
+    withdrawn("a zone, seventeen domain parts", 8, 5, 1, 1, 17, 30);
 }
 
 static void next_count(uint64_t sequence_count, uint64_t refusal, uint64_t next) {
@@ -356,6 +392,7 @@ int main(void) {
     refusals();
     writing();
     texts();
+    zones();
     numbers();
     cutting();
     storing();

@@ -101,7 +101,8 @@ FIELD(orl_read_answer, H, 69, 1);
 FIELD(orl_read_answer, body, 70, 2);
 FIELD(orl_read_answer, off, 72, 1);
 FIELD(orl_read_answer, began, 73, 1);
-WHOLE(orl_read_answer, 74);
+FIELD(orl_read_answer, withdrawn, 74, 1);
+WHOLE(orl_read_answer, 75);
 
 /* writeNumbers */
 FIELD(orl_write_answer, refusal, 0, 1);

@@ -93,6 +93,8 @@ pub struct Reading {
     pub body: Place,
     pub off: u64,
     pub began: u64,
+    /// 1 if it has a network zone, which is withdrawn.
+    pub withdrawn: u64,
 }
 
 /// The octets that a written packet took.

@@ -62,7 +62,7 @@ read t p = reading (settingsOf t) p
 write : (t : ℕ) (h : List ℕ) (x : Lent) (flags count counter : ℕ) (body : List ℕ) (room : ℕ) → Refuses ofWriting (writeNumbers t h x flags count counter body room)
 unfolding writeNumbers writeAnswer
 write t h x flags count counter body room =
-    picked (Refuses ofWriting) (writeFits h flags count counter) _ _ (writing _ _ _ _ _ _) (write-wide (settingsOf t))
+    picked (Refuses ofWriting) (writeFits h flags count counter) _ _ (writing _ _ _ _ _ _ _) (write-wide (settingsOf t))
 
 after-packet : (d : List ℕ) → Refuses ofWidths (afterPacketNumbers d)
 unfolding afterPacketNumbers
@@ -74,12 +74,12 @@ after-segment d = picked (Refuses ofWidths) (senderFits d) _ _ (among (0 ∷ ofW
 
 cut-count : (t P : ℕ) (h : List ℕ) (x : Lent) (B : ℕ) (d : List ℕ) → Refuses ofCount (countNumbers t P h x B d)
 unfolding countNumbers countAnswer
-cut-count t P h x B d = picked (Refuses ofCount) (cutFits h d) _ _ (count _ _ _ _ _ _) (count-wide (settingsOf t) P)
+cut-count t P h x B d = picked (Refuses ofCount) (cutFits h d) _ _ (count _ _ _ _ _ _ _) (count-wide (settingsOf t) P)
 
 cut-packet : (t P : ℕ) (h : List ℕ) (x : Lent) (body d : List ℕ) (i room : ℕ) → Refuses ofCutting (packetNumbers t P h x body d i room)
 unfolding packetNumbers packetAnswer
 cut-packet t P h x body d i room =
-    picked (Refuses ofCutting) (cutFits h d) _ _ (cutting _ _ _ _ _ _ _ _) (cut-wide (settingsOf t) P)
+    picked (Refuses ofCutting) (cutFits h d) _ _ (cutting _ _ _ _ _ _ _ _ _) (cut-wide (settingsOf t) P)
 
 inside : (n place long : ℕ) → Refuses ofWidths (insideNumbers n place long)
 unfolding insideNumbers

@@ -23,7 +23,7 @@ pub extern "C" fn orl_next_sequence_count(sequence_count: u64, answer: &mut [u64
 
 // Reading a packet.
 #[no_mangle]
-pub extern "C" fn orl_read(t: u64, packet: &[u8], answer: &mut [u64; 74])
+pub extern "C" fn orl_read(t: u64, packet: &[u8], answer: &mut [u64; 75])
     ensures { λ r. ⌜ now (answer .exit) ≡ readNumbers (readPacket (settingsOf t) (now (packet .entry))) ⌝ }
 {
     *answer = flat::read(t, packet);

@@ -1,7 +1,8 @@
 -- The arguments of `cut::count` and of `cut::packet` by their names, and the output afterwards: so that a law over a generated contract
--- says which is which.
+-- says which is which. And those of `cut::count_by` and `cut::packet_by`, which have one more before them.
 -- Assumes nothing: these are definitions.
 use Prim.Native.Nat.{ℕ}
+use mathlib.Core.Bool.{Bool}
 use mathlib.Core.List.{List}
 use contract.Lifetimes as L
 use denote.Ref.{now}
@@ -15,6 +16,9 @@ use Rattle.write.specs.Given.{Lent, lent}
 use Rattle.cut.proofs.count as counts
 use Rattle.cut.proofs.packet as cuts
 use Rattle.cut.proofs.packet.Kinds as kinds
+use Rattle.cut.proofs.count_by as count-bys
+use Rattle.cut.proofs.packet_by as cut-bys
+use Rattle.cut.proofs.packet_by.Kinds as by-kinds
 
 -- ---- `cut::count`
 
@@ -69,3 +73,21 @@ cut-call κs a =
 -- the output afterwards
 abbrev pub cut-output : (κs : L.Lfts 8) → AtExit (endedOf 8 kinds.ps kinds.r) κs → List ℕ
 cut-output κs x = now (x .1 .1 .1 .1 .1 .1 .1 .1 .1 .1 .1 .1 .0)
+
+-- ---- `cut::count_by` and `cut::packet_by`
+
+-- whether it is the old cutter
+abbrev pub count-old : (κs : L.Lfts 6) → ArgsD count-bys.signature κs → Bool
+count-old κs a = a .0
+
+abbrev pub count-by-call : (κs : L.Lfts 6) → ArgsD count-bys.signature κs → CountCall
+count-by-call κs a = count-call κs (a .1)
+
+abbrev pub cut-old : (κs : L.Lfts 8) → ArgsD cut-bys.signature κs → Bool
+cut-old κs a = a .0
+
+abbrev pub cut-by-call : (κs : L.Lfts 8) → ArgsD cut-bys.signature κs → CutCall
+cut-by-call κs a = cut-call κs (a .1)
+
+abbrev pub cut-by-output : (κs : L.Lfts 8) → AtExit (endedOf 8 by-kinds.ps by-kinds.r) κs → List ℕ
+cut-by-output κs x = now (x .1 .1 .1 .1 .1 .1 .1 .1 .1 .1 .1 .1 .1 .0)

@@ -106,8 +106,8 @@ packet-most s P v t body d i g =
 
 -- ---- the code's packet
 
-module _ (s : Settings) (P : ℕ) (v : HeaderValues) (t : Lent) (body : List ℕ) (d : Sender) (i : ℕ) {h : ℕ} {r : Tested} {q : Plan} {o : PacketValues} {from to : ℕ}
-    (er : r ≡ before s P v t d) (eh : h ≡ capped (headerLength s v t)) (eq : q ≡ planOf P h (length body) d r)
+module _ (old : Bool) (s : Settings) (P : ℕ) (v : HeaderValues) (t : Lent) (body : List ℕ) (d : Sender) (i : ℕ) {h : ℕ} {r : Tested} {q : Plan} {o : PacketValues} {from to : ℕ}
+    (er : r ≡ before old s P v t d) (eh : h ≡ capped (headerLength s v t)) (eq : q ≡ planOf P h (length body) d r)
     (eo : o ≡ valuesOf (q .single) (q .count) d i) (ef : from ≡ fromOf (q .single) (q .chunk) i (length body)) (et : to ≡ toOf (q .single) from (q .chunk) (length body)) where
   abbrev piece : List ℕ
   piece = take (to - from) (drop from body)
@@ -118,7 +118,7 @@ module _ (s : Settings) (P : ℕ) (v : HeaderValues) (t : Lent) (body : List ℕ
   pub made-same : fine (q .tested) ≡ true → i < q .count → made ≡ givenAt s P v t body d i
   unfolding packetOf packetAt valuesOf flagsAt bodyAt
   made-same g l =
-      let k = planned s P v t (length body) d er eh eq g in
+      let k = planned old s P v t (length body) d er eh eq g in
       let H = headerLength s v t in
       let one = k .single-is in
       let f : o .flags ≡ flagsAt P H (length body) i =
@@ -137,35 +137,35 @@ module _ (s : Settings) (P : ℕ) (v : HeaderValues) (t : Lent) (body : List ℕ
   module _ {second size : ℕ} (es : second ≡ capped (h + pick (segment (o .flags)) 4 0)) (ez : size ≡ capped (6 + second + length piece)) where
     pub size-exact : fine (q .tested) ≡ true → i < q .count → size ≡ length (octetsOf s (givenAt s P v t body d i))
     size-exact g l =
-        let k = planned s P v t (length body) d er eh eq g in
+        let k = planned old s P v t (length body) d er eh eq g in
         let a = size-is s v o t piece eh es ez in
         let b = ap (λ (w : Values). length (octetsOf s w)) (made-same g l) in
         let m = packet-most s P v t body d i (k .cuts-well .some) in
         omega (arith, k .good-values .top)
 
     module _ {x y : Tested} (room : ℕ) (ex : x ≡ unless (ltb i (q .count)) 26 (q .tested)) (ey : y ≡ unless (leb size room) 21 x) where
-      first-same : x ≡ unless (ltb i (packets P (headerLength s v t) (length body))) 26 (countRefusal s P v t (length body) d)
+      first-same : x ≡ unless (ltb i (packets P (headerLength s v t) (length body))) 26 (countRefusal old s P v t (length body) d)
       first-same =
           ex
-          ∙ unless-same 26 (q .tested) (λ g. ap (ltb i) (planned s P v t (length body) d er eh eq g .count-is))
-          ∙ ap (unless (ltb i (packets P (headerLength s v t) (length body))) 26) (refusal-same s P v t (length body) d er eh eq)
+          ∙ unless-same 26 (q .tested) (λ g. ap (ltb i) (planned old s P v t (length body) d er eh eq g .count-is))
+          ∙ ap (unless (ltb i (packets P (headerLength s v t) (length body))) 26) (refusal-same old s P v t (length body) d er eh eq)
 
       pub reached : fine x ≡ true → (fine (q .tested) ≡ true) × (i < q .count)
       reached g =
           let a = unless-fine (ltb i (q .count)) 25 (q .tested) (ap fine (sym ex) ∙ g) in
           (a .before, ltb-true i (q .count) (a .held))
 
-      pub packet-refusal : y ≡ packetRefusal s P v t body d i room
+      pub packet-refusal : y ≡ packetRefusal old s P v t body d i room
       unfolding packetRefusal
       packet-refusal =
           ey
           ∙ unless-same 21 x (λ g. let k = reached g in ap (λ (n : ℕ). leb n room) (size-exact (k .0) (k .1)))
           ∙ ap (unless (leb (length (octetsOf s (givenAt s P v t body d i))) room) 21) first-same
 
-      pub refused-packet : (y .number ≡ 0 → ⊥) → record { refusal = refusal (y .number); length = 0; sender = d } ≡ packetAnswer s P v t body d i room
+      pub refused-packet : (y .number ≡ 0 → ⊥) → record { refusal = refusal (y .number); length = 0; sender = d } ≡ packetAnswer old s P v t body d i room
       unfolding packetAnswer
       refused-packet n =
-          let f : fine (packetRefusal s P v t body d i room) ≡ false = ap fine (sym packet-refusal) ∙ ne-eqb (y .number) 0 n in
+          let f : fine (packetRefusal old s P v t body d i room) ≡ false = ap fine (sym packet-refusal) ∙ ne-eqb (y .number) 0 n in
           λ j. record { refusal = refusal (packet-refusal j .number); length = ap (λ (b : Bool). pick b (length (octetsOf s (givenAt s P v t body d i))) 0) (sym f) j; sender = d }
 
       -- where nothing refused
@@ -188,11 +188,11 @@ module _ (s : Settings) (P : ℕ) (v : HeaderValues) (t : Lent) (body : List ℕ
             least = omega (arith, packet-least s (givenAt s P v t body d i));
           }
 
-      pub made-packet : y .number ≡ 0 → record { refusal = refusal 0; length = size; sender = d } ≡ packetAnswer s P v t body d i room
+      pub made-packet : y .number ≡ 0 → record { refusal = refusal 0; length = size; sender = d } ≡ packetAnswer old s P v t body d i room
       unfolding packetAnswer
       made-packet z =
-          let f : fine (packetRefusal s P v t body d i room) ≡ true = ap fine (sym packet-refusal) ∙ eq-eqb (y .number) 0 z in
-          let n : 0 ≡ packetRefusal s P v t body d i room .number = sym z ∙ ap (λ (x : Tested). x .number) packet-refusal in
+          let f : fine (packetRefusal old s P v t body d i room) ≡ true = ap fine (sym packet-refusal) ∙ eq-eqb (y .number) 0 z in
+          let n : 0 ≡ packetRefusal old s P v t body d i room .number = sym z ∙ ap (λ (x : Tested). x .number) packet-refusal in
           λ j.
           record {
             refusal = refusal (n j);
@@ -201,17 +201,17 @@ module _ (s : Settings) (P : ℕ) (v : HeaderValues) (t : Lent) (body : List ℕ
           }
 
     module _ {x y : Tested} (out : List ℕ) (ex : x ≡ unless (ltb i (q .count)) 26 (q .tested)) (ey : y ≡ unless (leb size (length out)) 21 x) where
-      pub refused-output : (y .number ≡ 0 → ⊥) → out ≡ packetOutput s P v t body d i out
+      pub refused-output : (y .number ≡ 0 → ⊥) → out ≡ packetOutput old s P v t body d i out
       unfolding packetOutput
       refused-output n =
-          let f : fine (packetRefusal s P v t body d i (length out)) ≡ false = ap fine (sym (packet-refusal (length out) ex ey)) ∙ ne-eqb (y .number) 0 n in
+          let f : fine (packetRefusal old s P v t body d i (length out)) ≡ false = ap fine (sym (packet-refusal (length out) ex ey)) ∙ ne-eqb (y .number) 0 n in
           rw f
 
       pub made-output :
-          y .number ≡ 0 → {l : List ℕ} {e : ℕ} → Lays (laid out 0) (packetPieces s v o t (size - 7) piece) l e → l ≡ packetOutput s P v t body d i out
+          y .number ≡ 0 → {l : List ℕ} {e : ℕ} → Lays (laid out 0) (packetPieces s v o t (size - 7) piece) l e → l ≡ packetOutput old s P v t body d i out
       unfolding packetOutput
       made-output z {l} {e} a =
-          let f : fine (packetRefusal s P v t body d i (length out)) ≡ true = ap fine (sym (packet-refusal (length out) ex ey)) ∙ eq-eqb (y .number) 0 z in
+          let f : fine (packetRefusal old s P v t body d i (length out)) ≡ true = ap fine (sym (packet-refusal (length out) ex ey)) ∙ eq-eqb (y .number) 0 z in
           let k = done (length out) ex ey z in
           let n = ap (λ (w : Values). length (octetsOf s w)) (k .same) in
           rw f

@@ -24,7 +24,7 @@ use Rattle.sender.specs.declared.Sent.the-variants.{Whole, Segments}
 use Rattle.sender.specs.Sending.{afterPacket, afterSegments, afterMessage}
 use Rattle.write.specs.declared.HeaderValues.{HeaderValues}
 use Rattle.write.specs.Given.{Lent, headerChecks, utf8Checks, unlessAll}
-use Rattle.write.specs.Writing.{settingsTest, partsTest, textTest, fine}
+use Rattle.write.specs.Writing.{settingsTest, zoneFits, zoneTest, partsTest, textTest, fine}
 use Rattle.write.proofs.Tests.{unless-fine, unlessAll-fine, AllHold}
 use Rattle.write.proofs.Answers.{shut, below-cap, cap-middle}
 use Rattle.cut.specs.declared.Plan.{Plan}
@@ -34,8 +34,8 @@ use Rattle.cut.specs.Inner.{singleOf, packetsOf, planRefusal, planOf}
 
 -- ---- the tests before the plan
 
-abbrev pub before : Settings → ℕ → HeaderValues → Lent → Sender → Tested
-before s P v t d = textTest t (partsTest t (valueTests s v t d (limitTest s P noneFailed)))
+abbrev pub before : Bool → Settings → ℕ → HeaderValues → Lent → Sender → Tested
+before old s P v t d = textTest t (partsTest t (zoneTest old v (valueTests s v t d (limitTest s P noneFailed))))
 
 -- what holds where none of them refused
 pub record Good (s : Settings) (P : ℕ) (v : HeaderValues) (t : Lent) (d : Sender) : Type 0 where
@@ -47,12 +47,13 @@ pub record Good (s : Settings) (P : ℕ) (v : HeaderValues) (t : Lent) (d : Send
   pub top : P ≤ packetMost
   pub settings : fine (settingsTest s noneFailed) ≡ true
 
-pub good : (s : Settings) (P : ℕ) (v : HeaderValues) (t : Lent) (d : Sender) → fine (before s P v t d) ≡ true → Good s P v t d
-unfolding textTest partsTest valueTests limitTest
-good s P v t d g =
-    let u = unlessAll-fine (utf8Checks (t .zone) (t .session-name) (split (t .lengths) (t .domain))) 27 (partsTest t (valueTests s v t d (limitTest s P noneFailed))) g in
-    let a = unless-fine (leb (length (t .lengths)) partsMost) 12 (valueTests s v t d (limitTest s P noneFailed)) (u .0) in
-    let b = unless-fine (leb (d .«sequence_count» .0) countMost) 21 (unlessAll (headerChecks s v t) 22 (limitTest s P noneFailed)) (a .before) in
+pub good : (old : Bool) (s : Settings) (P : ℕ) (v : HeaderValues) (t : Lent) (d : Sender) → fine (before old s P v t d) ≡ true → Good s P v t d
+unfolding textTest partsTest zoneTest valueTests limitTest
+good old s P v t d g =
+    let u = unlessAll-fine (utf8Checks (t .zone) (t .session-name) (split (t .lengths) (t .domain))) 27 (partsTest t (zoneTest old v (valueTests s v t d (limitTest s P noneFailed)))) g in
+    let a = unless-fine (leb (length (t .lengths)) partsMost) 12 (zoneTest old v (valueTests s v t d (limitTest s P noneFailed))) (u .0) in
+    let z = unless-fine (zoneFits old (v .has)) 29 (valueTests s v t d (limitTest s P noneFailed)) (a .before) in
+    let b = unless-fine (leb (d .«sequence_count» .0) countMost) 21 (unlessAll (headerChecks s v t) 22 (limitTest s P noneFailed)) (z .before) in
     let c = unlessAll-fine (headerChecks s v t) 21 (limitTest s P noneFailed) (b .before) in
     let e = unless-fine (leb P packetMost) 14 (unless (leb limitLeast P) 15 (settingsTest s noneFailed)) (c .0) in
     let f = unless-fine (leb limitLeast P) 14 (settingsTest s noneFailed) (e .before) in
@@ -99,7 +100,7 @@ still-plan one h B C d r e =
     rw (shut (leb B bodyMost) 23 r e, shut (leb (pick one h (capped (h + 4))) headerMost) 12 r e, shut (pick one true (leb 1 C)) 24 r e)
     (shut (pick one true (countersFit (d .next) (packetsOf one B C))) 25 r e)
 
-still-tests : (P H B : ℕ) (d : Sender) (r : Tested) → fine r ≡ false → messageTests P H B d r ≡ r
+pub still-tests : (P H B : ℕ) (d : Sender) (r : Tested) → fine r ≡ false → messageTests P H B d r ≡ r
 unfolding messageTests
 still-tests P H B d r e =
     rw (shut (leb B bodyMost) 23 r e, shut (leb (pick (single P H B) H (H + 4)) headerMost) 12 r e, shut (pick (single P H B) true (leb 1 (chunk P H))) 24 r e)
@@ -130,24 +131,24 @@ cuts P H B d r g =
 
 -- ---- the code's plan
 
-module _ (s : Settings) (P : ℕ) (v : HeaderValues) (t : Lent) (B : ℕ) (d : Sender) {h : ℕ} {r : Tested} {q : Plan}
-    (er : r ≡ before s P v t d) (eh : h ≡ capped (headerLength s v t)) (eq : q ≡ planOf P h B d r) where
+module _ (old : Bool) (s : Settings) (P : ℕ) (v : HeaderValues) (t : Lent) (B : ℕ) (d : Sender) {h : ℕ} {r : Tested} {q : Plan}
+    (er : r ≡ before old s P v t d) (eh : h ≡ capped (headerLength s v t)) (eq : q ≡ planOf P h B d r) where
   abbrev H : ℕ
   H = headerLength s v t
 
-  pub refusal-same : q .tested ≡ countRefusal s P v t B d
+  pub refusal-same : q .tested ≡ countRefusal old s P v t B d
   unfolding planOf countRefusal
   refusal-same =
       ap (λ (x : Plan). x .tested) eq
       ∙ ⊎-elim
-      (λ g. let k = good s P v t d (ap fine (sym er) ∙ g) in tests-same P H B d eh (k .top) r)
+      (λ g. let k = good old s P v t d (ap fine (sym er) ∙ g) in tests-same P H B d eh (k .top) r)
       (λ e. still-plan (singleOf P h B) h B (chunk P h) d r e ∙ sym (still-tests P H B d r e))
       (bool (fine r))
       ∙ ap (messageTests P H B d) er
 
   -- where nothing refused
   pub record Planned : Type 0 where
-    pub fine-count : fine (countRefusal s P v t B d) ≡ true
+    pub fine-count : fine (countRefusal old s P v t B d) ≡ true
     pub good-values : Good s P v t d
     pub cuts-well : Cuts P H B d
     pub single-is : q .single ≡ single P H B
@@ -157,9 +158,9 @@ module _ (s : Settings) (P : ℕ) (v : HeaderValues) (t : Lent) (B : ℕ) (d : S
   pub planned : fine (q .tested) ≡ true → Planned
   unfolding planOf countRefusal
   planned g =
-      let f : fine (countRefusal s P v t B d) ≡ true = ap fine (sym refusal-same) ∙ g in
-      let c = cuts P H B d (before s P v t d) f in
-      let k = good s P v t d (c .1) in
+      let f : fine (countRefusal old s P v t B d) ≡ true = ap fine (sym refusal-same) ∙ g in
+      let c = cuts P H B d (before old s P v t d) f in
+      let k = good old s P v t d (c .1) in
       record {
         fine-count = f;
         good-values = k;
@@ -169,10 +170,10 @@ module _ (s : Settings) (P : ℕ) (v : HeaderValues) (t : Lent) (B : ℕ) (d : S
         count-is = ap (λ (x : Plan). x .count) eq ∙ packets-same P H B d eh (k .top);
       }
 
-  pub refused-count : (q .tested .number ≡ 0 → ⊥) → record { refusal = refusal (q .tested .number); count = 0; sender = d } ≡ countAnswer s P v t B d
+  pub refused-count : (q .tested .number ≡ 0 → ⊥) → record { refusal = refusal (q .tested .number); count = 0; sender = d } ≡ countAnswer old s P v t B d
   unfolding countAnswer
   refused-count n =
-      let f : fine (countRefusal s P v t B d) ≡ false = ap fine (sym refusal-same) ∙ ne-eqb (q .tested .number) 0 n in
+      let f : fine (countRefusal old s P v t B d) ≡ false = ap fine (sym refusal-same) ∙ ne-eqb (q .tested .number) 0 n in
       λ i.
       record {
         refusal = refusal (refusal-same i .number);
@@ -182,14 +183,14 @@ module _ (s : Settings) (P : ℕ) (v : HeaderValues) (t : Lent) (B : ℕ) (d : S
 
   pub made-count :
       q .tested .number ≡ 0 → {m : Sender} {w : Sent} → w ≡ pick (q .single) Whole (Segments (q .count)) → m ≡ afterMessage w d →
-      record { refusal = refusal 0; count = q .count; sender = m } ≡ countAnswer s P v t B d
+      record { refusal = refusal 0; count = q .count; sender = m } ≡ countAnswer old s P v t B d
   unfolding countAnswer senderAfter
   made-count z {m} ew em =
       let k = planned (eq-eqb (q .tested .number) 0 z) in
       let f = k .fine-count in
       let a : m ≡ pick (single P H B) (afterPacket d) (afterSegments (packets P H B) d) =
       sent-on (q .single) (q .count) d ew em ∙ ap₂ (λ (o : Bool) (n : ℕ). pick o (afterPacket d) (afterSegments n d)) (k .single-is) (k .count-is) in
-      let n : 0 ≡ countRefusal s P v t B d .number = sym z ∙ ap (λ (x : Tested). x .number) refusal-same in
+      let n : 0 ≡ countRefusal old s P v t B d .number = sym z ∙ ap (λ (x : Tested). x .number) refusal-same in
       λ i.
       record {
         refusal = refusal (n i);

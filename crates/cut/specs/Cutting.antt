@@ -1,6 +1,7 @@
 -- Cutting a message into packets of at most P octets.
 -- SPEC C-2 to C-4: one unsegmented packet if 6 + H + B is not above P; else segments of C = P - H - 10 body octets, the last one with
 -- what remains, as many as B / C, rounded up. 12 is judged on H alone, or with the counter's 4 octets if there is a cut.
+-- A zone is withdrawn (30). `old` is true for the old cutter, which writes it and is for laws and tests alone, and false for the cutter.
 -- Assumes nothing: these are definitions.
 use Prim.Native.Nat.{ℕ, suc, _+_, _-_, _*_, _/_}
 use mathlib.Core.List.{List, _++_}
@@ -20,7 +21,7 @@ use Rattle.sender.specs.declared.Next.the-variants.{At, NoneLeft}
 use Rattle.sender.specs.Sending.{afterPacket, afterSegments, stepsOf}
 use Rattle.write.specs.declared.HeaderValues.{HeaderValues}
 use Rattle.write.specs.Given.{Lent, headOf, headerChecks, unlessAll}
-use Rattle.write.specs.Writing.{settingsTest, partsTest, textTest, fine}
+use Rattle.write.specs.Writing.{settingsTest, zoneTest, partsTest, textTest, fine}
 use Rattle.cut.specs.declared.Counted.{Counted}
 use Rattle.cut.specs.declared.Cut.{Cut}
 
@@ -71,9 +72,9 @@ limitTest s P r = unless (leb P packetMost) 15 (unless (leb limitLeast P) 15 (se
 unfoldable pub valueTests : Settings → HeaderValues → Lent → Sender → Tested → Tested
 valueTests s v t d r = unless (leb (d .«sequence_count» .0) countMost) 22 (unlessAll (headerChecks s v t) 22 r)
 
--- 15, 22, 13, 28: the tests on the values alone
-abbrev pub valueRefusal : Settings → ℕ → HeaderValues → Lent → Sender → Tested
-valueRefusal s P v t d = textTest t (partsTest t (valueTests s v t d (limitTest s P noneFailed)))
+-- 15, 22, 30, 13, 28: the tests on the values alone
+abbrev pub valueRefusal : Bool → Settings → ℕ → HeaderValues → Lent → Sender → Tested
+valueRefusal old s P v t d = textTest t (partsTest t (zoneTest old v (valueTests s v t d (limitTest s P noneFailed))))
 
 -- 23: the body; 12: the header; 24: C below 1; 25: the counters
 unfoldable pub messageTests : ℕ → ℕ → ℕ → Sender → Tested → Tested
@@ -86,9 +87,9 @@ messageTests P H B d r =
 abbrev pub headerLength : Settings → HeaderValues → Lent → ℕ
 headerLength s v t = length (headerOctets s (headOf v t))
 
--- 15, 22, 13, 28, 23, 12, 24, 25
-unfoldable pub countRefusal : Settings → ℕ → HeaderValues → Lent → ℕ → Sender → Tested
-countRefusal s P v t B d = messageTests P (headerLength s v t) B d (valueRefusal s P v t d)
+-- 15, 22, 30, 13, 28, 23, 12, 24, 25
+unfoldable pub countRefusal : Bool → Settings → ℕ → HeaderValues → Lent → ℕ → Sender → Tested
+countRefusal old s P v t B d = messageTests P (headerLength s v t) B d (valueRefusal old s P v t d)
 
 -- ---- the count and the numbers moved on
 
@@ -96,12 +97,12 @@ unfoldable pub senderAfter : ℕ → ℕ → ℕ → Sender → Sender
 senderAfter P H B d = pick (single P H B) (afterPacket d) (afterSegments (packets P H B) d)
 
 -- the number of packets and the sender's numbers after the message; or the refusal, 0 and the sender as it was
-unfoldable pub countAnswer : Settings → ℕ → HeaderValues → Lent → ℕ → Sender → Counted
-countAnswer s P v t B d =
+unfoldable pub countAnswer : Bool → Settings → ℕ → HeaderValues → Lent → ℕ → Sender → Counted
+countAnswer old s P v t B d =
     record {
-      refusal = refusal (countRefusal s P v t B d .number);
-      count = pick (fine (countRefusal s P v t B d)) (packets P (headerLength s v t) B) 0;
-      sender = pick (fine (countRefusal s P v t B d)) (senderAfter P (headerLength s v t) B d) d;
+      refusal = refusal (countRefusal old s P v t B d .number);
+      count = pick (fine (countRefusal old s P v t B d)) (packets P (headerLength s v t) B) 0;
+      sender = pick (fine (countRefusal old s P v t B d)) (senderAfter P (headerLength s v t) B d) d;
     }
 
 -- ---- packet number i
@@ -130,23 +131,23 @@ abbrev pub givenAt : Settings → ℕ → HeaderValues → Lent → List ℕ →
 givenAt s P v t body d i = packetAt P (headerLength s v t) (headOf v t) body d i
 
 -- and then 26 and 21
-unfoldable pub packetRefusal : Settings → ℕ → HeaderValues → Lent → List ℕ → Sender → ℕ → ℕ → Tested
-packetRefusal s P v t body d i room =
+unfoldable pub packetRefusal : Bool → Settings → ℕ → HeaderValues → Lent → List ℕ → Sender → ℕ → ℕ → Tested
+packetRefusal old s P v t body d i room =
     unless (leb (length (octetsOf s (givenAt s P v t body d i))) room) 21
-    (unless (ltb i (packets P (headerLength s v t) (length body))) 26 (countRefusal s P v t (length body) d))
+    (unless (ltb i (packets P (headerLength s v t) (length body))) 26 (countRefusal old s P v t (length body) d))
 
 -- the octets written, or the refusal and 0; the sender as it was
-unfoldable pub packetAnswer : Settings → ℕ → HeaderValues → Lent → List ℕ → Sender → ℕ → ℕ → Cut
-packetAnswer s P v t body d i room =
+unfoldable pub packetAnswer : Bool → Settings → ℕ → HeaderValues → Lent → List ℕ → Sender → ℕ → ℕ → Cut
+packetAnswer old s P v t body d i room =
     record {
-      refusal = refusal (packetRefusal s P v t body d i room .number);
-      length = pick (fine (packetRefusal s P v t body d i room)) (length (octetsOf s (givenAt s P v t body d i))) 0;
+      refusal = refusal (packetRefusal old s P v t body d i room .number);
+      length = pick (fine (packetRefusal old s P v t body d i room)) (length (octetsOf s (givenAt s P v t body d i))) 0;
       sender = d;
     }
 
 -- the output afterwards: the packet from the first octet on and the rest as it was; on refusal all as it was
-unfoldable pub packetOutput : Settings → ℕ → HeaderValues → Lent → List ℕ → Sender → ℕ → List ℕ → List ℕ
-packetOutput s P v t body d i out =
-    pick (fine (packetRefusal s P v t body d i (length out)))
+unfoldable pub packetOutput : Bool → Settings → ℕ → HeaderValues → Lent → List ℕ → Sender → ℕ → List ℕ → List ℕ
+packetOutput old s P v t body d i out =
+    pick (fine (packetRefusal old s P v t body d i (length out)))
     (octetsOf s (givenAt s P v t body d i) ++ drop (length (octetsOf s (givenAt s P v t body d i))) out)
     out

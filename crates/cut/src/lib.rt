@@ -5,8 +5,10 @@
 //
 // `count` answers how many packets a message takes and the sender's two numbers moved on; `packet` writes packet number i, from the
 // sender before the message, which it leaves as it is. A refusal leaves the sender and the output as they were. The sender is that of
-// crate `sender`; the tests on a header, its size and its octets are those of crate `write`.
+// crate `sender`; the tests on a header, its size and its octets are those of crate `write`. A network zone is withdrawn, which is 30;
+// `count_by` and `packet_by` are the old cutter too, which writes it, for laws and tests.
 ghost use mathlib.Core.Path.{_≡_};
+ghost use mathlib.Core.Bool.{false};
 ghost use Prim.Native.Nat.{suc, _+_};
 ghost use lib.ListN.{length};
 ghost use lib.Dec.{eqb};
@@ -32,6 +34,7 @@ use walk::REFUSED_NUMBER;
 use walk::REFUSED_OUTPUT;
 use walk::REFUSED_SETTINGS;
 use walk::REFUSED_VALUE;
+use walk::REFUSED_WITHDRAWN;
 use walk::Refusal;
 use walk::Settings;
 use walk::Tested;
@@ -78,8 +81,9 @@ pub fn test_limit(s: Settings, p: usize, r: Tested) -> Tested
     walk::unless(b, p <= write::PACKET_MOST, REFUSED_SETTINGS)
 }
 
-// 15, 22, 13, 28.
+// 15, 22, 30, 13, 28.
 fn test_message(
+    old: bool,
     s: Settings,
     p: usize,
     v: HeaderValues,
@@ -91,15 +95,18 @@ fn test_message(
     id: &[u8],
     sender: Sender,
 ) -> Tested
-    ensures { λ q. ⌜ q ≡ valueRefusal s p v (lent (now (time .entry)) (now (zone .entry)) (now (name .entry)) (now (domain .entry))
+    ensures { λ q. ⌜ q ≡ valueRefusal old s p v (lent (now (time .entry)) (now (zone .entry)) (now (name .entry)) (now (domain .entry))
         (now (lengths .entry)) (now (id .entry))) sender ⌝ }
 {
     let none = Tested { number: 0 };
     let sequence_count = sender.sequence_count;
+    let has = v.has;
+    let zone_fits = write::zone_fits(old, has);
     let a = test_limit(s, p, none);
     let b = write::test_header(s, v, time, zone, name, domain, lengths, id, a);
     let c = walk::unless(b, sequence_count.0 <= packet::COUNT_MOST, REFUSED_VALUE);
-    let e = write::test_parts(lengths.len(), c);
+    let d = walk::unless(c, zone_fits, REFUSED_WITHDRAWN);
+    let e = write::test_parts(lengths.len(), d);
     write::test_utf8(zone, name, domain, lengths, e)
 }
 
@@ -262,8 +269,9 @@ fn sent_as(single: bool, n: usize) -> Sent
     Sent::Segments(n)
 }
 
-// The number of packets of a message with a body of so many octets, and the sender's numbers after it.
-pub fn count(
+// The count of the old cutter, or of today's, by whether a zone may be written.
+pub fn count_by(
+    old: bool,
     s: Settings,
     p: usize,
     v: HeaderValues,
@@ -276,10 +284,10 @@ pub fn count(
     body: usize,
     sender: Sender,
 ) -> Counted
-    ensures { λ r. ⌜ r ≡ countAnswer s p v (lent (now (time .entry)) (now (zone .entry)) (now (name .entry)) (now (domain .entry))
+    ensures { λ r. ⌜ r ≡ countAnswer old s p v (lent (now (time .entry)) (now (zone .entry)) (now (name .entry)) (now (domain .entry))
         (now (lengths .entry)) (now (id .entry))) body sender ⌝ }
 {
-    let values = test_message(s, p, v, time, zone, name, domain, lengths, id, sender);
+    let values = test_message(old, s, p, v, time, zone, name, domain, lengths, id, sender);
     let h = write::header_size(s, v, time, zone, name, domain, lengths, id);
     let plan = plan_of(p, h, body, sender, values);
     let tested = plan.tested;
@@ -299,15 +307,89 @@ pub fn count(
     }
 }
 
-// What a refusal answers.
-fn refused(k: u8, sender: Sender) -> Cut
-    ensures { λ r. ⌜ r ≡ record { refusal = refusal k; length = 0; sender = sender } ⌝ }
+// The number of packets of a message with a body of so many octets, and the sender's numbers after it.
+pub fn count(
+    s: Settings,
+    p: usize,
+    v: HeaderValues,
+    time: &[u8],
+    zone: &[u8],
+    name: &[u8],
+    domain: &[u8],
+    lengths: &[u64],
+    id: &[u8],
+    body: usize,
+    sender: Sender,
+) -> Counted
+    ensures { λ r. ⌜ r ≡ countAnswer false s p v (lent (now (time .entry)) (now (zone .entry)) (now (name .entry)) (now (domain .entry))
+        (now (lengths .entry)) (now (id .entry))) body sender ⌝ }
+{
+    count_by(
+        false,
+        s,
+        p,
+        v,
+        time,
+        zone,
+        name,
+        domain,
+        lengths,
+        id,
+        body,
+        sender,
+    )
+}
+
+// What is answered: a refusal's number, the octets written, and the sender as it was.
+fn told(k: u8, length: usize, sender: Sender) -> Cut
+    ensures { λ r. ⌜ r ≡ record { refusal = refusal k; length = length; sender = sender } ⌝ }
 {
     Cut {
         refusal: walk::numbered(k),
-        length: 0,
+        length: length,
         sender: sender,
     }
+}
+
+// Packet number i by the old cutter, or by today's, by whether a zone may be written.
+pub fn packet_by(
+    old: bool,
+    s: Settings,
+    p: usize,
+    v: HeaderValues,
+    time: &[u8],
+    zone: &[u8],
+    name: &[u8],
+    domain: &[u8],
+    lengths: &[u64],
+    id: &[u8],
+    body: &[u8],
+    sender: Sender,
+    i: usize,
+    out: &mut [u8],
+) -> Cut
+    ensures { λ r. ⌜ (let t = lent (now (time .entry)) (now (zone .entry)) (now (name .entry)) (now (domain .entry)) (now (lengths .entry))
+        (now (id .entry)) in
+        (r ≡ packetAnswer old s p v t (now (body .entry)) sender i (length (now (out .entry))))
+        × (now (out .exit) ≡ packetOutput old s p v t (now (body .entry)) sender i (now (out .entry)))
+        × Lends v t (now (body .entry))) ⌝ }
+{
+    let values = test_message(old, s, p, v, time, zone, name, domain, lengths, id, sender);
+    let h = write::header_size(s, v, time, zone, name, domain, lengths, id);
+    let plan = plan_of(p, h, body.len(), sender, values);
+    let o = values_at(plan.single, plan.count, sender, i);
+    let from = from_of(plan.single, plan.chunk, i, body.len());
+    let to = to_of(plan.single, from, plan.chunk, body.len());
+    let part = &body[from..to];
+    let size = write::packet_size(write::secondary_size(h, o.flags), part.len());
+    let a = walk::unless(plan.tested, i < plan.count, REFUSED_NUMBER);
+    let r = walk::unless(a, size <= out.len(), REFUSED_OUTPUT);
+    if r.number != 0 {
+        return told(r.number, 0, sender);
+    }
+    let n = size - 7;
+    write::put_packet(s, out, v, o, n, time, zone, name, domain, lengths, id, part);
+    told(0, size, sender)
 }
 
 // Writes packet number i of a message, by the sender's numbers as they stand, or refuses and changes nothing.
@@ -328,28 +410,24 @@ pub fn packet(
 ) -> Cut
     ensures { λ r. ⌜ (let t = lent (now (time .entry)) (now (zone .entry)) (now (name .entry)) (now (domain .entry)) (now (lengths .entry))
         (now (id .entry)) in
-        (r ≡ packetAnswer s p v t (now (body .entry)) sender i (length (now (out .entry))))
-        × (now (out .exit) ≡ packetOutput s p v t (now (body .entry)) sender i (now (out .entry)))
+        (r ≡ packetAnswer false s p v t (now (body .entry)) sender i (length (now (out .entry))))
+        × (now (out .exit) ≡ packetOutput false s p v t (now (body .entry)) sender i (now (out .entry)))
         × Lends v t (now (body .entry))) ⌝ }
 {
-    let values = test_message(s, p, v, time, zone, name, domain, lengths, id, sender);
-    let h = write::header_size(s, v, time, zone, name, domain, lengths, id);
-    let plan = plan_of(p, h, body.len(), sender, values);
-    let o = values_at(plan.single, plan.count, sender, i);
-    let from = from_of(plan.single, plan.chunk, i, body.len());
-    let to = to_of(plan.single, from, plan.chunk, body.len());
-    let part = &body[from..to];
-    let size = write::packet_size(write::secondary_size(h, o.flags), part.len());
-    let a = walk::unless(plan.tested, i < plan.count, REFUSED_NUMBER);
-    let r = walk::unless(a, size <= out.len(), REFUSED_OUTPUT);
-    if r.number != 0 {
-        return refused(r.number, sender);
-    }
-    let n = size - 7;
-    write::put_packet(s, out, v, o, n, time, zone, name, domain, lengths, id, part);
-    Cut {
-        refusal: walk::numbered(0),
-        length: size,
-        sender: sender,
-    }
+    packet_by(
+        false,
+        s,
+        p,
+        v,
+        time,
+        zone,
+        name,
+        domain,
+        lengths,
+        id,
+        body,
+        sender,
+        i,
+        out,
+    )
 }

@@ -1,6 +1,6 @@
 -- From the generated contracts of the public calls to the steps of demand 3 (J-9): what `store::arrive`, `store::take` and `join::join`
 -- leave is the store and the output after the call, and they answer what it comes to; what `cut::count` answers and `cut::packet`
--- writes are a message's count and its packets. So where demand 3 says that a call hands out a message, its answer and its output do.
+-- writes, or the old cutter, are a message's count and its packets. So where demand 3 says that a call hands out a message, its answer and its output do.
 -- Assumes nothing.
 use Prim.Native.Nat.{ℕ, zero, suc, _+_, _-_}
 use mathlib.Core.Path.{_≡_, refl, ap, sym, _∙_}
@@ -22,10 +22,12 @@ use Rattle.write.specs.declared.HeaderValues.{HeaderValues}
 use Rattle.write.specs.Given.{Lent}
 use Rattle.cut.specs.declared.Counted.{Counted}
 use Rattle.cut.specs.Cutting.{countAnswer}
-use Rattle.cut.proofs.Arguments.{count-call, cut-call, cut-output}
+use Rattle.cut.proofs.Arguments.{count-call, cut-call, cut-output, count-old, count-by-call, cut-old, cut-by-call, cut-by-output}
 use Rattle.cut.proofs.count.Reads as counts
 use Rattle.cut.proofs.packet.Reads as cuts
-use Rattle.fewest.proofs.Calls.{packet-wrote}
+use Rattle.cut.proofs.count_by.Reads as count-bys
+use Rattle.cut.proofs.packet_by.Reads as cut-bys
+use Rattle.fewest.proofs.Calls.{packet-wrote, packet-by-wrote}
 use Rattle.cells.specs.Order.{countIn, cellSize, gate}
 use Rattle.cells.specs.Messages.{Run, cellsOf, picked, top}
 use Rattle.arrival.specs.Arriving.{Arrived, whole, stored, again, refused, arrived, storeWith}
@@ -195,21 +197,34 @@ join-hands-out κs a r x k n m d = (
 -- ---- the cutter
 
 -- what the cutter is given, by the arguments of its calls
-abbrev pub cutting : ℕ → HeaderValues → Lent → List ℕ → Sender → Cutting
-cutting P v t body d = record { limit = P; values = v; texts = t; body = body; sender = d }
+abbrev pub cutting : Bool → ℕ → HeaderValues → Lent → List ℕ → Sender → Cutting
+cutting old P v t body d = record { old = old; limit = P; values = v; texts = t; body = body; sender = d }
 
-plain-count : (s : Settings) (P B : ℕ) (v : HeaderValues) (t : Lent) (d : Sender) (r : Counted) → r ≡ countAnswer s P v t B d →
-    (body : List ℕ) → length body ≡ B → countOf s (cutting P v t body d) ≡ r
-plain-count s P B v t d r k body e = ap (λ (x : ℕ). countAnswer s P v t x d) e ∙ sym k
+plain-count : (old : Bool) (s : Settings) (P B : ℕ) (v : HeaderValues) (t : Lent) (d : Sender) (r : Counted) → r ≡ countAnswer old s P v t B d →
+    (body : List ℕ) → length body ≡ B → countOf s (cutting old P v t body d) ≡ r
+plain-count old s P B v t d r k body e = ap (λ (x : ℕ). countAnswer old s P v t x d) e ∙ sym k
 
 -- `cut::count`
 pub count-steps : (κs : L.Lfts 6) (a : _) (r : _) (x : _) → counts.Post κs a r x → (body : List ℕ) → length body ≡ count-call κs a .long →
-    (let c = count-call κs a in countOf (c .settings) (cutting (c .limit) (c .header) (c .texts) body (c .sender))) ≡ r
+    (let c = count-call κs a in countOf (c .settings) (cutting false (c .limit) (c .header) (c .texts) body (c .sender))) ≡ r
 count-steps κs a r x k body e =
-    let c = count-call κs a in plain-count (c .settings) (c .limit) (c .long) (c .header) (c .texts) (c .sender) r k body e
+    let c = count-call κs a in plain-count false (c .settings) (c .limit) (c .long) (c .header) (c .texts) (c .sender) r k body e
 
 -- `cut::packet`
 pub packet-steps : (κs : L.Lfts 8) (a : _) (r : _) (x : _) → cuts.Post κs a r x → r .refusal .number ≡ 0 →
     take (r .length) (cut-output κs x) ≡
-    (let c = cut-call κs a in packetOf (c .settings) (cutting (c .limit) (c .header) (c .texts) (c .body) (c .sender)) (c .index))
+    (let c = cut-call κs a in packetOf (c .settings) (cutting false (c .limit) (c .header) (c .texts) (c .body) (c .sender)) (c .index))
 packet-steps κs a r x k z = packet-wrote κs a r x k z .octets
+
+-- and the old cutter, `cut::count_by` and `cut::packet_by`, with a zone too
+pub count-by-steps : (κs : L.Lfts 6) (a : _) (r : _) (x : _) → count-bys.Post κs a r x → (body : List ℕ) →
+    length body ≡ count-by-call κs a .long →
+    (let c = count-by-call κs a in countOf (c .settings) (cutting (count-old κs a) (c .limit) (c .header) (c .texts) body (c .sender))) ≡ r
+count-by-steps κs a r x k body e =
+    let c = count-by-call κs a in plain-count (count-old κs a) (c .settings) (c .limit) (c .long) (c .header) (c .texts) (c .sender) r k body e
+
+pub packet-by-steps : (κs : L.Lfts 8) (a : _) (r : _) (x : _) → cut-bys.Post κs a r x → r .refusal .number ≡ 0 →
+    take (r .length) (cut-by-output κs x) ≡
+    (let c = cut-by-call κs a in
+    packetOf (c .settings) (cutting (cut-old κs a) (c .limit) (c .header) (c .texts) (c .body) (c .sender)) (c .index))
+packet-by-steps κs a r x k z = packet-by-wrote κs a r x k z .octets

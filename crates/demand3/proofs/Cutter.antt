@@ -49,7 +49,7 @@ module _ (s : Settings) (Z : ℕ) (m : Cutting) (k : Succeeds s Z m) where
   abbrev B : ℕ
   B = length (m .body)
 
-  no-refusal : countRefusal s P (m .values) (m .texts) B (m .sender) .number ≡ 0
+  no-refusal : countRefusal (m .old) s P (m .values) (m .texts) B (m .sender) .number ≡ 0
   unfolding countAnswer
   no-refusal = k .counts
 
@@ -58,7 +58,7 @@ module _ (s : Settings) (Z : ℕ) (m : Cutting) (k : Succeeds s Z m) where
   unfolding countAnswer
   many-is =
       ap (λ (b : Bool). pick b (packets P H B) 0)
-      (eq-eqb (countRefusal s P (m .values) (m .texts) B (m .sender) .number) 0 no-refusal)
+      (eq-eqb (countRefusal (m .old) s P (m .values) (m .texts) B (m .sender) .number) 0 no-refusal)
 
   -- one packet is not enough
   is-cut : single P H B ≡ false
@@ -66,7 +66,7 @@ module _ (s : Settings) (Z : ℕ) (m : Cutting) (k : Succeeds s Z m) where
       ⊎-elim (λ e. let p = packets-one P H B e in absurd (omega (arith, k .many, many-is))) (λ e. e) (bool (single P H B))
 
   starts : Starts (m .sender .next) (packets P H B)
-  starts = counters s P (m .values) (m .texts) (m .body) (m .sender) no-refusal is-cut
+  starts = counters (m .old) s P (m .values) (m .texts) (m .body) (m .sender) no-refusal is-cut
 
   start-is : place (m .sender .next) ≡ starts .start .0
   unfolding place
@@ -81,7 +81,7 @@ module _ (s : Settings) (Z : ℕ) (m : Cutting) (k : Succeeds s Z m) where
   cutter-body =
       ap (λ (n : ℕ). together (firstOf (bodyAt P H (m .body)) n)) many-is
       ∙ together-joined (firstOf (bodyAt P H (m .body)) (packets P H B))
-      ∙ parts-joined P H (m .body) (cuts-well s P (m .values) (m .texts) (m .body) (m .sender) no-refusal .some)
+      ∙ parts-joined P H (m .body) (cuts-well (m .old) s P (m .values) (m .texts) (m .body) (m .sender) no-refusal .some)
 
   flags-are : (i : ℕ) → flagsAt P H B i ≡ flagsIn (manyOf s (sendingOf s m)) i
   unfolding flagsAt flagsIn
@@ -108,7 +108,7 @@ module _ (s : Settings) (Z : ℕ) (m : Cutting) (k : Succeeds s Z m) where
     given-range : InRange s (valuesAt s (sendingOf s m) i (sequenceCountOf i))
     given-range =
         subst (InRange s) values-are
-        (packet-range s P (m .values) (m .texts) (m .body) (m .sender) no-refusal (k .lends) i
+        (packet-range (m .old) s P (m .values) (m .texts) (m .body) (m .sender) no-refusal (k .lends) i
         (omega (arith, cutter-many, many-is)))
 
     -- packet i is the message's packet i, with the sender's sequence count

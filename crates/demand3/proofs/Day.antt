@@ -5,7 +5,7 @@
 use Prim.Native.Nat.{ℕ, _+_, _≤_, _<_}
 use mathlib.Core.Path.{_≡_, refl, ap, _∙_, subst}
 use mathlib.Core.Logic.{_⊎_, inl, inr}
-use mathlib.Core.Bool.{Bool, true}
+use mathlib.Core.Bool.{Bool, true, false}
 use mathlib.Core.List.{List, [], _∷_, _++_}
 use native.Mathlib.Omega.{arith}
 use lib.ListN.{length, replicate}
@@ -26,7 +26,7 @@ use Rattle.packet.specs.Key.{counterPlace, keyOf}
 use Rattle.sender.specs.declared.Next.the-variants.{At}
 use Rattle.sender.specs.Sending.{stepsOf}
 use Rattle.write.specs.Given.{headOf, sum, nameChecks, routingChecks, idChecks, textChecks, utf8Checks, headerChecks, unlessAll}
-use Rattle.write.specs.Writing.{settingsTest, partsTest, textTest}
+use Rattle.write.specs.Writing.{settingsTest, zoneTest, partsTest, textTest}
 use Rattle.write.specs.Lending.{Lends}
 use Rattle.write.specs.Figure14.{header as values, texts}
 use Rattle.cut.specs.Cutting.{countersFit, packets, rounded, limitTest, valueTests, messageTests, countRefusal, countAnswer, bodyAt}
@@ -53,6 +53,7 @@ settings = record { t = 8 }
 abbrev pub cutting : Cutting
 cutting =
     record {
+      old = false;
       limit = 34;
       values = values;
       texts = texts;
@@ -107,11 +108,11 @@ other = 0x18 ∷ 6 ∷ 0 ∷ 0 ∷ 0 ∷ 25 ∷ header ++ (0 ∷ 0 ∷ 0 ∷ 8 �
 
 -- ---- octets
 
-abbrev small : List ℕ → Bool
+abbrev pub small : List ℕ → Bool
 small [] = true
 small (x ∷ l) = both (ltb x 256) (small l)
 
-octets-by : (l : List ℕ) → small l ≡ true → Octets l
+pub octets-by : (l : List ℕ) → small l ≡ true → Octets l
 octets-by [] e = octets-nil
 octets-by (x ∷ l) e =
     let a = both-true (ltb x 256) (small l) e in
@@ -147,13 +148,13 @@ lends =
     }
 
 three-counts : countOf settings cutting .refusal .number ≡ 0
-unfolding countAnswer countRefusal messageTests limitTest valueTests settingsTest partsTest textTest utf8Checks allText isText accepts ended unless
+unfolding countAnswer countRefusal messageTests limitTest valueTests settingsTest zoneTest partsTest textTest utf8Checks allText isText accepts ended unless
     unlessAll headerChecks nameChecks routingChecks idChecks textChecks sum packets rounded countersFit headOf split headerOctets fixedOctets
     frontOctets backOctets wide
 three-counts = refl
 
 three-count : countOf settings cutting .count ≡ 3
-unfolding countAnswer countRefusal messageTests limitTest valueTests settingsTest partsTest textTest utf8Checks allText isText accepts ended unless
+unfolding countAnswer countRefusal messageTests limitTest valueTests settingsTest zoneTest partsTest textTest utf8Checks allText isText accepts ended unless
     unlessAll headerChecks nameChecks routingChecks idChecks textChecks sum packets rounded countersFit headOf split headerOctets fixedOctets
     frontOctets backOctets wide
 three-count = refl
@@ -163,7 +164,7 @@ most : (i : ℕ) → length (packetOf settings cutting i) ≤ 34
 unfolding countAnswer
 most i =
     packet-most settings 34 values texts (cutting .body) (cutting .sender) i
-    (cuts-well settings 34 values texts (cutting .body) (cutting .sender) three-counts .some)
+    (cuts-well false settings 34 values texts (cutting .body) (cutting .sender) three-counts .some)
 
 pub succeeds : Succeeds settings cellSize cutting
 succeeds =
@@ -230,19 +231,19 @@ two-at i l t e c h =
     repeat-event settings cellSize two two-cut i k c h ∙ ap arrives e
 
 pub is-seven : (c : ℕ) → c < 16384 → eventOf settings cellSize (of-three 0 c) ≡ arrives (seg 7 1 (1 ∷ 2 ∷ 3 ∷ []))
-unfolding stepsOf place flagsIn firstOf bodyAt countAnswer countRefusal messageTests limitTest valueTests settingsTest partsTest textTest utf8Checks
+unfolding stepsOf place flagsIn firstOf bodyAt countAnswer countRefusal messageTests limitTest valueTests settingsTest zoneTest partsTest textTest utf8Checks
     allText isText accepts ended unless unlessAll headerChecks nameChecks routingChecks idChecks textChecks sum packets rounded countersFit headOf
     split headerOctets fixedOctets frontOctets backOctets wide identification presence
 is-seven = three-at 0 (omega arith) (seg 7 1 (1 ∷ 2 ∷ 3 ∷ [])) refl
 
 pub is-eight : (c : ℕ) → c < 16384 → eventOf settings cellSize (of-three 1 c) ≡ arrives (seg 8 0 (4 ∷ 5 ∷ 6 ∷ []))
-unfolding stepsOf place flagsIn firstOf bodyAt countAnswer countRefusal messageTests limitTest valueTests settingsTest partsTest textTest utf8Checks
+unfolding stepsOf place flagsIn firstOf bodyAt countAnswer countRefusal messageTests limitTest valueTests settingsTest zoneTest partsTest textTest utf8Checks
     allText isText accepts ended unless unlessAll headerChecks nameChecks routingChecks idChecks textChecks sum packets rounded countersFit headOf
     split headerOctets fixedOctets frontOctets backOctets wide identification presence
 is-eight = three-at 1 (omega arith) (seg 8 0 (4 ∷ 5 ∷ 6 ∷ [])) refl
 
 pub is-nine : (c : ℕ) → c < 16384 → eventOf settings cellSize (of-three 2 c) ≡ arrives (seg 9 2 (7 ∷ 8 ∷ []))
-unfolding stepsOf place flagsIn firstOf bodyAt countAnswer countRefusal messageTests limitTest valueTests settingsTest partsTest textTest utf8Checks
+unfolding stepsOf place flagsIn firstOf bodyAt countAnswer countRefusal messageTests limitTest valueTests settingsTest zoneTest partsTest textTest utf8Checks
     allText isText accepts ended unless unlessAll headerChecks nameChecks routingChecks idChecks textChecks sum packets rounded countersFit headOf
     split headerOctets fixedOctets frontOctets backOctets wide identification presence
 is-nine = three-at 2 (omega arith) (seg 9 2 (7 ∷ 8 ∷ [])) refl

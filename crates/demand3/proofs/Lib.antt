@@ -45,5 +45,6 @@ pub mod DayComes
 pub mod DayRun
 pub mod DayJoins
 pub mod DayEnd
+pub mod DayZone
 pub mod Ways
 pub mod Refuted

@@ -1,8 +1,9 @@
 -- Messages of demand 3 that the cutter makes (J-2): values, lent texts, a body, a limit P and a sender's numbers for which the count
--- succeeds with two or more; their segments are the packets that `cut::packet` writes.
+-- succeeds with two or more; their segments are the packets that `cut::packet` writes, or, if there is a zone, the old cutter.
 -- Assumes nothing: these are definitions.
 use Prim.Native.Nat.{ℕ, _+_, _≤_, _<_}
 use mathlib.Core.Path.{_≡_}
+use mathlib.Core.Bool.{Bool}
 use mathlib.Core.List.{List}
 use lib.ListN.{length}
 use Rattle.walk.specs.declared.Settings.{Settings}
@@ -18,8 +19,9 @@ use Rattle.fewest.specs.Runs.{place}
 use Rattle.demand3.specs.Sendings.{Sending}
 
 -- what the cutter is given beside T, which is the limit P, the header's values and texts, the body, and the sender's numbers as they
--- stood before the message
+-- stood before the message; and whether it is the old cutter, which alone writes a zone
 pub record Cutting : Type 0 where
+  pub old : Bool
   pub limit : ℕ
   pub values : HeaderValues
   pub texts : Lent
@@ -29,7 +31,7 @@ pub record Cutting : Type 0 where
 module _ (s : Settings) where
   -- what the count answers
   abbrev pub countOf : Cutting → Counted
-  countOf m = countAnswer s (m .limit) (m .values) (m .texts) (length (m .body)) (m .sender)
+  countOf m = countAnswer (m .old) s (m .limit) (m .values) (m .texts) (length (m .body)) (m .sender)
 
   -- packet number i as it is cut
   abbrev pub packetOf : Cutting → ℕ → List ℕ

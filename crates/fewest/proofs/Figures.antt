@@ -4,6 +4,7 @@
 -- Assumes nothing.
 use Prim.Native.Nat.{ℕ, zero, suc}
 use mathlib.Core.Path.{_≡_, refl, ap, _∙_}
+use mathlib.Core.Bool.{false}
 use mathlib.Core.List.{List}
 use native.Mathlib.Omega.{arith}
 use lib.ListN.{length}
@@ -21,7 +22,7 @@ use Rattle.packet.specs.Reading.{primaryTests, primaryOf, idsOf, textsOf, bodyT
 use Rattle.sender.specs.declared.Next.the-variants.{NoneLeft}
 use Rattle.sender.specs.Sending.{nextCounter, afterSegment, afterSegments, stepsOf}
 use Rattle.write.specs.Given.{headOf, sum, nameChecks, routingChecks, idChecks, textChecks, utf8Checks, headerChecks, unlessAll}
-use Rattle.write.specs.Writing.{settingsTest, partsTest, textTest}
+use Rattle.write.specs.Writing.{settingsTest, zoneTest, partsTest, textTest}
 use Rattle.write.specs.Lending.{Lends}
 use Rattle.write.specs.Figure14.{header as values, texts}
 use Rattle.cut.specs.declared.Counted.{Counted}
@@ -34,8 +35,8 @@ use Rattle.fewest.proofs.ReadBack.{packets-read-back, carries}
 use Rattle.fewest.proofs.Delivering.{not-refused}
 
 -- figure 12: the largest counter is used, and then none is left
-pub twelve-none : countAnswer settings 64 values texts 38 (sender 4294967294) .sender .next ≡ NoneLeft
-unfolding countAnswer countRefusal messageTests limitTest valueTests settingsTest partsTest textTest utf8Checks allText isText accepts ended unless
+pub twelve-none : countAnswer false settings 64 values texts 38 (sender 4294967294) .sender .next ≡ NoneLeft
+unfolding countAnswer countRefusal messageTests limitTest valueTests settingsTest zoneTest partsTest textTest utf8Checks allText isText accepts ended unless
     unlessAll headerChecks nameChecks routingChecks idChecks textChecks sum packets rounded countersFit headOf split headerOctets fixedOctets
     frontOctets backOctets wide senderAfter afterSegments afterSegment nextCounter
 twelve-none = refl
@@ -62,18 +63,18 @@ lends =
       transaction = omega arith;
     }
 
-counts : countRefusal settings 64 values texts 38 (sender 0) .number ≡ 0
-unfolding countRefusal messageTests limitTest valueTests settingsTest partsTest textTest utf8Checks allText isText accepts ended unless unlessAll
+counts : countRefusal false settings 64 values texts 38 (sender 0) .number ≡ 0
+unfolding countRefusal messageTests limitTest valueTests settingsTest zoneTest partsTest textTest utf8Checks allText isText accepts ended unless unlessAll
     headerChecks nameChecks routingChecks idChecks textChecks sum packets rounded countersFit headOf split headerOctets fixedOctets frontOctets
     backOctets wide
 counts = refl
 
 -- the laws speak of it: its two packets read back, and carry it
 pub eight-back : AllBack settings 64 values texts (zeros 38) (sender 0)
-eight-back = packets-read-back settings 64 values texts (zeros 38) (sender 0) lends counts
+eight-back = packets-read-back false settings 64 values texts (zeros 38) (sender 0) lends counts
 
 pub eight-carries : Carries settings (headOf values texts) (zeros 38) 64 (allPackets settings 64 values texts (zeros 38) (sender 0))
-eight-carries = carries settings 64 values texts (zeros 38) (sender 0) lends counts
+eight-carries = carries false settings 64 values texts (zeros 38) (sender 0) lends counts
 
 -- a cutter that makes packet 0 and repeats it
 abbrev pub repeated : List (List ℕ)
@@ -104,8 +105,8 @@ pub repeats-not-promised :
     octetsAt settings 64 values texts (zeros 38) (sender 0) 1 ≡ octetsAt settings 64 values texts (zeros 38) (sender 0) 0 → ⊥
 repeats-not-promised e = let l = ap length e in omega (arith, long-at)
 
-eight-count : countAnswer settings 64 values texts 38 (sender 0) .count ≡ 2
-unfolding countAnswer countRefusal messageTests limitTest valueTests settingsTest partsTest textTest utf8Checks allText isText accepts ended unless
+eight-count : countAnswer false settings 64 values texts 38 (sender 0) .count ≡ 2
+unfolding countAnswer countRefusal messageTests limitTest valueTests settingsTest zoneTest partsTest textTest utf8Checks allText isText accepts ended unless
     unlessAll headerChecks nameChecks routingChecks idChecks textChecks sum packets rounded countersFit headOf split headerOctets fixedOctets
     frontOctets backOctets wide
 eight-count = refl
@@ -116,15 +117,15 @@ eight-number = refl
 
 -- a cutter that refuses what was counted, with room for it, is not promised
 pub refuser-refuted :
-    (r : Cut) → (r .refusal .number ≡ 0 → ⊥) → r ≡ packetAnswer settings 64 values texts (zeros 38) (sender 0) 0 64 → ⊥
+    (r : Cut) → (r .refusal .number ≡ 0 → ⊥) → r ≡ packetAnswer false settings 64 values texts (zeros 38) (sender 0) 0 64 → ⊥
 unfolding packetAnswer
 refuser-refuted r n e =
     n
     (ap (λ (x : Cut). x .refusal .number) e
-    ∙ not-refused settings 64 values texts (zeros 38) (sender 0) counts 0 64 (omega (arith, eight-number)) (omega arith))
+    ∙ not-refused false settings 64 values texts (zeros 38) (sender 0) counts 0 64 (omega (arith, eight-number)) (omega arith))
 
 -- an invented count of 3 is not the answer
-pub invented-refuted : (r : Counted) → r .count ≡ 3 → r ≡ countAnswer settings 64 values texts 38 (sender 0) → ⊥
+pub invented-refuted : (r : Counted) → r .count ≡ 3 → r ≡ countAnswer false settings 64 values texts 38 (sender 0) → ⊥
 invented-refuted r n e =
     let k : r .count ≡ 2 = ap (λ (x : Counted). x .count) e ∙ eight-count in
     omega arith

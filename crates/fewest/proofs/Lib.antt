@@ -4,6 +4,7 @@ pub mod Parts
 pub mod Numbers
 pub mod ReadBack
 pub mod Calls
+pub mod Withdrawn
 pub mod Delivering
 pub mod Runs
 pub mod Figures

@@ -92,23 +92,23 @@ counter-of d c i e = rw (e, counterAt)
 
 -- ---- a message whose count succeeds
 
-module _ (s : Settings) (P : ℕ) (v : HeaderValues) (t : Lent) (body : List ℕ) (d : Sender)
-    (z : countRefusal s P v t (length body) d .number ≡ 0) where
+module _ (old : Bool) (s : Settings) (P : ℕ) (v : HeaderValues) (t : Lent) (body : List ℕ) (d : Sender)
+    (z : countRefusal old s P v t (length body) d .number ≡ 0) where
   abbrev H : ℕ
   H = headerLength s v t
 
   abbrev B : ℕ
   B = length body
 
-  both : Cuts P H B d × (fine (before s P v t d) ≡ true)
+  both : Cuts P H B d × (fine (before old s P v t d) ≡ true)
   unfolding countRefusal
-  both = cuts P H B d (before s P v t d) (eq-eqb (countRefusal s P v t (length body) d .number) 0 z)
+  both = cuts P H B d (before old s P v t d) (eq-eqb (countRefusal old s P v t (length body) d .number) 0 z)
 
   pub cuts-well : Cuts P H B d
   cuts-well = both .0
 
   pub good-values : Good s P v t d
-  good-values = good s P v t d (both .1)
+  good-values = good old s P v t d (both .1)
 
   pub room : single P H B ≡ false → 1 ≤ chunk P H
   room e = leb-true 1 (chunk P H) (ap (λ (b : Bool). pick b true (leb 1 (chunk P H))) (sym e) ∙ cuts-well .some)

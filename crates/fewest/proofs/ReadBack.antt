@@ -40,8 +40,8 @@ body-told : (s : Settings) (p : List ℕ) {u : Values} → told s p ≡ u → bo
 unfolding valuesOf
 body-told s p x = ap (λ (y : Values). y .body) x
 
-module _ (s : Settings) (P : ℕ) (v : HeaderValues) (t : Lent) (body : List ℕ) (d : Sender) (w : Lends v t body)
-    (z : countRefusal s P v t (length body) d .number ≡ 0) where
+module _ (old : Bool) (s : Settings) (P : ℕ) (v : HeaderValues) (t : Lent) (body : List ℕ) (d : Sender) (w : Lends v t body)
+    (z : countRefusal old s P v t (length body) d .number ≡ 0) where
   abbrev H : ℕ
   H = headerLength s v t
 
@@ -55,8 +55,8 @@ module _ (s : Settings) (P : ℕ) (v : HeaderValues) (t : Lent) (body : List ℕ
   unfolding packetAt bodyAt
   segment-back i p l x q e =
       let f : told s p .flags ≡ flagsAt P H B i = ap (λ (u : Values). u .flags) x in
-      let k = counters s P v t body d z e in
-      let h = room s P v t body d z e in
+      let k = counters old s P v t body d z e in
+      let h = room old s P v t body d z e in
       let c : told s p .counter ≡ stepsOf suc i (k .start .0) =
       ap (λ (u : Values). u .counter) x ∙ ap (λ (b : Bool). pick b 0 (counterAt (d .next) i)) e ∙ counter-of (d .next) (k .start) i (k .starts) in
       let y : bodyOf s p ≡ part body (i * chunk P H) (chunk P H) =
@@ -80,7 +80,7 @@ module _ (s : Settings) (P : ℕ) (v : HeaderValues) (t : Lent) (body : List ℕ
   unfolding packetAt
   back i l =
       let u = givenAt s P v t body d i in
-      let r = packet-range s P v t body d z w i l in
+      let r = packet-range old s P v t body d z w i l in
       let b = reads-back s u r in
       let k = written s u r in
       let q : segmented (octetsOf s u) ≡ not (single P H B) = k .segments ∙ segment-is P H B i in
@@ -93,14 +93,14 @@ module _ (s : Settings) (P : ℕ) (v : HeaderValues) (t : Lent) (body : List ℕ
         head = ap (λ (y : Values). y .head) (b .1);
         key = k .key;
         count = c;
-        count-wraps = c ∙ count-mod (d .«sequence_count» .0) i (good-values s P v t body d z .sequence-count);
-        limit = packet-most s P v t body d i (cuts-well s P v t body d z .some);
+        count-wraps = c ∙ count-mod (d .«sequence_count» .0) i (good-values old s P v t body d z .sequence-count);
+        limit = packet-most s P v t body d i (cuts-well old s P v t body d z .some);
         whole = λ e. (q ∙ ap not e, ap (λ (y : Values). y .flags) (b .1) ∙ flags-whole P H B i e);
         segment = λ e. segment-back i (octetsOf s u) l (b .1) (q ∙ ap not e) e;
       }
 
   two : single P H B ≡ false → 2 ≤ packets P H B
-  two e = two-at-least P H B e (room s P v t body d z e)
+  two e = two-at-least P H B e (room old s P v t body d z e)
 
   some : 1 ≤ packets P H B
   some = ⊎-elim (λ e. omega (arith, packets-one P H B e)) (λ e. omega (arith, two e)) (bool (single P H B))
@@ -115,7 +115,7 @@ module _ (s : Settings) (P : ℕ) (v : HeaderValues) (t : Lent) (body : List ℕ
       ∙ ap (joined (λ (x : List ℕ). x))
       (first-same (λ (i : ℕ). bodyOf s (octetsAt s P v t body d i)) (bodyAt P H body) (packets P H B)
       body-back)
-      ∙ parts-joined P H body (cuts-well s P v t body d z .some)
+      ∙ parts-joined P H body (cuts-well old s P v t body d z .some)
 
   counts-on :
       (i : ℕ) → suc i < packets P H B →
@@ -133,7 +133,7 @@ module _ (s : Settings) (P : ℕ) (v : HeaderValues) (t : Lent) (body : List ℕ
       single P H B ≡ false → (i : ℕ) → suc i < packets P H B →
       told s (octetsAt s P v t body d (suc i)) .counter ≡ suc (told s (octetsAt s P v t body d i) .counter)
   counters-on e i l =
-      let k = counters s P v t body d z e in
+      let k = counters old s P v t body d z e in
       let a = counter-told e i (omega arith) ∙ counter-of (d .next) (k .start) i (k .starts) in
       let b = counter-told e (suc i) l ∙ counter-of (d .next) (k .start) (suc i) (k .starts) in
       b ∙ steps-last suc i (k .start .0) ∙ ap suc (sym a)

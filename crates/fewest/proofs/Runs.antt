@@ -174,11 +174,11 @@ module _ (d : Sender) (m : Message) (h : Bits32 (d .next)) where
       ∙ ap (stepsOf suc i) (sym (place-at (d .next) c x))
 
   cut-goes :
-      countRefusal (m .settings) (m .limit) (m .values) (m .texts) B d .number ≡ 0 → single (m .limit) H B ≡ false →
+      countRefusal (m .old) (m .settings) (m .limit) (m .values) (m .texts) B d .number ≡ 0 → single (m .limit) H B ≡ false →
       Goes d (firstOf given (packets (m .limit) H B)) (afterSegments (packets (m .limit) H B) d)
   cut-goes z e =
       let n = packets (m .limit) H B in
-      let k = counters (m .settings) (m .limit) (m .values) (m .texts) (m .body) d z e in
+      let k = counters (m .old) (m .settings) (m .limit) (m .values) (m .texts) (m .body) d z e in
       let t : k .start .0 ≤ most32 = subst Bits32 (k .starts) h in
       let c : countersOf (firstOf given n) ≡ firstOf (λ (i : ℕ). stepsOf suc i (place (d .next))) n =
       counters-segments given n (λ i. segment-given i ∙ ap not e)
@@ -202,7 +202,7 @@ module _ (d : Sender) (m : Message) (h : Bits32 (d .next)) where
   after-is e = ap (λ (x : Bool). pick x (afterPacket d) (afterSegments (packets (m .limit) H B) d)) e
 
   made-goes :
-      countRefusal (m .settings) (m .limit) (m .values) (m .texts) B d .number ≡ 0 →
+      countRefusal (m .old) (m .settings) (m .limit) (m .values) (m .texts) B d .number ≡ 0 →
       Goes d (firstOf given (packets (m .limit) H B)) (senderAfter (m .limit) H B d)
   made-goes z =
       ⊎-elim
@@ -217,6 +217,6 @@ module _ (d : Sender) (m : Message) (h : Bits32 (d .next)) where
   unfolding countAnswer firstOf
   one-goes =
       ⊎-elim
-      (λ f. rw f (made-goes (eqb-true (countRefusal (m .settings) (m .limit) (m .values) (m .texts) B d .number) 0 f)))
+      (λ f. rw f (made-goes (eqb-true (countRefusal (m .old) (m .settings) (m .limit) (m .values) (m .texts) B d .number) 0 f)))
       (λ f. rw f (goes-none d h))
-      (bool (fine (countRefusal (m .settings) (m .limit) (m .values) (m .texts) B d)))
+      (bool (fine (countRefusal (m .old) (m .settings) (m .limit) (m .values) (m .texts) B d)))

@@ -2,6 +2,7 @@
 -- Assumes nothing: these are definitions.
 use Prim.Native.Nat.{ℕ, _+_, _≤_, suc}
 use mathlib.Core.Path.{_≡_}
+use mathlib.Core.Bool.{Bool}
 use mathlib.Core.List.{List, [], _∷_, _++_, map}
 use lib.ListN.{length}
 use Rattle.octets.specs.Octets.{most32}
@@ -19,8 +20,9 @@ use Rattle.cut.specs.declared.Counted.{Counted}
 use Rattle.cut.specs.Cutting.{countAnswer, givenAt}
 use Rattle.fewest.specs.Carrying.{firstOf}
 
--- what a sender is asked to send, with its own settings and limit
+-- what a sender is asked to send, with its own settings and limit, by the cutter or by the old one
 pub record Message : Type 0 where
+  pub old : Bool
   pub settings : Settings
   pub limit : ℕ
   pub values : HeaderValues
@@ -29,7 +31,7 @@ pub record Message : Type 0 where
 
 -- what the count answers of it
 abbrev pub counted : Sender → Message → Counted
-counted d m = countAnswer (m .settings) (m .limit) (m .values) (m .texts) (length (m .body)) d
+counted d m = countAnswer (m .old) (m .settings) (m .limit) (m .values) (m .texts) (length (m .body)) d
 
 -- its packets, as many as the count answers: none if it is refused
 abbrev pub packetsOf : Sender → Message → List Values

@@ -15,7 +15,7 @@ use Rattle.packet.specs.FixedPart.{octetField, wideField, sduField, afterSdu, a
 use Rattle.packet.specs.FixedPart.{afterSecondary, afterQualifier, afterTransaction, afterPresence, fixedOf, flagsOf, presentOf}
 use Rattle.packet.specs.Reading.{primaryTests, primaryOf, idsOf, textsOf, bodyTest, refusedHeader, acceptedHeader, readPacket}
 use Rattle.write.specs.Given.{headOf, packetOf, sum, nameChecks, routingChecks, idChecks, textChecks, utf8Checks, headerChecks, packetChecks, unlessAll}
-use Rattle.write.specs.Writing.{settingsTest, partsTest, textTest, sizeTests, valueRefusal, writeRefusal, writeOutput}
+use Rattle.write.specs.Writing.{settingsTest, zoneTest, partsTest, textTest, sizeTests, valueRefusal, writeRefusal, writeOutput}
 use Rattle.cut.specs.Cutting.{countersFit, counterAt, packets, rounded, limitTest, valueTests, messageTests}
 use Rattle.cut.specs.Cutting.{countRefusal, countAnswer, flagsAt, bodyAt, packetAt, packetRefusal, packetAnswer, packetOutput}
 use Rattle.recording.proofs.Figure.{figure-14}
@@ -28,7 +28,7 @@ unfolding nextCount wide numberAt write varintOctets final after read begun chec
     fixedOctets frontOctets counterOctets backOctets headerOctets secondaryOctets dataOctets octetsOf primaryTests primaryOf octetField wideField
     sduField afterSdu afterArea afterService afterOperation afterVersion afterSession afterSecondary fieldFrom afterQualifier afterTransaction
     afterPresence fixedOf flagsOf presentOf idsOf textsOf bodyTest refusedHeader acceptedHeader readPacket headOf packetOf sum nameChecks
-    routingChecks idChecks textChecks headerChecks packetChecks unlessAll settingsTest partsTest textTest utf8Checks allText isText accepts ended
+    routingChecks idChecks textChecks headerChecks packetChecks unlessAll settingsTest zoneTest partsTest textTest utf8Checks allText isText accepts ended
     sizeTests valueRefusal writeRefusal writeOutput countersFit counterAt stepsOf countAt packets rounded limitTest valueTests messageTests
     countRefusal countAnswer flagsAt bodyAt packetAt packetRefusal packetAnswer packetOutput
 figures =

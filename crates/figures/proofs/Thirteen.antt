@@ -16,7 +16,7 @@ use Rattle.packet.specs.FixedPart.{afterSecondary, afterQualifier, afterTransac
 use Rattle.packet.specs.Reading.{primaryTests, primaryOf, idsOf, textsOf, bodyTest, refusedHeader, acceptedHeader, readPacket}
 use Rattle.packet.specs.Key.{counterPlace, keyOf}
 use Rattle.write.specs.Given.{headOf, sum, nameChecks, routingChecks, idChecks, textChecks, utf8Checks, headerChecks, unlessAll}
-use Rattle.write.specs.Writing.{settingsTest, partsTest, textTest}
+use Rattle.write.specs.Writing.{settingsTest, zoneTest, partsTest, textTest}
 use Rattle.cut.specs.Cutting.{countersFit, counterAt, packets, rounded, limitTest, valueTests, messageTests, countRefusal, flagsAt, bodyAt, packetAt, packetRefusal, packetOutput}
 use Rattle.packet.specs.Figure14.{settings, zeros}
 use Rattle.cells.specs.Segments.{Seg, segOf, carries}
@@ -50,7 +50,7 @@ unfolding nextCount wide alike numberAt begun check octets unless split presence
     headerOctets secondaryOctets dataOctets octetsOf primaryTests primaryOf octetField wideField sduField afterSdu afterArea afterService
     afterOperation afterVersion afterSession afterSecondary fieldFrom afterQualifier afterTransaction afterPresence fixedOf flagsOf presentOf idsOf
     textsOf bodyTest refusedHeader acceptedHeader readPacket counterPlace keyOf headOf sum nameChecks routingChecks idChecks textChecks headerChecks
-    unlessAll settingsTest partsTest textTest utf8Checks allText isText accepts ended countersFit counterAt stepsOf countAt packets rounded limitTest
+    unlessAll settingsTest zoneTest partsTest textTest utf8Checks allText isText accepts ended countersFit counterAt stepsOf countAt packets rounded limitTest
     valueTests messageTests countRefusal flagsAt bodyAt packetAt packetRefusal packetOutput segOf mayHold
 first-comes = refl
 
@@ -59,7 +59,7 @@ unfolding nextCount wide alike numberAt begun check octets unless split presence
     headerOctets secondaryOctets dataOctets octetsOf primaryTests primaryOf octetField wideField sduField afterSdu afterArea afterService
     afterOperation afterVersion afterSession afterSecondary fieldFrom afterQualifier afterTransaction afterPresence fixedOf flagsOf presentOf idsOf
     textsOf bodyTest refusedHeader acceptedHeader readPacket counterPlace keyOf headOf sum nameChecks routingChecks idChecks textChecks headerChecks
-    unlessAll settingsTest partsTest textTest utf8Checks allText isText accepts ended countersFit counterAt stepsOf countAt packets rounded limitTest
+    unlessAll settingsTest zoneTest partsTest textTest utf8Checks allText isText accepts ended countersFit counterAt stepsOf countAt packets rounded limitTest
     valueTests messageTests countRefusal flagsAt bodyAt packetAt packetRefusal packetOutput segOf mayHold
 last-comes = refl
 

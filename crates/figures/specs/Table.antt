@@ -3,6 +3,7 @@
 -- numbers stand here as SPEC has them, and not by the names of the definitions that they are held against.
 -- Assumes nothing: these are definitions.
 use Prim.Native.Nat.{ℕ, _*_}
+use mathlib.Core.Bool.{false}
 use mathlib.Core.List.{List, [], _∷_}
 use lib.ListN.{length}
 use lib.Dec.{eqb}
@@ -54,15 +55,15 @@ counted r = pick (eqb (r .refusal .number) 0) (is (r .count)) (gives (r .refusal
 
 -- how many packets of P octets at most a body of B octets is cut into, from the counter c on
 abbrev pub count : ℕ → ℕ → ℕ → Said
-count P B c = counted (countAnswer settings P values texts B (sender c))
+count P B c = counted (countAnswer false settings P values texts B (sender c))
 
 -- how many octets packet number i has
 abbrev pub size : ℕ → ℕ → ℕ → Said
-size P B i = is (packetAnswer settings P values texts (zeros B) (sender 0) i P .length)
+size P B i = is (packetAnswer false settings P values texts (zeros B) (sender 0) i P .length)
 
 -- the packet, as it is written into so many octets
 abbrev pub packet : ℕ → ℕ → ℕ → ℕ → List ℕ
-packet P B i room = packetOutput settings P values texts (zeros B) (sender 0) i (zeros room)
+packet P B i room = packetOutput false settings P values texts (zeros B) (sender 0) i (zeros room)
 
 abbrev pub lengthField : List ℕ → Said
 lengthField p = is (numberAt 2 p 4)
@@ -121,7 +122,7 @@ table =
     ∷ row 12 (count 64 38 4294967295) (gives 25)
     ∷ row 13 (taken eight 61) (is 61)
     ∷ row 14 (header (readPacket settings fourteen)) (header told)
-    ∷ row 14 (octets (writeOutput settings values own texts [] (zeros 27)))
+    ∷ row 14 (octets (writeOutput false settings values own texts [] (zeros 27)))
     (octets fourteen)
     ∷ row 14 (octets (recorded (0x4D ∷ 0x50 ∷ fourteen)))
     (octets (0x4D ∷ 0x4D ∷ 0 ∷ 0 ∷ 0 ∷ 0x17 ∷ 0x18 ∷ 0x05 ∷ 0 ∷ 0 ∷ 1 ∷ 0 ∷ 2 ∷ 0 ∷ 3 ∷ 1 ∷ 0x20 ∷ 6 ∷ 0 ∷ 7 ∷ 0 ∷ 0 ∷ 0 ∷ 0 ∷ 0 ∷ 0 ∷ 0 ∷ 9

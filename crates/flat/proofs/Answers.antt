@@ -7,6 +7,7 @@ use native.Mathlib.Omega.{arith}
 use lib.ListN.{length, length-append, set}
 use lib.Seq.{sets, sets-eq, drop-length}
 use Rattle.octets.proofs.Lists.{sets-append}
+use Rattle.packet.specs.Format.{bit}
 use Rattle.packet.specs.declared.Header.{Header}
 use Rattle.packet.specs.declared.Texts.{Texts}
 use Rattle.flat.specs.Told.{primaryNumbers, nameNumbers, routingNumbers, presentNumbers, idsNumbers, placeNumbers, placesTo, textNumbers, toldBeside, readNumbers}
@@ -44,16 +45,16 @@ texts-length t =
 
 module _ (h : Header) (l m1 m2 m3 m4 m5 m6 m7 m8 : List ℕ) where
   pub header-laid :
-      length l ≡ 74 → m1 ≡ sets (set l 0 (h .refusal .number)) 1 (primaryNumbers (h .primary)) →
+      length l ≡ 75 → m1 ≡ sets (set l 0 (h .refusal .number)) 1 (primaryNumbers (h .primary)) →
       m2 ≡ sets m1 5 (nameNumbers (h .fixed)) → m3 ≡ sets m2 10 (routingNumbers (h .fixed)) →
       m4 ≡ sets m3 16 (presentNumbers (h .has)) → m5 ≡ sets m4 24 (idsNumbers (h .ids)) →
       m6 ≡ sets m5 28 (textNumbers (h .texts)) → m7 ≡ sets (set m6 69 (h .h)) 70 (placeNumbers (h .body)) →
-      m8 ≡ sets m7 72 (toldBeside (h .refusal)) → m8 ≡ readNumbers h
+      m8 ≡ sets m7 72 (toldBeside (h .refusal) ++ (bit (h .withdrawn) ∷ [])) → m8 ≡ readNumbers h
   unfolding readNumbers
   header-laid n e1 e2 e3 e4 e5 e6 e7 e8 =
       let x = front h in
       let y = textNumbers (h .texts) in
-      let z = (h .h ∷ []) ++ (placeNumbers (h .body) ++ toldBeside (h .refusal)) in
+      let z = (h .h ∷ []) ++ (placeNumbers (h .body) ++ (toldBeside (h .refusal) ++ (bit (h .withdrawn) ∷ []))) in
       let a : m5 ≡ sets l 0 x = rw (e5, e4, e3, e2, e1) in
       let b : m6 ≡ sets l 0 (x ++ y) = e6 ∙ ap (λ (m : List ℕ). sets m 28 y) a ∙ sets-append l 0 x y in
       let k : length (x ++ y) ≡ 69 = length-append x y ∙ rw (texts-length (h .texts)) in

@@ -46,13 +46,13 @@ module _ (t : ℕ) (h : List ℕ) (x : Lent) (flags count counter : ℕ) (body :
 
   module _ (f : ok ≡ true) (v : HeaderValues) (o : PacketValues) (g : v ≡ headerOf h) (k : o ≡ packetOf flags count counter) where
     pub write-told :
-        (room : ℕ) (w : Written) (r : List ℕ) → w ≡ writeAnswer (settingsOf t) v o x body room → r ≡ writtenNumbers w →
+        (room : ℕ) (w : Written) (r : List ℕ) → w ≡ writeAnswer false (settingsOf t) v o x body room → r ≡ writtenNumbers w →
         r ≡ writeNumbers t h x flags count counter body room
     unfolding writeNumbers
     write-told room w r m n = rw (sym e, f, sym g, sym k, sym m) n
 
     pub write-laid :
-        (out after : List ℕ) → after ≡ writeOutput (settingsOf t) v o x body out → after ≡ writeOut t h x flags count counter body out
+        (out after : List ℕ) → after ≡ writeOutput false (settingsOf t) v o x body out → after ≡ writeOut t h x flags count counter body out
     unfolding writeOut
     write-laid out after m = rw (sym e, f, sym g, sym k) m
 
@@ -74,19 +74,19 @@ module _ (t P : ℕ) (h : List ℕ) (x : Lent) (d : List ℕ) (ok : Bool) (e : o
 
   module _ (f : ok ≡ true) (v : HeaderValues) (s : Sender) (g : v ≡ headerOf h) (k : s ≡ senderOf d) where
     pub count-told :
-        (B : ℕ) (w : Counted) (r : List ℕ) → w ≡ countAnswer (settingsOf t) P v x B s → r ≡ countedNumbers w →
+        (B : ℕ) (w : Counted) (r : List ℕ) → w ≡ countAnswer false (settingsOf t) P v x B s → r ≡ countedNumbers w →
         r ≡ countNumbers t P h x B d
     unfolding countNumbers
     count-told B w r m n = rw (sym e, f, sym g, sym k, sym m) n
 
     pub packet-told :
-        (body : List ℕ) (i room : ℕ) (w : Cut) (r : List ℕ) → w ≡ packetAnswer (settingsOf t) P v x body s i room → r ≡ cutNumbers w →
+        (body : List ℕ) (i room : ℕ) (w : Cut) (r : List ℕ) → w ≡ packetAnswer false (settingsOf t) P v x body s i room → r ≡ cutNumbers w →
         r ≡ packetNumbers t P h x body d i room
     unfolding packetNumbers
     packet-told body i room w r m n = rw (sym e, f, sym g, sym k, sym m) n
 
     pub packet-laid :
-        (body : List ℕ) (i : ℕ) (out after : List ℕ) → after ≡ packetOutput (settingsOf t) P v x body s i out →
+        (body : List ℕ) (i : ℕ) (out after : List ℕ) → after ≡ packetOutput false (settingsOf t) P v x body s i out →
         after ≡ packetOut t P h x body d i out
     unfolding packetOut
     packet-laid body i out after m = rw (sym e, f, sym g, sym k) m

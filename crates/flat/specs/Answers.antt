@@ -37,13 +37,13 @@ writeRefused s = tooWide (settingsTest s noneFailed) ∷ 0 ∷ []
 unfoldable pub writeNumbers : ℕ → List ℕ → Lent → ℕ → ℕ → ℕ → List ℕ → ℕ → List ℕ
 writeNumbers t h x flags count counter body room =
     pick (writeFits h flags count counter)
-    (writtenNumbers (writeAnswer (settingsOf t) (headerOf h) (packetOf flags count counter) x body room))
+    (writtenNumbers (writeAnswer false (settingsOf t) (headerOf h) (packetOf flags count counter) x body room))
     (writeRefused (settingsOf t))
 
 unfoldable pub writeOut : ℕ → List ℕ → Lent → ℕ → ℕ → ℕ → List ℕ → List ℕ → List ℕ
 writeOut t h x flags count counter body out =
     pick (writeFits h flags count counter)
-    (writeOutput (settingsOf t) (headerOf h) (packetOf flags count counter) x body out)
+    (writeOutput false (settingsOf t) (headerOf h) (packetOf flags count counter) x body out)
     out
 
 -- ---- a sender's numbers
@@ -71,13 +71,13 @@ cutRefused t P d = tooWide (limitTest (settingsOf t) P noneFailed) ∷ 0 ∷ giv
 -- the refusal, the count of packets, and the sender's numbers moved on
 unfoldable pub countNumbers : ℕ → ℕ → List ℕ → Lent → ℕ → List ℕ → List ℕ
 countNumbers t P h x B d =
-    pick (cutFits h d) (countedNumbers (countAnswer (settingsOf t) P (headerOf h) x B (senderOf d))) (cutRefused t P d)
+    pick (cutFits h d) (countedNumbers (countAnswer false (settingsOf t) P (headerOf h) x B (senderOf d))) (cutRefused t P d)
 
 -- the refusal, the octets of packet i, and the sender's numbers
 unfoldable pub packetNumbers : ℕ → ℕ → List ℕ → Lent → List ℕ → List ℕ → ℕ → ℕ → List ℕ
 packetNumbers t P h x body d i room =
-    pick (cutFits h d) (cutNumbers (packetAnswer (settingsOf t) P (headerOf h) x body (senderOf d) i room)) (cutRefused t P d)
+    pick (cutFits h d) (cutNumbers (packetAnswer false (settingsOf t) P (headerOf h) x body (senderOf d) i room)) (cutRefused t P d)
 
 unfoldable pub packetOut : ℕ → ℕ → List ℕ → Lent → List ℕ → List ℕ → ℕ → List ℕ → List ℕ
 packetOut t P h x body d i out =
-    pick (cutFits h d) (packetOutput (settingsOf t) P (headerOf h) x body (senderOf d) i out) out
+    pick (cutFits h d) (packetOutput false (settingsOf t) P (headerOf h) x body (senderOf d) i out) out

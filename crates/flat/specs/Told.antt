@@ -67,7 +67,7 @@ textNumbers t =
 abbrev pub toldBeside : Refusal → List ℕ
 toldBeside r = r .octets ∷ r .place ∷ []
 
--- what reading answers: 74 numbers
+-- what reading answers: 75 numbers
 unfoldable pub readNumbers : Header → List ℕ
 readNumbers h =
     (h .refusal .number ∷ [])
@@ -75,7 +75,9 @@ readNumbers h =
     ++ (nameNumbers (h .fixed)
     ++ (routingNumbers (h .fixed)
     ++ (presentNumbers (h .has)
-    ++ (idsNumbers (h .ids) ++ (textNumbers (h .texts) ++ ((h .h ∷ []) ++ (placeNumbers (h .body) ++ toldBeside (h .refusal)))))))))
+    ++ (idsNumbers (h .ids)
+    ++ (textNumbers (h .texts)
+    ++ ((h .h ∷ []) ++ (placeNumbers (h .body) ++ (toldBeside (h .refusal) ++ (bit (h .withdrawn) ∷ []))))))))))
 
 -- ---- writing and cutting
 

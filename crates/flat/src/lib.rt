@@ -41,7 +41,7 @@ use write::PacketValues;
 use write::Written;
 
 // How many numbers reading answers.
-pub const READ: usize = 74;
+pub const READ: usize = 75;
 
 // How many numbers a sender has, and how many its calls and those of cutting answer.
 pub const SENDER: usize = 3;
@@ -144,7 +144,7 @@ fn put_ids(answer: &mut [u64; READ], ids: Ids)
 }
 
 fn put_place(answer: &mut [u64; READ], at: usize, p: Place)
-    requires { ⌜ at + 2 ≤ 74 ⌝ }
+    requires { ⌜ at + 2 ≤ 75 ⌝ }
     ensures { λ r. ⌜ now (answer .exit) ≡ sets (now (answer .entry)) at (placeNumbers p) ⌝ }
 {
     answer[at] = p.at as u64;
@@ -192,6 +192,7 @@ fn header_numbers(h: Header) -> [u64; READ]
     put_place(&mut answer, 70, h.body);
     answer[72] = refusal.octets as u64;
     answer[73] = refusal.place as u64;
+    answer[74] = octets::bit_of(h.withdrawn);
     answer
 }
 

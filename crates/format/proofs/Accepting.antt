@@ -75,6 +75,7 @@ module _ (s : Settings) (p : List ℕ) where
         timestamp = timestamp-inside (acceptedHeader s p) x;
         timestamp-long = timestamp-is;
         zone = zone-inside (acceptedHeader s p) x;
+        withdrawn = refl;
         session-name = name-inside (acceptedHeader s p) x;
         parts-most = z .most;
         parts-all = z .all;

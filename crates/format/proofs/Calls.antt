@@ -19,6 +19,7 @@ use Rattle.packet.proofs.next_sequence_count.Reads as nexts
 use Rattle.packet.proofs.Arguments.{read-call}
 use Rattle.format.specs.Told.{valuesOf}
 use Rattle.format.specs.Accepted.{Accepted}
+use Rattle.format.proofs.Start.{Withdrawn, withdrawn-exactly}
 use Rattle.format.proofs.TwoWay.{only-writing, reads-back}
 use Rattle.format.proofs.Accepting.{accepted}
 use Rattle.format.proofs.CutOff.{cut-off}
@@ -68,6 +69,10 @@ read-one κs a b r q t u k j s g h e =
 pub read-accepted :
     (κs : L.Lfts 1) (a : _) (r : _) (t : _) → reads.Post κs a r t → r .refusal .number ≡ 0 → Accepted (a .0) (now (a .1 .0)) r
 read-accepted κs a r t k h = accepted-plain (a .0) (now (a .1 .0)) r (k .0) (k .1) h
+
+-- the header is of the withdrawn kind exactly if the call accepts it and it has a zone
+pub read-withdrawn : (κs : L.Lfts 1) (a : _) (r : _) (t : _) → reads.Post κs a r t → Withdrawn r
+read-withdrawn κs a r t k = rw (k .0) (withdrawn-exactly (a .0) (now (a .1 .0)))
 
 -- ---- what a refusal tells
 

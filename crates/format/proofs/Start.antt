@@ -2,7 +2,7 @@
 -- Assumes nothing.
 use Prim.Native.Nat.{ℕ, _+_, _/_, _%_, _≤_, _<_}
 use mathlib.Core.Path.{_≡_, refl, ap, _∙_}
-use mathlib.Core.Logic.{⊎-elim}
+use mathlib.Core.Logic.{_↔_, ⊎-elim}
 use mathlib.Core.List.{List}
 use mathlib.Core.Bool.{Bool, true, false, not}
 use native.Mathlib.Omega.{arith}
@@ -15,6 +15,7 @@ use Rattle.octets.proofs.Lists.{bool}
 use Rattle.walk.specs.declared.Settings.{Settings}
 use Rattle.walk.specs.Walk.{Reading, goes, going, check, begun, timestampLeast, timestampMost}
 use Rattle.walk.proofs.Steps.{check-held, check-ok}
+use Rattle.packet.specs.declared.Header.{Header}
 use Rattle.packet.specs.Reading.{wanted, primaryTests, segmented, bodyTest, startAt, ended, refusalOf, refusedHeader, acceptedHeader, readPacket}
 use Rattle.packet.proofs.Whole.{accepts}
 
@@ -27,6 +28,10 @@ pub record Opens (s : Settings) (p : List ℕ) : Type 0 where
   pub second : octetAt p 0 / 8 % 2 ≡ 1
   pub idle : number 2 p 0 % 2048 ≡ 2047 → ⊥
   pub long : length p ≡ wanted p
+
+-- what an answer of reading says of a zone
+abbrev pub Withdrawn : Header → Type 0
+Withdrawn h = h .withdrawn ≡ true ↔ ((h .refusal .number ≡ 0) × (h .has .zone ≡ true))
 
 module _ (s : Settings) (p : List ℕ) where
   pub start-only : going (startAt s p) ≡ true → (startAt s p ≡ goes 6) × Opens s p
@@ -97,3 +102,13 @@ module _ (s : Settings) (p : List ℕ) where
 
   pub answer : readPacket s p .refusal .number ≡ 0 → readPacket s p ≡ acceptedHeader s p
   answer h = accepts s p (answered h)
+
+  -- the header is of the withdrawn kind exactly if it is accepted and has a zone
+  pub withdrawn-exactly : Withdrawn (readPacket s p)
+  unfolding readPacket refusedHeader acceptedHeader
+  withdrawn-exactly = cases (going (ended s p))
+    where
+      cases : (b : Bool) → Withdrawn (pick b (acceptedHeader s p) (refusedHeader (refusalOf p (ended s p))))
+      cases true = ((λ e. (refl, e)), λ k. k .1)
+      cases false =
+          ((λ e. let z : _≡_ {A = ℕ} 0 1 = cc in absurd (omega arith)), λ k. let z : _≡_ {A = ℕ} 0 1 = cc (k .1) in absurd (omega arith))

@@ -60,6 +60,8 @@ pub record Accepted (s : Settings) (p : List ℕ) (h : Header) : Type 0 where
   pub timestamp-long : h .has .timestamp ≡ true → h .texts .timestamp .length ≡ s .t
   -- the network zone
   pub zone : h .has .zone ≡ true → Inside h (h .texts .zone)
+  -- with one the header is of the withdrawn kind, and else it is not
+  pub withdrawn : h .withdrawn ≡ h .has .zone
   -- the session name
   pub session-name : h .has .«session_name» ≡ true → Inside h (h .texts .«session_name»)
   -- at most sixteen domain parts

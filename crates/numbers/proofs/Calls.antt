@@ -32,15 +32,15 @@ read-numbered κs a r x k = subst (λ (h : Header). Numbered ofReading (h .refus
 
 pub write-numbered : (κs : L.Lfts 8) (a : _) (r : _) (x : _) → writes.Post κs a r x → Numbered ofWriting (r .refusal .number)
 unfolding writeAnswer
-write-numbered κs a r x k = subst (λ (h : Written). Numbered ofWriting (h .refusal .number)) (sym (k .0)) (writing _ _ _ _ _ _)
+write-numbered κs a r x k = subst (λ (h : Written). Numbered ofWriting (h .refusal .number)) (sym (k .0)) (writing _ _ _ _ _ _ _)
 
 pub count-numbered : (κs : L.Lfts 6) (a : _) (r : _) (x : _) → counts.Post κs a r x → Numbered ofCount (r .refusal .number)
 unfolding countAnswer
-count-numbered κs a r x k = subst (λ (h : Counted). Numbered ofCount (h .refusal .number)) (sym k) (count _ _ _ _ _ _)
+count-numbered κs a r x k = subst (λ (h : Counted). Numbered ofCount (h .refusal .number)) (sym k) (count _ _ _ _ _ _ _)
 
 pub packet-numbered : (κs : L.Lfts 8) (a : _) (r : _) (x : _) → cuts.Post κs a r x → Numbered ofCutting (r .refusal .number)
 unfolding packetAnswer
-packet-numbered κs a r x k = subst (λ (h : Cut). Numbered ofCutting (h .refusal .number)) (sym (k .0)) (cutting _ _ _ _ _ _ _ _)
+packet-numbered κs a r x k = subst (λ (h : Cut). Numbered ofCutting (h .refusal .number)) (sym (k .0)) (cutting _ _ _ _ _ _ _ _ _)
 
 pub arrive-numbered : (κs : L.Lfts 2) (a : _) (r : _) (x : _) → arrives.Post κs a r x → Numbered ofArrival (said r .refusal .number)
 arrive-numbered κs a r x k = subst (λ (h : Arrival). Numbered ofArrival (said h .refusal .number)) (sym (k .0)) (arrival _ _ _ _)

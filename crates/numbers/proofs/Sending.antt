@@ -13,7 +13,7 @@ use Rattle.sender.specs.declared.Sender.{Sender}
 use Rattle.write.specs.declared.HeaderValues.{HeaderValues}
 use Rattle.write.specs.declared.PacketValues.{PacketValues}
 use Rattle.write.specs.Given.{Lent, headerChecks, packetChecks, unlessAll}
-use Rattle.write.specs.Writing.{settingsTest, partsTest, textTest, sizeTests, valueRefusal, writeRefusal}
+use Rattle.write.specs.Writing.{settingsTest, zoneTest, partsTest, textTest, sizeTests, valueRefusal, writeRefusal}
 use Rattle.cut.specs.Cutting.{limitTest, valueTests, messageTests, countRefusal, packetRefusal}
 use Rattle.numbers.specs.Lists.{Numbered, ofWriting, ofCount, ofCutting}
 use Rattle.format.proofs.Refusals.{picked}
@@ -36,6 +36,10 @@ module _ (l : List ℕ) where
   unfolding settingsTest
   settings-ok s r e h = unless-ok _ 15 _ e (unless-ok _ 15 r e h)
 
+  zone-ok : (old : Bool) (v : HeaderValues) (r : Tested) → has l 30 ≡ true → Ok r → Ok (zoneTest old v r)
+  unfolding zoneTest
+  zone-ok old v r e h = unless-ok _ 30 r e h
+
   parts-ok : (t : Lent) (r : Tested) → has l 13 ≡ true → Ok r → Ok (partsTest t r)
   unfolding partsTest
   parts-ok t r e h = unless-ok _ 13 r e h
@@ -50,18 +54,19 @@ abbrev W : List ℕ
 W = 0 ∷ ofWriting
 
 pub writing :
-    (s : Settings) (v : HeaderValues) (o : PacketValues) (t : Lent) (body : List ℕ) (room : ℕ) →
-    Numbered ofWriting (writeRefusal s v o t body room .number)
+    (old : Bool) (s : Settings) (v : HeaderValues) (o : PacketValues) (t : Lent) (body : List ℕ) (room : ℕ) →
+    Numbered ofWriting (writeRefusal old s v o t body room .number)
 unfolding writeRefusal sizeTests valueRefusal
-writing s v o t body room =
+writing old s v o t body room =
     unless-ok W _ 21 _ refl
     (unless-ok W _ 14 _ refl
     (unless-ok W _ 12 _ refl
     (unless-ok W _ 23 _ refl
     (text-ok W t _ refl
     (parts-ok W t _ refl
+    (zone-ok W old v _ refl
     (all-ok W (packetChecks o) 22 _ refl
-    (all-ok W (headerChecks s v t) 22 _ refl (settings-ok W s noneFailed refl (among W 0 refl)))))))))
+    (all-ok W (headerChecks s v t) 22 _ refl (settings-ok W s noneFailed refl (among W 0 refl))))))))))
 
 -- numbers too wide, given to be written
 pub write-wide : (s : Settings) → Numbered ofWriting (unless false 22 (settingsTest s noneFailed) .number)
@@ -72,18 +77,21 @@ write-wide s = unless-ok W false 22 _ refl (settings-ok W s noneFailed refl (amo
 abbrev C : List ℕ
 C = 0 ∷ ofCount
 
-pub count : (s : Settings) (P : ℕ) (v : HeaderValues) (t : Lent) (B : ℕ) (d : Sender) → Numbered ofCount (countRefusal s P v t B d .number)
+pub count :
+    (old : Bool) (s : Settings) (P : ℕ) (v : HeaderValues) (t : Lent) (B : ℕ) (d : Sender) →
+    Numbered ofCount (countRefusal old s P v t B d .number)
 unfolding countRefusal messageTests valueTests limitTest
-count s P v t B d =
+count old s P v t B d =
     unless-ok C _ 25 _ refl
     (unless-ok C _ 24 _ refl
     (unless-ok C _ 12 _ refl
     (unless-ok C _ 23 _ refl
     (text-ok C t _ refl
     (parts-ok C t _ refl
+    (zone-ok C old v _ refl
     (unless-ok C _ 22 _ refl
     (all-ok C (headerChecks s v t) 22 _ refl
-    (unless-ok C _ 15 _ refl (unless-ok C _ 15 _ refl (settings-ok C s noneFailed refl (among C 0 refl)))))))))))
+    (unless-ok C _ 15 _ refl (unless-ok C _ 15 _ refl (settings-ok C s noneFailed refl (among C 0 refl))))))))))))
 
 -- numbers too wide, given to be cut
 pub count-wide : (s : Settings) (P : ℕ) → Numbered ofCount (unless false 22 (limitTest s P noneFailed) .number)
@@ -96,11 +104,11 @@ abbrev D : List ℕ
 D = 0 ∷ ofCutting
 
 pub cutting :
-    (s : Settings) (P : ℕ) (v : HeaderValues) (t : Lent) (body : List ℕ) (d : Sender) (i room : ℕ) →
-    Numbered ofCutting (packetRefusal s P v t body d i room .number)
+    (old : Bool) (s : Settings) (P : ℕ) (v : HeaderValues) (t : Lent) (body : List ℕ) (d : Sender) (i room : ℕ) →
+    Numbered ofCutting (packetRefusal old s P v t body d i room .number)
 unfolding packetRefusal
-cutting s P v t body d i room =
-    unless-ok D _ 21 _ refl (unless-ok D _ 26 _ refl (among-all C D refl _ (count s P v t (length body) d)))
+cutting old s P v t body d i room =
+    unless-ok D _ 21 _ refl (unless-ok D _ 26 _ refl (among-all C D refl _ (count old s P v t (length body) d)))
 
 pub cut-wide : (s : Settings) (P : ℕ) → Numbered ofCutting (unless false 22 (limitTest s P noneFailed) .number)
 cut-wide s P = among-all C D refl _ (count-wide s P)

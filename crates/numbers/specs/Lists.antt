@@ -25,7 +25,7 @@ abbrev pub ofJoining : List ℕ
 ofJoining = ofArrival ++ (20 ∷ 21 ∷ [])
 
 abbrev pub ofWriting : List ℕ
-ofWriting = 15 ∷ 22 ∷ 13 ∷ 28 ∷ 23 ∷ 12 ∷ 14 ∷ 21 ∷ []
+ofWriting = 15 ∷ 22 ∷ 30 ∷ 13 ∷ 28 ∷ 23 ∷ 12 ∷ 14 ∷ 21 ∷ []
 
 -- a whole recording joined: the output is too short
 abbrev pub ofRecording : List ℕ
@@ -41,7 +41,7 @@ ofWidths = 22 ∷ []
 
 -- the count leaves out the last two of cutting's
 abbrev pub ofCount : List ℕ
-ofCount = 15 ∷ 22 ∷ 13 ∷ 28 ∷ 23 ∷ 12 ∷ 24 ∷ 25 ∷ []
+ofCount = 15 ∷ 22 ∷ 30 ∷ 13 ∷ 28 ∷ 23 ∷ 12 ∷ 24 ∷ 25 ∷ []
 
 abbrev pub ofCutting : List ℕ
 ofCutting = ofCount ++ (26 ∷ 21 ∷ [])

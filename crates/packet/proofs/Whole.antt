@@ -98,6 +98,7 @@ module _
         texts = t .texts;
         h = n;
         body = place (w .at) l;
+        withdrawn = f .has .zone;
       }
       ≡ readPacket s p
   unfolding acceptedHeader
@@ -116,5 +117,6 @@ module _
         texts = ap (λ (x : Step Texts). x .value) (sym texts-is) j;
         h = h-is j;
         body = record { at = at-is j; length = l-is j };
+        withdrawn = sym has-is j .zone;
       } in
       same ∙ sym (accepts s p (rw ended-is (eq-eqb (w .refused) 0 h)))

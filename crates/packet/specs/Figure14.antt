@@ -106,4 +106,5 @@ header =
           };
       h = 21;
       body = place 27 0;
+      withdrawn = false;
     }

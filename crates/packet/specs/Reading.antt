@@ -163,13 +163,14 @@ refusedHeader r =
           };
       h = 0;
       body = nowhere;
+      withdrawn = false;
     }
 
 -- the octets of a segment counter in the header: 4, or 0 if there is none
 abbrev pub counterSize : List ℕ → ℕ
 counterSize p = pick (segmented p) counterWidth 0
 
--- the body stands from the header's end to the packet's; H never counts the counter
+-- the body stands from the header's end to the packet's; H never counts the counter; a zone is withdrawn (SPEC R-11)
 unfoldable pub acceptedHeader : Settings → List ℕ → Header
 acceptedHeader s p =
     record {
@@ -181,6 +182,7 @@ acceptedHeader s p =
       texts = textsAt s p .value;
       h = ended s p .at - primarySize - counterSize p;
       body = place (ended s p .at) (length p - ended s p .at);
+      withdrawn = hasAt s p .zone;
     }
 
 unfoldable pub readPacket : Settings → List ℕ → Header

@@ -122,7 +122,7 @@ pub struct Texts {
     pub authentication: Place,
 }
 
-// What reading answers. h is H, the octets of the secondary header without its counter.
+// What reading answers. h is H, the octets of the secondary header without its counter. A header with a zone is of the withdrawn kind.
 pub struct Header {
     pub refusal: Refusal,
     pub primary: Primary,
@@ -132,6 +132,7 @@ pub struct Header {
     pub texts: Texts,
     pub h: usize,
     pub body: Place,
+    pub withdrawn: bool,
 }
 
 // Steps of a reading with what they found.
@@ -545,6 +546,7 @@ fn refused_header(refusal: Refusal) -> Header
         texts: texts,
         h: 0,
         body: none,
+        withdrawn: false,
     }
 }
 
@@ -595,5 +597,6 @@ pub fn read(s: Settings, p: &[u8]) -> Header
         texts: texts,
         h: h,
         body: body,
+        withdrawn: has.zone,
     }
 }

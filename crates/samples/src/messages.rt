@@ -1,6 +1,7 @@
 // The messages of the samples, by number: a header, a body of some octets, and where the sender stands.
 //
-// Odd ones carry every kind of optional field. Message 7 is cut into packets too long for a cell.
+// Odd ones carry every kind of optional field, a network zone among them: the old cutter makes them all. Message 7 is cut into packets too
+// long for a cell.
 use packet::Apid;
 use packet::Present;
 use packet::SecondaryApid;
@@ -132,7 +133,8 @@ fn sender(m: u8) -> Sender {
 pub fn packet(m: u8, i: u8, body: &[u8], out: &mut [u8]) -> usize {
     let all = rich(m);
     let s = Settings { t: 8 };
-    let c = cut::packet(
+    let c = cut::packet_by(
+        true,
         s,
         limit(m),
         header(m),

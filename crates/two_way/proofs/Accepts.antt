@@ -1,4 +1,4 @@
--- The writer accepts exactly the values in range whose domain lengths add up, where there is room.
+-- The writer accepts exactly the values in range whose domain lengths add up, where there is room and no zone; the old one with a zone too.
 -- Assumes nothing.
 use Prim.Native.Nat.{ℕ, _≤_}
 use mathlib.Core.Path.{_≡_, refl, ap, _∙_}
@@ -19,7 +19,7 @@ use Rattle.packet.specs.Numbers.{countMost}
 use Rattle.write.specs.declared.HeaderValues.{HeaderValues}
 use Rattle.write.specs.declared.PacketValues.{PacketValues}
 use Rattle.write.specs.Given.{Lent, headOf, packetOf, headerChecks, packetChecks}
-use Rattle.write.specs.Writing.{settingsTest, partsTest, textTest, bodyFits, givenPacket, sizeTests, valueRefusal, writeRefusal}
+use Rattle.write.specs.Writing.{settingsTest, zoneFits, zoneTest, partsTest, textTest, bodyFits, givenPacket, sizeTests, valueRefusal, writeRefusal}
 use Rattle.write.proofs.Tests.{unless-fine, unless-true, AllHold, unlessAll-fine, unlessAll-true}
 use Rattle.write.proofs.Answers.{secondary-length}
 use Rattle.write.specs.Lending.{Bits64, LentOctets}
@@ -37,23 +37,24 @@ some-body : (b : Bool) (n : ℕ) → (b ≡ true → 1 ≤ n) → pick b (leb 1 
 some-body true n h = le-leb 1 n (h refl)
 some-body false n h = refl
 
-module _ (s : Settings) (v : HeaderValues) (o : PacketValues) (t : Lent) (body : List ℕ) (room : ℕ) where
+module _ (old : Bool) (s : Settings) (v : HeaderValues) (o : PacketValues) (t : Lent) (body : List ℕ) (room : ℕ) where
   abbrev whole : Values
   whole = givenPacket v o t body
 
   -- what is accepted can be written; what is there of octets of any value is octets
   pub accepted-plain :
-      PlainTexts (headOf v t) → Octets body → Bits64 (v .transaction) → writeRefusal s v o t body room .number ≡ 0 →
-      Writable s v o t body room
-  unfolding writeRefusal sizeTests valueRefusal textTest partsTest settingsTest packetOf packetChecks AllHold
+      PlainTexts (headOf v t) → Octets body → Bits64 (v .transaction) → writeRefusal old s v o t body room .number ≡ 0 →
+      Writable old s v o t body room
+  unfolding writeRefusal sizeTests valueRefusal textTest partsTest zoneTest settingsTest packetOf packetChecks AllHold
   accepted-plain p q w z =
-      let a = unless-fine (leb (length (octetsOf s whole)) room) 20 _ (eq-eqb (writeRefusal s v o t body room .number) 0 z) in
+      let a = unless-fine (leb (length (octetsOf s whole)) room) 20 _ (eq-eqb (writeRefusal old s v o t body room .number) 0 z) in
       let b = unless-fine (bodyFits (o .flags) (length body)) 13 _ (a .before) in
       let c = unless-fine (leb (length (secondaryOctets s whole)) headerMost) 11 _ (b .before) in
       let d = unless-fine (leb (length (octetsOf s whole)) packetMost) 22 _ (c .before) in
       let u = unlessAll-fine (texts28 s v t) 27 _ (d .before) in
       let e = unless-fine (leb (length (t .lengths)) partsMost) 12 _ (u .0) in
-      let f = unlessAll-fine (packetChecks o) 21 _ (e .before) in
+      let y = unless-fine (zoneFits old (v .has)) 29 _ (e .before) in
+      let f = unlessAll-fine (packetChecks o) 21 _ (y .before) in
       let g = unlessAll-fine (headerChecks s v t) 21 _ (f .0) in
       let i = unless-fine (leb (s .t) timestampMost) 14 _ (g .0) in
       let j = unless-fine (leb timestampLeast (s .t)) 14 _ (i .before) in
@@ -70,12 +71,13 @@ module _ (s : Settings) (v : HeaderValues) (o : PacketValues) (t : Lent) (body :
               header = leb-true (length (secondaryOctets s whole)) headerMost (c .held);
               some = body-some (segment (o .flags)) (length body) (b .held);
             };
+        zone = y .held;
         adds = checks-sum s v t (g .1);
         fits = leb-true (length (octetsOf s whole)) room (a .held);
       }
 
   -- what can be written is accepted
-  module _ (k : Writable s v o t body room) where
+  module _ (k : Writable old s v o t body room) where
     header-checks : AllHold (headerChecks s v t)
     unfolding packetOf
     header-checks =
@@ -105,16 +107,17 @@ module _ (s : Settings) (v : HeaderValues) (o : PacketValues) (t : Lent) (body :
         unless-true (leb (s .t) timestampMost) 15 _ (le-leb (s .t) timestampMost (k .range .settings .t-top))
         ∙ unless-true (leb timestampLeast (s .t)) 15 _ (le-leb timestampLeast (s .t) (k .range .settings .t-low))
 
-    values-fine : valueRefusal s v o t ≡ noneFailed
-    unfolding valueRefusal textTest partsTest
+    values-fine : valueRefusal old s v o t ≡ noneFailed
+    unfolding valueRefusal textTest partsTest zoneTest
     values-fine =
         unlessAll-true (texts28 s v t) 28 _ utf8-checks
         ∙ unless-true (leb (length (t .lengths)) partsMost) 13 _ (le-leb (length (t .lengths)) partsMost parts-check)
+        ∙ unless-true (zoneFits old (v .has)) 30 _ (k .zone)
         ∙ unlessAll-true (packetChecks o) 22 _ packet-checks
         ∙ unlessAll-true (headerChecks s v t) 22 _ header-checks
         ∙ settings-fine
 
-    pub written-fine : writeRefusal s v o t body room ≡ noneFailed
+    pub written-fine : writeRefusal old s v o t body room ≡ noneFailed
     unfolding writeRefusal sizeTests packetOf
     written-fine =
         unless-true (leb (length (octetsOf s whole)) room) 21 _ (le-leb (length (octetsOf s whole)) room (k .fits))
@@ -124,10 +127,10 @@ module _ (s : Settings) (v : HeaderValues) (o : PacketValues) (t : Lent) (body :
         ∙ unless-true (leb (length (octetsOf s whole)) packetMost) 23 _ (le-leb (length (octetsOf s whole)) packetMost (k .range .packet))
         ∙ values-fine
 
-  pub accepts : Writable s v o t body room → writeRefusal s v o t body room .number ≡ 0
+  pub accepts : Writable old s v o t body room → writeRefusal old s v o t body room .number ≡ 0
   accepts k = ap (λ (r : Tested). r .number) (written-fine k)
 
   -- so, of arguments as a call has them, exactly what can be written
   pub writes-exactly :
-      LentOctets t body → Bits64 (v .transaction) → writeRefusal s v o t body room .number ≡ 0 ↔ Writable s v o t body room
+      LentOctets t body → Bits64 (v .transaction) → writeRefusal old s v o t body room .number ≡ 0 ↔ Writable old s v o t body room
   writes-exactly p w = (accepted-plain (lent-texts v t body p) (p .body) w, accepts)

@@ -2,6 +2,7 @@
 -- Assumes nothing.
 use Prim.Native.Nat.{ℕ}
 use mathlib.Core.Path.{_≡_, ap, sym, _∙_, subst}
+use mathlib.Core.Bool.{Bool}
 use mathlib.Core.List.{List, map}
 use lib.ListN.{length}
 use Rattle.octets.specs.Octets.{Octets}
@@ -64,6 +65,7 @@ told-same s p h v o t b z a n e =
             domain = e i .head .has-domain;
             authentication = e i .head .has-authentication;
           };
+      withdrawn = a .withdrawn ∙ ap (λ (u : Values). u .head .has-zone) e;
       source = ap (λ (u : Values). u .head .source) e;
       destination = ap (λ (u : Values). u .head .destination) e;
       counter = λ i. record { 0 = e i .counter };
@@ -124,21 +126,21 @@ same-again p h v o t b k = (
   ),
 )
 
-module _ (s : Settings) (v : HeaderValues) (o : PacketValues) (t : Lent) (body out : List ℕ) where
+module _ (old : Bool) (s : Settings) (v : HeaderValues) (o : PacketValues) (t : Lent) (body out : List ℕ) where
   -- what was written is octets, so the texts that are there and the body are: nothing else need be known of what was lent
   pub written-writable :
-      Octets (written s v o t body out) → Bits64 (v .transaction) → writeRefusal s v o t body (length out) .number ≡ 0 →
-      Writable s v o t body (length out)
+      Octets (written old s v o t body out) → Bits64 (v .transaction) → writeRefusal old s v o t body (length out) .number ≡ 0 →
+      Writable old s v o t body (length out)
   unfolding packetOf
   written-writable q w z =
-      let e : Octets (octetsOf s (givenPacket v o t body)) = subst Octets (written-is s v o t body out z) q in
-      accepted-plain s v o t body (length out) (packet-texts s (givenPacket v o t body) e) (packet-body s (givenPacket v o t body) e) w z
+      let e : Octets (octetsOf s (givenPacket v o t body)) = subst Octets (written-is old s v o t body out z) q in
+      accepted-plain old s v o t body (length out) (packet-texts s (givenPacket v o t body) e) (packet-body s (givenPacket v o t body) e) w z
 
   pub writable-back :
-      Writable s v o t body (length out) → writeRefusal s v o t body (length out) .number ≡ 0 →
-      SameRead (written s v o t body out) (readPacket s (written s v o t body out)) v o t body
+      Writable old s v o t body (length out) → writeRefusal old s v o t body (length out) .number ≡ 0 →
+      SameRead (written old s v o t body out) (readPacket s (written old s v o t body out)) v o t body
   writable-back k z =
-      subst (λ (p : List ℕ). SameRead p (readPacket s p) v o t body) (sym (written-is s v o t body out z))
+      subst (λ (p : List ℕ). SameRead p (readPacket s p) v o t body) (sym (written-is old s v o t body out z))
       (told-same s (octetsOf s (givenPacket v o t body)) (readPacket s (octetsOf s (givenPacket v o t body))) v o t body
       (reads-back s (givenPacket v o t body) (k .range) .0)
       (accepted s (octetsOf s (givenPacket v o t body)) (writes-octets s (givenPacket v o t body) (k .range))
@@ -147,33 +149,33 @@ module _ (s : Settings) (v : HeaderValues) (o : PacketValues) (t : Lent) (body o
 
   -- what the writer accepts and writes reads back the same
   pub writes-back :
-      LentOctets t body → Bits64 (v .transaction) → writeRefusal s v o t body (length out) .number ≡ 0 →
-      SameRead (written s v o t body out) (readPacket s (written s v o t body out)) v o t body
-  writes-back p w z = writable-back (writes-exactly s v o t body (length out) p w .0 z) z
+      LentOctets t body → Bits64 (v .transaction) → writeRefusal old s v o t body (length out) .number ≡ 0 →
+      SameRead (written old s v o t body out) (readPacket s (written old s v o t body out)) v o t body
+  writes-back p w z = writable-back (writes-exactly old s v o t body (length out) p w .0 z) z
 
   -- so no two different values of the format are written alike
   pub writes-apart :
-      (v′ : HeaderValues) (o′ : PacketValues) (t′ : Lent) (body′ out′ : List ℕ) → Writable s v o t body (length out) →
-      Writable s v′ o′ t′ body′ (length out′) → written s v o t body out ≡ written s v′ o′ t′ body′ out′ →
+      (v′ : HeaderValues) (o′ : PacketValues) (t′ : Lent) (body′ out′ : List ℕ) → Writable old s v o t body (length out) →
+      Writable old s v′ o′ t′ body′ (length out′) → written old s v o t body out ≡ written old s v′ o′ t′ body′ out′ →
       givenPacket v o t body ≡ givenPacket v′ o′ t′ body′
   writes-apart v′ o′ t′ body′ out′ k j e =
       one-value s (givenPacket v o t body) (givenPacket v′ o′ t′ body′) (k .range) (j .range)
-      (sym (written-is s v o t body out (accepts s v o t body (length out) k)) ∙ e ∙ written-is s v′ o′ t′ body′ out′ (accepts s v′ o′ t′ body′ (length out′) j))
+      (sym (written-is old s v o t body out (accepts old s v o t body (length out) k)) ∙ e ∙ written-is old s v′ o′ t′ body′ out′ (accepts old s v′ o′ t′ body′ (length out′) j))
 
 -- and no two different headers, values of a packet, texts or bodies are
 pub writes-one :
-    (s : Settings) (v v′ : HeaderValues) (o o′ : PacketValues) (t t′ : Lent) (body body′ out out′ : List ℕ) →
-    Writable s v o t body (length out) → Writable s v′ o′ t′ body′ (length out′) →
-    written s v o t body out ≡ written s v′ o′ t′ body′ out′ → (v ≡ v′) × ((o ≡ o′) × ((t ≡ t′) × (body ≡ body′)))
-writes-one s v v′ o o′ t t′ body body′ out out′ k j e =
-    let p = written s v o t body out in
-    let q = written s v′ o′ t′ body′ out′ in
+    (old : Bool) (s : Settings) (v v′ : HeaderValues) (o o′ : PacketValues) (t t′ : Lent) (body body′ out out′ : List ℕ) →
+    Writable old s v o t body (length out) → Writable old s v′ o′ t′ body′ (length out′) →
+    written old s v o t body out ≡ written old s v′ o′ t′ body′ out′ → (v ≡ v′) × ((o ≡ o′) × ((t ≡ t′) × (body ≡ body′)))
+writes-one old s v v′ o o′ t t′ body body′ out out′ k j e =
+    let p = written old s v o t body out in
+    let q = written old s v′ o′ t′ body′ out′ in
     let a =
     same-again p (readPacket s p) v o t body
-    (writable-back s v o t body out k (accepts s v o t body (length out) k)) in
+    (writable-back old s v o t body out k (accepts old s v o t body (length out) k)) in
     let b =
     same-again q (readPacket s q) v′ o′ t′ body′
-    (writable-back s v′ o′ t′ body′ out′ j (accepts s v′ o′ t′ body′ (length out′) j)) in (
+    (writable-back old s v′ o′ t′ body′ out′ j (accepts old s v′ o′ t′ body′ (length out′) j)) in (
       sym (a .0) ∙ ap (λ (x : List ℕ). againHeader (readPacket s x)) e ∙ b .0,
       (
         sym (a .1 .0) ∙ ap (λ (x : List ℕ). againPacket (readPacket s x)) e ∙ b .1 .0,

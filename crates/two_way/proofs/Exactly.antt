@@ -1,4 +1,5 @@
--- Reading accepts a slice exactly if the writer could have written it; and the writer can write every packet of the format.
+-- Reading accepts a slice exactly if the writer could have written it, with a zone the old writer; and these can write every packet of the
+-- format.
 -- Assumes nothing.
 use Prim.Native.Nat.{ℕ, _≤_}
 use mathlib.Core.Path.{_≡_, refl, ap, ap₂, _∙_, subst}
@@ -21,7 +22,7 @@ use Rattle.two_way.specs.Again.{partPlaces, againHeader, againPacket, ag
 use Rattle.write.specs.Lending.{Bits64, LentOctets}
 use Rattle.two_way.specs.Same.{written, CouldWrite}
 use Rattle.two_way.proofs.Lists.{joined-octets}
-use Rattle.two_way.proofs.Forth.{writes-again, writes-slice}
+use Rattle.two_way.proofs.Forth.{its-writer, writes-again, writes-slice}
 use Rattle.two_way.proofs.Back.{writes-back}
 
 -- what an answer gives again is octets, and fits
@@ -42,6 +43,7 @@ unfolding againHeader valuesOf headOf
 again-bits s p o z = only-writing s p o z .0 .head .transaction
 
 accepted-could : (s : Settings) (p : List ℕ) → Octets p → readPacket s p .refusal .number ≡ 0 → CouldWrite s p
+unfolding againHeader
 accepted-could s p o z =
     record {
       header = againHeader (readPacket s p);
@@ -50,8 +52,8 @@ accepted-could s p o z =
       body = againBody p (readPacket s p);
       octets = again-octets p (readPacket s p) o;
       bits = again-bits s p o z;
-      answers = λ out l. writes-again s p o z out l;
-      writes = λ out l. writes-slice s p o z out l;
+      answers = λ out l. writes-again (readPacket s p .has .zone) s p o z (its-writer (readPacket s p .has)) out l;
+      writes = λ out l. writes-slice (readPacket s p .has .zone) s p o z (its-writer (readPacket s p .has)) out l;
     }
 
 could-accepted : (s : Settings) (p : List ℕ) → CouldWrite s p → readPacket s p .refusal .number ≡ 0
@@ -60,16 +62,16 @@ could-accepted s p c =
     let out : List ℕ = replicate (length p) 0 in
     let l : length p ≤ length out = omega (arith, length-replicate {A = ℕ} (length p) 0) in
     let a = c .answers out l in
-    let z : writeRefusal s (c .header) (c .own) (c .texts) (c .body) (length out) .number ≡ 0 =
+    let z : writeRefusal (c .header .has .zone) s (c .header) (c .own) (c .texts) (c .body) (length out) .number ≡ 0 =
     ap (λ (r : Written). r .refusal .number) a in
-    let e : written s (c .header) (c .own) (c .texts) (c .body) out ≡ p =
+    let e : written (c .header .has .zone) s (c .header) (c .own) (c .texts) (c .body) out ≡ p =
     ap₂ (λ (r : Written) (x : List ℕ). take (r .length) x) a (c .writes out l) ∙ take-at p (drop (length p) out) (length p) refl in
     subst (λ (x : List ℕ). readPacket s x .refusal .number ≡ 0) e
-    (writes-back s (c .header) (c .own) (c .texts) (c .body) out (c .octets) (c .bits) z .no-refusal)
+    (writes-back (c .header .has .zone) s (c .header) (c .own) (c .texts) (c .body) out (c .octets) (c .bits) z .no-refusal)
 
 pub reads-exactly : (s : Settings) (p : List ℕ) → Octets p → readPacket s p .refusal .number ≡ 0 ↔ CouldWrite s p
 reads-exactly s p o = (accepted-could s p o, could-accepted s p)
 
--- and the writer can write every packet of the format
+-- and the writer, or the old one, can write every packet of the format
 pub range-could : (s : Settings) (v : Values) → InRange s v → CouldWrite s (octetsOf s v)
 range-could s v r = accepted-could s (octetsOf s v) (writes-octets s v r) (reads-back s v r .0)

@@ -1,5 +1,6 @@
 -- By computation: the packet of SPEC F-14, written into 27 and into 30 octets, is its packet and the rest as it was. So a writer that
--- writes nothing is refuted. And a segment with every optional field can be written: the laws are not empty.
+-- writes nothing is refuted. And a segment with every optional field, a zone among them, can be written by the old writer: the laws are not
+-- empty.
 -- Assumes nothing.
 use Prim.Native.Nat.{ℕ, zero, suc, _/_, _%_}
 use mathlib.Core.Path.{_≡_, refl, ap, sym, _∙_}
@@ -20,7 +21,7 @@ use Rattle.write.specs.declared.PacketValues.{PacketValues}
 use Rattle.write.specs.declared.Written.{Written}
 use Rattle.write.specs.Figure14.{header, own, texts}
 use Rattle.write.specs.Given.{Lent, lent, headOf, packetOf, sum, nameChecks, routingChecks, idChecks, textChecks, utf8Checks, headerChecks, packetChecks, unlessAll}
-use Rattle.write.specs.Writing.{settingsTest, partsTest, textTest, givenPacket, sizeTests, valueRefusal, writeRefusal, writeAnswer, writeOutput}
+use Rattle.write.specs.Writing.{settingsTest, zoneTest, partsTest, textTest, givenPacket, sizeTests, valueRefusal, writeRefusal, writeAnswer, writeOutput}
 use Rattle.format.proofs.Start.{answer}
 use Rattle.format.proofs.Examples.{two, full, full-in-range, full-octets}
 use Rattle.two_way.specs.Writable.{Writable}
@@ -32,10 +33,10 @@ use Rattle.two_way.proofs.Back.{writable-back}
 
 -- what writing it into n zeros answers, and the output afterwards
 abbrev answers : ℕ → Written
-answers n = writeAnswer settings header own texts [] (length (zeros n))
+answers n = writeAnswer false settings header own texts [] (length (zeros n))
 
 abbrev outputs : ℕ → List ℕ
-outputs n = writeOutput settings header own texts [] (zeros n)
+outputs n = writeOutput false settings header own texts [] (zeros n)
 
 -- 27 octets are room enough, what is after them stays; with one less it is 21, and all is as it was
 pub figure-written :
@@ -44,7 +45,7 @@ pub figure-written :
     ∷ record { refusal = refusal 21; length = 0 }
     ∷ [])
     × ((outputs 27 ≡ packet) × ((outputs 30 ≡ packet ++ (0 ∷ 0 ∷ 0 ∷ [])) × (outputs 26 ≡ zeros 26)))
-unfolding writeAnswer writeOutput writeRefusal sizeTests valueRefusal partsTest textTest utf8Checks allText isText acceptsFrom ended settingsTest
+unfolding writeAnswer writeOutput writeRefusal sizeTests valueRefusal partsTest zoneTest textTest utf8Checks allText isText acceptsFrom ended settingsTest
     unlessAll unless headerChecks nameChecks routingChecks idChecks textChecks packetChecks headOf packetOf split sum octetsOf identification
     dataOctets secondaryOctets fixedOctets presence frontOctets counterOctets backOctets wide
 figure-written = (refl, (refl, (refl, refl)))
@@ -69,7 +70,7 @@ no-silent-writer n k =
     ap (λ (h : Header). h .primary .«packet_type») (answer settings (take n (zeros 27)) (k .no-refusal)) in
     omega (arith, k .packet-type, first-zero n)
 
--- ---- a first segment with every optional field
+-- ---- a first segment with every optional field, by the old writer
 
 abbrev pub full-header : HeaderValues
 full-header =
@@ -116,13 +117,13 @@ pub full-given : givenPacket full-header full-own full-texts full-body ≡ full
 unfolding packetOf headOf split
 full-given = refl
 
-pub full-writable : Writable two full-header full-own full-texts full-body (length (zeros 60))
+pub full-writable : Writable true two full-header full-own full-texts full-body (length (zeros 60))
 unfolding packetOf headOf split sum
-full-writable = record { range = full-in-range; adds = refl; fits = omega (arith, ap length full-octets) }
+full-writable = record { range = full-in-range; zone = refl; adds = refl; fits = omega (arith, ap length full-octets) }
 
 pub full-back :
-    SameRead (written two full-header full-own full-texts full-body (zeros 60))
-    (readPacket two (written two full-header full-own full-texts full-body (zeros 60))) full-header full-own full-texts full-body
+    SameRead (written true two full-header full-own full-texts full-body (zeros 60))
+    (readPacket two (written true two full-header full-own full-texts full-body (zeros 60))) full-header full-own full-texts full-body
 full-back =
-    writable-back two full-header full-own full-texts full-body (zeros 60) full-writable
-    (accepts two full-header full-own full-texts full-body (length (zeros 60)) full-writable)
+    writable-back true two full-header full-own full-texts full-body (zeros 60) full-writable
+    (accepts true two full-header full-own full-texts full-body (length (zeros 60)) full-writable)

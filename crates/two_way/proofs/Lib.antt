@@ -8,4 +8,5 @@ pub mod Forth
 pub mod Back
 pub mod Exactly
 pub mod Calls
+pub mod Withdrawn
 pub mod Figures

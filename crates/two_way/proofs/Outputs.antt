@@ -18,14 +18,14 @@ use Rattle.write.specs.Given.{Lent}
 use Rattle.write.specs.Writing.{givenPacket, writeRefusal, fine, writeAnswer, writeOutput}
 use Rattle.two_way.specs.Same.{written}
 
-module _ (s : Settings) (v : HeaderValues) (o : PacketValues) (t : Lent) (body out : List ℕ) (z : writeRefusal s v o t body (length out) .number ≡ 0) where
+module _ (old : Bool) (s : Settings) (v : HeaderValues) (o : PacketValues) (t : Lent) (body out : List ℕ) (z : writeRefusal old s v o t body (length out) .number ≡ 0) where
   abbrev packet : List ℕ
   packet = octetsOf s (givenPacket v o t body)
 
-  all-fine : fine (writeRefusal s v o t body (length out)) ≡ true
-  all-fine = eq-eqb (writeRefusal s v o t body (length out) .number) 0 z
+  all-fine : fine (writeRefusal old s v o t body (length out)) ≡ true
+  all-fine = eq-eqb (writeRefusal old s v o t body (length out) .number) 0 z
 
-  pub answer-is : writeAnswer s v o t body (length out) ≡ record { refusal = noRefusal; length = length packet }
+  pub answer-is : writeAnswer old s v o t body (length out) ≡ record { refusal = noRefusal; length = length packet }
   unfolding writeAnswer
   answer-is =
       λ i.
@@ -34,12 +34,12 @@ module _ (s : Settings) (v : HeaderValues) (o : PacketValues) (t : Lent) (body o
         length = ap (λ (b : Bool). pick b (length packet) 0) all-fine i;
       }
 
-  pub output-is : writeOutput s v o t body out ≡ packet ++ drop (length packet) out
+  pub output-is : writeOutput old s v o t body out ≡ packet ++ drop (length packet) out
   unfolding writeOutput
   output-is = ap (λ (b : Bool). pick b (packet ++ drop (length packet) out) out) all-fine
 
   -- so what was written is the packet
-  pub written-is : written s v o t body out ≡ packet
+  pub written-is : written old s v o t body out ≡ packet
   written-is =
       ap₂ (λ (r : Written) (l : List ℕ). take (r .length) l) answer-is output-is
       ∙ take-at packet (drop (length packet) out) (length packet) refl

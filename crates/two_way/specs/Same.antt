@@ -1,8 +1,9 @@
 -- A packet read as the values given to the writer: no refusal, every number, every text's octets at its told place, the body. And
--- a slice that the writer could have written.
+-- a slice that the writer could have written, or the old writer if it has a zone.
 -- Assumes nothing: these are definitions.
 use Prim.Native.Nat.{ℕ, _≤_}
 use mathlib.Core.Path.{_≡_}
+use mathlib.Core.Bool.{Bool}
 use mathlib.Core.List.{List, _++_, map}
 use lib.ListN.{length, take, drop}
 use Rattle.walk.specs.declared.Settings.{Settings}
@@ -19,11 +20,11 @@ use Rattle.two_way.specs.Again.{partPlaces}
 use Rattle.write.specs.Lending.{Bits64, LentOctets}
 
 -- the octets that the writer wrote: as many as it answers, from the output's first on
-abbrev pub written : Settings → HeaderValues → PacketValues → Lent → List ℕ → List ℕ → List ℕ
-written s v o t b out = take (writeAnswer s v o t b (length out) .length) (writeOutput s v o t b out)
+abbrev pub written : Bool → Settings → HeaderValues → PacketValues → Lent → List ℕ → List ℕ → List ℕ
+written old s v o t b out = take (writeAnswer old s v o t b (length out) .length) (writeOutput old s v o t b out)
 
 -- p could have been written: there are values, texts and a body, as a call of the writer has them, for which, given room, it writes
--- just p
+-- just p; if there is a zone, the old writer
 pub record CouldWrite (s : Settings) (p : List ℕ) : Type 0 where
   pub header : HeaderValues
   pub own : PacketValues
@@ -33,8 +34,8 @@ pub record CouldWrite (s : Settings) (p : List ℕ) : Type 0 where
   pub bits : Bits64 (header .transaction)
   pub answers :
       (out : List ℕ) → length p ≤ length out →
-      writeAnswer s header own texts body (length out) ≡ record { refusal = noRefusal; length = length p }
-  pub writes : (out : List ℕ) → length p ≤ length out → writeOutput s header own texts body out ≡ p ++ drop (length p) out
+      writeAnswer (header .has .zone) s header own texts body (length out) ≡ record { refusal = noRefusal; length = length p }
+  pub writes : (out : List ℕ) → length p ≤ length out → writeOutput (header .has .zone) s header own texts body out ≡ p ++ drop (length p) out
 
 -- h is what reading answers of p
 pub record SameRead (p : List ℕ) (h : Header) (v : HeaderValues) (o : PacketValues) (t : Lent) (b : List ℕ) : Type 0 where
@@ -55,6 +56,7 @@ pub record SameRead (p : List ℕ) (h : Header) (v : HeaderValues) (o : PacketVa
   pub qualifier : h .fixed .qualifier ≡ v .qualifier
   pub transaction : h .fixed .transaction ≡ v .transaction
   pub has : h .has ≡ v .has
+  pub withdrawn : h .withdrawn ≡ v .has .zone
   pub source : h .ids .source ≡ v .source
   pub destination : h .ids .destination ≡ v .destination
   pub counter : h .ids .counter ≡ o .counter

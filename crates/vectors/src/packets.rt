@@ -6,7 +6,7 @@
 use crate::case;
 use crate::print;
 
-// Answers: the refusal, then the header from left to right, H and the body, and what the refusal tells.
+// Answers: the refusal, then the header from left to right, H and the body, what the refusal tells, and whether a zone is there.
 pub fn read(c: &[u8]) {
     let answer = flat::read(case::number(c, 1), case::part(c, 1));
     print::numbers(&answer);

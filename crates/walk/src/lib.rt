@@ -105,6 +105,9 @@ pub const REFUSED_LONG: u8 = 27;
 // A text that is not well-formed UTF-8.
 pub const REFUSED_TEXT: u8 = 28;
 
+// A network zone to write: it is withdrawn.
+pub const REFUSED_WITHDRAWN: u8 = 30;
+
 // What both sides agreed on: T, the octets of a timestamp.
 pub struct Settings {
     pub t: usize,

@@ -116,7 +116,7 @@ module _ (s : Settings) (v : HeaderValues) (o : PacketValues) (t : Lent) (body :
       ∙ ap capped (sym (packet-length s whole))
 
   -- the tests on sizes are the definition's
-  module _ (room : ℕ) {r q : Tested} (er : r ≡ valueRefusal s v o t)
+  module _ (old : Bool) (room : ℕ) {r q : Tested} (er : r ≡ valueRefusal old s v o t)
       (eq : q ≡ unless (leb size room) 21 (unless (bodyFits (o .flags) (length body)) 14 (unless (leb second headerMost) 12 (unless (leb size packetMost) 23 r)))) where
     long-test : leb size packetMost ≡ leb (length (octetsOf s whole)) packetMost
     long-test = ap (λ (n : ℕ). leb n packetMost) size-is ∙ below-cap (length (octetsOf s whole)) packetMost (omega arith)
@@ -138,7 +138,7 @@ module _ (s : Settings) (v : HeaderValues) (o : PacketValues) (t : Lent) (body :
         let l = leb-true (length (octetsOf s whole)) packetMost (d .held) in
         omega (arith, size-is)
 
-    pub refusal-is : q ≡ writeRefusal s v o t body room
+    pub refusal-is : q ≡ writeRefusal old s v o t body room
     unfolding writeRefusal sizeTests packetOf
     refusal-is =
         eq ∙ rw (long-test, head-test) (unless-same 21 inner (λ g. ap (λ (n : ℕ). leb n room) (exact g)))
@@ -158,37 +158,37 @@ module _ (s : Settings) (v : HeaderValues) (o : PacketValues) (t : Lent) (body :
     pub fits : q .number ≡ 0 → Fits
     unfolding writeRefusal sizeTests packetOf
     fits z =
-        let g : fine (writeRefusal s v o t body room) ≡ true = ap fine (sym refusal-is) ∙ eq-eqb (q .number) 0 z in
+        let g : fine (writeRefusal old s v o t body room) ≡ true = ap fine (sym refusal-is) ∙ eq-eqb (q .number) 0 z in
         let a = unless-fine (leb (length (octetsOf s whole)) room) 20 _ g in
         let e = exact (ap (λ (x : Tested). fine (unless (bodyFits (o .flags) (length body)) 14
         (unless (leb (length (secondaryOctets s whole)) headerMost) 12 (unless (leb (length (octetsOf s whole)) packetMost) 23 x)))) er ∙ a .before) in
         record { size-exact = e; fits-room = leb-true (length (octetsOf s whole)) room (a .held); least = omega (arith, packet-least s whole) }
 
-    pub refused-answer : (q .number ≡ 0 → ⊥) → record { refusal = refusal (q .number); length = 0 } ≡ writeAnswer s v o t body room
+    pub refused-answer : (q .number ≡ 0 → ⊥) → record { refusal = refusal (q .number); length = 0 } ≡ writeAnswer old s v o t body room
     unfolding writeAnswer
     refused-answer n =
-        let f : fine (writeRefusal s v o t body room) ≡ false = ap fine (sym refusal-is) ∙ ne-eqb (q .number) 0 n in
+        let f : fine (writeRefusal old s v o t body room) ≡ false = ap fine (sym refusal-is) ∙ ne-eqb (q .number) 0 n in
         λ i. record { refusal = refusal (refusal-is i .number); length = ap (λ (x : Bool). pick x (length (octetsOf s whole)) 0) (sym f) i }
 
-    pub written-answer : q .number ≡ 0 → record { refusal = refusal 0; length = size } ≡ writeAnswer s v o t body room
+    pub written-answer : q .number ≡ 0 → record { refusal = refusal 0; length = size } ≡ writeAnswer old s v o t body room
     unfolding writeAnswer
     written-answer z =
-        let f : fine (writeRefusal s v o t body room) ≡ true = ap fine (sym refusal-is) ∙ eq-eqb (q .number) 0 z in
-        let n : 0 ≡ writeRefusal s v o t body room .number = sym z ∙ ap (λ (x : Tested). x .number) refusal-is in
+        let f : fine (writeRefusal old s v o t body room) ≡ true = ap fine (sym refusal-is) ∙ eq-eqb (q .number) 0 z in
+        let n : 0 ≡ writeRefusal old s v o t body room .number = sym z ∙ ap (λ (x : Tested). x .number) refusal-is in
         λ i. record { refusal = refusal (n i); length = (fits z .size-exact ∙ ap (λ (x : Bool). pick x (length (octetsOf s whole)) 0) (sym f)) i }
 
-  module _ (out : List ℕ) {r q : Tested} (er : r ≡ valueRefusal s v o t)
+  module _ (old : Bool) (out : List ℕ) {r q : Tested} (er : r ≡ valueRefusal old s v o t)
       (eq : q ≡ unless (leb size (length out)) 21 (unless (bodyFits (o .flags) (length body)) 14 (unless (leb second headerMost) 12 (unless (leb size packetMost) 23 r)))) where
-    pub refused-output : (q .number ≡ 0 → ⊥) → out ≡ writeOutput s v o t body out
+    pub refused-output : (q .number ≡ 0 → ⊥) → out ≡ writeOutput old s v o t body out
     unfolding writeOutput
     refused-output n =
-        let f : fine (writeRefusal s v o t body (length out)) ≡ false = ap fine (sym (refusal-is (length out) er eq)) ∙ ne-eqb (q .number) 0 n in
+        let f : fine (writeRefusal old s v o t body (length out)) ≡ false = ap fine (sym (refusal-is old (length out) er eq)) ∙ ne-eqb (q .number) 0 n in
         rw f
 
     pub written-output :
-        q .number ≡ 0 → {l : List ℕ} {e : ℕ} → Lays (laid out 0) (packetPieces s v o t (size - 7) body) l e → l ≡ writeOutput s v o t body out
+        q .number ≡ 0 → {l : List ℕ} {e : ℕ} → Lays (laid out 0) (packetPieces s v o t (size - 7) body) l e → l ≡ writeOutput old s v o t body out
     unfolding writeOutput packetOf
     written-output z {l} {e} a =
-        let f : fine (writeRefusal s v o t body (length out)) ≡ true = ap fine (sym (refusal-is (length out) er eq)) ∙ eq-eqb (q .number) 0 z in
-        let k = fits (length out) er eq z in
+        let f : fine (writeRefusal old s v o t body (length out)) ≡ true = ap fine (sym (refusal-is old (length out) er eq)) ∙ eq-eqb (q .number) 0 z in
+        let k = fits old (length out) er eq z in
         rw f (packet-laid s v o t body out (k .size-exact) (k .fits-room) a)

@@ -1,7 +1,8 @@
 -- The arguments of `write::write` by their names, and the output afterwards: so that a law over the generated contract says which is
--- which.
+-- which. And those of `write::write_by`, which has one more before them.
 -- Assumes nothing: these are definitions.
 use Prim.Native.Nat.{ℕ}
+use mathlib.Core.Bool.{Bool}
 use mathlib.Core.List.{List}
 use contract.Lifetimes as L
 use denote.Ref.{now}
@@ -14,6 +15,8 @@ use Rattle.write.specs.declared.PacketValues.{PacketValues}
 use Rattle.write.specs.Given.{Lent, lent}
 use Rattle.write.proofs.write as writes
 use Rattle.write.proofs.write.Kinds as kinds
+use Rattle.write.proofs.write_by as bys
+use Rattle.write.proofs.write_by.Kinds as by-kinds
 
 pub record WriteCall : Type 0 where
   pub settings : Settings
@@ -39,3 +42,15 @@ write-call κs a =
 -- the output afterwards
 abbrev pub write-output : (κs : L.Lfts 8) → AtExit (endedOf 8 kinds.ps kinds.r) κs → List ℕ
 write-output κs x = now (x .1 .1 .1 .1 .1 .1 .1 .1 .1 .1 .0)
+
+-- ---- `write::write_by`
+
+-- whether it is the old writer
+abbrev pub by-old : (κs : L.Lfts 8) → ArgsD bys.signature κs → Bool
+by-old κs a = a .0
+
+abbrev pub by-call : (κs : L.Lfts 8) → ArgsD bys.signature κs → WriteCall
+by-call κs a = write-call κs (a .1)
+
+abbrev pub by-output : (κs : L.Lfts 8) → AtExit (endedOf 8 by-kinds.ps by-kinds.r) κs → List ℕ
+by-output κs x = now (x .1 .1 .1 .1 .1 .1 .1 .1 .1 .1 .1 .0)

@@ -1,9 +1,10 @@
 -- What writing one packet answers and writes, with its order of refusals.
--- SPEC W-2, W-3: first 15, then 22, 13, 28, 23, 12, 14, 21.
+-- SPEC W-2, W-3: first 15, then 22, 30, 13, 28, 23, 12, 14, 21.
+-- A zone is withdrawn (30). `old` is true for the old writer, which writes it and is for laws and tests alone, and false for the writer.
 -- Assumes nothing: these are definitions.
 use Prim.Native.Nat.{ℕ}
 use mathlib.Core.List.{List, _++_}
-use mathlib.Core.Bool.{Bool, true}
+use mathlib.Core.Bool.{Bool, true, not}
 use lib.ListN.{length, drop}
 use lib.Dec.{leb, eqb}
 use Rattle.octets.specs.Octets.{pick}
@@ -12,6 +13,7 @@ use Rattle.walk.specs.declared.Tested.{Tested}
 use Rattle.walk.specs.Walk.{refusal, noneFailed, unless, timestampLeast, timestampMost}
 use Rattle.fields.specs.Fields.{partsMost}
 use Rattle.fields.specs.Form.{split}
+use Rattle.packet.specs.declared.Present.{Present}
 use Rattle.packet.specs.Format.{Values, segment, octetsOf, secondaryOctets, packetMost, headerMost}
 use Rattle.write.specs.declared.HeaderValues.{HeaderValues}
 use Rattle.write.specs.declared.PacketValues.{PacketValues}
@@ -21,6 +23,13 @@ use Rattle.write.specs.Given.{Lent, headOf, packetOf, headerChecks, pack
 -- 15: T outside its range
 unfoldable pub settingsTest : Settings → Tested → Tested
 settingsTest s r = unless (leb (s .t) timestampMost) 15 (unless (leb timestampLeast (s .t)) 15 r)
+
+-- 30: a zone, but for the old writer
+abbrev pub zoneFits : Bool → Present → Bool
+zoneFits old has = pick old true (not (has .zone))
+
+unfoldable pub zoneTest : Bool → HeaderValues → Tested → Tested
+zoneTest old v r = unless (zoneFits old (v .has)) 30 r
 
 -- 13: more than sixteen domain parts
 unfoldable pub partsTest : Lent → Tested → Tested
@@ -45,30 +54,32 @@ sizeTests s v room r =
     (unless (bodyFits (v .flags) (length (v .body))) 14
     (unless (leb (length (secondaryOctets s v)) headerMost) 12 (unless (leb (length (octetsOf s v)) packetMost) 23 r)))
 
--- 15, 22, 13, 28: the tests on the values alone
-unfoldable pub valueRefusal : Settings → HeaderValues → PacketValues → Lent → Tested
-valueRefusal s v o t =
-    textTest t (partsTest t (unlessAll (packetChecks o) 22 (unlessAll (headerChecks s v t) 22 (settingsTest s noneFailed))))
+-- 15, 22, 30, 13, 28: the tests on the values alone
+unfoldable pub valueRefusal : Bool → Settings → HeaderValues → PacketValues → Lent → Tested
+valueRefusal old s v o t =
+    textTest t
+    (partsTest t
+    (zoneTest old v (unlessAll (packetChecks o) 22 (unlessAll (headerChecks s v t) 22 (settingsTest s noneFailed)))))
 
 -- all of them, in their order
-unfoldable pub writeRefusal : Settings → HeaderValues → PacketValues → Lent → List ℕ → ℕ → Tested
-writeRefusal s v o t body room = sizeTests s (givenPacket v o t body) room (valueRefusal s v o t)
+unfoldable pub writeRefusal : Bool → Settings → HeaderValues → PacketValues → Lent → List ℕ → ℕ → Tested
+writeRefusal old s v o t body room = sizeTests s (givenPacket v o t body) room (valueRefusal old s v o t)
 
 -- whether there is none
 abbrev pub fine : Tested → Bool
 fine r = eqb (r .number) 0
 
 -- the octets written, or the refusal and 0
-unfoldable pub writeAnswer : Settings → HeaderValues → PacketValues → Lent → List ℕ → ℕ → Written
-writeAnswer s v o t body room =
+unfoldable pub writeAnswer : Bool → Settings → HeaderValues → PacketValues → Lent → List ℕ → ℕ → Written
+writeAnswer old s v o t body room =
     record {
-      refusal = refusal (writeRefusal s v o t body room .number);
-      length = pick (fine (writeRefusal s v o t body room)) (length (octetsOf s (givenPacket v o t body))) 0;
+      refusal = refusal (writeRefusal old s v o t body room .number);
+      length = pick (fine (writeRefusal old s v o t body room)) (length (octetsOf s (givenPacket v o t body))) 0;
     }
 
 -- the output afterwards: the packet from the first octet on and the rest as it was; on refusal all as it was
-unfoldable pub writeOutput : Settings → HeaderValues → PacketValues → Lent → List ℕ → List ℕ → List ℕ
-writeOutput s v o t body out =
-    pick (fine (writeRefusal s v o t body (length out)))
+unfoldable pub writeOutput : Bool → Settings → HeaderValues → PacketValues → Lent → List ℕ → List ℕ → List ℕ
+writeOutput old s v o t body out =
+    pick (fine (writeRefusal old s v o t body (length out)))
     (octetsOf s (givenPacket v o t body) ++ drop (length (octetsOf s (givenPacket v o t body))) out)
     out

@@ -2,12 +2,14 @@
 //
 // `write` takes any settings, values, texts, body and output. It answers the octets written, from the output's first octet on, or
 // one refusal, and then the output is as it was. A number that SPEC limits is held in a type wide enough for a bad value,
-// which is 22 and never cut off. The domain is one lent text and the lengths of its parts.
+// which is 22 and never cut off. The domain is one lent text and the lengths of its parts. A network zone is withdrawn, which is 30;
+// `write_by` is the old writer too, which writes it, for laws and tests.
 // As parameters, `time` is the timestamp, `zone` the network zone, `name` the session name and `id` the authentication id.
 //
 // Every test is made on the values as they are given; sizes are told up to one above the largest packet, so nothing overflows.
 // The pieces of the packet are then laid one after another. `cut` uses the parts marked inner.
 ghost use mathlib.Core.Path.{_≡_};
+ghost use mathlib.Core.Bool.{false};
 ghost use mathlib.Core.List.{[], _∷_};
 ghost use Prim.Native.Nat.{_+_};
 ghost use lib.ListN.{length};
@@ -22,7 +24,7 @@ ghost use Rattle.packet.specs.Format.{segment, headerOctets, headerMost, packet
 ghost use Rattle.write.specs.Given.{lent, headOf, numberFits, textFits, exactFits, lengthsFit, sum, nameChecks, routingChecks};
 ghost use Rattle.write.specs.Given.{idChecks, textChecks, headerChecks, packetChecks, utf8Checks, unlessAll};
 ghost use Rattle.write.specs.Lending.{Lends};
-ghost use Rattle.write.specs.Writing.{settingsTest, bodyFits, valueRefusal, writeAnswer, writeOutput};
+ghost use Rattle.write.specs.Writing.{settingsTest, zoneFits, bodyFits, valueRefusal, writeAnswer, writeOutput};
 ghost use Rattle.write.specs.Inner.{primaryPieces, namePieces, routingPieces, presentOctet, frontPieces, middlePieces, endPieces};
 ghost use Rattle.write.specs.Inner.{packetPieces, middleSize, endSize};
 use packet::Apid;
@@ -39,6 +41,7 @@ use walk::REFUSED_OUTPUT;
 use walk::REFUSED_SETTINGS;
 use walk::REFUSED_TEXT;
 use walk::REFUSED_VALUE;
+use walk::REFUSED_WITHDRAWN;
 use walk::Refusal;
 use walk::Settings;
 use walk::Tested;
@@ -288,6 +291,13 @@ fn test_packet(o: PacketValues, r: Tested) -> Tested
         number_fits(segmented(o.flags), counter.0 as u64, MOST_32),
         REFUSED_VALUE,
     )
+}
+
+// The test for 30: there is no zone, or it is the old writer.
+pub fn zone_fits(old: bool, has: Present) -> bool
+    ensures { λ r. ⌜ r ≡ zoneFits old has ⌝ }
+{
+    octets::either(old, !has.zone)
 }
 
 // 13.
@@ -612,8 +622,9 @@ fn test_sizes(
     walk::unless(c, size <= room, REFUSED_OUTPUT)
 }
 
-// 15, 22, 13 and 28: the tests on the values alone.
+// 15, 22, 30, 13 and 28: the tests on the values alone.
 fn test_values(
+    old: bool,
     s: Settings,
     v: HeaderValues,
     o: PacketValues,
@@ -624,15 +635,57 @@ fn test_values(
     lengths: &[u64],
     id: &[u8],
 ) -> Tested
-    ensures { λ q. ⌜ q ≡ valueRefusal s v o (lent (now (time .entry)) (now (zone .entry)) (now (name .entry)) (now (domain .entry))
+    ensures { λ q. ⌜ q ≡ valueRefusal old s v o (lent (now (time .entry)) (now (zone .entry)) (now (name .entry)) (now (domain .entry))
         (now (lengths .entry)) (now (id .entry))) ⌝ }
 {
     let none = Tested { number: 0 };
+    let has = v.has;
     let a = test_settings(s, none);
     let b = test_header(s, v, time, zone, name, domain, lengths, id, a);
     let c = test_packet(o, b);
-    let d = test_parts(lengths.len(), c);
-    test_utf8(zone, name, domain, lengths, d)
+    let d = walk::unless(c, zone_fits(old, has), REFUSED_WITHDRAWN);
+    let e = test_parts(lengths.len(), d);
+    test_utf8(zone, name, domain, lengths, e)
+}
+
+// The old writer, or that of today, by whether a zone may be written.
+pub fn write_by(
+    old: bool,
+    s: Settings,
+    v: HeaderValues,
+    o: PacketValues,
+    time: &[u8],
+    zone: &[u8],
+    name: &[u8],
+    domain: &[u8],
+    lengths: &[u64],
+    id: &[u8],
+    body: &[u8],
+    out: &mut [u8],
+) -> Written
+    ensures { λ r. ⌜ (let t = lent (now (time .entry)) (now (zone .entry)) (now (name .entry)) (now (domain .entry)) (now (lengths .entry))
+        (now (id .entry)) in
+        (r ≡ writeAnswer old s v o t (now (body .entry)) (length (now (out .entry))))
+        × (now (out .exit) ≡ writeOutput old s v o t (now (body .entry)) (now (out .entry)))
+        × Lends v t (now (body .entry))) ⌝ }
+{
+    let values = test_values(old, s, v, o, time, zone, name, domain, lengths, id);
+    let h = header_size(s, v, time, zone, name, domain, lengths, id);
+    let secondary = secondary_size(h, o.flags);
+    let size = packet_size(secondary, body.len());
+    let r = test_sizes(secondary, size, o.flags, body.len(), out.len(), values);
+    if r.number != 0 {
+        return Written {
+            refusal: walk::numbered(r.number),
+            length: 0,
+        };
+    }
+    let n = size - 7;
+    put_packet(s, out, v, o, n, time, zone, name, domain, lengths, id, body);
+    Written {
+        refusal: walk::numbered(0),
+        length: size,
+    }
 }
 
 // Writes one packet, or refuses and changes nothing.
@@ -651,25 +704,22 @@ pub fn write(
 ) -> Written
     ensures { λ r. ⌜ (let t = lent (now (time .entry)) (now (zone .entry)) (now (name .entry)) (now (domain .entry)) (now (lengths .entry))
         (now (id .entry)) in
-        (r ≡ writeAnswer s v o t (now (body .entry)) (length (now (out .entry))))
-        × (now (out .exit) ≡ writeOutput s v o t (now (body .entry)) (now (out .entry)))
+        (r ≡ writeAnswer false s v o t (now (body .entry)) (length (now (out .entry))))
+        × (now (out .exit) ≡ writeOutput false s v o t (now (body .entry)) (now (out .entry)))
         × Lends v t (now (body .entry))) ⌝ }
 {
-    let values = test_values(s, v, o, time, zone, name, domain, lengths, id);
-    let h = header_size(s, v, time, zone, name, domain, lengths, id);
-    let secondary = secondary_size(h, o.flags);
-    let size = packet_size(secondary, body.len());
-    let r = test_sizes(secondary, size, o.flags, body.len(), out.len(), values);
-    if r.number != 0 {
-        return Written {
-            refusal: walk::numbered(r.number),
-            length: 0,
-        };
-    }
-    let n = size - 7;
-    put_packet(s, out, v, o, n, time, zone, name, domain, lengths, id, body);
-    Written {
-        refusal: walk::numbered(0),
-        length: size,
-    }
+    write_by(
+        false,
+        s,
+        v,
+        o,
+        time,
+        zone,
+        name,
+        domain,
+        lengths,
+        id,
+        body,
+        out,
+    )
 }

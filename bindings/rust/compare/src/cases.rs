@@ -10,7 +10,7 @@ use orlyukan::{
 };
 
 /// The change requests that have landed and have cases of their own, in the order in which they landed.
-const LANDED: [&str; 2] = ["T-01", "T-04"];
+const LANDED: [&str; 3] = ["T-01", "T-04", "T-12"];
 
 /// The cases of a call, from the latest folder that has some, or nothing, with a word, if the folder is missing.
 pub fn load(call: &str) -> Option<Vec<Json>> {
@@ -153,6 +153,7 @@ pub fn reading(t: u64, json: &Json) -> Reading {
         body: place(json.get("body")),
         off: n("off"),
         began: n("began"),
+        withdrawn: n("withdrawn"),
     }
 }
 

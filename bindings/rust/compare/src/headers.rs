@@ -53,10 +53,10 @@ impl Owned {
         }
     }
 
-    /// H by the octets of a packet that the model writes; nothing if it refuses.
+    /// H by the octets of a packet that the model's old writer writes; nothing if it refuses.
     pub fn h(&self, t: u64) -> Option<usize> {
         let mut out = vec![0; 70_000];
-        let size = model::write(t, &crate::told::values(&self.header()), 3, 0, 0, &[], &mut out).ok()?;
+        let size = model::write_old(t, &crate::told::values(&self.header()), 3, 0, 0, &[], &mut out).ok()?;
         Some(size - 6)
     }
 }
@@ -152,6 +152,12 @@ pub fn fitting(r: &mut Random, t: u64) -> Owned {
     o
 }
 
+/// Takes the zone away: with one it is refused by 30.
+pub fn without_zone(o: &mut Owned) {
+    o.n.has_zone = 0;
+    o.zone.clear();
+}
+
 /// One number of the header, by its place among the 24.
 fn set_number(n: &mut RawHeader, k: usize, value: u64) {
     let numbers = [
@@ -187,7 +193,7 @@ fn set_number(n: &mut RawHeader, k: usize, value: u64) {
 const VALUES: [u64; 24] =
     [2, 2047, 22, 65_536, 65_536, 65_536, 256, 2, 4, 3, 2048, 65_536, u64::MAX, 2, 2, 2, 2, 2, 2, 2, 2, 256, 256, 1 << 32];
 
-/// Changes one place so that 22, 13, 28 or 12 may follow.
+/// Changes one place so that 22, 30, 13, 28 or 12 may follow.
 pub fn spoil(r: &mut Random, o: &mut Owned) {
     match r.below(16) {
         0..=4 => {
@@ -210,8 +216,8 @@ pub fn spoil(r: &mut Random, o: &mut Owned) {
             let length = o.domain_lengths.len() - usize::from(r.once_in(5));
             o.domain = r.octets(length);
         }
-        9 | 10 => (o.n.has_zone, o.zone) = (1, r.no_text()),
-        11 => (o.n.has_session_name, o.session_name) = (1, r.no_text()),
+        9 => (o.n.has_zone, o.zone) = (1, r.no_text()),
+        10 | 11 => (o.n.has_session_name, o.session_name) = (1, r.no_text()),
         12 | 13 => spoil_parts(r, o),
         _ => {
             let length = r.pick(&[65_535, 65_536, 300, 234, 235, 236, 128, 1]) as usize;

@@ -1,4 +1,4 @@
-//! Packets by chance: what the model writes, the same damaged, and octets that only look like a packet.
+//! Packets by chance: what the model's old writer writes, with a zone or without, the same damaged, and octets that only look like a packet.
 
 use crate::headers::{self, Owned};
 use crate::random::Random;
@@ -7,7 +7,7 @@ use crate::told;
 /// The octets of a packet of these values; nothing if they can't be written.
 pub fn packet_of(t: u64, o: &Owned, flags: u64, sequence_count: u64, counter: u64, body: &[u8]) -> Option<Vec<u8>> {
     let mut out = vec![0; 600 + body.len()];
-    let size = model::write(t, &told::values(&o.header()), flags, sequence_count, counter, body, &mut out).ok()?;
+    let size = model::write_old(t, &told::values(&o.header()), flags, sequence_count, counter, body, &mut out).ok()?;
     out.truncate(size);
     Some(out)
 }

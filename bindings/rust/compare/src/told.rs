@@ -92,6 +92,7 @@ pub fn reading(t: u64, answer: Result<model::Reading, Refusal>) -> Reading {
         body: place(r.body),
         off: 0,
         began: 0,
+        withdrawn: r.withdrawn.into(),
     }
 }
 

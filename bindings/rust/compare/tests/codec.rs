@@ -36,9 +36,12 @@ fn read_long() {
     }
 }
 
-/// A header, mostly in range.
+/// A header, mostly in range and without a zone.
 fn header(r: &mut Random, t: u64) -> Owned {
     let mut header = headers::fitting(r, t);
+    if !r.once_in(12) {
+        headers::without_zone(&mut header);
+    }
     if r.once_in(4) {
         headers::spoil(r, &mut header);
     }
@@ -82,7 +85,7 @@ fn write() {
         assert!(answer.refusal == 0 || ours == given, "case {case}: octets changed on a refusal");
         tally.meet(answer.refusal);
     }
-    tally.close(&[12, 13, 14, 15, 21, 22, 23, 28], CASES);
+    tally.close(&[12, 13, 14, 15, 21, 22, 23, 28, 30], CASES);
 }
 
 /// A message to cut: T, P, header, the body's length and the sender, near the edges where answers change.
@@ -137,7 +140,7 @@ fn cut_count() {
         assert_eq!(ours, theirs, "case {case}: T {}, P {}, B {}, {:?}, {:?}", m.t, m.p, m.body, m.sender, m.owned);
         tally.meet(ours.refusal);
     }
-    tally.close(&[12, 13, 15, 22, 23, 24, 25, 28], CASES);
+    tally.close(&[12, 13, 15, 22, 23, 24, 25, 28, 30], CASES);
 }
 
 #[test]
@@ -165,16 +168,16 @@ fn cut_packet() {
         assert!(answer.refusal == 0 || ours == before, "case {case}: octets changed on a refusal");
         tally.meet(answer.refusal);
     }
-    tally.close(&[12, 13, 15, 21, 22, 23, 24, 25, 26, 28], CASES);
+    tally.close(&[12, 13, 15, 21, 22, 23, 24, 25, 26, 28, 30], CASES);
 }
 
-/// The count for a header whose zone is this text: what it is refused by, if it is, in both programs.
-fn zone_refusal(zone: &[u8]) -> u64 {
-    let mut owned = Owned { zone: zone.to_vec(), ..Owned::default() };
-    owned.n.has_zone = 1;
+/// The count for a header whose session name is this text: what it is refused by, if it is, in both programs.
+fn name_refusal(name: &[u8]) -> u64 {
+    let mut owned = Owned { session_name: name.to_vec(), ..Owned::default() };
+    owned.n.has_session_name = 1;
     let sender = Sender { sequence_count: SequenceCount(0), counter: Next::At(SegmentCounter(0)) };
     let ours = Library.cut_count(8, 300, &owned.header(), 1, sender);
-    assert_eq!(ours, Model.cut_count(8, 300, &owned.header(), 1, sender), "zone {zone:02x?}");
+    assert_eq!(ours, Model.cut_count(8, 300, &owned.header(), 1, sender), "session name {name:02x?}");
     ours.refusal
 }
 
@@ -184,7 +187,7 @@ fn zone_refusal(zone: &[u8]) -> u64 {
 fn texts() {
     let mut tally = Tally::new("texts");
     for two in 0..=u16::MAX {
-        tally.meet(zone_refusal(&two.to_be_bytes()));
+        tally.meet(name_refusal(&two.to_be_bytes()));
     }
     let forms = ['\0', '\u{7f}', '\u{80}', '\u{7ff}', '\u{800}', '\u{d7ff}', '\u{e000}', '\u{ffff}', '\u{10000}', '\u{10ffff}'];
     for (before, form) in (0..70).flat_map(|before| forms.map(|form| (before, form))) {
@@ -192,20 +195,59 @@ fn texts() {
         let octets = form.encode_utf8(&mut octets).as_bytes();
         for (cut, after) in (0..=octets.len()).flat_map(|cut| [0, 1, 2, 3, 40].map(|after| (cut, after))) {
             let text = [&vec![0x61; before][..], &octets[..cut], &vec![0x62; after]].concat();
-            tally.meet(zone_refusal(&text));
+            tally.meet(name_refusal(&text));
         }
     }
     let mut r = Random::new(6);
     for length in (0..300).chain([4096, 65_533, 65_534, 65_535]) {
         let mut text = r.text(length);
-        tally.meet(zone_refusal(&text));
+        tally.meet(name_refusal(&text));
         for _ in 0..20.min(length) {
             let at = r.index(length);
             let was = std::mem::replace(&mut text[at], r.any() as u8);
-            tally.meet(zone_refusal(&text));
+            tally.meet(name_refusal(&text));
             text[at] = was;
         }
-        tally.meet(zone_refusal(&r.octets(length)));
+        tally.meet(name_refusal(&r.octets(length)));
     }
     tally.close(&[12, 28], 80_000);
+}
+
+/// A zone beside every other fault: what the writer and both calls of cutting are refused by, in both programs.
+fn withdrawn(t: u64, owned: &Owned, expected: u64) {
+    let sender = Sender { sequence_count: SequenceCount(0), counter: Next::At(SegmentCounter(0)) };
+    let n = Numbers { flags: 3, sequence_count: SequenceCount(0), counter: SegmentCounter(0) };
+    for program in [&Library as &dyn Calls, &Model] {
+        let (mut out, head) = (vec![0x5a; 64], owned.header());
+        let told = [
+            program.write(t, &head, n, &[1], &mut out).refusal,
+            program.cut_count(t, 64, &head, 1, sender).refusal,
+            program.cut_packet(t, 64, &head, &[1], sender, 0, &mut out).refusal,
+        ];
+        assert_eq!(told, [expected; 3], "{}: T {t}, zone of {} octets, {:?}", program.name(), owned.zone.len(), owned.n);
+        assert!(out.iter().all(|octet| *octet == 0x5a), "{}: octets changed on a refusal", program.name());
+    }
+}
+
+#[test]
+fn withdrawn_zone() {
+    let with = |zone: &[u8]| {
+        let mut o = Owned { zone: zone.to_vec(), ..Owned::default() };
+        o.n.has_zone = 1;
+        o
+    };
+    for zone in [&b""[..], b"a", b"\xff", &[0x61; 300], &[0x61; 65_535]] {
+        withdrawn(8, &with(zone), 30);
+        withdrawn(0, &with(zone), 15);
+        let mut idle = with(zone);
+        idle.n.apid = 2047;
+        withdrawn(8, &idle, 22);
+        let mut parts = with(zone);
+        (parts.n.has_domain, parts.domain_lengths, parts.domain) = (1, vec![1; 17], vec![0xff; 17]);
+        withdrawn(8, &parts, 30);
+    }
+    withdrawn(8, &with(&[0x61; 65_536]), 22);
+    let mut absent = with(b"a");
+    absent.n.has_zone = 0;
+    withdrawn(8, &absent, 22);
 }

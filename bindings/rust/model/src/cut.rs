@@ -1,7 +1,7 @@
 //! Cutting a message into packets of at most P octets.
 
 use crate::values::{hold, refusal, test_timestamp, Refusal, Sender, Values};
-use crate::write::{header_size, lay, test_values, Sequence};
+use crate::write::{header_size, lay, test_values, Sequence, Writer};
 use crate::{CONTINUATION, FIRST, HEADER_LIMIT, LAST, LAST_COUNTER, PACKET_LIMIT, PRIMARY, SEQUENCE_COUNTS, UNSEGMENTED};
 
 /// The largest message body.
@@ -21,7 +21,7 @@ fn plan(t: u64, p: u64, v: &Values, body: u64, sender: Sender) -> Result<Plan, R
     let t = test_timestamp(t)?;
     hold((27..=PACKET_LIMIT as u64).contains(&p), 15)?;
     hold(sender.sequence_count < SEQUENCE_COUNTS && sender.counter.unwrap_or(0) <= LAST_COUNTER, 22)?;
-    test_values(t, v)?;
+    test_values(Writer::Today, t, v)?;
     hold(body <= BODY_LIMIT, 23)?;
     let header = header_size(v);
     if (PRIMARY + header) as u64 + body <= p {

@@ -23,7 +23,7 @@ pub use sender::{after_packet, after_segment, next_sequence_count};
 pub use store::{arrive, in_order, take, Kind, Order, Taken, CELL, CELLS};
 pub use values::{Refusal, Sender, Values};
 pub use varint::{read_varint, write_varint};
-pub use write::write;
+pub use write::{write, write_old};
 
 /// The octets of a primary header.
 pub const PRIMARY: usize = 6;

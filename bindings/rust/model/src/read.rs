@@ -45,6 +45,8 @@ pub struct Reading {
     /// The secondary header's length without a counter.
     pub h: u16,
     pub body: Span,
+    /// It has a zone, which is withdrawn.
+    pub withdrawn: bool,
 }
 
 impl Reading {
@@ -251,5 +253,6 @@ pub fn read(t: u64, packet: &[u8]) -> Result<Reading, Refusal> {
     hold(counted == 0 || walk.at < packet.len(), 14)?;
     r.h = (walk.at - PRIMARY - counted) as u16;
     r.body = Span { place: walk.at as u32, length: (packet.len() - walk.at) as u32 };
+    r.withdrawn = r.has(4);
     Ok(r)
 }

@@ -41,8 +41,15 @@ fn domain_is_text(v: &Values) -> bool {
     })
 }
 
-/// 22 for any value out of its range, then 13, then 28.
-pub(crate) fn test_values(t: usize, v: &Values) -> Result<(), Refusal> {
+/// Who writes: the writer of today, or the old one, which writes a zone and is for tests alone.
+#[derive(Clone, Copy, PartialEq, Eq)]
+pub(crate) enum Writer {
+    Today,
+    Old,
+}
+
+/// 22 for any value out of its range, then 30, then 13, then 28.
+pub(crate) fn test_values(writer: Writer, t: usize, v: &Values) -> Result<(), Refusal> {
     let plain = v.packet_type <= 1
         && v.apid < 2047
         && v.sdu <= 21
@@ -65,6 +72,7 @@ pub(crate) fn test_values(t: usize, v: &Values) -> Result<(), Refusal> {
         && optional_text(v.has_authentication, v.authentication)
         && domain_adds_up(v);
     hold(plain && numbers && timestamp && texts, 22)?;
+    hold(writer == Writer::Old || v.has_zone == 0, 30)?;
     hold(v.domain_lengths.len() <= PARTS, 13)?;
     hold(is_text(v.zone) && is_text(v.session_name) && domain_is_text(v), 28)
 }
@@ -189,8 +197,8 @@ pub(crate) fn lay(v: &Values, s: Sequence, body: &[u8], out: &mut [u8]) {
     pen.put(body);
 }
 
-/// Writes one packet over the front of an output: the octets it took.
-pub fn write(
+fn write_by(
+    writer: Writer,
     t: u64,
     v: &Values,
     flags: u64,
@@ -203,7 +211,7 @@ pub fn write(
     let segmented = flags != u64::from(UNSEGMENTED);
     let counted = counter <= if segmented { u64::from(u32::MAX) } else { 0 };
     hold(flags <= 3 && sequence_count < SEQUENCE_COUNTS && counted, 22)?;
-    test_values(t, v)?;
+    test_values(writer, t, v)?;
     let header = header_size(v) + if segmented { 4 } else { 0 };
     let size = PRIMARY + header + body.len();
     hold(size <= PACKET_LIMIT, 23)?;
@@ -212,4 +220,30 @@ pub fn write(
     let out = out.get_mut(..size).ok_or(refusal(21))?;
     lay(v, Sequence { flags: flags as u8, sequence_count: sequence_count as u16, counter: counter as u32 }, body, out);
     Ok(size)
+}
+
+/// Writes one packet over the front of an output: the octets it took.
+pub fn write(
+    t: u64,
+    v: &Values,
+    flags: u64,
+    sequence_count: u64,
+    counter: u64,
+    body: &[u8],
+    out: &mut [u8],
+) -> Result<usize, Refusal> {
+    write_by(Writer::Today, t, v, flags, sequence_count, counter, body, out)
+}
+
+/// The same by the old writer, to make packets with a zone for tests.
+pub fn write_old(
+    t: u64,
+    v: &Values,
+    flags: u64,
+    sequence_count: u64,
+    counter: u64,
+    body: &[u8],
+    out: &mut [u8],
+) -> Result<usize, Refusal> {
+    write_by(Writer::Old, t, v, flags, sequence_count, counter, body, out)
 }

@@ -44,18 +44,25 @@ array-write-answer-3 c = search needs
 array-write-answer-4 : tie.Need-array-write-answer-4
 array-write-answer-4 c = search needs
 
+bit-of-requires : tie.Need-bit-of-requires
+bit-of-requires c κs = search needs
+
+array-write-answer-5 : tie.Need-array-write-answer-5
+array-write-answer-5 c = search needs
+
 returns : tie.Need-returns
 returns c =
-    let g = c .before .before .before .before .before .before in
-    header-laid _ (replicate 74 0) _ _ _ _ _ _ _ _ (length-replicate {A = ℕ} 74 0)
+    let b = c .before in
+    let g = b .before .before .before .before .before .before in
+    header-laid _ (replicate 75 0) _ _ _ _ _ _ _ _ (length-replicate {A = ℕ} 75 0)
     (g .before .before .before .before .before .before .put-primary .ensures)
     (g .before .before .before .before .put-names .ensures)
     (g .before .before .put-routing .ensures)
     (g .put-present .ensures)
-    (c .before .before .before .before .put-ids .ensures)
-    (c .before .before .put-texts .ensures)
-    (c .put-place .ensures)
-    refl
+    (b .before .before .before .before .put-ids .ensures)
+    (b .before .before .put-texts .ensures)
+    (b .put-place .ensures)
+    (rw (c .bit-of .ensures .0))
 
 pub header-numbers-spec : {M : Type 1} → statement M
 header-numbers-spec =
@@ -73,4 +80,6 @@ header-numbers-spec =
     put-place-requires
     array-write-answer-3
     array-write-answer-4
+    bit-of-requires
+    array-write-answer-5
     returns)

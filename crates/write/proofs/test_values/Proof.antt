@@ -3,7 +3,7 @@
 use borrow.Author.Needs.{needs}
 use Rattle.write.proofs.test_values.Statement.{statement}
 use Rattle.write.proofs.test_values.Tie as tie
-use Rattle.write.specs.Writing.{valueRefusal, partsTest, textTest}
+use Rattle.write.specs.Writing.{valueRefusal, zoneTest, partsTest, textTest}
 
 test-settings-requires : tie.Need-test-settings-requires
 test-settings-requires c κs = search needs
@@ -14,6 +14,12 @@ test-header-requires c κs = search needs
 test-packet-requires : tie.Need-test-packet-requires
 test-packet-requires c κs = search needs
 
+zone-fits-requires : tie.Need-zone-fits-requires
+zone-fits-requires c κs = search needs
+
+unless-requires : tie.Need-unless-requires
+unless-requires c κs = search needs
+
 test-parts-requires : tie.Need-test-parts-requires
 test-parts-requires c κs = search needs
 
@@ -21,12 +27,14 @@ test-utf8-requires : tie.Need-test-utf8-requires
 test-utf8-requires c κs = search needs
 
 returns : tie.Need-returns
-unfolding valueRefusal partsTest textTest
+unfolding valueRefusal zoneTest partsTest textTest
 returns c =
-    let g = c .before .before in
+    let g = c .before .before .before .before in
     simp (
       c .test-utf8 .ensures,
       c .before .test-parts .ensures,
+      c .before .before .unless .ensures,
+      c .before .before .before .zone-fits .ensures,
       g .test-packet .ensures,
       g .before .test-header .ensures,
       g .before .before .test-settings .ensures,
@@ -39,6 +47,8 @@ test-values-spec =
     test-settings-requires
     test-header-requires
     test-packet-requires
+    zone-fits-requires
+    unless-requires
     test-parts-requires
     test-utf8-requires
     returns)
