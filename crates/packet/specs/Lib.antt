@@ -6,3 +6,4 @@ pub mod Reading
 pub mod Key
 pub mod Inner
 pub mod Figure14
+pub mod Mark

@@ -69,6 +69,11 @@ pub const FIXED: usize = 21;
 
 pub const COUNTER: usize = 4;
 
+// The mark that stands before each packet of a recording.
+pub const MARK_FIRST: u8 = 0x4d;
+
+pub const MARK_SECOND: u8 = 0x50;
+
 // The primary header: packet type, APID, sequence flags, sequence count.
 pub struct Primary {
     pub packet_type: u8,

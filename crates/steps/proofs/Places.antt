@@ -13,7 +13,8 @@ use Rattle.octets.specs.Octets.{part, Octets, alike, roomOf}
 use Rattle.octets.proofs.Lists.{below-or}
 use Rattle.octets.proofs.Numbers.{number-top}
 use Rattle.cells.specs.Rows.{sizeIn, packetIn}
-use Rattle.steps.specs.Stepping.{packetMark, begins, foundIn, nothing, other, cut, whole}
+use Rattle.packet.specs.Mark.{packetMark}
+use Rattle.steps.specs.Stepping.{begins, foundIn, nothing, other, cut, whole}
 use Rattle.packet.specs.Format.{packetMost}
 
 -- the mark, as far as there are octets

@@ -13,7 +13,8 @@ use borrow.Author.Tests.{eqb-true, eqb-false, leb-true, leb-false}
 use Rattle.octets.specs.Octets.{pick, part, number, octetAt, alike}
 use Rattle.octets.proofs.Lists.{bool}
 use Rattle.cells.specs.Rows.{sizeIn, packetIn}
-use Rattle.steps.specs.Stepping.{Found, nothing, other, cut, whole, packetMark, begins, foundIn}
+use Rattle.packet.specs.Mark.{packetMark}
+use Rattle.steps.specs.Stepping.{Found, nothing, other, cut, whole, begins, foundIn}
 use Rattle.steps.proofs.Places.{found-other, found-whole}
 
 -- ---- the mark

@@ -10,6 +10,7 @@ use lib.Dec.{leb, eqb}
 use Rattle.octets.specs.Octets.{pick, alike, wide}
 use Rattle.walk.specs.declared.Settings.{Settings}
 use Rattle.walk.specs.declared.Refusal.{Refusal}
+use Rattle.packet.specs.Mark.{packetMark}
 use Rattle.cells.specs.Rows.{sizeIn, packetIn}
 use Rattle.cells.specs.Messages.{Run}
 use Rattle.taking.specs.Taking.{writing}
@@ -17,11 +18,7 @@ use Rattle.join.specs.Joining.{Joining, inPacket, inOutput, unjoined, joining, 
 
 -- ---- what stands at a place
 
--- SPEC G-1: before each packet
-abbrev pub packetMark : List ℕ
-packetMark = 0x4d ∷ 0x50 ∷ []
-
--- what stands where a recording, or a part of one, begins: no octet; other octets than the mark; a mark and a packet that are not
+-- SPEC G-1. What stands where a recording, or a part of one, begins: no octet; other octets than the mark; a mark and a packet that are not
 -- whole; or a packet after its mark
 pub data Found : Type 0 where
   nothing : Found

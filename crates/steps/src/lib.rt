@@ -21,6 +21,8 @@ ghost use Rattle.steps.specs.Inner.{takenIn, leftAs, framedAs, stopAs};
 ghost use Rattle.packet.specs.Format.{packetMost};
 use join::Joined;
 use join::Which;
+use packet::MARK_FIRST;
+use packet::MARK_SECOND;
 use walk::REFUSED_INCOMPLETE;
 use walk::Refusal;
 use walk::Settings;
@@ -71,7 +73,7 @@ pub enum Stands {
 fn marked(x: &[u8]) -> bool
     ensures { λ r. ⌜ r ≡ begins (now (x .entry)) ⌝ }
 {
-    let mark: [u8; 2] = [0x4d, 0x50];
+    let mark: [u8; 2] = [MARK_FIRST, MARK_SECOND];
     let n = octets::within(2, 0, x.len());
     octets::same(cells::span(x, 0, 2), &mark[0..n])
 }

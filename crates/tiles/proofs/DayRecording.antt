@@ -18,7 +18,8 @@ use Rattle.packet.specs.Reading.{readPacket}
 use Rattle.format.proofs.Figure14.{reads}
 use Rattle.write.specs.Given.{headOf}
 use Rattle.cells.proofs.Opens.{opens}
-use Rattle.steps.specs.Stepping.{packetMark, foundIn, framed}
+use Rattle.packet.specs.Mark.{packetMark}
+use Rattle.steps.specs.Stepping.{foundIn, framed}
 use Rattle.recording.specs.Recording.{settings}
 use Rattle.demand3.specs.Sendings.{ReadsAs, segmentAt}
 use Rattle.demand3.specs.Presupposed.{malformed}

@@ -9,7 +9,8 @@ use lib.ListN.{length, take, drop, length-append, List·getD-append}
 use lib.Seq.{take-all, take-append-seam, drop-append-seam}
 use Rattle.octets.specs.Octets.{octetAt, number, alike}
 use Rattle.cells.specs.Rows.{sizeIn}
-use Rattle.steps.specs.Stepping.{packetMark, Found, whole, begins, foundIn}
+use Rattle.packet.specs.Mark.{packetMark}
+use Rattle.steps.specs.Stepping.{Found, whole, begins, foundIn}
 use Rattle.steps.proofs.Places.{found-whole}
 use Rattle.recording.specs.Ending.{past}
 use Rattle.tiles.specs.Along.{inFront, packetsFrom, marked, Sized}

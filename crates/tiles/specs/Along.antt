@@ -7,7 +7,8 @@ use lib.ListN.{length, drop}
 use Rattle.octets.specs.Octets.{number}
 use Rattle.cells.specs.Order.{cellSize}
 use Rattle.cells.specs.Messages.{bodyOf}
-use Rattle.steps.specs.Stepping.{packetMark, Found, nothing, other, cut, whole, foundIn, storeAfter, framed, without}
+use Rattle.packet.specs.Mark.{packetMark}
+use Rattle.steps.specs.Stepping.{Found, nothing, other, cut, whole, foundIn, storeAfter, framed, without}
 use Rattle.steps.specs.Stepping.{Came, over, refused, kept, wholly, message, cameOf}
 use Rattle.recording.specs.Recording.{settings, emptyStore}
 use Rattle.recording.specs.Ending.{past}

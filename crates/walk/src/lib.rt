@@ -108,6 +108,9 @@ pub const REFUSED_TEXT: u8 = 28;
 // A network zone to write: it is withdrawn.
 pub const REFUSED_WITHDRAWN: u8 = 30;
 
+// A state of salvaging that can not be one.
+pub const REFUSED_STATE: u8 = 40;
+
 // What both sides agreed on: T, the octets of a timestamp.
 pub struct Settings {
     pub t: usize,
