@@ -9,13 +9,17 @@ _orlyukan() {
         return
     fi
     case ${COMP_WORDS[1]} in
-    join) options='--force --json --help --' ;;
-    check) options='--json --help --' ;;
+    join) options='--force --json --profile --timestamp --help --' ;;
+    check) options='--json --profile --timestamp --help --' ;;
     split | package) options='--force --help --' ;;
     *) return ;;
     esac
     for name in "${COMP_WORDS[@]:2:COMP_CWORD-2}"; do [ "$name" != -- ] || options=''; done
-    if [ -n "$options" ] && [ "${word:0:1}" = - ]; then
+    if [ -n "$options" ] && [ "${COMP_WORDS[COMP_CWORD - 1]}" = --profile ]; then
+        mapfile -t COMPREPLY < <(compgen -W 'varint fixed' -- "$word")
+    elif [ -n "$options" ] && [ "${COMP_WORDS[COMP_CWORD - 1]}" = --timestamp ]; then
+        mapfile -t COMPREPLY < <(compgen -W '1 2 3 4 5 6 7 8 9 10 11 12 13 14 15 16' -- "$word")
+    elif [ -n "$options" ] && [ "${word:0:1}" = - ]; then
         mapfile -t COMPREPLY < <(compgen -W "$options" -- "$word")
     elif [ "${COMP_WORDS[1]}" = package ]; then
         mapfile -t COMPREPLY < <(compgen -d -- "$word")

@@ -95,13 +95,15 @@ static void hold_told(const uint8_t *packet, size_t length, uint64_t refusal, ui
 }
 
 static void reading(struct rest in) {
-    uint64_t t = number(&in, 1);
+    uint64_t t = number(&in, 1), profile = t >> 6;
+    t &= 63;
     size_t length = in.left;
     uint8_t *packet = octets(&in, &length);
     struct orl_read_answer r;
     memset(&r, 0xaa, sizeof r);
-    orl_read(t, packet, length, &r);
+    orl_read(t, profile, packet, length, &r);
     hold(r.refusal <= 15 || r.refusal == 27 || r.refusal == 28, "reading gives 1 to 15, 27 or 28");
+    hold(r.refusal != 10 || profile == ORL_VARINT, "10 is for Varints");
     hold_told(packet, length, r.refusal, r.off, r.began);
     if (r.refusal != 0) {
         hold(all_zero(&r, offsetof(struct orl_read_answer, off)) && r.withdrawn == 0, "a refused reading tells zeros");
@@ -112,7 +114,7 @@ static void reading(struct rest in) {
         hold(r.body.place + r.body.length == length, "the body ends the packet");
         hold(r.withdrawn == r.has_zone, "a header with a zone is of the withdrawn kind");
         message_of(packet, &r, room, &m);
-        orl_write(t, &m.header, TEXTS(&m), r.flags, r.sequence_count, r.counter, packet + r.body.place, r.body.length, out, length,
+        orl_write(t, profile, &m.header, TEXTS(&m), r.flags, r.sequence_count, r.counter, packet + r.body.place, r.body.length, out, length,
                   &w);
         if (r.has_zone) {
             hold(w.refusal == 30 && w.length == 0, "a zone is withdrawn");
@@ -153,7 +155,8 @@ static void any_message(struct rest *in, struct message *m, uint8_t *held[5]) {
 static void cutting(struct rest in) {
     struct message m = {0};
     uint8_t *held[5];
-    uint64_t t = number(&in, 1), p = number(&in, 2);
+    uint64_t t = number(&in, 1), profile = t >> 6, p = number(&in, 2);
+    t &= 63;
     struct orl_sender sender = {number(&in, 2), number(&in, 1) & 1, 0};
     if (sender.has_counter) sender.counter = number(&in, 4);
     any_message(&in, &m, held);
@@ -161,21 +164,21 @@ static void cutting(struct rest in) {
     size_t length = in.left;
     uint8_t *body = octets(&in, &length);
     struct orl_cut_count_answer c;
-    orl_cut_count(t, p, &m.header, TEXTS(&m), length, &sender, &c);
+    orl_cut_count(t, profile, p, &m.header, TEXTS(&m), length, &sender, &c);
     hold(c.refusal == 0 || (c.count == 0 && memcmp(&c.sender, &sender, sizeof sender) == 0), "a refused count");
     uint8_t *store = calloc(64, CELL), *out = malloc(MOST), *joined = malloc(64 * CELL);
     for (uint64_t i = 0; i < c.count && i < 64; i++) {
         struct orl_cut_packet_answer w;
         struct orl_arrive_answer a;
-        orl_cut_packet(t, p, &m.header, TEXTS(&m), body, length, &sender, i, out, MOST, &w);
+        orl_cut_packet(t, profile, p, &m.header, TEXTS(&m), body, length, &sender, i, out, MOST, &w);
         hold(w.refusal == 0 && w.length <= p, "each packet of a count is written");
-        orl_arrive(t, store, 64 * CELL, out, w.length, &a);
+        orl_arrive(t, profile, store, 64 * CELL, out, w.length, &a);
         hold(a.refusal == 17 || (a.refusal == 0 && a.kind == (c.count == 1 ? ORL_WHOLE : ORL_STORED)), "each packet arrives");
         if (a.refusal == 17) c.count = 0;
     }
     if (c.count > 1 && c.count <= 64) {
         struct orl_take_answer k;
-        orl_take(t, store, 64 * CELL, joined, 64 * CELL, &k);
+        orl_take(t, profile, store, 64 * CELL, joined, 64 * CELL, &k);
         hold(k.refusal == 0 && k.B == length && k.counter == sender.counter, "a message that was cut is complete");
         hold(memcmp(joined + 2 + k.H, body, length) == 0, "it comes out as it went in");
         hold(store[0] == 0 && memcmp(store, store + 1, 64 * CELL - 1) == 0, "its cells are free again");
@@ -186,7 +189,8 @@ static void cutting(struct rest in) {
 
 /* a store of any octets, mostly of cells with a mark and zeros at their end; a packet that arrives, and a taking */
 static void storing(struct rest in, int joins) {
-    uint64_t t = number(&in, 1);
+    uint64_t t = number(&in, 1), profile = t >> 6;
+    t &= 63;
     size_t cells = number(&in, 1) % 6, size = cells * CELL;
     uint8_t *store = calloc(cells ? cells : 1, CELL);
     for (size_t i = 0; i < cells; i++) {
@@ -200,10 +204,10 @@ static void storing(struct rest in, int joins) {
     uint8_t *packet = octets(&in, &length), *out = calloc(room ? room : 1, 1);
     uint8_t *before = like(store, size), *out_before = like(out, room);
     struct orl_in_order_answer order;
-    orl_in_order(t, store, size, &order);
+    orl_in_order(t, profile, store, size, &order);
     if (joins) {
         struct orl_join_answer j;
-        orl_join(t, store, size, packet, length, out, room, &j);
+        orl_join(t, profile, store, size, packet, length, out, room, &j);
         hold(j.refusal == 0 || memcmp(out, out_before, room) == 0, "a refused joining leaves the output");
         hold_told(packet, length, j.refusal, j.off, j.began);
         hold(j.refusal == 0 || j.refusal == 20 || j.refusal == 21 || memcmp(store, before, size) == 0,
@@ -212,15 +216,15 @@ static void storing(struct rest in, int joins) {
     } else {
         struct orl_arrive_answer a;
         struct orl_take_answer k;
-        orl_arrive(t, store, size, packet, length, &a);
+        orl_arrive(t, profile, store, size, packet, length, &a);
         hold_told(packet, length, a.refusal, a.off, a.began);
         hold(a.kind == ORL_STORED || memcmp(store, before, size) == 0, "only a stored segment changes the store");
         hold(order.refusal == 0 || a.refusal == order.refusal, "15 and 16 come first");
-        orl_take(t, store, size, out, room, &k);
+        orl_take(t, profile, store, size, out, room, &k);
         hold(k.refusal == 0 || memcmp(out, out_before, room) == 0, "a refused taking leaves the output");
     }
     uint64_t refusal = order.refusal;
-    orl_in_order(t, store, size, &order);
+    orl_in_order(t, profile, store, size, &order);
     hold(order.refusal == refusal, "a store in order stays so");
     free(store), free(packet), free(out), free(before), free(out_before);
 }
@@ -228,15 +232,16 @@ static void storing(struct rest in, int joins) {
 /* a recording, by one call and one packet at a time */
 static void recording(struct rest in) {
     size_t length = in.left, at = 0, written = 0;
+    uint64_t profile = length % 2;
     uint8_t *octet = octets(&in, &length), *out = malloc(length + 1), *store = calloc(32, CELL), *joined = malloc(MOST);
     struct orl_join_recording_answer a;
-    orl_join_recording(octet, length, out, length, &a);
+    orl_join_recording(8, profile, octet, length, out, length, &a);
     hold(a.refusal == 0 && a.written <= length && a.place <= length, "a recording is not refused");
     while (length - at >= 8 && memcmp(octet + at, "MP", 2) == 0) {
         size_t size = (octet[at + 6] << 8 | octet[at + 7]) + 7;
         struct orl_join_answer j = {0};
         if (size > length - at - 2) break;
-        if (size <= 32768) orl_join(8, store, 32 * CELL, octet + at + 2, size, joined, MOST, &j);
+        if (size <= 32768) orl_join(8, profile, store, 32 * CELL, octet + at + 2, size, joined, MOST, &j);
         if (size <= 32768 && j.refusal == 0) {
             size_t makes = j.which == ORL_PACKET ? size - 4 : 2 + j.H + j.B;
             if (j.which == ORL_PACKET) memcpy(joined, octet + at + 2, 2), memcpy(joined + 2, octet + at + 8, size - 6);

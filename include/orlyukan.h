@@ -12,8 +12,10 @@
  *   numbers, which are told back as they were given, and for off and began, which say more of 5, 27 and 6 (see below); and no
  *   octet that was lent has changed. (orl_join says when it is otherwise.)
  * - On success only the octets that the call names have changed; the rest of a buffer is as it was.
- * - t is T, the octets of a timestamp that both sides agreed on, 1 to 16. Any other value is refused by 15.
- * - A number too wide for its field is refused by 22 and never made narrower. If T or P is out of range too, it is 15.
+ * - t is T, the octets of a timestamp that both sides agreed on, 1 to 16. profile says how lengths, counts and priorities are
+ *   written: ORL_VARINT, or ORL_FIXED for four octets each, as the first pods have it. Any other value is refused by 15. What a
+ *   store holds has one T and one profile; nothing in it says which, and to keep to them is the caller's part.
+ * - A number too wide for its field is refused by 22 and never made narrower. If T, profile or P is out of range too, it is 15.
  *
  * What the caller alone must keep
  *
@@ -37,12 +39,12 @@
  *    7  binding version other than 0
  *    8  an SDU type above 21
  *    9  session 3
- *   10  a Varint that is not written in the shortest way, or has more than 32 bits
+ *   10  a Varint that is not written in the shortest way, or has more than 32 bits; never under ORL_FIXED
  *   11  a domain part whose presence octet is not 1
  *   12  a secondary header of more than 256 octets, the counter included
  *   13  a domain of more than 16 parts
  *   14  a segment without a body
- *   15  T outside 1 to 16, or P outside 27 to 65,542
+ *   15  T outside 1 to 16, a profile above 1, or P outside 27 to 65,542
  *   16  the store is not in order
  *   17  a segment of more than 1,022 octets does not go into a cell
  *   18  another segment with this key and counter is held, and it differs
@@ -83,6 +85,10 @@ extern "C" {
 #endif
 
 /* ---- numbers that several calls share ---- */
+
+/* The profiles: how a priority, each length and a domain's count are written. */
+#define ORL_VARINT 0 /* as a Varint */
+#define ORL_FIXED 1  /* in four octets */
 
 /* Where a content stands: its place, counted from the first octet of the packet, and its length. Both are 0 if it is absent. */
 struct orl_place {
@@ -200,7 +206,7 @@ struct orl_read_answer {
 };
 
 /* Reads one whole packet. */
-void orl_read(uint64_t t, const uint8_t *packet, size_t packet_length, struct orl_read_answer *answer);
+void orl_read(uint64_t t, uint64_t profile, const uint8_t *packet, size_t packet_length, struct orl_read_answer *answer);
 
 /* ---- writing ---- */
 
@@ -213,11 +219,12 @@ struct orl_write_answer {
  * Writes one packet with the header, its texts, its own sequence flags (0 to 3), sequence count (0 to 16,383) and segment
  * counter (0 if flags is 3), and the body.
  */
-void orl_write(uint64_t t, const struct orl_header *header, const uint8_t *timestamp, size_t timestamp_length, const uint8_t *zone,
-               size_t zone_length, const uint8_t *session_name, size_t session_name_length, const uint8_t *domain,
-               size_t domain_length, const uint64_t *domain_lengths, size_t domain_count, const uint8_t *authentication,
-               size_t authentication_length, uint64_t flags, uint64_t sequence_count, uint64_t counter, const uint8_t *body,
-               size_t body_length, uint8_t *out, size_t out_length, struct orl_write_answer *answer);
+void orl_write(uint64_t t, uint64_t profile, const struct orl_header *header, const uint8_t *timestamp, size_t timestamp_length,
+               const uint8_t *zone, size_t zone_length, const uint8_t *session_name, size_t session_name_length,
+               const uint8_t *domain, size_t domain_length, const uint64_t *domain_lengths, size_t domain_count,
+               const uint8_t *authentication, size_t authentication_length, uint64_t flags, uint64_t sequence_count,
+               uint64_t counter, const uint8_t *body, size_t body_length, uint8_t *out, size_t out_length,
+               struct orl_write_answer *answer);
 
 /* ---- a sender's numbers, and cutting ---- */
 
@@ -242,8 +249,8 @@ struct orl_cut_count_answer {
  * How many packets of at most p octets (27 to 65,542) a message with this header and a body of body_length octets is cut into:
  * one if it fits, else as few segments as can be. Only the body's length is asked for.
  */
-void orl_cut_count(uint64_t t, uint64_t p, const struct orl_header *header, const uint8_t *timestamp, size_t timestamp_length,
-                   const uint8_t *zone, size_t zone_length, const uint8_t *session_name, size_t session_name_length,
+void orl_cut_count(uint64_t t, uint64_t profile, uint64_t p, const struct orl_header *header, const uint8_t *timestamp,
+                   size_t timestamp_length, const uint8_t *zone, size_t zone_length, const uint8_t *session_name, size_t session_name_length,
                    const uint8_t *domain, size_t domain_length, const uint64_t *domain_lengths, size_t domain_count,
                    const uint8_t *authentication, size_t authentication_length, uint64_t body_length,
                    const struct orl_sender *sender, struct orl_cut_count_answer *answer);
@@ -258,8 +265,8 @@ struct orl_cut_packet_answer {
  * Writes packet number i of that message, counted from 0. sender is the sender as it stood before the message, for every i, and
  * does not move.
  */
-void orl_cut_packet(uint64_t t, uint64_t p, const struct orl_header *header, const uint8_t *timestamp, size_t timestamp_length,
-                    const uint8_t *zone, size_t zone_length, const uint8_t *session_name, size_t session_name_length,
+void orl_cut_packet(uint64_t t, uint64_t profile, uint64_t p, const struct orl_header *header, const uint8_t *timestamp,
+                    size_t timestamp_length, const uint8_t *zone, size_t zone_length, const uint8_t *session_name, size_t session_name_length,
                     const uint8_t *domain, size_t domain_length, const uint64_t *domain_lengths, size_t domain_count,
                     const uint8_t *authentication, size_t authentication_length, const uint8_t *body, size_t body_length,
                     const struct orl_sender *sender, uint64_t i, uint8_t *out, size_t out_length,
@@ -286,7 +293,7 @@ struct orl_arrive_answer {
 };
 
 /* A packet arrives at the store. */
-void orl_arrive(uint64_t t, uint8_t *store, size_t store_length, const uint8_t *packet, size_t packet_length,
+void orl_arrive(uint64_t t, uint64_t profile, uint8_t *store, size_t store_length, const uint8_t *packet, size_t packet_length,
                 struct orl_arrive_answer *answer);
 
 struct orl_take_answer {
@@ -300,7 +307,8 @@ struct orl_take_answer {
  * Takes out of the store the complete message whose first segment lies in the lowest cell. Into out go the first two octets of
  * its packets, the H octets of the header, and the B octets of the body; its cells become free.
  */
-void orl_take(uint64_t t, uint8_t *store, size_t store_length, uint8_t *out, size_t out_length, struct orl_take_answer *answer);
+void orl_take(uint64_t t, uint64_t profile, uint8_t *store, size_t store_length, uint8_t *out, size_t out_length,
+              struct orl_take_answer *answer);
 
 /* Which buffer holds a body. */
 #define ORL_NOTHING 0
@@ -324,8 +332,8 @@ struct orl_join_answer {
  * taking refuses (20 or 21), the segment that arrived stays in the store. For a packet that came whole, out is not touched and
  * may be empty.
  */
-void orl_join(uint64_t t, uint8_t *store, size_t store_length, const uint8_t *packet, size_t packet_length, uint8_t *out,
-              size_t out_length, struct orl_join_answer *answer);
+void orl_join(uint64_t t, uint64_t profile, uint8_t *store, size_t store_length, const uint8_t *packet, size_t packet_length,
+              uint8_t *out, size_t out_length, struct orl_join_answer *answer);
 
 struct orl_view_answer {
     uint64_t refusal;
@@ -346,7 +354,7 @@ struct orl_in_order_answer {
 };
 
 /* Whether a store is in order, and how many cells it has. */
-void orl_in_order(uint64_t t, const uint8_t *store, size_t store_length, struct orl_in_order_answer *answer);
+void orl_in_order(uint64_t t, uint64_t profile, const uint8_t *store, size_t store_length, struct orl_in_order_answer *answer);
 
 /* ---- a whole recording ---- */
 
@@ -356,19 +364,19 @@ void orl_in_order(uint64_t t, const uint8_t *store, size_t store_length, struct 
 #define ORL_TORN 3     /* the mark, or the packet after it, is not whole */
 
 struct orl_join_recording_answer {
-    uint64_t refusal; /* 21 if out is shorter than the recording; as long is always enough */
+    uint64_t refusal; /* 15; 21 if out is shorter than the recording; as long is always enough */
     uint64_t written; /* octets written, from the first of out on */
     uint64_t place;   /* the place in the recording where it stopped */
     uint64_t stop;    /* one of the three above */
 };
 
 /*
- * Joins a recording that is in hand whole, with T 8 and a store of 32 cells of its own: packets, each after the mark 4D 50.
- * For each message out gets 4D 4D, a length of four octets, and what taking writes, and for a packet that came whole likewise.
- * Refused packets and those above 32,768 octets are passed over.
+ * Joins a recording that is in hand whole, with a store of 32 cells of its own: packets, each after the mark 4D 50. For each
+ * message out gets 4D 4D, a length of four octets, and what taking writes, and for a packet that came whole likewise. Refused
+ * packets and those above 32,768 octets are passed over. T 8 and ORL_VARINT are usual.
  */
-void orl_join_recording(const uint8_t *recording, size_t recording_length, uint8_t *out, size_t out_length,
-                        struct orl_join_recording_answer *answer);
+void orl_join_recording(uint64_t t, uint64_t profile, const uint8_t *recording, size_t recording_length, uint8_t *out,
+                        size_t out_length, struct orl_join_recording_answer *answer);
 
 #ifdef __cplusplus
 }

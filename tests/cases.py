@@ -7,11 +7,12 @@ buffers after it. The lines that must be printed are made from `expect`, never f
 is told in crates/vectors/src/main.rt; a call is added by a row of CALLS.
 
 To the cases of reading those of damaged() are added: figure 14 with each octet changed, cut and lengthened, its length field left or set
-right, and packets whose last field is not whole. Their answers are
-those of tests/model.py, which must agree with the file on every case of its own. To the cases of writing and cutting are added
-figure 14 written, numbers one above what the type of their field holds, which are refused by 22 and never cut to the width, and headers
-with a zone, alone and beside every other fault. To those of the view are added views of no buffer, to those of a recording outputs just
-too short and just long enough. Where and why a recording stops is told by stop(), which knows marks and length fields and nothing else.
+right, and packets whose last field is not whole; and those of fixed(), packets of the profile with four octets and of profiles that there
+are not. Their answers are those of tests/model.py, which must agree with the file on every case of its own. To the cases of writing and
+cutting are added figure 14 written, numbers one above what the type of their field holds, which are refused by 22 and never cut to the
+width, and headers with a zone, alone and beside every other fault. To those of the view are added views of no buffer, to those of a
+recording outputs just too short and just long enough. Where and why a recording stops is told by stop(), which knows marks and length
+fields and nothing else.
 """
 
 import itertools
@@ -24,7 +25,7 @@ import model
 
 CRATE = pathlib.Path(__file__).resolve().parent.parent / "crates" / "vectors"
 # The change requests that have landed and have cases of their own, in the order in which they landed.
-LANDED = ("T-01", "T-04", "T-12")
+LANDED = ("T-01", "T-04", "T-12", "T-10")
 MOST_IN_PAIR = 255
 FIGURE_14 = bytes.fromhex("18 05 C0 00 00 14 00 00 01 00 02 00 03 01 20 06 00 07 00 00 00 00 00 00 00 09 00")
 
@@ -149,6 +150,11 @@ def answer(row):
     return row["expect"]["answer"]
 
 
+def profile(row):
+    """A case that says no profile has Varints."""
+    return row.get("profile", model.VARINT)
+
+
 KINDS = ["", "whole", "stored", "held"]
 TAKEN = "refusal H B c".split()
 WHICH = ["", "packet", "joined"]
@@ -236,27 +242,27 @@ CALLS = {
     ),
     "read": Call(
         3,
-        lambda row: [row["T"]],
+        lambda row: [row["T"], profile(row)],
         lambda row: [octets(row["packet"])],
         read_line,
     ),
     "write": Call(
         4,
-        lambda row: [row["T"], row["flags"], row["seq"], row["counter"]],
+        lambda row: [row["T"], profile(row), row["flags"], row["seq"], row["counter"]],
         lambda row: header(row) + [octets(row["body"])],
         lambda row: line([answer(row)["refusal"], answer(row)["length"]], out=octets(row["expect"]["out"])),
         out=given_out,
     ),
     "in_order": Call(
         7,
-        lambda row: [row["T"]],
+        lambda row: [row["T"], profile(row)],
         lambda row: [],
         lambda row: line([answer(row)["refusal"], 0 if answer(row)["refusal"] else len(given_store(row)) // 1024], given_store(row)),
         store=given_store,
     ),
     "arrive": Call(
         8,
-        lambda row: [row["T"]],
+        lambda row: [row["T"], profile(row)],
         lambda row: [octets(row["packet"])],
         lambda row: line(
             [answer(row)["refusal"], KINDS.index(answer(row)["kind"]), *told(answer(row))], octets(row["expect"]["store"])
@@ -265,7 +271,7 @@ CALLS = {
     ),
     "take": Call(
         9,
-        lambda row: [row["T"]],
+        lambda row: [row["T"], profile(row)],
         lambda row: [],
         lambda row: line([answer(row)[name] for name in TAKEN], octets(row["expect"]["store"]), octets(row["expect"]["out"])),
         store=given_store,
@@ -273,7 +279,7 @@ CALLS = {
     ),
     "join": Call(
         10,
-        lambda row: [row["T"]],
+        lambda row: [row["T"], profile(row)],
         lambda row: [octets(row["packet"])],
         join_line,
         store=given_store,
@@ -287,7 +293,7 @@ CALLS = {
     ),
     "program": Call(
         12,
-        lambda row: [],
+        lambda row: [row.get("T", 8), profile(row)],
         lambda row: [octets(row["stream"])],
         recording_line,
         out=recording_out,
@@ -300,13 +306,13 @@ CALLS = {
     ),
     "count": Call(
         5,
-        lambda row: [row["T"], row["P"], row["body_length"]],
+        lambda row: [row["T"], profile(row), row["P"], row["body_length"]],
         header,
         lambda row: line([answer(row)["refusal"], answer(row)["count"]] + sender(answer(row)["sender"])),
     ),
     "packet": Call(
         6,
-        lambda row: [row["T"], row["P"], row["i"]],
+        lambda row: [row["T"], profile(row), row["P"], row["i"]],
         lambda row: header(row) + [octets(row["body"])],
         lambda row: line(
             [answer(row)["refusal"], answer(row)["length"]] + sender(answer(row)["sender"]), out=octets(row["expect"]["out"])
@@ -324,10 +330,12 @@ def sized(packet):
     return packet[:4] + big(len(packet) - 7, 2) + packet[6:]
 
 
-def unfinished():
+ENDS = {0x80: "", 0x40: "", 0x20: "ff7f", 0x10: "0102030405060708", 0x08: "0361", 0x04: "0361", 0x02: "0201016101036162", 0x01: "05616263"}
+
+
+def unfinished(ends):
     """Figure 14 as it is and as a first, with one more presence flag and what may stand after it, each cut off after every octet from its
     seventh on."""
-    ends = {0x80: "", 0x40: "", 0x20: "ff7f", 0x10: "0102030405060708", 0x08: "0361", 0x04: "0361", 0x02: "0201016101036162", 0x01: "05616263"}
     for flags, (presence, end) in itertools.product((0xC0, 0x40), ends.items()):
         counter = b"" if flags == 0xC0 else big(7, 4)
         whole = FIGURE_14[:2] + bytes([flags]) + FIGURE_14[3:26] + bytes([presence]) + counter + bytes.fromhex(end)
@@ -350,13 +358,83 @@ def damaged():
     for size in range(6, 28):
         yield FIGURE_14[:4] + b"\xff\xff" + FIGURE_14[6:size]
     yield FIGURE_14[:4] + b"\xff\xff" + FIGURE_14[6:] + bytes(65516)
-    yield from unfinished()
+    yield from unfinished(ENDS)
+
+
+FIXED_ENDS = {0x20: "ffffffff", 0x08: "0000000361c3a9", 0x04: "00000000", 0x02: "000000020100000001610100000002c3a9", 0x01: "00000003ff0061"}
+
+
+def fixed():
+    """Packets under the profile of four octets: those of unfinished(); the largest length in each field and the largest count; domains of 16
+    and of 17 parts; an authentication id whose length stands at the header's end, and data that ends there."""
+    yield from unfinished(FIXED_ENDS)
+    front = FIGURE_14[:26]
+    for presence, end in ((0x08, ""), (0x04, ""), (0x02, ""), (0x02, "0000000101"), (0x01, "")):
+        for length in ("ffffffff", "80000000", "00010000", "000000ff"):
+            yield sized(front + bytes([presence]) + bytes.fromhex(end + length) + b"abc")
+    for count in (15, 16, 17, 256):
+        yield sized(front + b"\x02" + big(count, 4) + bytes.fromhex("0100000000") * 16)
+    for zone, rest in itertools.product(range(224, 234), range(8)):
+        yield sized(front + b"\x09" + big(zone, 4) + bytes(zone) + big(1, 4)[:rest] + b"xyz"[: max(0, rest - 4)])
+
+
+UNKNOWN = (2, 3, 255, 256, 1 << 32, 1 << 63, (1 << 64) - 1)
 
 
 def read_rows():
     """The damaged packets as cases of reading, T 8, with the model's answers."""
     for packet in damaged():
         yield {"call": "read", "T": 8, "packet": packet.hex(), "expect": {"answer": model.read(8, packet)}}
+
+
+def fixed_rows():
+    """Those of the profile with four octets, read under it; the unfinished ones of either profile read under the other."""
+    for profile, packets in ((model.FIXED, fixed()), (model.FIXED, unfinished(ENDS)), (model.VARINT, unfinished(FIXED_ENDS))):
+        for packet in packets:
+            told = {"answer": model.read(8, packet, profile)}
+            yield {"T": 8, "profile": profile, "packet": packet.hex(), "expect": told}
+
+
+def unknown_rows():
+    """Each call under profiles that there are not: 15, and nothing has changed."""
+    cell, figure = bytes(1024).hex(), FIGURE_14.hex()
+    nothing_told = {"refusal": 15, "off": 0, "began": 0, "H": 0, "B": 0, "c": 0, "kind": "", "which": "", "place": 0, "length": 0}
+    after = {"answer": nothing_told, "store": cell, "out": OUT_14}
+    for profile in UNKNOWN:
+        asked = {"T": 8, "profile": profile, "packet": figure, "store": cell, "out": OUT_14}
+        yield CALLS["read"], asked | {"expect": {"answer": model.read(8, FIGURE_14, profile)}}
+        yield CALLS["write"], write_row({"profile": profile}, 15)
+        yield CALLS["write"], write_row({"profile": profile, "apid": 1 << 16}, 15)
+        for call in ("count", "packet"):
+            yield CALLS[call], cut_row({}, {"seq": 5, "counter": 7}, 32, 15) | {"profile": profile}
+            yield CALLS[call], cut_row({}, {"seq": 1 << 16, "counter": 7}, 32, 15) | {"profile": profile}
+        for call in ("in_order", "arrive", "take", "join"):
+            yield CALLS[call], asked | {"expect": after}
+        yield CALLS["program"], {"T": 8, "profile": profile, "stream": "4d50" + figure, "expect": {"answer": {"refusal": 15}}}
+
+
+def first_pods():
+    """A recording of the first pods: timestamps of 6 octets; priority, session name, domain and authentication id; a whole packet, then two
+    messages of three segments each, between each other and with repeats."""
+    text = big(3, 4) + b"one"
+    end = big(1 << 31, 4) + b"123456" + text + big(2, 4) + (b"\x01" + text) * 2 + text
+    packets = []
+    for tile, at in enumerate((0, 2, 0, 3, 1, 1, 4, 5)):
+        flags = 3 if tile == 0 else 1 if at // 2 == 0 else 2 if at // 2 == 2 else 0
+        counter = b"" if tile == 0 else big(100 * (at % 2) + at // 2, 4)
+        data = FIGURE_14[6:25] + bytes([9 + at % 2, 0x37]) + counter + end + b"body" + bytes([at])
+        packets.append(FIGURE_14[:2] + big(flags << 14 | tile, 2) + big(len(data) - 1, 2) + data)
+    return b"".join(b"MP" + packet for packet in packets)
+
+
+def first_pods_rows():
+    """That recording under its own settings, under others, and under such as are refused."""
+    stream = first_pods()
+    for t, profile in ((6, model.FIXED), (8, model.FIXED), (6, model.VARINT), (8, model.VARINT), (0, model.FIXED), (17, model.VARINT)):
+        refusal = 0 if 1 <= t <= 16 else 15
+        out = b"" if refusal else bytes(model.Joining(stream, t, profile).output)
+        told = {"answer": {"refusal": refusal}, "out": out.hex()}
+        yield {"T": t, "profile": profile, "stream": stream.hex(), "expect": told}
 
 
 HEADER_14 = {name: 0 for name in HEADER_NUMBERS} | {name: "" for name in TEXTS}
@@ -520,8 +598,8 @@ def rows(vectors, call):
 
 def check_model(row):
     """The model agrees with the file."""
-    got = model.read(row["T"], octets(row["packet"]))
-    if got != answer(row):
+    got = model.read(row["T"], octets(row["packet"]), profile(row))
+    if got != {name: value for name, value in answer(row).items() if name in got}:
         sys.exit(f"cases.py: tests/model.py disagrees on T {row['T']}, packet {row['packet']}")
 
 
@@ -534,6 +612,12 @@ def cases(vectors):
         yield "figures 1 to 13", call, row
     for row in read_rows():
         yield "figure 14 damaged", CALLS["read"], row
+    for row in fixed_rows():
+        yield "four octets", CALLS["read"], row
+    for call, row in unknown_rows():
+        yield "unknown profiles", call, row
+    for row in first_pods_rows():
+        yield "a recording of the first pods", CALLS["program"], row
     yield "figure 14 written", CALLS["write"], write_row({}, 0)
     for row in wide_write_rows():
         yield "numbers too wide", CALLS["write"], row

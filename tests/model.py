@@ -4,6 +4,7 @@ and Joining."""
 PRESENCE = ("source", "destination", "priority", "timestamp", "zone", "session_name", "domain", "authentication")
 HEADER_LIMIT = 256
 PARTS = 16
+VARINT, FIXED = 0, 1  # the profiles
 
 
 class Refused(Exception):
@@ -17,8 +18,8 @@ class Refused(Exception):
 class Data:
     """The data field, walked from left to right. Places count from the packet's first octet."""
 
-    def __init__(self, packet):
-        self.packet = packet
+    def __init__(self, packet, profile):
+        self.packet, self.profile = packet, profile
         self.at = self.began = 6
 
     def field(self):
@@ -61,9 +62,16 @@ class Data:
                 return value
         raise AssertionError("a fifth octet of at most 15 is the last one")
 
+    def uinteger(self):
+        """A length, a count or a priority: a Varint, or four octets, which are one content."""
+        if self.profile == VARINT:
+            return self.varint()
+        place = self.content(4)
+        return int.from_bytes(self.packet[place : self.at], "big")
+
     def blob(self):
-        """A Varint length and that many octets of any value."""
-        length = self.varint()
+        """A length and that many octets of any value."""
+        length = self.uinteger()
         return {"place": self.content(length), "length": length}
 
     def text(self):
@@ -145,7 +153,7 @@ def fixed(a, data):
 
 def domain(a, data):
     """The count, which may be too many as soon as it is known, then the parts: a presence octet of 1 and a text each."""
-    count = data.field().varint()
+    count = data.field().uinteger()
     if count > PARTS:
         raise Refused(13)
     a["domain_count"] = count
@@ -164,7 +172,7 @@ def optional(a, data, t):
     if a["flags"] != 3:
         a["counter"] = data.field().number(4)
     if a["has_priority"]:
-        a["priority"] = data.field().varint()
+        a["priority"] = data.field().uinteger()
     if a["has_timestamp"]:
         a["timestamp"] = data.field().content(t)
     if a["has_zone"]:
@@ -177,14 +185,15 @@ def optional(a, data, t):
         a["authentication"] = data.field().blob()
 
 
-def read(t, packet):
-    """The whole answer of reading these octets with a timestamp of t octets. A refusal is its number, what it tells, and zeros."""
+def read(t, packet, profile=VARINT):
+    """The whole answer of reading these octets with a timestamp of t octets, under a profile. A refusal is its number, what it tells, and
+    zeros."""
     a = nothing()
     try:
-        if not 1 <= t <= 16:
+        if not 1 <= t <= 16 or profile not in (VARINT, FIXED):
             raise Refused(15)
         primary(a, packet)
-        data = Data(packet)
+        data = Data(packet, profile)
         fixed(a, data)
         optional(a, data, t)
         body = len(packet) - data.at
@@ -220,7 +229,8 @@ class Segment:
 class Joining:
     """The recording program (SPEC G-1 to G-7) over a whole recording: what it writes, and what it counts."""
 
-    def __init__(self, stream):
+    def __init__(self, stream, t=8, profile=VARINT):
+        self.t, self.profile = t, profile
         self.cells = [None] * CELLS
         self.output = bytearray()
         self.seen = self.whole = self.joined = self.kept = self.passed = 0
@@ -250,7 +260,7 @@ class Joining:
         if len(packet) > PACKET_MOST:
             self.passed += 1
             return
-        a = read(8, packet)
+        a = read(self.t, packet, self.profile)
         number = a["refusal"]
         if number == 0 and a["flags"] == UNSEGMENTED:
             self.whole += 1

@@ -35,10 +35,10 @@ struct Buffers {
 
 fn join(shape: &str, recording: &[u8]) {
     let mut buffers = Buffers { out: vec![0; recording.len()], model_out: Vec::with_capacity(recording.len()) };
-    let ours = |b: &mut Buffers| orlyukan::join_recording(black_box(recording), &mut b.out).written;
+    let ours = |b: &mut Buffers| orlyukan::join_recording(8, black_box(recording), &mut b.out).written;
     let model = |b: &mut Buffers| {
         b.model_out.clear();
-        model::join_recording_into(black_box(recording), &mut b.model_out);
+        model::join_recording_into(8, black_box(recording), &mut b.model_out);
         b.model_out.len() as u64
     };
     let copy = |b: &mut Buffers| {

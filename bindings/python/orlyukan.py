@@ -5,10 +5,12 @@ target/native of the repository in which this file stands.
 
 Each call answers an object whose `refusal` is 0, or a number of SPEC's table; then every other number is zero, but a
 sender's two, which stay, and what a refusal of reading tells: `off`, beside 5 the octets that are missing and beside 27 those that
-are left over, and `began`, beside 6 the place in the secondary header where the unfinished field began. `store` and `out` are bytearrays, changed in place and by success alone (but see `join`). A header is an
-object or a dict; a sender is one of `sequence_count` and `counter`, and a counter of None says that none is left. Octets are bytes or
-a bytearray. Numbers may be of any size: one that is negative or too wide is refused and never cut off. A call that lends a bytearray
-must be over before another thread touches it.
+are left over, and `began`, beside 6 the place in the secondary header where the unfinished field began. `profile` says how lengths,
+counts and priorities are written: 0 as Varints, 1 as four octets each; any other is refused by 15, as a `t` out of range is. `store`
+and `out` are bytearrays, changed in place and by success alone (but see `join`). A header is an object or a dict; a sender is one of
+`sequence_count` and `counter`, and a counter of None says that none is left. Octets are bytes or a bytearray. Numbers may be of any
+size: one that is negative or too wide is refused and never cut off. A call that lends a bytearray must be over before another thread
+touches it.
 """
 
 import ctypes
@@ -104,6 +106,11 @@ def _fits(value):
 def _setting(value):
     """T or P. No number outside 64 bits is in range, and neither is 0, which is given in its place."""
     return _number(value if _fits(value) else 0)
+
+
+def _settings(t, profile):
+    """T and the profile. No profile outside 64 bits is one, and neither is the largest number, which is given in its place."""
+    return (_setting(t), _number(profile if _fits(profile) else _MOST))
 
 
 def _size(value):
@@ -202,10 +209,10 @@ def after_segment(sender):
 # Reading, writing and cutting.
 
 
-def read(t, packet):
+def read(t, packet, *, profile=0):
     """Reads one packet whose timestamp, if it has one, is of t octets: every value of its header, every place, H and the body.
     `withdrawn` is 1 if it has a network zone."""
-    n = _run("read", 75, _setting(t), *_lent(packet))
+    n = _run("read", 75, *_settings(t, profile), *_lent(packet))
     timestamp, zone, session_name = _places(n[28:34])
     parts = _places(n[35 : 35 + 2 * _PARTS])
     authentication = _places(n[67:69])[0]
@@ -226,64 +233,65 @@ def read(t, packet):
     )
 
 
-def write(t, header, flags, sequence_count, counter, body, out):
+def write(t, header, flags, sequence_count, counter, body, out, *, profile=0):
     """Writes one packet over the front of out: the octets it took."""
     own = (flags, sequence_count, counter)
     words = _header(header, own)
     own = [value if _fits(value) else 0 for value in own]
-    n = _run("write", 2, _setting(t), *words, *map(_number, own), *_lent(body), *_changed(out))
+    n = _run("write", 2, *_settings(t, profile), *words, *map(_number, own), *_lent(body), *_changed(out))
     return Answer(refusal=n[0], length=n[1])
 
 
-def _cut(name, what, t, p, header, sender, others, words):
+def _cut(name, what, settings, p, header, sender, others, words):
     """One of the cutting calls."""
     given = _sender(sender)
     fields = _header(header, [*given, *others])
-    n = _run(name, 5, _setting(t), _setting(p), *fields, *words(_lent_sender(given)))
+    n = _run(name, 5, *settings, _setting(p), *fields, *words(_lent_sender(given)))
     return Answer(refusal=n[0], **{what: n[1]}, sender=_told_sender(n[0], n[2:], given))
 
 
-def cut_count(t, p, header, body_length, sender):
+def cut_count(t, p, header, body_length, sender, *, profile=0):
     """How many packets of at most p octets a message takes, and the sender after it."""
     others = [min(operator.index(body_length), _MOST)]
-    return _cut("cut_count", "count", t, p, header, sender, others, lambda held: [_size(max(others[0], 0)), held])
+    words = lambda held: [_size(max(others[0], 0)), held]
+    return _cut("cut_count", "count", _settings(t, profile), p, header, sender, others, words)
 
 
-def cut_packet(t, p, header, body, sender, i, out):
+def cut_packet(t, p, header, body, sender, i, out, *, profile=0):
     """Writes packet number i of a message over the front of out, by the sender's numbers before the message: the octets it took."""
     others = [min(operator.index(i), _MOST)]
     lent, changed = _lent(body), _changed(out)
     words = lambda held: [*lent, held, _size(max(others[0], 0)), *changed]
-    return _cut("cut_packet", "length", t, p, header, sender, others, words)
+    return _cut("cut_packet", "length", _settings(t, profile), p, header, sender, others, words)
 
 
 # The store.
 
 
-def in_order(t, store):
+def in_order(t, store, *, profile=0):
     """Whether a store is in order, and how many cells it has: 15 or 16 if it is not."""
-    n = _run("in_order", 2, _setting(t), *_lent(store))
+    n = _run("in_order", 2, *_settings(t, profile), *_lent(store))
     return Answer(refusal=n[0], cells=n[1])
 
 
-def arrive(t, store, packet):
+def arrive(t, store, packet, *, profile=0):
     """Takes a packet into the store: 'whole', 'stored' or 'held'."""
-    n = _run("arrive", 4, _setting(t), *_changed(store), *_lent(packet))
+    n = _run("arrive", 4, *_settings(t, profile), *_changed(store), *_lent(packet))
     return Answer(refusal=n[0], kind=_KINDS[n[1]], off=n[2], began=n[3])
 
 
-def take(t, store, out):
+def take(t, store, out, *, profile=0):
     """Takes the complete message with its first in the lowest cell out of the store, into the front of out: the octets of its
     header and its body, and its first segment's counter."""
     _apart(store, out)
-    n = _run("take", 4, _setting(t), *_changed(store), *_changed(out))
+    n = _run("take", 4, *_settings(t, profile), *_changed(store), *_changed(out))
     return Answer(refusal=n[0], H=n[1], B=n[2], counter=n[3])
 
 
-def join(t, store, packet, out):
+def join(t, store, packet, out, *, profile=0):
     """Arrival, and if the packet did not come whole, taking. Refused by 20 or 21 the store has changed by that arrival."""
     _apart(store, out)
-    n = _run("join", 9, _setting(t), *_changed(store), *_lent(packet), *_changed(out))
+    n = _run("join", 9, *_settings(t, profile), *_changed(store), *_lent(packet), *_changed(out))
     which = _WHICH[n[1]]
     return Answer(refusal=n[0], which=which, place=n[2], length=n[3], H=n[4], B=n[5], counter=n[6], off=n[7], began=n[8])
 
@@ -301,9 +309,9 @@ def view(packet, joined, which, place, length):
 # A whole recording.
 
 
-def join_recording(recording, out):
-    """Joins a recording into the front of out, which has at least as many octets (else 21), with T 8 and 32 cells: the octets written,
-    the place in the recording where it stopped, and why. 'ended' says that all of it was read; 'unmarked' that other octets than a
-    mark follow; 'torn' that a mark, or the packet after it, is not whole."""
-    n = _run("join_recording", 4, *_lent(recording), *_changed(out))
+def join_recording(recording, out, *, t=8, profile=0):
+    """Joins a recording into the front of out, which has at least as many octets (else 21), with 32 cells: the octets written, the place in
+    the recording where it stopped, and why. 'ended' says that all of it was read; 'unmarked' that other octets than a mark follow;
+    'torn' that a mark, or the packet after it, is not whole."""
+    n = _run("join_recording", 4, *_settings(t, profile), *_lent(recording), *_changed(out))
     return Answer(refusal=n[0], written=n[1], place=n[2], stop=_STOPS[n[3]])

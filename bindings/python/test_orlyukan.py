@@ -18,7 +18,7 @@ VECTORS = pathlib.Path(os.environ.get("ORLYUKAN_VECTORS", ROOT.parent / "shared"
 FIGURE_14 = bytes.fromhex("18 05 C0 00 00 14 00 00 01 00 02 00 03 01 20 06 00 07 00 00 00 00 00 00 00 09 00")
 HUGE = (-1, 2**64, 2**64 + 5, -(2**70), 2**200)
 # The change requests that have landed and have cases of their own, in the order in which they landed.
-LANDED = ("T-01", "T-04", "T-12")
+LANDED = ("T-01", "T-04", "T-12", "T-10")
 # The cases' names for what the calls name otherwise.
 NAMES = {"seq": "sequence_count", "c": "counter"}
 PRESENCE = "source destination priority timestamp zone session_name domain authentication".split()
@@ -35,6 +35,11 @@ def octets(text):
 
 def renamed(case):
     return {NAMES.get(name, name): value for name, value in case.items()}
+
+
+def profile(case):
+    """The keyword for a case's profile, if it says one."""
+    return {"profile": case["profile"]} if "profile" in case else {}
 
 
 def header(given):
@@ -83,7 +88,7 @@ class Cases(unittest.TestCase):
 
     def test_read(self):
         def run(case):
-            answer = told(orlyukan.read(case["T"], octets(case["packet"])))
+            answer = told(orlyukan.read(case["T"], octets(case["packet"]), **profile(case)))
             timestamp = answer["timestamp"]
             self.assertEqual(timestamp["length"], answer["has_timestamp"] * case["T"])
             return answer | {"timestamp": timestamp["place"]}, {}
@@ -94,7 +99,7 @@ class Cases(unittest.TestCase):
         def run(case):
             out = bytearray(octets(case["out"]))
             values, own = header(case["header"]), (case["flags"], case["sequence_count"], case["counter"])
-            return told(orlyukan.write(case["T"], values, *own, octets(case["body"]), out)), {"out": out}
+            return told(orlyukan.write(case["T"], values, *own, octets(case["body"]), out, **profile(case))), {"out": out}
 
         self.each("write", run)
 
@@ -102,7 +107,7 @@ class Cases(unittest.TestCase):
         def run(case):
             values = types.SimpleNamespace(**header(case["header"]))
             sender = types.SimpleNamespace(**case["sender"])
-            return told(orlyukan.cut_count(case["T"], case["P"], values, case["body_length"], sender)), {}
+            return told(orlyukan.cut_count(case["T"], case["P"], values, case["body_length"], sender, **profile(case))), {}
 
         self.each("count", run)
 
@@ -110,34 +115,35 @@ class Cases(unittest.TestCase):
         def run(case):
             out, values = bytearray(octets(case["out"])), header(case["header"])
             body = octets(case["body"])
-            return told(orlyukan.cut_packet(case["T"], case["P"], values, body, case["sender"], case["i"], out)), {"out": out}
+            answer = orlyukan.cut_packet(case["T"], case["P"], values, body, case["sender"], case["i"], out, **profile(case))
+            return told(answer), {"out": out}
 
         self.each("packet", run)
 
     def test_in_order(self):
         def run(case):
-            return {"refusal": orlyukan.in_order(case["T"], octets(case["store"])).refusal}, {}
+            return {"refusal": orlyukan.in_order(case["T"], octets(case["store"]), **profile(case)).refusal}, {}
 
         self.each("in_order", run)
 
     def test_arrive(self):
         def run(case):
             store = bytearray(octets(case["store"]))
-            return told(orlyukan.arrive(case["T"], store, octets(case["packet"]))), {"store": store}
+            return told(orlyukan.arrive(case["T"], store, octets(case["packet"]), **profile(case))), {"store": store}
 
         self.each("arrive", run)
 
     def test_take(self):
         def run(case):
             store, out = bytearray(octets(case["store"])), bytearray(octets(case["out"]))
-            return told(orlyukan.take(case["T"], store, out)), {"store": store, "out": out}
+            return told(orlyukan.take(case["T"], store, out, **profile(case))), {"store": store, "out": out}
 
         self.each("take", run)
 
     def test_join(self):
         def run(case):
             store, out = bytearray(octets(case["store"])), bytearray(octets(case["out"]))
-            return told(orlyukan.join(case["T"], store, octets(case["packet"]), out)), {"store": store, "out": out}
+            return told(orlyukan.join(case["T"], store, octets(case["packet"]), out, **profile(case))), {"store": store, "out": out}
 
         self.each("join", run)
 
@@ -302,9 +308,32 @@ class Numbers(unittest.TestCase):
             self.assertEqual(orlyukan.take(huge, bytearray(1024), bytearray(30)).refusal, 15)
             self.assertEqual(orlyukan.join(huge, bytearray(1024), FIGURE_14, bytearray(30)).refusal, 15)
             self.assertEqual(orlyukan.in_order(huge, bytearray(1024)).refusal, 15)
+            self.assertEqual(orlyukan.join_recording(b"", bytearray(), t=huge).refusal, 15)
             for t, p in ((huge, 64), (8, huge)):
                 self.assertEqual(orlyukan.cut_count(t, p, figure_14(), 5, self.sender).refusal, 15)
                 self.assertEqual(orlyukan.cut_packet(t, p, figure_14(), b"12345", self.sender, 0, bytearray(64)).refusal, 15)
+
+    def test_profile(self):
+        """A keyword, 0 if it is not given; from 2 on, and outside 64 bits, 15 in every call that takes it."""
+        store, out, head = bytearray(1024), bytearray(64), figure_14()
+        for unknown in (2, 3, 2**32, 2**64 - 1, *HUGE):
+            for answer in (
+                orlyukan.read(8, FIGURE_14, profile=unknown),
+                orlyukan.write(8, head, 3, 0, 0, b"", out, profile=unknown),
+                orlyukan.cut_count(8, 64, head, 5, self.sender, profile=unknown),
+                orlyukan.cut_packet(8, 64, head, b"12345", self.sender, 0, out, profile=unknown),
+                orlyukan.in_order(8, store, profile=unknown),
+                orlyukan.arrive(8, store, FIGURE_14, profile=unknown),
+                orlyukan.take(8, store, out, profile=unknown),
+                orlyukan.join(8, store, FIGURE_14, out, profile=unknown),
+                orlyukan.join_recording(b"", out, profile=unknown),
+            ):
+                self.assertEqual(answer.refusal, 15, unknown)
+        domain = {"has_domain": 1, "domain": b"ab", "domain_lengths": [2]}
+        for keyword, octets_of in (({}, "0101026162"), ({"profile": 0}, "0101026162"), ({"profile": 1}, "0000000101000000026162")):
+            length = orlyukan.write(8, head | domain, 3, 0, 0, b"", out, **keyword).length
+            self.assertEqual(out[27:length].hex(), octets_of)
+            self.assertEqual(orlyukan.read(8, out[:length], **keyword).domain_count, 1)
 
     def test_fields(self):
         fields = [name for name, value in figure_14().items() if isinstance(value, int)]
@@ -456,6 +485,18 @@ class Recordings(unittest.TestCase):
         self.stops(b"", "ended")
         answer = orlyukan.join_recording(b"", bytearray())
         self.assertEqual(told(answer), {"refusal": 0, "written": 0, "place": 0, "stop": "ended"})
+
+    def test_first_pods(self):
+        """Timestamps of 6 octets and a session name with a length of four: joined under these settings, refused under the usual ones."""
+        data = FIGURE_14[6:26] + b"\x14" + b"sixoct" + b"\0\0\0\3podbody"
+        recording = b"MP" + FIGURE_14[:4] + (len(data) - 1).to_bytes(2, "big") + data
+        out = bytearray(len(recording))
+        self.assertEqual(told(orlyukan.join_recording(recording, out, t=6, profile=1))["written"], len(recording))
+        self.assertEqual(out, b"MM" + (2 + len(data)).to_bytes(4, "big") + FIGURE_14[:2] + data)
+        for t, profile in ((8, 0), (6, 0), (8, 1)):
+            answer = orlyukan.join_recording(recording, bytearray(len(recording)), t=t, profile=profile)
+            self.assertEqual((answer.refusal, answer.stop), (0, "ended"))
+        self.assertEqual(orlyukan.join_recording(recording, out, t=0).refusal, 15)
 
     def test_unmarked(self):
         for more in (b"x", b"MS", b"MM" + FIGURE_14):

@@ -29,7 +29,7 @@ static struct orl_header header_14(void) {
 
 static void reading(void) {
     struct orl_read_answer a;
-    orl_read(8, figure_14, 27, &a);
+    orl_read(8, ORL_VARINT, figure_14, 27, &a);
     expect("read", a.refusal, 0);
     expect("packet type", a.packet_type, 1);
     expect("APID", a.apid, 5);
@@ -46,12 +46,12 @@ static void reading(void) {
     expect("H", a.H, 21);
     expect("body's place", a.body.place, 27);
     expect("body's length", a.body.length, 0);
-    orl_read(0, figure_14, 27, &a);
+    orl_read(0, ORL_VARINT, figure_14, 27, &a);
     expect("read with T 0", a.refusal, 15);
     expect("H of a refusal", a.H, 0);
-    orl_read(UINT64_MAX, figure_14, 27, &a);
+    orl_read(UINT64_MAX, ORL_VARINT, figure_14, 27, &a);
     expect("read with the largest T", a.refusal, 15);
-    orl_read(8, none, 0, &a);
+    orl_read(8, ORL_VARINT, none, 0, &a);
     expect("read nothing", a.refusal, 1);
 }
 
@@ -70,11 +70,11 @@ static void told_of(const char *what, const uint8_t *packet, size_t length, uint
     struct orl_arrive_answer a;
     struct orl_join_answer j;
     uint8_t out[1];
-    orl_read(8, packet, length, &r);
+    orl_read(8, ORL_VARINT, packet, length, &r);
     expect_told(what, r.refusal, r.off, r.began, want);
-    orl_arrive(8, store, sizeof store, packet, length, &a);
+    orl_arrive(8, ORL_VARINT, store, sizeof store, packet, length, &a);
     expect_told(what, a.refusal, a.off, a.began, want);
-    orl_join(8, store, sizeof store, packet, length, out, 0, &j);
+    orl_join(8, ORL_VARINT, store, sizeof store, packet, length, out, 0, &j);
     expect_told(what, j.refusal, j.off, j.began, want);
 }
 
@@ -100,7 +100,7 @@ static void refusals(void) {
 
 static void write_14(const struct orl_header *h, uint64_t flags, uint64_t counter, uint8_t *out, size_t room,
                      struct orl_write_answer *a) {
-    orl_write(8, h, none, 0, none, 0, none, 0, none, 0, no_lengths, 0, none, 0, flags, 0, counter, none, 0, out, room, a);
+    orl_write(8, ORL_VARINT, h, none, 0, none, 0, none, 0, none, 0, no_lengths, 0, none, 0, flags, 0, counter, none, 0, out, room, a);
 }
 
 static void writing(void) {
@@ -144,7 +144,7 @@ static uint64_t text(int field, uint8_t first, uint8_t second, uint64_t part) {
     h.has_session_name = field == 1;
     h.has_domain = field == 2;
     h.has_authentication = field == 3;
-    orl_write(8, &h, none, 0, octets, n[0], octets, n[1], octets, n[2], lengths, n[2], octets, n[3], 3, 0, 0, none, 0, out,
+    orl_write(8, ORL_VARINT, &h, none, 0, octets, n[0], octets, n[1], octets, n[2], lengths, n[2], octets, n[3], 3, 0, 0, none, 0, out,
               sizeof out, &a);
     return a.refusal;
 }
@@ -173,12 +173,12 @@ static void withdrawn(const char *what, uint64_t t, uint64_t apid, uint64_t has_
     h.has_zone = has_zone;
     h.has_domain = parts > 0;
     memset(out, 0xEE, sizeof out);
-    orl_write(t, &h, none, 0, octets, length, none, 0, octets, parts, lengths, parts, none, 0, 3, 0, 0, none, 0, out, sizeof out, &w);
+    orl_write(t, ORL_VARINT, &h, none, 0, octets, length, none, 0, octets, parts, lengths, parts, none, 0, 3, 0, 0, none, 0, out, sizeof out, &w);
     expect(what, w.refusal, refusal);
-    orl_cut_count(t, 64, &h, none, 0, octets, length, none, 0, octets, parts, lengths, parts, none, 0, 5, &s, &c);
+    orl_cut_count(t, ORL_VARINT, 64, &h, none, 0, octets, length, none, 0, octets, parts, lengths, parts, none, 0, 5, &s, &c);
     expect(what, c.refusal, refusal);
     expect_sender(what, c.sender, s);
-    orl_cut_packet(t, 64, &h, none, 0, octets, length, none, 0, octets, parts, lengths, parts, none, 0, octets, 5, &s, 0, out, sizeof out,
+    orl_cut_packet(t, ORL_VARINT, 64, &h, none, 0, octets, length, none, 0, octets, parts, lengths, parts, none, 0, octets, 5, &s, 0, out, sizeof out,
                    &p);
     expect(what, p.refusal, refusal);
     expect_sender(what, p.sender, s);
@@ -232,7 +232,7 @@ static void count(const char *what, uint64_t p, uint64_t body, uint64_t counter,
     struct orl_header h = header_14();
     struct orl_sender s = sender(7, 1, counter);
     struct orl_cut_count_answer a;
-    orl_cut_count(8, p, &h, none, 0, none, 0, none, 0, none, 0, no_lengths, 0, none, 0, body, &s, &a);
+    orl_cut_count(8, ORL_VARINT, p, &h, none, 0, none, 0, none, 0, none, 0, no_lengths, 0, none, 0, body, &s, &a);
     expect(what, a.refusal, refusal);
     expect(what, a.count, packets);
     expect(what, a.sender.sequence_count, refusal != 0 ? 7 : 7 + packets);
@@ -244,7 +244,7 @@ static uint64_t packet(uint64_t i, uint8_t *out, size_t room, size_t *length) {
     struct orl_cut_packet_answer a;
     uint8_t body[38];
     memset(body, 0x42, sizeof body);
-    orl_cut_packet(8, 64, &h, none, 0, none, 0, none, 0, none, 0, no_lengths, 0, none, 0, body, sizeof body, &s, i, out, room, &a);
+    orl_cut_packet(8, ORL_VARINT, 64, &h, none, 0, none, 0, none, 0, none, 0, no_lengths, 0, none, 0, body, sizeof body, &s, i, out, room, &a);
     expect_sender("the sender stays", a.sender, s);
     *length = (size_t)a.length;
     return a.refusal;
@@ -281,14 +281,14 @@ static void storing(void) {
     struct orl_in_order_answer o;
     packet(0, first, 64, &first_length);
     packet(1, last, 64, &last_length);
-    orl_arrive(8, store, sizeof store, last, last_length, &a);
+    orl_arrive(8, ORL_VARINT, store, sizeof store, last, last_length, &a);
     expect("the last arrives", a.refusal, 0);
     expect("stored", a.kind, ORL_STORED);
-    orl_arrive(8, store, sizeof store, last, last_length, &a);
+    orl_arrive(8, ORL_VARINT, store, sizeof store, last, last_length, &a);
     expect("held", a.kind, ORL_HELD);
-    orl_arrive(8, store, sizeof store, figure_14, 27, &a);
+    orl_arrive(8, ORL_VARINT, store, sizeof store, figure_14, 27, &a);
     expect("whole", a.kind, ORL_WHOLE);
-    orl_join(8, store, sizeof store, first, first_length, out, sizeof out, &j);
+    orl_join(8, ORL_VARINT, store, sizeof store, first, first_length, out, sizeof out, &j);
     expect("the first is joined", j.refusal, 0);
     expect("which", j.which, ORL_JOINED);
     expect("place", j.place, 23);
@@ -297,7 +297,7 @@ static void storing(void) {
     expect("B", j.B, 38);
     expect("counter", j.counter, 5);
     expect_octets("packet identification", out, figure_14, 2);
-    orl_in_order(8, store, sizeof store, &o);
+    orl_in_order(8, ORL_VARINT, store, sizeof store, &o);
     expect("in order", o.refusal, 0);
     expect("cells", o.cells, 2);
 }
@@ -309,8 +309,8 @@ static void joining_whole(void) {
     struct orl_write_answer w;
     struct orl_join_answer j;
     uint8_t packet[40], out[1];
-    orl_write(8, &h, none, 0, none, 0, none, 0, none, 0, no_lengths, 0, none, 0, 3, 0, 0, figure_14, 4, packet, sizeof packet, &w);
-    orl_join(8, store, sizeof store, packet, (size_t)w.length, out, 0, &j);
+    orl_write(8, ORL_VARINT, &h, none, 0, none, 0, none, 0, none, 0, no_lengths, 0, none, 0, 3, 0, 0, figure_14, 4, packet, sizeof packet, &w);
+    orl_join(8, ORL_VARINT, store, sizeof store, packet, (size_t)w.length, out, 0, &j);
     expect("a whole packet is joined", j.refusal, 0);
     expect("which", j.which, ORL_PACKET);
     expect("place", j.place, 27);
@@ -342,10 +342,10 @@ static void taking(void) {
     static uint8_t store[1024];
     uint8_t out[1];
     struct orl_take_answer t;
-    orl_take(8, store, sizeof store, out, sizeof out, &t);
+    orl_take(8, ORL_VARINT, store, sizeof store, out, sizeof out, &t);
     expect("nothing complete", t.refusal, 20);
     store[0] = 1;
-    orl_take(8, store, sizeof store, out, sizeof out, &t);
+    orl_take(8, ORL_VARINT, store, sizeof store, out, sizeof out, &t);
     expect("not in order", t.refusal, 16);
 }
 
@@ -362,13 +362,13 @@ static void recorded(const char *what, const char *more, size_t octets, uint64_t
     memcpy(in + 29, "MP", 2);
     memcpy(in + 31, figure_14, 27);
     memcpy(in + 58, more, octets);
-    orl_join_recording(in, 58 + octets, out, 57 + octets, &a);
+    orl_join_recording(8, ORL_VARINT, in, 58 + octets, out, 57 + octets, &a);
     expect(what, a.refusal, 21);
     expect(what, a.written, 0);
     expect(what, a.place, 0);
     expect(what, a.stop, 0);
     expect(what, out[0], 0xEE);
-    orl_join_recording(in, 58 + octets, out, 58 + octets, &a);
+    orl_join_recording(8, ORL_VARINT, in, 58 + octets, out, 58 + octets, &a);
     expect(what, a.refusal, 0);
     expect(what, a.written, 29);
     expect(what, a.place, 58);
@@ -376,6 +376,60 @@ static void recorded(const char *what, const char *more, size_t octets, uint64_t
     expect_octets("mark, length and identification", out, front, 8);
     expect_octets("header", out + 8, figure_14 + 6, 21);
     expect(what, out[29], 0xEE);
+}
+
+/* A domain of one part "ab" in four octets for each number; its count left a Varint is another packet. */
+static void fixed(void) {
+    static const uint8_t want[38] = {0x18, 0x05, 0xC0, 0, 0, 0x1F, 0, 0, 1, 0, 2, 0, 3, 1, 0x20, 6, 0, 7, 0,
+                                     0,    0,    0,    0, 0, 0,    9, 2, 0, 0, 0, 1, 1, 0, 0, 0,    2, 'a', 'b'};
+    static const uint8_t octets[2] = {'a', 'b'};
+    const uint64_t two = 2;
+    struct orl_header h = header_14();
+    struct orl_write_answer w;
+    struct orl_read_answer r;
+    uint8_t out[38], store[1024] = {0};
+    h.has_domain = 1;
+    orl_write(8, ORL_FIXED, &h, none, 0, none, 0, none, 0, octets, 2, &two, 1, none, 0, 3, 0, 0, none, 0, out, sizeof out, &w);
+    expect("written in four octets", w.refusal, 0);
+    expect("its length", w.length, sizeof want);
+    expect_octets("its octets", out, want, sizeof want);
+    orl_read(8, ORL_FIXED, out, sizeof out, &r);
+    expect("read in four octets", r.refusal, 0);
+    expect("parts", r.domain_count, 1);
+    expect("a part's place", r.domain[0].place, 36);
+    expect("a part's length", r.domain[0].length, 2);
+    orl_read(8, ORL_VARINT, out, sizeof out, &r);
+    expect("the same read with Varints", r.refusal, 0);
+    expect("no parts", r.domain_count, 0);
+    out[30] = 17;
+    orl_read(8, ORL_FIXED, out, sizeof out, &r);
+    expect("seventeen parts", r.refusal, 13);
+    memset(out + 27, 0xFF, 4);
+    out[26] = 1;
+    orl_read(8, ORL_FIXED, out, sizeof out, &r);
+    expect("the largest length", r.refusal, 12);
+    for (uint64_t profile = UINT64_MAX; profile > 1; profile /= 2) {
+        struct orl_arrive_answer a;
+        struct orl_take_answer t;
+        struct orl_join_answer j;
+        struct orl_in_order_answer o;
+        struct orl_join_recording_answer m;
+        struct orl_cut_count_answer c;
+        struct orl_cut_packet_answer p;
+        struct orl_sender s = sender(7, 1, 5);
+        orl_read(8, profile, figure_14, 27, &r);
+        orl_write(8, profile, &h, none, 0, none, 0, none, 0, octets, 2, &two, 1, none, 0, 3, 0, 0, none, 0, out, sizeof out, &w);
+        orl_cut_count(8, profile, 64, &h, none, 0, none, 0, none, 0, octets, 2, &two, 1, none, 0, 4, &s, &c);
+        orl_cut_packet(8, profile, 64, &h, none, 0, none, 0, none, 0, octets, 2, &two, 1, none, 0, none, 0, &s, 0, out,
+                       sizeof out, &p);
+        orl_arrive(8, profile, store, sizeof store, figure_14, 27, &a);
+        orl_take(8, profile, store, sizeof store, out, sizeof out, &t);
+        orl_join(8, profile, store, sizeof store, figure_14, 27, out, sizeof out, &j);
+        orl_in_order(8, profile, store, sizeof store, &o);
+        orl_join_recording(8, profile, none, 0, out, sizeof out, &m);
+        const uint64_t refusals[9] = {r.refusal, w.refusal, c.refusal, p.refusal, a.refusal, t.refusal, j.refusal, o.refusal, m.refusal};
+        for (int i = 0; i < 9; i++) expect("a profile that there is not", refusals[i], 15);
+    }
 }
 
 static void recording(void) {
@@ -400,5 +454,6 @@ int main(void) {
     viewing();
     taking();
     recording();
+    fixed();
     return told("calls");
 }

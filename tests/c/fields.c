@@ -163,12 +163,12 @@ static void writing(void) {
     uint8_t out[P], want[P];
     memset(out, 0xEE, sizeof out);
     memset(want, 0xEE, sizeof want);
-    orl_write(T, &h, TEXTS(0), 1, COUNT, COUNTER, body, 4, out, sizeof out, &a);
+    orl_write(T, ORL_VARINT, &h, TEXTS(0), 1, COUNT, COUNTER, body, 4, out, sizeof out, &a);
     expect("write", a.refusal, 0);
     expect("written", a.length, segment(0, 0, want));
     expect_octets("the packet", out, want, sizeof want);
     h = every_header(1);
-    orl_write(T, &h, TEXTS(1), 1, COUNT, COUNTER, body, 4, out, sizeof out, &a);
+    orl_write(T, ORL_VARINT, &h, TEXTS(1), 1, COUNT, COUNTER, body, 4, out, sizeof out, &a);
     expect("write a zone", a.refusal, 30);
     expect_octets("the packet stays", out, want, sizeof want);
 }
@@ -182,17 +182,17 @@ static void cutting(unsigned i, int zoned, uint8_t *store, size_t store_length) 
     struct orl_arrive_answer v;
     uint8_t out[P], want[P];
     size_t length = segment(i, zoned, want);
-    orl_cut_packet(T, zoned ? P : P - ZONE, &h, TEXTS(zoned), body, BODY, &s, i, out, sizeof out, &a);
+    orl_cut_packet(T, ORL_VARINT, zoned ? P : P - ZONE, &h, TEXTS(zoned), body, BODY, &s, i, out, sizeof out, &a);
     expect("cut", a.refusal, zoned ? 30 : 0);
     expect("its length", a.length, zoned ? 0 : length);
     expect_sender("the sender stays", a.sender, s);
     if (!zoned) {
         expect_octets("the packet", out, want, length);
     }
-    orl_read(T, want, length, &r);
+    orl_read(T, ORL_VARINT, want, length, &r);
     expect_segment(i, zoned, &r);
     expect_present(&r, zoned ? 0xFF : 0xF7);
-    orl_arrive(T, store, store_length, want, length, &v);
+    orl_arrive(T, ORL_VARINT, store, store_length, want, length, &v);
     expect("arrives", v.refusal, 0);
     expect("stored", v.kind, ORL_STORED);
 }
@@ -206,7 +206,7 @@ static void message(int zoned) {
     struct orl_cut_count_answer c;
     struct orl_take_answer t;
     uint8_t out[2 + HEADER + BODY], first[P];
-    orl_cut_count(T, zoned ? P : P - ZONE, &h, TEXTS(zoned), BODY, &s, &c);
+    orl_cut_count(T, ORL_VARINT, zoned ? P : P - ZONE, &h, TEXTS(zoned), BODY, &s, &c);
     expect("cut", c.refusal, zoned ? 30 : 0);
     expect("count", c.count, zoned ? 0 : 3);
     expect_sender("the sender after it", c.sender, zoned ? s : sender(COUNT + 3, 1, COUNTER + 3));
@@ -214,7 +214,7 @@ static void message(int zoned) {
         cutting(i, zoned, store, sizeof store);
     }
     segment(0, zoned, first);
-    orl_take(T, store, sizeof store, out, sizeof out, &t);
+    orl_take(T, ORL_VARINT, store, sizeof store, out, sizeof out, &t);
     expect("taken", t.refusal, 0);
     expect("H", t.H, header);
     expect("B", t.B, BODY);
@@ -248,7 +248,7 @@ static void one_field(unsigned present) {
     h.source = h.has_source * 0x71;
     h.destination = h.has_destination * 0x72;
     h.priority = h.has_priority * 0x73;
-    orl_write(1, &h, timestamp, (size_t)h.has_timestamp, zone, 0, session_name, (size_t)h.has_session_name, domain, 0, domain_lengths,
+    orl_write(1, ORL_VARINT, &h, timestamp, (size_t)h.has_timestamp, zone, 0, session_name, (size_t)h.has_session_name, domain, 0, domain_lengths,
               0, authentication, (size_t)h.has_authentication, 3, COUNT, 0, body, 1, out, sizeof out, &w);
     expect("write", w.refusal, 0);
     if (zoned) {
@@ -257,7 +257,7 @@ static void one_field(unsigned present) {
     expect("packet identification", out[0], 0x09);
     expect("error, QoS level and session", out[14], 0xF3);
     expect("presence", out[26], present);
-    orl_read(1, out, (size_t)w.length, &r);
+    orl_read(1, ORL_VARINT, out, (size_t)w.length, &r);
     expect("read", r.refusal, 0);
     expect("packet type", r.packet_type, 0);
     expect("error", r.error, 1);

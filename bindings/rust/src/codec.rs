@@ -1,7 +1,7 @@
 //! Reading, writing and cutting.
 
 use crate::answers::{Cut, CutPacket, Reading, Refusal, Written};
-use crate::header::{Header, SegmentCounter, Sender, SequenceCount};
+use crate::header::{Header, SegmentCounter, Sender, SequenceCount, Settings};
 use crate::raw::{self, RawAfter, RawCut, RawNumber, RawSender};
 
 /// An answer that has nothing to tell on a refusal but its number.
@@ -20,11 +20,19 @@ pub fn next_sequence_count(sequence_count: SequenceCount) -> Result<SequenceCoun
     unless_refused(answer.refusal, SequenceCount(answer.number))
 }
 
-/// Reads one packet whose timestamp, if it has one, is of t octets.
-pub fn read(t: u64, packet: &[u8]) -> Reading {
+/// Reads one packet under the settings.
+///
+/// ```
+/// use orlyukan::{read, Settings, FIXED};
+/// let packet = [0x18, 5, 0xc0, 0, 0, 0x14, 0, 0, 1, 0, 2, 0, 3, 1, 0x20, 6, 0, 7, 0, 0, 0, 0, 0, 0, 0, 9, 0];
+/// assert_eq!(read(8, &packet), read(Settings { t: 6, profile: FIXED }, &packet));
+/// assert_eq!(read(Settings { t: 8, profile: 2 }, &packet).refusal, 15);
+/// ```
+pub fn read(settings: impl Into<Settings>, packet: &[u8]) -> Reading {
     let mut answer = Reading::default();
+    let s = settings.into();
     // SAFETY: a slice's pointer is valid for its length; the answer is ours alone.
-    unsafe { raw::orl_read(t, packet.as_ptr(), packet.len(), &mut answer) };
+    unsafe { raw::orl_read(s.t, s.profile, packet.as_ptr(), packet.len(), &mut answer) };
     answer
 }
 
@@ -47,13 +55,14 @@ pub fn read(t: u64, packet: &[u8]) -> Reading {
 /// ```
 #[rustfmt::skip]
 pub fn write(
-    t: u64, header: &Header, flags: u64, sequence_count: SequenceCount, counter: SegmentCounter, body: &[u8], out: &mut [u8],
+    settings: impl Into<Settings>, header: &Header, flags: u64, sequence_count: SequenceCount, counter: SegmentCounter, body: &[u8],
+    out: &mut [u8],
 ) -> Written {
     let mut answer = RawNumber::default();
-    let numbers = header.numbers();
+    let (s, numbers) = (settings.into(), header.numbers());
     // SAFETY: each slice's pointer is valid for its length; `out` is lent to us alone and so overlaps none of the others.
     unsafe {
-        raw::orl_write(t, &numbers, header.timestamp.as_ptr(), header.timestamp.len(), header.zone.as_ptr(), header.zone.len(),
+        raw::orl_write(s.t, s.profile, &numbers, header.timestamp.as_ptr(), header.timestamp.len(), header.zone.as_ptr(), header.zone.len(),
             header.session_name.as_ptr(), header.session_name.len(), header.domain.as_ptr(), header.domain.len(),
             header.domain_lengths.as_ptr(), header.domain_lengths.len(), header.authentication.as_ptr(),
             header.authentication.len(), flags, sequence_count.0, counter.0, body.as_ptr(), body.len(),
@@ -64,12 +73,12 @@ pub fn write(
 
 /// How many packets of at most p octets a message takes whose body has `body_length` octets, and the sender after it.
 #[rustfmt::skip]
-pub fn cut_count(t: u64, p: u64, header: &Header, body_length: u64, sender: Sender) -> Cut {
+pub fn cut_count(settings: impl Into<Settings>, p: u64, header: &Header, body_length: u64, sender: Sender) -> Cut {
     let mut answer = RawCut::default();
-    let (numbers, given) = (header.numbers(), RawSender::from(sender));
+    let (s, numbers, given) = (settings.into(), header.numbers(), RawSender::from(sender));
     // SAFETY: each slice's pointer is valid for its length; the answer is ours alone.
     unsafe {
-        raw::orl_cut_count(t, p, &numbers, header.timestamp.as_ptr(), header.timestamp.len(), header.zone.as_ptr(),
+        raw::orl_cut_count(s.t, s.profile, p, &numbers, header.timestamp.as_ptr(), header.timestamp.len(), header.zone.as_ptr(),
             header.zone.len(), header.session_name.as_ptr(), header.session_name.len(), header.domain.as_ptr(),
             header.domain.len(), header.domain_lengths.as_ptr(), header.domain_lengths.len(), header.authentication.as_ptr(),
             header.authentication.len(), body_length, &given, &mut answer);
@@ -79,12 +88,14 @@ pub fn cut_count(t: u64, p: u64, header: &Header, body_length: u64, sender: Send
 
 /// Writes packet number i of a message over the front of `out`, by the sender's numbers as they stand before the message.
 #[rustfmt::skip]
-pub fn cut_packet(t: u64, p: u64, header: &Header, body: &[u8], sender: Sender, i: u64, out: &mut [u8]) -> CutPacket {
+pub fn cut_packet(
+    settings: impl Into<Settings>, p: u64, header: &Header, body: &[u8], sender: Sender, i: u64, out: &mut [u8],
+) -> CutPacket {
     let mut answer = RawCut::default();
-    let (numbers, given) = (header.numbers(), RawSender::from(sender));
+    let (s, numbers, given) = (settings.into(), header.numbers(), RawSender::from(sender));
     // SAFETY: each slice's pointer is valid for its length; `out` is lent to us alone and so overlaps none of the others.
     unsafe {
-        raw::orl_cut_packet(t, p, &numbers, header.timestamp.as_ptr(), header.timestamp.len(), header.zone.as_ptr(),
+        raw::orl_cut_packet(s.t, s.profile, p, &numbers, header.timestamp.as_ptr(), header.timestamp.len(), header.zone.as_ptr(),
             header.zone.len(), header.session_name.as_ptr(), header.session_name.len(), header.domain.as_ptr(),
             header.domain.len(), header.domain_lengths.as_ptr(), header.domain_lengths.len(), header.authentication.as_ptr(),
             header.authentication.len(), body.as_ptr(), body.len(), &given, i, out.as_mut_ptr(), out.len(), &mut answer);

@@ -1,6 +1,24 @@
-//! What is lent to the writing calls: a header's values, and a sender's two running numbers.
+//! What is lent to the calls: the settings, a header's values, and a sender's two running numbers.
 
-use crate::raw::{RawHeader, RawSender};
+use crate::raw::{self, RawHeader, RawSender};
+
+/// The profiles: every length, count and priority is a Varint, or has four octets, as the first pods write them.
+pub const VARINT: u64 = raw::ORL_VARINT;
+pub const FIXED: u64 = raw::ORL_FIXED;
+
+/// What both sides agreed on: T, the octets of a timestamp, 1 to 16, and the profile. Any other numbers are refused with 15. Where a call
+/// takes settings, T alone stands for T and Varints.
+#[derive(Clone, Copy, Debug, PartialEq, Eq)]
+pub struct Settings {
+    pub t: u64,
+    pub profile: u64,
+}
+
+impl From<u64> for Settings {
+    fn from(t: u64) -> Self {
+        Settings { t, profile: VARINT }
+    }
+}
 
 /// The APID of the primary header.
 #[repr(transparent)]

@@ -2,6 +2,10 @@
 
 use crate::answers::{Place, Reading};
 
+/// How lengths, counts and priorities are written.
+pub const ORL_VARINT: u64 = 0;
+pub const ORL_FIXED: u64 = 1;
+
 /// What an arrival comes to.
 pub const ORL_WHOLE: u64 = 1;
 pub const ORL_STORED: u64 = 2;
@@ -138,27 +142,30 @@ type M = *mut u8;
 #[rustfmt::skip]
 extern "C" {
     pub fn orl_next_sequence_count(sequence_count: u64, answer: *mut RawNumber);
-    pub fn orl_read(t: u64, packet: P, packet_length: usize, answer: *mut Reading);
-    pub fn orl_write(t: u64, header: *const RawHeader, timestamp: P, timestamp_length: usize, zone: P, zone_length: usize,
+    pub fn orl_read(t: u64, profile: u64, packet: P, packet_length: usize, answer: *mut Reading);
+    pub fn orl_write(t: u64, profile: u64, header: *const RawHeader, timestamp: P, timestamp_length: usize, zone: P, zone_length: usize,
         session_name: P, session_name_length: usize, domain: P, domain_length: usize, domain_lengths: *const u64,
         domain_count: usize, authentication: P, authentication_length: usize, flags: u64, sequence_count: u64, counter: u64,
         body: P, body_length: usize, out: M, out_length: usize, answer: *mut RawNumber);
     pub fn orl_after_packet(sender: *const RawSender, answer: *mut RawAfter);
     pub fn orl_after_segment(sender: *const RawSender, answer: *mut RawAfter);
-    pub fn orl_cut_count(t: u64, p: u64, header: *const RawHeader, timestamp: P, timestamp_length: usize, zone: P,
+    pub fn orl_cut_count(t: u64, profile: u64, p: u64, header: *const RawHeader, timestamp: P, timestamp_length: usize, zone: P,
         zone_length: usize, session_name: P, session_name_length: usize, domain: P, domain_length: usize,
         domain_lengths: *const u64, domain_count: usize, authentication: P, authentication_length: usize, body_length: u64,
         sender: *const RawSender, answer: *mut RawCut);
-    pub fn orl_cut_packet(t: u64, p: u64, header: *const RawHeader, timestamp: P, timestamp_length: usize, zone: P,
+    pub fn orl_cut_packet(t: u64, profile: u64, p: u64, header: *const RawHeader, timestamp: P, timestamp_length: usize, zone: P,
         zone_length: usize, session_name: P, session_name_length: usize, domain: P, domain_length: usize,
         domain_lengths: *const u64, domain_count: usize, authentication: P, authentication_length: usize, body: P,
         body_length: usize, sender: *const RawSender, i: u64, out: M, out_length: usize, answer: *mut RawCut);
-    pub fn orl_arrive(t: u64, store: M, store_length: usize, packet: P, packet_length: usize, answer: *mut RawArrived);
-    pub fn orl_take(t: u64, store: M, store_length: usize, out: M, out_length: usize, answer: *mut RawTaken);
-    pub fn orl_join(t: u64, store: M, store_length: usize, packet: P, packet_length: usize, out: M, out_length: usize,
+    pub fn orl_arrive(t: u64, profile: u64, store: M, store_length: usize, packet: P, packet_length: usize,
+        answer: *mut RawArrived);
+    pub fn orl_take(t: u64, profile: u64, store: M, store_length: usize, out: M, out_length: usize,
+        answer: *mut RawTaken);
+    pub fn orl_join(t: u64, profile: u64, store: M, store_length: usize, packet: P, packet_length: usize, out: M, out_length: usize,
         answer: *mut RawJoined);
     pub fn orl_view(packet: P, packet_length: usize, joined: P, joined_length: usize, which: u64, place: u64, length: u64,
         answer: *mut RawView);
-    pub fn orl_in_order(t: u64, store: P, store_length: usize, answer: *mut RawNumber);
-    pub fn orl_join_recording(recording: P, recording_length: usize, out: M, out_length: usize, answer: *mut RawRecording);
+    pub fn orl_in_order(t: u64, profile: u64, store: P, store_length: usize, answer: *mut RawNumber);
+    pub fn orl_join_recording(t: u64, profile: u64, recording: P, recording_length: usize, out: M, out_length: usize,
+        answer: *mut RawRecording);
 }

@@ -1,6 +1,7 @@
-//! The small program's work over a recording in memory: T 8, 32 cells.
+//! The small program's work over a recording in memory: 32 cells.
 
 use crate::answers::Answer;
+use crate::header::Settings;
 use crate::raw::{self, RawRecording};
 
 /// Why the joining of a recording stopped.
@@ -31,13 +32,14 @@ impl Answer for Recording {
 }
 
 /// Joins a recording into the front of `out`, each message after its mark and its length; refused with 21 if `out` is shorter than the
-/// recording.
+/// recording. T 8 and Varints are usual: `join_recording(8, ..)`.
 #[rustfmt::skip]
-pub fn join_recording(recording: &[u8], out: &mut [u8]) -> Recording {
+pub fn join_recording(settings: impl Into<Settings>, recording: &[u8], out: &mut [u8]) -> Recording {
     let mut answer = RawRecording::default();
+    let s = settings.into();
     // SAFETY: each slice's pointer is valid for its length; the output is lent to us alone.
     unsafe {
-        raw::orl_join_recording(recording.as_ptr(), recording.len(), out.as_mut_ptr(), out.len(), &mut answer);
+        raw::orl_join_recording(s.t, s.profile, recording.as_ptr(), recording.len(), out.as_mut_ptr(), out.len(), &mut answer);
     }
     let stop = match answer.stop {
         raw::ORL_ENDED => Some(Stop::Ended),

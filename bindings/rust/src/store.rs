@@ -1,14 +1,15 @@
 //! The store: arrival, taking, joining, and the view of a body.
 
 use crate::answers::{Arrived, Joined, Kind, Order, Taken, Which};
-use crate::header::SegmentCounter;
+use crate::header::{SegmentCounter, Settings};
 use crate::raw::{self, RawArrived, RawJoined, RawNumber, RawTaken, RawView};
 
 /// Takes a packet into the store.
-pub fn arrive(t: u64, store: &mut [u8], packet: &[u8]) -> Arrived {
+pub fn arrive(settings: impl Into<Settings>, store: &mut [u8], packet: &[u8]) -> Arrived {
     let mut answer = RawArrived::default();
+    let s = settings.into();
     // SAFETY: each slice's pointer is valid for its length; the store is lent to us alone.
-    unsafe { raw::orl_arrive(t, store.as_mut_ptr(), store.len(), packet.as_ptr(), packet.len(), &mut answer) };
+    unsafe { raw::orl_arrive(s.t, s.profile, store.as_mut_ptr(), store.len(), packet.as_ptr(), packet.len(), &mut answer) };
     let kind = match answer.kind {
         raw::ORL_WHOLE => Some(Kind::Whole),
         raw::ORL_STORED => Some(Kind::Stored),
@@ -19,20 +20,22 @@ pub fn arrive(t: u64, store: &mut [u8], packet: &[u8]) -> Arrived {
 }
 
 /// Takes the complete message with its first in the lowest cell out of the store, into the front of `out`.
-pub fn take(t: u64, store: &mut [u8], out: &mut [u8]) -> Taken {
+pub fn take(settings: impl Into<Settings>, store: &mut [u8], out: &mut [u8]) -> Taken {
     let mut answer = RawTaken::default();
+    let s = settings.into();
     // SAFETY: each slice's pointer is valid for its length; store and output are each lent to us alone.
-    unsafe { raw::orl_take(t, store.as_mut_ptr(), store.len(), out.as_mut_ptr(), out.len(), &mut answer) };
+    unsafe { raw::orl_take(s.t, s.profile, store.as_mut_ptr(), store.len(), out.as_mut_ptr(), out.len(), &mut answer) };
     Taken { refusal: answer.refusal, h: answer.h, b: answer.b, counter: SegmentCounter(answer.counter) }
 }
 
 /// Arrival, and if the packet did not come whole, taking.
 #[rustfmt::skip]
-pub fn join(t: u64, store: &mut [u8], packet: &[u8], out: &mut [u8]) -> Joined {
+pub fn join(settings: impl Into<Settings>, store: &mut [u8], packet: &[u8], out: &mut [u8]) -> Joined {
     let mut answer = RawJoined::default();
+    let s = settings.into();
     // SAFETY: each slice's pointer is valid for its length; store and output are each lent to us alone.
     unsafe {
-        raw::orl_join(t, store.as_mut_ptr(), store.len(), packet.as_ptr(), packet.len(), out.as_mut_ptr(), out.len(),
+        raw::orl_join(s.t, s.profile, store.as_mut_ptr(), store.len(), packet.as_ptr(), packet.len(), out.as_mut_ptr(), out.len(),
             &mut answer);
     }
     let which = match answer.which {
@@ -61,9 +64,10 @@ pub fn view<'a>(packet: &'a [u8], joined: &'a [u8], which: Which, place: u64, le
 }
 
 /// Whether a store is in order, and how many cells it has: 15 or 16 if it is not.
-pub fn in_order(t: u64, store: &[u8]) -> Order {
+pub fn in_order(settings: impl Into<Settings>, store: &[u8]) -> Order {
     let mut answer = RawNumber::default();
+    let s = settings.into();
     // SAFETY: the slice's pointer is valid for its length; the answer is ours alone.
-    unsafe { raw::orl_in_order(t, store.as_ptr(), store.len(), &mut answer) };
+    unsafe { raw::orl_in_order(s.t, s.profile, store.as_ptr(), store.len(), &mut answer) };
     Order { refusal: answer.refusal, cells: answer.number }
 }

@@ -1,6 +1,6 @@
 // Arrival at the store: what a packet comes to, and the cell that a new segment goes to.
 //
-// The store is any octets here, and the size of a cell is that of the zero cell lent: T and the store's order are tested by
+// The store is any octets here, and the size of a cell is that of the zero cell lent: settings and the store's order are tested by
 // `store::arrive`, or by whoever keeps a store in order.
 ghost use mathlib.Core.Path.{_≡_};
 ghost use Prim.Native.Nat.{_+_, _≤_};

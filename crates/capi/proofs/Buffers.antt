@@ -27,14 +27,14 @@ next-answer κs x = now (x .1 .0)
 
 -- `orl_read`
 abbrev pub read-answer : (κs : L.Lfts 2) → AtExit (endedOf 2 read-kinds.ps read-kinds.r) κs → List ℕ
-read-answer κs x = now (x .1 .1 .0)
+read-answer κs x = now (x .1 .1 .1 .0)
 
 -- `orl_write`
 abbrev pub write-output : (κs : L.Lfts 10) → AtExit (endedOf 10 write-kinds.ps write-kinds.r) κs → List ℕ
-write-output κs x = now (x .1 .1 .1 .1 .1 .1 .1 .1 .1 .1 .1 .1 .0)
+write-output κs x = now (x .1 .1 .1 .1 .1 .1 .1 .1 .1 .1 .1 .1 .1 .0)
 
 abbrev pub write-answer : (κs : L.Lfts 10) → AtExit (endedOf 10 write-kinds.ps write-kinds.r) κs → List ℕ
-write-answer κs x = now (x .1 .1 .1 .1 .1 .1 .1 .1 .1 .1 .1 .1 .1 .0)
+write-answer κs x = now (x .1 .1 .1 .1 .1 .1 .1 .1 .1 .1 .1 .1 .1 .1 .0)
 
 -- `orl_after_packet`
 abbrev pub after-packet-answer : (κs : L.Lfts 2) → AtExit (endedOf 2 after-packet-kinds.ps after-packet-kinds.r) κs → List ℕ
@@ -46,41 +46,41 @@ after-segment-answer κs x = now (x .1 .0)
 
 -- `orl_cut_count`
 abbrev pub cut-count-answer : (κs : L.Lfts 9) → AtExit (endedOf 9 cut-count-kinds.ps cut-count-kinds.r) κs → List ℕ
-cut-count-answer κs x = now (x .1 .1 .1 .1 .1 .1 .1 .1 .1 .1 .1 .0)
+cut-count-answer κs x = now (x .1 .1 .1 .1 .1 .1 .1 .1 .1 .1 .1 .1 .0)
 
 -- `orl_cut_packet`
 abbrev pub cut-packet-output : (κs : L.Lfts 11) → AtExit (endedOf 11 cut-packet-kinds.ps cut-packet-kinds.r) κs → List ℕ
-cut-packet-output κs x = now (x .1 .1 .1 .1 .1 .1 .1 .1 .1 .1 .1 .1 .0)
+cut-packet-output κs x = now (x .1 .1 .1 .1 .1 .1 .1 .1 .1 .1 .1 .1 .1 .0)
 
 abbrev pub cut-packet-answer : (κs : L.Lfts 11) → AtExit (endedOf 11 cut-packet-kinds.ps cut-packet-kinds.r) κs → List ℕ
-cut-packet-answer κs x = now (x .1 .1 .1 .1 .1 .1 .1 .1 .1 .1 .1 .1 .1 .0)
+cut-packet-answer κs x = now (x .1 .1 .1 .1 .1 .1 .1 .1 .1 .1 .1 .1 .1 .1 .0)
 
 -- `orl_arrive`
 abbrev pub arrive-store : (κs : L.Lfts 3) → AtExit (endedOf 3 arrive-kinds.ps arrive-kinds.r) κs → List ℕ
-arrive-store κs x = now (x .1 .0)
+arrive-store κs x = now (x .1 .1 .0)
 
 abbrev pub arrive-answer : (κs : L.Lfts 3) → AtExit (endedOf 3 arrive-kinds.ps arrive-kinds.r) κs → List ℕ
-arrive-answer κs x = now (x .1 .1 .1 .0)
+arrive-answer κs x = now (x .1 .1 .1 .1 .0)
 
 -- `orl_take`
 abbrev pub take-store : (κs : L.Lfts 3) → AtExit (endedOf 3 take-kinds.ps take-kinds.r) κs → List ℕ
-take-store κs x = now (x .1 .0)
+take-store κs x = now (x .1 .1 .0)
 
 abbrev pub take-output : (κs : L.Lfts 3) → AtExit (endedOf 3 take-kinds.ps take-kinds.r) κs → List ℕ
-take-output κs x = now (x .1 .1 .0)
+take-output κs x = now (x .1 .1 .1 .0)
 
 abbrev pub take-answer : (κs : L.Lfts 3) → AtExit (endedOf 3 take-kinds.ps take-kinds.r) κs → List ℕ
-take-answer κs x = now (x .1 .1 .1 .0)
+take-answer κs x = now (x .1 .1 .1 .1 .0)
 
 -- `orl_join`
 abbrev pub join-store : (κs : L.Lfts 4) → AtExit (endedOf 4 join-kinds.ps join-kinds.r) κs → List ℕ
-join-store κs x = now (x .1 .0)
+join-store κs x = now (x .1 .1 .0)
 
 abbrev pub join-output : (κs : L.Lfts 4) → AtExit (endedOf 4 join-kinds.ps join-kinds.r) κs → List ℕ
-join-output κs x = now (x .1 .1 .1 .0)
+join-output κs x = now (x .1 .1 .1 .1 .0)
 
 abbrev pub join-answer : (κs : L.Lfts 4) → AtExit (endedOf 4 join-kinds.ps join-kinds.r) κs → List ℕ
-join-answer κs x = now (x .1 .1 .1 .1 .0)
+join-answer κs x = now (x .1 .1 .1 .1 .1 .0)
 
 -- `orl_view`
 abbrev pub view-answer : (κs : L.Lfts 3) → AtExit (endedOf 3 view-kinds.ps view-kinds.r) κs → List ℕ
@@ -88,11 +88,11 @@ view-answer κs x = now (x .1 .1 .1 .1 .1 .0)
 
 -- `orl_in_order`
 abbrev pub in-order-answer : (κs : L.Lfts 2) → AtExit (endedOf 2 in-order-kinds.ps in-order-kinds.r) κs → List ℕ
-in-order-answer κs x = now (x .1 .1 .0)
+in-order-answer κs x = now (x .1 .1 .1 .0)
 
 -- `orl_join_recording`
 abbrev pub recording-output : (κs : L.Lfts 3) → AtExit (endedOf 3 recording-kinds.ps recording-kinds.r) κs → List ℕ
-recording-output κs x = now (x .1 .0)
+recording-output κs x = now (x .1 .1 .1 .0)
 
 abbrev pub recording-answer : (κs : L.Lfts 3) → AtExit (endedOf 3 recording-kinds.ps recording-kinds.r) κs → List ℕ
-recording-answer κs x = now (x .1 .1 .0)
+recording-answer κs x = now (x .1 .1 .1 .1 .0)

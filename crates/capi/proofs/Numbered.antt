@@ -8,7 +8,7 @@ use contract.Lifetimes as L
 use lib.ListN.{length}
 use lib.Dec.{leb, eqb}
 use Rattle.octets.specs.Octets.{octetAt as numberAt}
-use Rattle.walk.specs.Walk.{settingsOf}
+use Rattle.walk.specs.declared.Settings.{Settings}
 use Rattle.packet.specs.Reading.{readPacket}
 use Rattle.write.specs.Given.{Lent}
 use Rattle.write.specs.Writing.{writeAnswer}
@@ -55,14 +55,14 @@ next : (count : ℕ) → Refuses ofWidths (nextNumbers count)
 unfolding nextNumbers
 next count = picked (Refuses ofWidths) (leb count _) _ _ (among (0 ∷ ofWidths) 0 refl) (among (0 ∷ ofWidths) 22 refl)
 
-read : (t : ℕ) (p : List ℕ) → Refuses ofReading (readNumbers (readPacket (settingsOf t) p))
+read : (s : Settings) (p : List ℕ) → Refuses ofReading (readNumbers (readPacket s p))
 unfolding readNumbers
-read t p = reading (settingsOf t) p
+read s p = reading s p
 
-write : (t : ℕ) (h : List ℕ) (x : Lent) (flags count counter : ℕ) (body : List ℕ) (room : ℕ) → Refuses ofWriting (writeNumbers t h x flags count counter body room)
+write : (s : Settings) (h : List ℕ) (x : Lent) (flags count counter : ℕ) (body : List ℕ) (room : ℕ) → Refuses ofWriting (writeNumbers s h x flags count counter body room)
 unfolding writeNumbers writeAnswer
-write t h x flags count counter body room =
-    picked (Refuses ofWriting) (writeFits h flags count counter) _ _ (writing _ _ _ _ _ _ _) (write-wide (settingsOf t))
+write s h x flags count counter body room =
+    picked (Refuses ofWriting) (writeFits h flags count counter) _ _ (writing _ _ _ _ _ _ _) (write-wide s)
 
 after-packet : (d : List ℕ) → Refuses ofWidths (afterPacketNumbers d)
 unfolding afterPacketNumbers
@@ -72,14 +72,14 @@ after-segment : (d : List ℕ) → Refuses ofWidths (afterSegmentNumbers d)
 unfolding afterSegmentNumbers
 after-segment d = picked (Refuses ofWidths) (senderFits d) _ _ (among (0 ∷ ofWidths) 0 refl) (among (0 ∷ ofWidths) 22 refl)
 
-cut-count : (t P : ℕ) (h : List ℕ) (x : Lent) (B : ℕ) (d : List ℕ) → Refuses ofCount (countNumbers t P h x B d)
+cut-count : (s : Settings) (P : ℕ) (h : List ℕ) (x : Lent) (B : ℕ) (d : List ℕ) → Refuses ofCount (countNumbers s P h x B d)
 unfolding countNumbers countAnswer
-cut-count t P h x B d = picked (Refuses ofCount) (cutFits h d) _ _ (count _ _ _ _ _ _ _) (count-wide (settingsOf t) P)
+cut-count s P h x B d = picked (Refuses ofCount) (cutFits h d) _ _ (count _ _ _ _ _ _ _) (count-wide s P)
 
-cut-packet : (t P : ℕ) (h : List ℕ) (x : Lent) (body d : List ℕ) (i room : ℕ) → Refuses ofCutting (packetNumbers t P h x body d i room)
+cut-packet : (s : Settings) (P : ℕ) (h : List ℕ) (x : Lent) (body d : List ℕ) (i room : ℕ) → Refuses ofCutting (packetNumbers s P h x body d i room)
 unfolding packetNumbers packetAnswer
-cut-packet t P h x body d i room =
-    picked (Refuses ofCutting) (cutFits h d) _ _ (cutting _ _ _ _ _ _ _ _ _) (cut-wide (settingsOf t) P)
+cut-packet s P h x body d i room =
+    picked (Refuses ofCutting) (cutFits h d) _ _ (cutting _ _ _ _ _ _ _ _ _) (cut-wide s P)
 
 inside : (n place long : ℕ) → Refuses ofWidths (insideNumbers n place long)
 unfolding insideNumbers
@@ -92,10 +92,10 @@ view w p j place long =
     (picked (Refuses ofWidths) (eqb w 1) _ _ (inside (length p) place long)
     (picked (Refuses ofWidths) (eqb w 2) _ _ (inside (length j) place long) (among (0 ∷ ofWidths) 22 refl)))
 
-in-order : (t : ℕ) (st : List ℕ) → Refuses ofOrder (orderNumbers (settingsOf t) cellSize st)
+in-order : (s : Settings) (st : List ℕ) → Refuses ofOrder (orderNumbers s cellSize st)
 unfolding orderNumbers
-in-order t st =
-    picked (Refuses ofOrder) (eqb (gate (settingsOf t) cellSize st) 0) _ _ (among (0 ∷ ofOrder) 0 refl) (order (settingsOf t) cellSize st)
+in-order s st =
+    picked (Refuses ofOrder) (eqb (gate s cellSize st) 0) _ _ (among (0 ∷ ofOrder) 0 refl) (order s cellSize st)
 
 -- ---- the exports, in the order of the header
 
@@ -141,4 +141,4 @@ in-order-numbered κs a r x k = subst (Refuses ofOrder) (sym k) (in-order _ _)
 
 pub join-recording-numbered :
     (κs : L.Lfts 3) (a : _) (r : _) (x : _) → recordings.Post κs a r x → Refuses ofRecording (recording-answer κs x)
-join-recording-numbered κs a r x k = subst (Refuses ofRecording) (sym (k .0)) (all _ _)
+join-recording-numbered κs a r x k = subst (Refuses ofRecording) (sym (k .0)) (all _ _ _)

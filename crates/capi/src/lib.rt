@@ -23,16 +23,17 @@ pub extern "C" fn orl_next_sequence_count(sequence_count: u64, answer: &mut [u64
 
 // Reading a packet.
 #[no_mangle]
-pub extern "C" fn orl_read(t: u64, packet: &[u8], answer: &mut [u64; 75])
-    ensures { λ r. ⌜ now (answer .exit) ≡ readNumbers (readPacket (settingsOf t) (now (packet .entry))) ⌝ }
+pub extern "C" fn orl_read(t: u64, profile: u64, packet: &[u8], answer: &mut [u64; 75])
+    ensures { λ r. ⌜ now (answer .exit) ≡ readNumbers (readPacket (settingsOf t profile) (now (packet .entry))) ⌝ }
 {
-    *answer = flat::read(t, packet);
+    *answer = flat::read(t, profile, packet);
 }
 
 // Writing one packet.
 #[no_mangle]
 pub extern "C" fn orl_write(
     t: u64,
+    profile: u64,
     header: &[u64; 24],
     timestamp: &[u8],
     zone: &[u8],
@@ -48,12 +49,13 @@ pub extern "C" fn orl_write(
     answer: &mut [u64; 2],
 )
     ensures { λ r. ⌜ (let x = lent (now (timestamp .entry)) (now (zone .entry)) (now (name .entry)) (now (domain .entry)) (now (lengths .entry))
-        (now (authentication .entry)) in
-        (now (answer .exit) ≡ writeNumbers t (now (header .entry)) x flags «sequence_count» counter (now (body .entry)) (length (now (out .entry))))
-        × (now (out .exit) ≡ writeOut t (now (header .entry)) x flags «sequence_count» counter (now (body .entry)) (now (out .entry)))) ⌝ }
+        (now (authentication .entry)) in let s = settingsOf t profile in
+        (now (answer .exit) ≡ writeNumbers s (now (header .entry)) x flags «sequence_count» counter (now (body .entry)) (length (now (out .entry))))
+        × (now (out .exit) ≡ writeOut s (now (header .entry)) x flags «sequence_count» counter (now (body .entry)) (now (out .entry)))) ⌝ }
 {
     *answer = flat::write(
         t,
+        profile,
         header,
         timestamp,
         zone,
@@ -89,6 +91,7 @@ pub extern "C" fn orl_after_segment(sender: &[u64; 3], answer: &mut [u64; 4])
 #[no_mangle]
 pub extern "C" fn orl_cut_count(
     t: u64,
+    profile: u64,
     p: u64,
     header: &[u64; 24],
     timestamp: &[u8],
@@ -101,12 +104,13 @@ pub extern "C" fn orl_cut_count(
     sender: &[u64; 3],
     answer: &mut [u64; 5],
 )
-    ensures { λ r. ⌜ now (answer .exit) ≡ countNumbers t p (now (header .entry))
+    ensures { λ r. ⌜ now (answer .exit) ≡ countNumbers (settingsOf t profile) p (now (header .entry))
         (lent (now (timestamp .entry)) (now (zone .entry)) (now (name .entry)) (now (domain .entry)) (now (lengths .entry))
         (now (authentication .entry))) body (now (sender .entry)) ⌝ }
 {
     *answer = flat::cut_count(
         t,
+        profile,
         p,
         header,
         timestamp,
@@ -124,6 +128,7 @@ pub extern "C" fn orl_cut_count(
 #[no_mangle]
 pub extern "C" fn orl_cut_packet(
     t: u64,
+    profile: u64,
     p: u64,
     header: &[u64; 24],
     timestamp: &[u8],
@@ -139,12 +144,13 @@ pub extern "C" fn orl_cut_packet(
     answer: &mut [u64; 5],
 )
     ensures { λ r. ⌜ (let x = lent (now (timestamp .entry)) (now (zone .entry)) (now (name .entry)) (now (domain .entry)) (now (lengths .entry))
-        (now (authentication .entry)) in
-        (now (answer .exit) ≡ packetNumbers t p (now (header .entry)) x (now (body .entry)) (now (sender .entry)) i (length (now (out .entry))))
-        × (now (out .exit) ≡ packetOut t p (now (header .entry)) x (now (body .entry)) (now (sender .entry)) i (now (out .entry)))) ⌝ }
+        (now (authentication .entry)) in let s = settingsOf t profile in
+        (now (answer .exit) ≡ packetNumbers s p (now (header .entry)) x (now (body .entry)) (now (sender .entry)) i (length (now (out .entry))))
+        × (now (out .exit) ≡ packetOut s p (now (header .entry)) x (now (body .entry)) (now (sender .entry)) i (now (out .entry)))) ⌝ }
 {
     *answer = flat::cut_packet(
         t,
+        profile,
         p,
         header,
         timestamp,

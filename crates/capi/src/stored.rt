@@ -13,40 +13,53 @@ ghost use Rattle.flat_store.specs.Recordings.{recordedNumbers};
 
 // A packet arrives.
 #[no_mangle]
-pub extern "C" fn orl_arrive(t: u64, store: &mut [u8], packet: &[u8], answer: &mut [u64; 4])
-    ensures { λ r. ⌜ now (answer .exit) ≡ arriveNumbers (arrived (settingsOf t) cellSize (now (store .entry)) (now (packet .entry))) ⌝ }
+pub extern "C" fn orl_arrive(
+    t: u64,
+    profile: u64,
+    store: &mut [u8],
+    packet: &[u8],
+    answer: &mut [u64; 4],
+)
+    ensures { λ r. ⌜ now (answer .exit) ≡ arriveNumbers (arrived (settingsOf t profile) cellSize (now (store .entry)) (now (packet .entry))) ⌝ }
     ensures { λ r. ⌜ now (store .exit) ≡ storeWith cellSize (now (store .entry)) (now (packet .entry))
-        (arrived (settingsOf t) cellSize (now (store .entry)) (now (packet .entry))) ⌝ }
+        (arrived (settingsOf t profile) cellSize (now (store .entry)) (now (packet .entry))) ⌝ }
 {
-    *answer = flat_store::arrive(t, store, packet);
+    *answer = flat_store::arrive(t, profile, store, packet);
 }
 
 // A message is taken out.
 #[no_mangle]
-pub extern "C" fn orl_take(t: u64, store: &mut [u8], out: &mut [u8], answer: &mut [u64; 4])
-    ensures { λ r. ⌜ now (answer .exit) ≡ takeNumbers (took (settingsOf t) cellSize (now (store .entry)) (length (now (out .entry)))) ⌝ }
-    ensures { λ r. ⌜ now (out .exit) ≡ outWith (now (out .entry)) (took (settingsOf t) cellSize (now (store .entry)) (length (now (out .entry)))) ⌝ }
-    ensures { λ r. ⌜ now (store .exit) ≡ storeLess (settingsOf t) cellSize (now (store .entry)) (countIn cellSize (now (store .entry)))
-        (took (settingsOf t) cellSize (now (store .entry)) (length (now (out .entry)))) ⌝ }
+pub extern "C" fn orl_take(
+    t: u64,
+    profile: u64,
+    store: &mut [u8],
+    out: &mut [u8],
+    answer: &mut [u64; 4],
+)
+    ensures { λ r. ⌜ now (answer .exit) ≡ takeNumbers (took (settingsOf t profile) cellSize (now (store .entry)) (length (now (out .entry)))) ⌝ }
+    ensures { λ r. ⌜ now (out .exit) ≡ outWith (now (out .entry)) (took (settingsOf t profile) cellSize (now (store .entry)) (length (now (out .entry)))) ⌝ }
+    ensures { λ r. ⌜ now (store .exit) ≡ storeLess (settingsOf t profile) cellSize (now (store .entry)) (countIn cellSize (now (store .entry)))
+        (took (settingsOf t profile) cellSize (now (store .entry)) (length (now (out .entry)))) ⌝ }
 {
-    *answer = flat_store::take(t, store, out);
+    *answer = flat_store::take(t, profile, store, out);
 }
 
 // A packet is joined.
 #[no_mangle]
 pub extern "C" fn orl_join(
     t: u64,
+    profile: u64,
     store: &mut [u8],
     packet: &[u8],
     out: &mut [u8],
     answer: &mut [u64; 9],
 )
-    ensures { λ r. ⌜ now (answer .exit) ≡ joinNumbers (joining (settingsOf t) cellSize (now (store .entry)) (now (packet .entry))
+    ensures { λ r. ⌜ now (answer .exit) ≡ joinNumbers (joining (settingsOf t profile) cellSize (now (store .entry)) (now (packet .entry))
         (length (now (out .entry)))) ⌝ }
-    ensures { λ r. ⌜ now (store .exit) ≡ storeJoined (settingsOf t) cellSize (now (store .entry)) (now (packet .entry)) (length (now (out .entry))) ⌝ }
-    ensures { λ r. ⌜ now (out .exit) ≡ outJoined (settingsOf t) cellSize (now (store .entry)) (now (packet .entry)) (now (out .entry)) ⌝ }
+    ensures { λ r. ⌜ now (store .exit) ≡ storeJoined (settingsOf t profile) cellSize (now (store .entry)) (now (packet .entry)) (length (now (out .entry))) ⌝ }
+    ensures { λ r. ⌜ now (out .exit) ≡ outJoined (settingsOf t profile) cellSize (now (store .entry)) (now (packet .entry)) (now (out .entry)) ⌝ }
 {
-    *answer = flat_store::join(t, store, packet, out);
+    *answer = flat_store::join(t, profile, store, packet, out);
 }
 
 // The view of a body.
@@ -66,17 +79,23 @@ pub extern "C" fn orl_view(
 
 // Whether a store is in order.
 #[no_mangle]
-pub extern "C" fn orl_in_order(t: u64, store: &[u8], answer: &mut [u64; 2])
-    ensures { λ r. ⌜ now (answer .exit) ≡ orderNumbers (settingsOf t) cellSize (now (store .entry)) ⌝ }
+pub extern "C" fn orl_in_order(t: u64, profile: u64, store: &[u8], answer: &mut [u64; 2])
+    ensures { λ r. ⌜ now (answer .exit) ≡ orderNumbers (settingsOf t profile) cellSize (now (store .entry)) ⌝ }
 {
-    *answer = flat_store::in_order(t, store);
+    *answer = flat_store::in_order(t, profile, store);
 }
 
 // A whole recording is joined.
 #[no_mangle]
-pub extern "C" fn orl_join_recording(recording: &[u8], out: &mut [u8], answer: &mut [u64; 4])
-    ensures { λ r. ⌜ now (answer .exit) ≡ recordedNumbers (recordedOf (length (now (out .entry))) (now (recording .entry))) ⌝ }
-    ensures { λ r. ⌜ now (out .exit) ≡ outRecorded (now (out .entry)) (now (recording .entry)) ⌝ }
+pub extern "C" fn orl_join_recording(
+    t: u64,
+    profile: u64,
+    recording: &[u8],
+    out: &mut [u8],
+    answer: &mut [u64; 4],
+)
+    ensures { λ r. ⌜ now (answer .exit) ≡ recordedNumbers (recordedOf (settingsOf t profile) (length (now (out .entry))) (now (recording .entry))) ⌝ }
+    ensures { λ r. ⌜ now (out .exit) ≡ outRecorded (settingsOf t profile) (now (out .entry)) (now (recording .entry)) ⌝ }
 {
-    *answer = flat_store::recordings::join_recording(recording, out);
+    *answer = flat_store::recordings::join_recording(t, profile, recording, out);
 }

@@ -14,7 +14,7 @@ use Rattle.octets.proofs.Lists.{bool}
 use Rattle.walk.specs.declared.Settings.{Settings}
 use Rattle.walk.specs.declared.Walk.{Walk}
 use Rattle.walk.specs.declared.Refusal.{Refusal}
-use Rattle.walk.specs.Walk.{begun, check, goes, refusal, timestampLeast, timestampMost}
+use Rattle.walk.specs.Walk.{Reading, goes, refused, going, begun, check, refusal}
 use Rattle.walk.specs.Inner.{asWalk}
 use Rattle.cells.specs.Segments.{both}
 use Rattle.cells.specs.Order.{cellsMost, lengthFits, countIn, sound as allSound, distinct, inOrder, gate, through}
@@ -65,20 +65,19 @@ module _ (s : Settings) (Z : ℕ) (st : List ℕ) where
     number-is : w .refused ≡ begun s .refused
     number-is = ap (λ (x : Walk). x .refused) ew
 
-    -- T outside its range
-    told-15 : (a b : Bool) {r : ℕ} → r ≡ pick (eqb (pick a 0 15) 0) (pick b (pick a 0 15) 15) (pick a 0 15) → (r ≡ 0 → ⊥) → r ≡ 15
-    told-15 true true e h = absurd (h e)
-    told-15 true false e h = e
-    told-15 false b e h = e
+    -- T or the profile outside its range: each test keeps the number or gives 15
+    told-15 : (b : Bool) (v : Reading) → (v .refused ≡ 0) ⊎ (v .refused ≡ 15) → (check b 15 v .refused ≡ 0) ⊎ (check b 15 v .refused ≡ 15)
+    unfolding check
+    told-15 b v k = by (going v) b
+      where
+        by : (g c : Bool) → (pick g (pick c v (refused (v .at) 15)) v .refused ≡ 0) ⊎ (pick g (pick c v (refused (v .at) 15)) v .refused ≡ 15)
+        by true true = k
+        by true false = inr refl
+        by false c = k
 
     refusal-15 : (w .refused ≡ 0 → ⊥) → w .refused ≡ 15
-    unfolding begun check
-    refusal-15 h = told-15 (leb timestampLeast (s .t)) (leb (s .t) timestampMost) (number-is ∙ split (leb timestampLeast (s .t)) (leb (s .t) timestampMost)) h
-      where
-        split : (a b : Bool) → check b 15 (check a 15 (goes 6)) .refused ≡ pick (eqb (pick a 0 15) 0) (pick b (pick a 0 15) 15) (pick a 0 15)
-        split true true = refl
-        split true false = refl
-        split false b = refl
+    unfolding begun
+    refusal-15 h = ⊎-elim (λ e. absurd (h (number-is ∙ e))) (λ e. number-is ∙ e) (told-15 _ _ (told-15 _ _ (told-15 _ (goes 6) (inl refl))))
 
     pub open-t : (w .refused ≡ 0 → ⊥) → record { refusal = refusal (w .refused); cells = 0 } ≡ openedOf s Z st
     open-t h =

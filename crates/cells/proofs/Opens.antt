@@ -12,12 +12,13 @@ use Rattle.octets.proofs.Lists.{bool}
 use Rattle.utf8.specs.Test.{isText}
 use Rattle.walk.specs.declared.Settings.{Settings}
 use Rattle.walk.specs.Walk.{Reading, Step, going, octets, check, uinteger}
-use Rattle.walk.proofs.Steps.{field-went, octets-there, check-held, number-refused}
+use Rattle.walk.proofs.Steps.{field-went, octets-there, check-held}
 use Rattle.fields.specs.Fields.{markedText, opt, nowhere, contentAt, block, blob, text, part, domain, partAt, partsTo, Parts, noParts, partsMost}
 use Rattle.packet.specs.declared.Present.{Present}
 use Rattle.packet.specs.FixedPart.{octetField, wideField, afterSdu, afterArea, afterService, afterOperation, afterVersion, afterSession}
 use Rattle.packet.specs.FixedPart.{afterSecondary, afterQualifier, afterTransaction, afterPresence, fixedEnd}
 use Rattle.packet.specs.Reading.{segmented, idsOf, textsOf, startAt, hasAt, idsAt, textsAt, readPacket}
+use Rattle.format.proofs.Encoding.{encoding}
 use Rattle.format.proofs.Start.{Opens, start-only, body-only, answered}
 
 -- a step that goes on has gone on before
@@ -34,7 +35,7 @@ module _ (s : Settings) (p : List ℕ) where
   stays-octets n w g = octets-there p n w g .went
 
   stays-number : Stays (λ w. uinteger s p w .walk)
-  stays-number w g = ⊎-elim (λ e. e) (λ e. sym (ap (λ (x : Step ℕ). going (x .walk)) (number-refused s p w e)) ∙ g) (bool (going w))
+  stays-number w g = ⊎-elim (λ e. e) (λ e. sym (ap going (encoding s .stays p w e)) ∙ g) (bool (going w))
 
   stays-blob : Stays (λ w. blob s p w .walk)
   unfolding blob

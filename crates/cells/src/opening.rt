@@ -1,4 +1,4 @@
-// The check before any call on a store: T, and the store's order.
+// The check before any call on a store: the settings, and the store's order.
 //
 // `store` and `join` begin with it. What follows there holds for any octets, so whoever keeps a store in order saves the check.
 ghost use mathlib.Core.Path.{_≡_};
@@ -16,7 +16,7 @@ pub struct Opened {
     pub cells: usize,
 }
 
-// T and the order of the store are checked. The tables lent, which chain no cell yet, then chain the cells of a store that passes.
+// The settings and the order of the store are checked. The tables lent, which chain no cell yet, then chain the cells of a store that passes.
 pub fn check_by(
     s: Settings,
     store: &[u8],

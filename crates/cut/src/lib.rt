@@ -72,7 +72,7 @@ struct Plan {
 
 // ---- the plan
 
-// 15: T and P.
+// 15: the settings and P.
 pub fn test_limit(s: Settings, p: usize, r: Tested) -> Tested
     ensures { λ q. ⌜ q ≡ limitTest s p r ⌝ }
 {

@@ -16,6 +16,7 @@ use Rattle.octets.proofs.Lists.{below-or}
 use Rattle.octets.proofs.Has.{octets-nil, octets-one, octets-append}
 use Rattle.utf8.specs.Test.{ended, accepts, isText}
 use Rattle.walk.specs.declared.Settings.{Settings}
+use Rattle.walk.specs.Profile.{varintProfile}
 use Rattle.walk.specs.Walk.{begun, check, octets, fieldFrom, unless}
 use Rattle.fields.specs.Form.{split, allText}
 use Rattle.packet.specs.Format.{presence, identification, fixedOctets, frontOctets, backOctets, headerOctets, InRange}
@@ -47,7 +48,7 @@ use Rattle.demand3.proofs.Steps.{eventOf}
 use Rattle.demand3.proofs.Acts.{repeat-event}
 
 abbrev pub settings : Settings
-settings = record { t = 8 }
+settings = record { t = 8; profile = varintProfile }
 
 -- three segments, counters 7, 8 and 9
 abbrev pub cutting : Cutting

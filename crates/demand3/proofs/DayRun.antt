@@ -136,7 +136,7 @@ day-acts = ap₂ _++_ noon-acts evening-acts
 -- ---- the store
 
 pub in-use : InUse settings 4
-in-use = record { settings = record { t-low = omega arith; t-top = omega arith }; some = omega arith; most = omega arith }
+in-use = record { settings = record { t-low = omega arith; t-top = omega arith; profile-top = omega arith }; some = omega arith; most = omega arith }
 
 pub one : 1 ≤ Z
 one = omega arith

@@ -200,7 +200,7 @@ events =
     λ j. is-last 1 (omega arith) j ∷ is-last 77 (omega arith) j ∷ is-first 0 (omega arith) j ∷ []
 
 in-use : InUse settings 2
-in-use = record { settings = record { t-low = omega arith; t-top = omega arith }; some = omega arith; most = omega arith }
+in-use = record { settings = record { t-low = omega arith; t-top = omega arith; profile-top = omega arith }; some = omega arith; most = omega arith }
 
 one : 1 ≤ cellSize
 one = omega arith

@@ -14,8 +14,9 @@ use borrow.Author.Tests.{eqb-true, leb-true, eq-eqb, le-leb}
 use Rattle.octets.specs.Octets.{pick}
 use Rattle.octets.proofs.Lists.{bool}
 use Rattle.walk.specs.declared.Settings.{Settings}
-use Rattle.walk.specs.Walk.{refusal, timestampLeast, timestampMost, check, begun}
+use Rattle.walk.specs.Walk.{refusal, begun}
 use Rattle.packet.specs.Format.{SettingsInRange}
+use Rattle.format.proofs.Start.{begun-back}
 use Rattle.packet.specs.Reading.{readPacket, segmented}
 use Rattle.cells.specs.Segments.{Seg, both, sameRest}
 use Rattle.cells.specs.Rows.{Cell, mayHold}
@@ -44,10 +45,9 @@ pub pick-no : {A : Type 0} (b : Bool) (x y : A) → b ≡ false → pick b x y �
 pick-no true x y e = let z : _≡_ {A = ℕ} 0 1 = cc in absurd (omega arith)
 pick-no false x y e = refl
 
--- T in range
+-- T and profile in range
 pub settings-go : (s : Settings) → SettingsInRange s → eqb (begun s .refused) 0 ≡ true
-unfolding begun check
-settings-go s r = rw (le-leb timestampLeast (s .t) (r .t-low), le-leb (s .t) timestampMost (r .t-top)) refl
+settings-go s r = rw (begun-back s r) refl
 
 -- ---- a packet as an event
 
@@ -94,7 +94,7 @@ module _ (s : Settings) (Z : ℕ) (p : List ℕ) where
       go true h = let z : _≡_ {A = ℕ} 0 1 = cc in omega arith
       go false h = let z : _≡_ {A = ℕ} 0 1 = cc in omega arith
 
--- ---- a store in order of n cells, with T in range
+-- ---- a store in order of n cells, with T and profile in range
 
 pub record Kept (s : Settings) (Z n : ℕ) (st : List ℕ) : Type 0 where
   pub settings : eqb (begun s .refused) 0 ≡ true

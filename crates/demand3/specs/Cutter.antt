@@ -18,7 +18,7 @@ use Rattle.fewest.specs.Carrying.{firstOf}
 use Rattle.fewest.specs.Runs.{place}
 use Rattle.demand3.specs.Sendings.{Sending}
 
--- what the cutter is given beside T, which is the limit P, the header's values and texts, the body, and the sender's numbers as they
+-- what the cutter is given beside the settings, which is the limit P, the header's values and texts, the body, and the sender's numbers as they
 -- stood before the message; and whether it is the old cutter, which alone writes a zone
 pub record Cutting : Type 0 where
   pub old : Bool

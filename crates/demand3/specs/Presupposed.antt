@@ -1,5 +1,5 @@
 -- What demand 3 presupposes of the calls on a store's octets: n cells of Z octets. Its parts, by their numbers in docs/DEMANDS.md:
--- 3.1 `emptyStore`, `storeBehind`, and one T, `InUse`; 3.2 `cut`, which is `IsCut`; 3.3 `apart`; 3.4 `packets`, which is `MayCome`,
+-- 3.1 `emptyStore`, `storeBehind`, and one T and profile, `InUse`; 3.2 `cut`, which is `IsCut`; 3.3 `apart`; 3.4 `packets`, which is `MayCome`,
 -- and takings, `Call`; 3.5 `Room`. For how long it is told: `Untaken`, and from where on `Anew`.
 -- Assumes nothing: these are definitions.
 use Prim.Native.Nat.{ℕ, _+_, _*_, _≤_, _<_}
@@ -74,7 +74,7 @@ module _ (s : Settings) (Z : ℕ) where
 
 -- ---- the store
 
--- one T, 1 to 16 (DEMANDS 3.1); 1 to 4,096 cells (SPEC N-11)
+-- one T, 1 to 16, and one profile, of the two that there are (DEMANDS 3.1); 1 to 4,096 cells (SPEC N-11)
 pub record InUse (s : Settings) (n : ℕ) : Type 0 where
   pub settings : SettingsInRange s
   pub some : 1 ≤ n

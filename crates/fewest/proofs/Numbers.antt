@@ -11,6 +11,7 @@ use borrow.Author.Tests.{leb-true, eq-eqb, ne-eqb}
 use Rattle.octets.specs.Octets.{pick, part, Octets, most32}
 use Rattle.octets.proofs.Has.{octets-part}
 use Rattle.walk.specs.declared.Settings.{Settings}
+use Rattle.walk.specs.Profile.{fixedProfile}
 use Rattle.walk.specs.Walk.{noneFailed, unless, timestampLeast, timestampMost}
 use Rattle.packet.proofs.Counts.{count-mod}
 use Rattle.packet.specs.declared.SegmentCounter.{SegmentCounter}
@@ -121,9 +122,14 @@ module _ (old : Bool) (s : Settings) (P : ℕ) (v : HeaderValues) (t : Lent) (bo
   settings-range : SettingsInRange s
   unfolding settingsTest
   settings-range =
-      let a = unless-fine (leb (s .t) timestampMost) 14 (unless (leb timestampLeast (s .t)) 15 noneFailed) (good-values .settings) in
+      let c = unless-fine (leb (s .profile) fixedProfile) 14 _ (good-values .settings) in
+      let a = unless-fine (leb (s .t) timestampMost) 14 (unless (leb timestampLeast (s .t)) 15 noneFailed) (c .before) in
       let b = unless-fine (leb timestampLeast (s .t)) 14 noneFailed (a .before) in
-      record { t-low = leb-true timestampLeast (s .t) (b .held); t-top = leb-true (s .t) timestampMost (a .held) }
+      record {
+        t-low = leb-true timestampLeast (s .t) (b .held);
+        t-top = leb-true (s .t) timestampMost (a .held);
+        profile-top = leb-true (s .profile) fixedProfile (c .held);
+      }
 
   -- the counter fits, and there is none in an unsegmented packet
   counter-range :

@@ -19,12 +19,12 @@ use Rattle.varint.specs.declared.Wrote.the-variants.{Done, Full}
 use Rattle.varint.specs.Varint.{write, written}
 use Rattle.varint.specs.Answer.{putOf}
 use Rattle.walk.specs.declared.Settings.{Settings}
-use Rattle.fields.specs.Form.{uintegerOctets, split}
+use Rattle.fields.specs.Form.{split}
 use Rattle.fields.specs.Inner.{partPieces, partsPieces}
 
 -- ---- a number
 
-module _ (s : Settings) (l k : List ℕ) (at n : ℕ) {r : Wrote} (e : r ≡ putOf l at n) (f : k ≡ written l at n) where
+module _ (l k : List ℕ) (at n : ℕ) {r : Wrote} (e : r ≡ putOf l at n) (f : k ≡ written l at n) where
   fits-done : at + length (write n) ≤ length l → (r ≡ Done (at + length (write n))) × (k ≡ sets l at (write n))
   unfolding putOf written
   fits-done h =
@@ -37,8 +37,8 @@ module _ (s : Settings) (l k : List ℕ) (at n : ℕ) {r : Wrote} (e : r ≡ put
       let t = lt-leb (at + length (write n)) (length l) h in
       (e ∙ rw (t, putOf), f ∙ rw (t, written))
 
-  pub number-done : {next : ℕ} → r ≡ Done next → Lays (laid l at) (uintegerOctets s n ∷ []) k next
-  unfolding uintegerOctets layAll
+  pub number-done : {next : ℕ} → r ≡ Done next → Lays (laid l at) (write n ∷ []) k next
+  unfolding layAll
   number-done {next} d =
       ⊎-elim
       (λ h. let g = not-full h in let z : _≡_ {A = ℕ} 0 1 = cc in absurd (omega arith))
@@ -49,8 +49,8 @@ module _ (s : Settings) (l k : List ℕ) (at n : ℕ) {r : Wrote} (e : r ≡ put
       record { place = y ∙ ap (λ (x : Laid). x .at) (sym m); octets = g .1 ∙ ap (λ (x : Laid). x .list) (sym m) })
       (below-or (length l) (at + length (write n)))
 
-  pub number-full : r ≡ Full → Lays (laid l at) (uintegerOctets s n ∷ []) k at
-  unfolding uintegerOctets layAll
+  pub number-full : r ≡ Full → Lays (laid l at) (write n ∷ []) k at
+  unfolding layAll
   number-full d =
       ⊎-elim
       (λ h.

@@ -1,5 +1,5 @@
 -- The optional fields that have a length: texts, the authentication id, the domain; and fields that may be absent.
--- SPEC P-8 to P-10: a zone, a session name and an authentication id are a length, a Varint, and so many octets; a domain is the
+-- SPEC P-8 to P-10: a zone, a session name and an authentication id are a length, a UInteger, and so many octets; a domain is the
 -- number of its parts, and of each part an octet of 1, a length and so many octets. Of a text they are well-formed UTF-8.
 -- Assumes nothing: these are definitions.
 use Prim.Native.Nat.{ℕ, zero, suc}

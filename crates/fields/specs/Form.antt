@@ -4,13 +4,15 @@ use Prim.Native.Nat.{ℕ}
 use mathlib.Core.List.{List, [], _∷_, _++_}
 use mathlib.Core.Bool.{Bool, true}
 use lib.ListN.{length, take, drop}
+use Rattle.octets.specs.Octets.{wide}
 use Rattle.utf8.specs.Test.{both, isText}
 use Rattle.varint.specs.Varint.{write}
 use Rattle.walk.specs.declared.Settings.{Settings}
+use Rattle.walk.specs.Profile.{byProfile, uintegerSize}
 
--- an unsigned number under the settings: a Varint
+-- an unsigned number of at most 32 bits under the settings: a Varint, or four octets
 unfoldable pub uintegerOctets : Settings → ℕ → List ℕ
-uintegerOctets s n = write n
+uintegerOctets s n = byProfile s write (wide uintegerSize) n
 
 -- a length and as many octets
 unfoldable pub blobOctets : Settings → List ℕ → List ℕ

@@ -1,8 +1,9 @@
 // The optional fields that have a length, read and written: texts, the authentication id, the domain.
 //
-//   text, authentication id:  length (Varint) | octets
-//   domain:                   count (Varint)  | 1 | length | octets | 1 | length | octets ..
+//   text, authentication id:  length | octets
+//   domain:                   count  | 1 | length | octets | 1 | length | octets ..
 //
+// A length and a count are UIntegers, Varints or four octets, as the settings have them.
 // A step of reading takes any slice and any walk, and answers the walk after the field and where its content stands. A writing
 // takes any buffer and any place: piece by piece, each whole or not at all, and answers the place after it. A `blob` is octets of any
 // value; a `text` is written the same, and its octets are well-formed UTF-8, by crate `utf8`. Reading tests that; who writes has tested
@@ -14,16 +15,19 @@ ghost use mathlib.Core.List.{[], _∷_};
 ghost use Rattle.octets.specs.Octets.{part as stretch};
 ghost use Rattle.octets.specs.Laying.{laid, Lays};
 ghost use Rattle.utf8.specs.Test.{isText};
+ghost use Rattle.varint.specs.Varint.{write};
 ghost use Rattle.walk.specs.Inner.{ofWalk, asUInteger};
 ghost use Rattle.walk.specs.Walk.{uinteger};
 ghost use Rattle.fields.specs.Fields.{nowhere, opt, block, blob, text, part, noParts, partsTo, domain};
 ghost use Rattle.fields.specs.Form.{uintegerOctets, domainOctets, split, allText};
 ghost use Rattle.fields.specs.Inner.{asText, asDomain, ofDomain, blobPieces, textPieces, partPieces, partsPieces, domainPieces, capped};
 use varint::Wrote;
+use walk::PROFILE_FIXED;
 use walk::REFUSED_DOMAIN_PART;
 use walk::REFUSED_MANY_PARTS;
 use walk::REFUSED_TEXT;
 use walk::Settings;
+use walk::UINTEGER;
 use walk::UInteger;
 use walk::Walk;
 
@@ -235,13 +239,22 @@ pub fn domain_if(there: bool, s: Settings, p: &[u8], w: Walk) -> Domain
 
 // ---- writing: each field at a place of a lent buffer, and the place after it
 
-pub fn put_uinteger(s: Settings, out: &mut [u8], at: usize, n: u64) -> usize
-    ensures { λ r. ⌜ Lays (laid (now (out .entry)) at) (uintegerOctets s n ∷ []) (now (out .exit)) r ⌝ }
+fn put_varint(out: &mut [u8], at: usize, n: u64) -> usize
+    ensures { λ r. ⌜ Lays (laid (now (out .entry)) at) (write n ∷ []) (now (out .exit)) r ⌝ }
 {
     match varint::put(out, at, n) {
         Wrote::Done(next) => next,
         Wrote::Full => at,
     }
+}
+
+pub fn put_uinteger(s: Settings, out: &mut [u8], at: usize, n: u64) -> usize
+    ensures { λ r. ⌜ Lays (laid (now (out .entry)) at) (uintegerOctets s n ∷ []) (now (out .exit)) r ⌝ }
+{
+    if s.profile == PROFILE_FIXED {
+        return octets::lay_number(out, at, UINTEGER, n);
+    }
+    put_varint(out, at, n)
 }
 
 pub fn put_blob(s: Settings, out: &mut [u8], at: usize, x: &[u8]) -> usize
@@ -306,6 +319,9 @@ pub fn plus(a: usize, b: usize) -> usize
 pub fn uinteger_size(s: Settings, n: u64) -> usize
     ensures { λ r. ⌜ r ≡ length (uintegerOctets s n) ⌝ }
 {
+    if s.profile == PROFILE_FIXED {
+        return UINTEGER;
+    }
     varint::size(n)
 }
 

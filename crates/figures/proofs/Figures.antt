@@ -7,7 +7,7 @@ use lib.ListN.{take, drop}
 use Rattle.octets.specs.Octets.{wide, number as numberAt}
 use Rattle.utf8.specs.Test.{ended, accepts, isText}
 use Rattle.varint.specs.Varint.{write, octetsOf as varintOctets, final, after, read}
-use Rattle.walk.specs.Walk.{begun, check, octets, fieldFrom, unless, uinteger, uintegerStep}
+use Rattle.walk.specs.Walk.{begun, check, octets, fieldFrom, unless, uinteger, varintField, varintStep}
 use Rattle.fields.specs.Form.{split, allText}
 use Rattle.packet.specs.Numbers.{nextCount, countAt}
 use Rattle.packet.specs.Format.{presence, identification, fixedOctets, frontOctets, counterOctets, backOctets, headerOctets, secondaryOctets, dataOctets, octetsOf}
@@ -24,7 +24,7 @@ use Rattle.figures.proofs.Thirteen.{thirteen}
 use Rattle.sender.specs.Sending.{stepsOf}
 
 pub figures : map (λ (r : Row). r .computed) table ≡ map (λ (r : Row). r .said) table
-unfolding nextCount wide numberAt write varintOctets final after read begun check octets unless uinteger uintegerStep split presence identification
+unfolding nextCount wide numberAt write varintOctets final after read begun check octets unless uinteger varintField varintStep split presence identification
     fixedOctets frontOctets counterOctets backOctets headerOctets secondaryOctets dataOctets octetsOf primaryTests primaryOf octetField wideField
     sduField afterSdu afterArea afterService afterOperation afterVersion afterSession afterSecondary fieldFrom afterQualifier afterTransaction
     afterPresence fixedOf flagsOf presentOf idsOf textsOf bodyTest refusedHeader acceptedHeader readPacket headOf packetOf sum nameChecks

@@ -68,7 +68,7 @@ unfolding eventsIn
 events = ap₂ (λ (a b : Event). a ∷ b ∷ []) first-comes last-comes
 
 in-use : InUse settings 2
-in-use = record { settings = record { t-low = omega arith; t-top = omega arith }; some = omega arith; most = omega arith }
+in-use = record { settings = record { t-low = omega arith; t-top = omega arith; profile-top = omega arith }; some = omega arith; most = omega arith }
 
 one : 1 ≤ 1024
 one = omega arith

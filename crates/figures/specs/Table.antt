@@ -124,7 +124,7 @@ table =
     ∷ row 14 (header (readPacket settings fourteen)) (header told)
     ∷ row 14 (octets (writeOutput false settings values own texts [] (zeros 27)))
     (octets fourteen)
-    ∷ row 14 (octets (recorded (0x4D ∷ 0x50 ∷ fourteen)))
+    ∷ row 14 (octets (recorded settings (0x4D ∷ 0x50 ∷ fourteen)))
     (octets (0x4D ∷ 0x4D ∷ 0 ∷ 0 ∷ 0 ∷ 0x17 ∷ 0x18 ∷ 0x05 ∷ 0 ∷ 0 ∷ 1 ∷ 0 ∷ 2 ∷ 0 ∷ 3 ∷ 1 ∷ 0x20 ∷ 6 ∷ 0 ∷ 7 ∷ 0 ∷ 0 ∷ 0 ∷ 0 ∷ 0 ∷ 0 ∷ 0 ∷ 9
     ∷ 0 ∷ []))
     ∷ []

@@ -1,5 +1,5 @@
 -- What each call over plain numbers answers, and what it writes. If all numbers fit it is the call's own answer, as numbers. If
--- one does not, it is 22, or 15 if T or P is out of range, since 15 comes first; a sender's numbers stay as given, the output too.
+-- one does not, it is 22, or 15 if T, the profile or P is out of range, since 15 comes first; a sender's numbers stay as given, the output too.
 -- Assumes nothing: these are definitions.
 use Prim.Native.Nat.{ℕ}
 use mathlib.Core.Bool.{Bool, false}
@@ -8,7 +8,7 @@ use lib.Dec.{leb}
 use Rattle.octets.specs.Octets.{pick, most16, octetAt as numberAt}
 use Rattle.walk.specs.declared.Settings.{Settings}
 use Rattle.walk.specs.declared.Tested.{Tested}
-use Rattle.walk.specs.Walk.{settingsOf, noneFailed, unless}
+use Rattle.walk.specs.Walk.{noneFailed, unless}
 use Rattle.packet.specs.Numbers.{nextSequenceCount}
 use Rattle.sender.specs.Sending.{afterPacket, afterSegment}
 use Rattle.write.specs.Given.{Lent}
@@ -34,16 +34,16 @@ abbrev pub writeRefused : Settings → List ℕ
 writeRefused s = tooWide (settingsTest s noneFailed) ∷ 0 ∷ []
 
 -- the refusal, and the octets written
-unfoldable pub writeNumbers : ℕ → List ℕ → Lent → ℕ → ℕ → ℕ → List ℕ → ℕ → List ℕ
-writeNumbers t h x flags count counter body room =
+unfoldable pub writeNumbers : Settings → List ℕ → Lent → ℕ → ℕ → ℕ → List ℕ → ℕ → List ℕ
+writeNumbers s h x flags count counter body room =
     pick (writeFits h flags count counter)
-    (writtenNumbers (writeAnswer false (settingsOf t) (headerOf h) (packetOf flags count counter) x body room))
-    (writeRefused (settingsOf t))
+    (writtenNumbers (writeAnswer false s (headerOf h) (packetOf flags count counter) x body room))
+    (writeRefused s)
 
-unfoldable pub writeOut : ℕ → List ℕ → Lent → ℕ → ℕ → ℕ → List ℕ → List ℕ → List ℕ
-writeOut t h x flags count counter body out =
+unfoldable pub writeOut : Settings → List ℕ → Lent → ℕ → ℕ → ℕ → List ℕ → List ℕ → List ℕ
+writeOut s h x flags count counter body out =
     pick (writeFits h flags count counter)
-    (writeOutput false (settingsOf t) (headerOf h) (packetOf flags count counter) x body out)
+    (writeOutput false s (headerOf h) (packetOf flags count counter) x body out)
     out
 
 -- ---- a sender's numbers
@@ -65,19 +65,19 @@ afterSegmentNumbers d = pick (senderFits d) (0 ∷ senderNumbers (afterSegment (
 abbrev pub cutFits : List ℕ → List ℕ → Bool
 cutFits h d = pick (headerFits h) (senderFits d) false
 
-abbrev pub cutRefused : ℕ → ℕ → List ℕ → List ℕ
-cutRefused t P d = tooWide (limitTest (settingsOf t) P noneFailed) ∷ 0 ∷ given d
+abbrev pub cutRefused : Settings → ℕ → List ℕ → List ℕ
+cutRefused s P d = tooWide (limitTest s P noneFailed) ∷ 0 ∷ given d
 
 -- the refusal, the count of packets, and the sender's numbers moved on
-unfoldable pub countNumbers : ℕ → ℕ → List ℕ → Lent → ℕ → List ℕ → List ℕ
-countNumbers t P h x B d =
-    pick (cutFits h d) (countedNumbers (countAnswer false (settingsOf t) P (headerOf h) x B (senderOf d))) (cutRefused t P d)
+unfoldable pub countNumbers : Settings → ℕ → List ℕ → Lent → ℕ → List ℕ → List ℕ
+countNumbers s P h x B d =
+    pick (cutFits h d) (countedNumbers (countAnswer false s P (headerOf h) x B (senderOf d))) (cutRefused s P d)
 
 -- the refusal, the octets of packet i, and the sender's numbers
-unfoldable pub packetNumbers : ℕ → ℕ → List ℕ → Lent → List ℕ → List ℕ → ℕ → ℕ → List ℕ
-packetNumbers t P h x body d i room =
-    pick (cutFits h d) (cutNumbers (packetAnswer false (settingsOf t) P (headerOf h) x body (senderOf d) i room)) (cutRefused t P d)
+unfoldable pub packetNumbers : Settings → ℕ → List ℕ → Lent → List ℕ → List ℕ → ℕ → ℕ → List ℕ
+packetNumbers s P h x body d i room =
+    pick (cutFits h d) (cutNumbers (packetAnswer false s P (headerOf h) x body (senderOf d) i room)) (cutRefused s P d)
 
-unfoldable pub packetOut : ℕ → ℕ → List ℕ → Lent → List ℕ → List ℕ → ℕ → List ℕ → List ℕ
-packetOut t P h x body d i out =
-    pick (cutFits h d) (packetOutput false (settingsOf t) P (headerOf h) x body (senderOf d) i out) out
+unfoldable pub packetOut : Settings → ℕ → List ℕ → Lent → List ℕ → List ℕ → ℕ → List ℕ → List ℕ
+packetOut s P h x body d i out =
+    pick (cutFits h d) (packetOutput false s P (headerOf h) x body (senderOf d) i out) out

@@ -1,7 +1,7 @@
 // The calls over plain numbers and slices, which `capi` hands to other languages.
 //
 // Every number is one of 64 bits, and an answer is an array of them, the refusal first. A number is tested against the type of its
-// field before it is made narrower: one too wide is 22, after 15 for T or P. Then the call itself is made, and its answer told.
+// field before it is made narrower: one too wide is 22, after 15 for T, the profile or P. Then the call itself is made, and its answer told.
 ghost use mathlib.Core.Path.{_≡_};
 ghost use mathlib.Core.Bool.{true, false};
 ghost use Prim.Native.Nat.{_+_, _≤_};
@@ -197,10 +197,13 @@ fn header_numbers(h: Header) -> [u64; READ]
 }
 
 // Reading a packet.
-pub fn read(t: u64, packet: &[u8]) -> [u64; READ]
-    ensures { λ r. ⌜ r ≡ readNumbers (readPacket (settingsOf t) (now (packet .entry))) ⌝ }
+pub fn read(t: u64, profile: u64, packet: &[u8]) -> [u64; READ]
+    ensures { λ r. ⌜ r ≡ readNumbers (readPacket (settingsOf t profile) (now (packet .entry))) ⌝ }
 {
-    let s = Settings { t: t as usize };
+    let s = Settings {
+        t: t as usize,
+        profile: profile,
+    };
     header_numbers(packet::read(s, packet))
 }
 
@@ -402,6 +405,7 @@ fn written_numbers(w: Written) -> [u64; 2]
 // Writing one packet.
 pub fn write(
     t: u64,
+    profile: u64,
     header: &[u64; HEADER],
     timestamp: &[u8],
     zone: &[u8],
@@ -416,11 +420,14 @@ pub fn write(
     out: &mut [u8],
 ) -> [u64; 2]
     ensures { λ r. ⌜ (let x = lent (now (timestamp .entry)) (now (zone .entry)) (now (name .entry)) (now (domain .entry)) (now (lengths .entry))
-        (now (authentication .entry)) in
-        (r ≡ writeNumbers t (now (header .entry)) x flags «sequence_count» counter (now (body .entry)) (length (now (out .entry))))
-        × (now (out .exit) ≡ writeOut t (now (header .entry)) x flags «sequence_count» counter (now (body .entry)) (now (out .entry)))) ⌝ }
+        (now (authentication .entry)) in let s = settingsOf t profile in
+        (r ≡ writeNumbers s (now (header .entry)) x flags «sequence_count» counter (now (body .entry)) (length (now (out .entry))))
+        × (now (out .exit) ≡ writeOut s (now (header .entry)) x flags «sequence_count» counter (now (body .entry)) (now (out .entry)))) ⌝ }
 {
-    let s = Settings { t: t as usize };
+    let s = Settings {
+        t: t as usize,
+        profile: profile,
+    };
     let ok = octets::both(
         header_fits(header),
         packet_fits(flags, sequence_count, counter),
@@ -465,10 +472,9 @@ pub fn after_segment(sender: &[u64; SENDER]) -> [u64; AFTER]
     [0, d[0], d[1], d[2]]
 }
 
-fn cut_too_wide(t: u64, p: u64, sender: &[u64; SENDER]) -> [u64; CUT]
-    ensures { λ r. ⌜ r ≡ cutRefused t p (now (sender .entry)) ⌝ }
+fn cut_too_wide(s: Settings, p: u64, sender: &[u64; SENDER]) -> [u64; CUT]
+    ensures { λ r. ⌜ r ≡ cutRefused s p (now (sender .entry)) ⌝ }
 {
-    let s = Settings { t: t as usize };
     let none = Tested { number: 0 };
     let number = too_wide(cut::test_limit(s, p as usize, none));
     [number, 0, sender[0], sender[1], sender[2]]
@@ -477,6 +483,7 @@ fn cut_too_wide(t: u64, p: u64, sender: &[u64; SENDER]) -> [u64; CUT]
 // The number of packets of a message, and the sender's numbers after it.
 pub fn cut_count(
     t: u64,
+    profile: u64,
     p: u64,
     header: &[u64; HEADER],
     timestamp: &[u8],
@@ -488,14 +495,17 @@ pub fn cut_count(
     body: u64,
     sender: &[u64; SENDER],
 ) -> [u64; CUT]
-    ensures { λ r. ⌜ r ≡ countNumbers t p (now (header .entry))
+    ensures { λ r. ⌜ r ≡ countNumbers (settingsOf t profile) p (now (header .entry))
         (lent (now (timestamp .entry)) (now (zone .entry)) (now (name .entry)) (now (domain .entry)) (now (lengths .entry))
         (now (authentication .entry))) body (now (sender .entry)) ⌝ }
 {
-    let s = Settings { t: t as usize };
+    let s = Settings {
+        t: t as usize,
+        profile: profile,
+    };
     let ok = octets::both(header_fits(header), sender_fits(sender));
     if !ok {
-        return cut_too_wide(t, p, sender);
+        return cut_too_wide(s, p, sender);
     }
     counted_numbers(cut::count(
         s,
@@ -515,6 +525,7 @@ pub fn cut_count(
 // Packet number i of a message.
 pub fn cut_packet(
     t: u64,
+    profile: u64,
     p: u64,
     header: &[u64; HEADER],
     timestamp: &[u8],
@@ -529,14 +540,17 @@ pub fn cut_packet(
     out: &mut [u8],
 ) -> [u64; CUT]
     ensures { λ r. ⌜ (let x = lent (now (timestamp .entry)) (now (zone .entry)) (now (name .entry)) (now (domain .entry)) (now (lengths .entry))
-        (now (authentication .entry)) in
-        (r ≡ packetNumbers t p (now (header .entry)) x (now (body .entry)) (now (sender .entry)) i (length (now (out .entry))))
-        × (now (out .exit) ≡ packetOut t p (now (header .entry)) x (now (body .entry)) (now (sender .entry)) i (now (out .entry)))) ⌝ }
+        (now (authentication .entry)) in let s = settingsOf t profile in
+        (r ≡ packetNumbers s p (now (header .entry)) x (now (body .entry)) (now (sender .entry)) i (length (now (out .entry))))
+        × (now (out .exit) ≡ packetOut s p (now (header .entry)) x (now (body .entry)) (now (sender .entry)) i (now (out .entry)))) ⌝ }
 {
-    let s = Settings { t: t as usize };
+    let s = Settings {
+        t: t as usize,
+        profile: profile,
+    };
     let ok = octets::both(header_fits(header), sender_fits(sender));
     if !ok {
-        return cut_too_wide(t, p, sender);
+        return cut_too_wide(s, p, sender);
     }
     cut_numbers(cut::packet(
         s,

@@ -42,12 +42,15 @@ fn arrival_numbers(a: Arrival) -> [u64; 4]
 }
 
 // A packet arrives: the refusal; 1 whole, 2 stored or 3 held; what the refusal tells.
-pub fn arrive(t: u64, store: &mut [u8], packet: &[u8]) -> [u64; 4]
-    ensures { λ r. ⌜ r ≡ arriveNumbers (arrived (settingsOf t) cellSize (now (store .entry)) (now (packet .entry))) ⌝ }
+pub fn arrive(t: u64, profile: u64, store: &mut [u8], packet: &[u8]) -> [u64; 4]
+    ensures { λ r. ⌜ r ≡ arriveNumbers (arrived (settingsOf t profile) cellSize (now (store .entry)) (now (packet .entry))) ⌝ }
     ensures { λ r. ⌜ now (store .exit) ≡ storeWith cellSize (now (store .entry)) (now (packet .entry))
-        (arrived (settingsOf t) cellSize (now (store .entry)) (now (packet .entry))) ⌝ }
+        (arrived (settingsOf t profile) cellSize (now (store .entry)) (now (packet .entry))) ⌝ }
 {
-    let s = Settings { t: t as usize };
+    let s = Settings {
+        t: t as usize,
+        profile: profile,
+    };
     arrival_numbers(store::arrive(s, store, packet))
 }
 
@@ -65,13 +68,16 @@ fn taken_numbers(t: Taken) -> [u64; 4]
 }
 
 // A message is taken out: the refusal, H, B and c.
-pub fn take(t: u64, store: &mut [u8], out: &mut [u8]) -> [u64; 4]
-    ensures { λ r. ⌜ r ≡ takeNumbers (took (settingsOf t) cellSize (now (store .entry)) (length (now (out .entry)))) ⌝ }
-    ensures { λ r. ⌜ now (out .exit) ≡ outWith (now (out .entry)) (took (settingsOf t) cellSize (now (store .entry)) (length (now (out .entry)))) ⌝ }
-    ensures { λ r. ⌜ now (store .exit) ≡ storeLess (settingsOf t) cellSize (now (store .entry)) (countIn cellSize (now (store .entry)))
-        (took (settingsOf t) cellSize (now (store .entry)) (length (now (out .entry)))) ⌝ }
+pub fn take(t: u64, profile: u64, store: &mut [u8], out: &mut [u8]) -> [u64; 4]
+    ensures { λ r. ⌜ r ≡ takeNumbers (took (settingsOf t profile) cellSize (now (store .entry)) (length (now (out .entry)))) ⌝ }
+    ensures { λ r. ⌜ now (out .exit) ≡ outWith (now (out .entry)) (took (settingsOf t profile) cellSize (now (store .entry)) (length (now (out .entry)))) ⌝ }
+    ensures { λ r. ⌜ now (store .exit) ≡ storeLess (settingsOf t profile) cellSize (now (store .entry)) (countIn cellSize (now (store .entry)))
+        (took (settingsOf t profile) cellSize (now (store .entry)) (length (now (out .entry)))) ⌝ }
 {
-    let s = Settings { t: t as usize };
+    let s = Settings {
+        t: t as usize,
+        profile: profile,
+    };
     taken_numbers(store::take(s, store, out))
 }
 
@@ -106,12 +112,15 @@ fn joined_numbers(j: Joined) -> [u64; 9]
 
 // A packet is joined: the refusal, 0 no buffer, 1 the packet or 2 the output, the body's place and length there, H, B and c,
 // what the refusal tells.
-pub fn join(t: u64, store: &mut [u8], packet: &[u8], out: &mut [u8]) -> [u64; 9]
-    ensures { λ r. ⌜ r ≡ joinNumbers (joining (settingsOf t) cellSize (now (store .entry)) (now (packet .entry)) (length (now (out .entry)))) ⌝ }
-    ensures { λ r. ⌜ now (store .exit) ≡ storeJoined (settingsOf t) cellSize (now (store .entry)) (now (packet .entry)) (length (now (out .entry))) ⌝ }
-    ensures { λ r. ⌜ now (out .exit) ≡ outJoined (settingsOf t) cellSize (now (store .entry)) (now (packet .entry)) (now (out .entry)) ⌝ }
+pub fn join(t: u64, profile: u64, store: &mut [u8], packet: &[u8], out: &mut [u8]) -> [u64; 9]
+    ensures { λ r. ⌜ r ≡ joinNumbers (joining (settingsOf t profile) cellSize (now (store .entry)) (now (packet .entry)) (length (now (out .entry)))) ⌝ }
+    ensures { λ r. ⌜ now (store .exit) ≡ storeJoined (settingsOf t profile) cellSize (now (store .entry)) (now (packet .entry)) (length (now (out .entry))) ⌝ }
+    ensures { λ r. ⌜ now (out .exit) ≡ outJoined (settingsOf t profile) cellSize (now (store .entry)) (now (packet .entry)) (now (out .entry)) ⌝ }
 {
-    let s = Settings { t: t as usize };
+    let s = Settings {
+        t: t as usize,
+        profile: profile,
+    };
     joined_numbers(join::join(s, store, packet, out))
 }
 
@@ -146,10 +155,13 @@ pub fn view(packet: &[u8], joined: &[u8], which: u64, place: u64, long: u64) -> 
 }
 
 // Whether a store is in order: 15, 16, or 0 and how many cells it has.
-pub fn in_order(t: u64, store: &[u8]) -> [u64; 2]
-    ensures { λ r. ⌜ r ≡ orderNumbers (settingsOf t) cellSize (now (store .entry)) ⌝ }
+pub fn in_order(t: u64, profile: u64, store: &[u8]) -> [u64; 2]
+    ensures { λ r. ⌜ r ≡ orderNumbers (settingsOf t profile) cellSize (now (store .entry)) ⌝ }
 {
-    let s = Settings { t: t as usize };
+    let s = Settings {
+        t: t as usize,
+        profile: profile,
+    };
     let w = walk::begin(s);
     if w.refused != 0 {
         return [15, 0];

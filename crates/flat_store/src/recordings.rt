@@ -3,10 +3,12 @@
 // The answer is an array of numbers, the refusal first; if the call is refused the others are 0.
 ghost use mathlib.Core.Path.{_≡_};
 ghost use lib.ListN.{length};
+ghost use Rattle.walk.specs.Walk.{settingsOf};
 ghost use Rattle.recording.specs.Ending.{recordedOf, outRecorded};
 ghost use Rattle.flat_store.specs.Recordings.{whyNumber, recordedNumbers};
 use recording::Recorded;
 use recording::Why;
+use walk::Settings;
 
 fn why_number(w: Why) -> u64
     ensures { λ r. ⌜ r ≡ whyNumber w ⌝ }
@@ -33,9 +35,13 @@ fn recorded_numbers(r: Recorded) -> [u64; 4]
 }
 
 // A whole recording is joined: the refusal, the octets written, and where and why it stopped: 1 ended, 2 no mark, 3 torn.
-pub fn join_recording(recording: &[u8], out: &mut [u8]) -> [u64; 4]
-    ensures { λ r. ⌜ r ≡ recordedNumbers (recordedOf (length (now (out .entry))) (now (recording .entry))) ⌝ }
-    ensures { λ r. ⌜ now (out .exit) ≡ outRecorded (now (out .entry)) (now (recording .entry)) ⌝ }
+pub fn join_recording(t: u64, profile: u64, recording: &[u8], out: &mut [u8]) -> [u64; 4]
+    ensures { λ r. ⌜ r ≡ recordedNumbers (recordedOf (settingsOf t profile) (length (now (out .entry))) (now (recording .entry))) ⌝ }
+    ensures { λ r. ⌜ now (out .exit) ≡ outRecorded (settingsOf t profile) (now (out .entry)) (now (recording .entry)) ⌝ }
 {
-    recorded_numbers(recording::join_all(recording, out))
+    let s = Settings {
+        t: t as usize,
+        profile: profile,
+    };
+    recorded_numbers(recording::join_all(s, recording, out))
 }

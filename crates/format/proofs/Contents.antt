@@ -18,7 +18,8 @@ use Rattle.fields.specs.Form.{blobOctets, textOctets, partOctets}
 use Rattle.format.specs.Told.{content}
 use Rattle.format.proofs.Field.{Field, seq, told}
 use Rattle.format.proofs.Combine.{tested, whole, via, dep, formed}
-use Rattle.format.proofs.Numbers.{octetF, blockF, numberF}
+use Rattle.format.proofs.Numbers.{octetF, blockF}
+use Rattle.format.proofs.Encoding.{numberF}
 
 module _ (s : Settings) (p : List ℕ) where
   -- ---- a length and as many octets

@@ -19,7 +19,7 @@ use Rattle.packet.specs.Format.{Values, segment, presence}
 use Rattle.packet.specs.Began.{fixedFields, domainFields, optionalFields, secondaryFields, began}
 use Rattle.format.specs.Told.{content}
 use Rattle.format.proofs.Field.{Field}
-use Rattle.format.proofs.Numbers.{wideF, octetF, numberF}
+use Rattle.format.proofs.Numbers.{wideF, octetF}
 use Rattle.format.proofs.Contents.{sized, blob-form, blob-fit, blob-step, blobF, testedBlob, text-form, text-fit, text-step, textF}
 use Rattle.format.proofs.Contents.{mark, markedF, part-form, part-fit, part-step, partF}
 use Rattle.format.proofs.Domain.{counted, DomainFit, domain-form, domain-fit, domain-step, domainF}
@@ -29,7 +29,8 @@ use Rattle.format.proofs.Secondary.{Optional, opt-step, octet-step, wid
 use Rattle.format.proofs.Secondary.{optionalsF, secondaryF}
 use Rattle.format.proofs.Pairs.{pairOf}
 use Rattle.format.proofs.Cut.{all, Ends, Cuts, Cut, cut-as, then-cut}
-use Rattle.format.proofs.CutWays.{wide-cut, block-cut, number-cut, whole-cut, tested-cut, told-cut, formed-cut, via-cut, maybe-cut, guard-cut, manyFields, many-cut}
+use Rattle.format.proofs.Encoding.{numberF, number-cut}
+use Rattle.format.proofs.CutWays.{wide-cut, block-cut, whole-cut, tested-cut, told-cut, formed-cut, via-cut, maybe-cut, guard-cut, manyFields, many-cut}
 
 module _ (s : Settings) (p : List ℕ) where
   -- ---- contents

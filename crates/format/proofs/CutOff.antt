@@ -91,8 +91,7 @@ module _ (s : Settings) (v : Values) (r : InRange s v) (m : ℕ) (some : 1 ≤ m
   opens : Opens s q
   opens =
       record {
-        t-low = r .settings .t-low;
-        t-top = r .settings .t-top;
+        settings = r .settings;
         six = omega (arith, long);
         version = omega (arith, w0, word-is q 0, r .head .packet-type, r .head .apid, plain 1);
         second = omega (arith, w0, word-is q 0, r .head .packet-type, r .head .apid, plain 1);

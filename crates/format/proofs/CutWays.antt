@@ -1,75 +1,24 @@
--- A packet that ends inside a field, for the fields of a known length and the number, and for each other way to put fields together.
+-- A packet that ends inside a field, for the fields of a known length, and for each other way to put fields together.
 -- Assumes nothing.
-use Prim.Native.Nat.{ℕ, zero, suc, _+_, _-_, _*_, _/_, _%_, _^_, _≤_, _<_}
+use Prim.Native.Nat.{ℕ, zero, suc, _+_, _-_, _≤_}
 use mathlib.Core.Path.{_≡_, refl, ap, sym, _∙_}
-use mathlib.Core.Logic.{⊎-elim}
-use mathlib.Core.List.{List, [], _∷_, _++_, append-nil}
+use mathlib.Core.List.{List, [], _∷_, _++_}
 use mathlib.Core.Bool.{Bool, true, false}
 use native.Mathlib.Omega.{arith}
-use lib.ListN.{length, take, drop, length-append, length-take}
-use lib.Seq.{take-all, drop-at}
-use lib.Dec.{leb}
-use borrow.Author.Tests.{lt-leb}
-use Rattle.octets.specs.Octets.{pick, Octets, wide}
-use Rattle.octets.proofs.Lists.{below-or}
-use Rattle.octets.proofs.Has.{Has}
+use lib.ListN.{length}
+use Rattle.octets.specs.Octets.{pick, wide}
 use Rattle.octets.proofs.Numbers.{wide-length}
-use Rattle.varint.specs.Varint.{Got, ends, after, read, readAt, write}
-use Rattle.varint.proofs.Steps.{step-more}
-use Rattle.varint.proofs.Forms.{write-small, write-more}
-use Rattle.walk.specs.declared.Settings.{Settings}
-use Rattle.walk.specs.Walk.{Reading, Step, goes, refused, going, headerEnd, octets, check, fieldFrom, uinteger, uintegerStep}
-use Rattle.walk.proofs.Steps.{octets-refused, octets-ends, check-refused, field-refused, number-refused, number-found}
-use Rattle.fields.specs.Form.{joined, uintegerOctets}
+use Rattle.walk.specs.Walk.{Reading, goes, refused, going, headerEnd, octets, check, fieldFrom}
+use Rattle.walk.proofs.Steps.{octets-refused, octets-ends, check-refused, field-refused}
+use Rattle.fields.specs.Form.{joined}
 use Rattle.packet.specs.Format.{Opt, Each}
 use Rattle.packet.specs.Began.{began}
 use Rattle.format.proofs.Field.{Field}
 use Rattle.format.proofs.Many.{steps, many}
-use Rattle.format.proofs.Numbers.{wideF, blockF, numberF}
+use Rattle.format.proofs.Numbers.{wideF, blockF}
 use Rattle.format.proofs.Cut.{all, all-none, all-append, Ends, Cuts, Cut, one-octets, at-start, then-cut}
 
--- ---- the first octets of a Varint, but not all: it ends
-
-varint-ends :
-    (fuel v max : ℕ) (first : Bool) (at k : ℕ) → v ≤ fuel → v ≤ max → k < length (write v) → read max first at (take k (write v)) ≡ ends
-unfolding read after
-varint-ends fuel v max first at zero f m l = refl
-varint-ends zero v max first at (suc k) f m l =
-    let e = write-small v (omega arith) in
-    absurd (omega (arith, ap length e))
-varint-ends (suc fuel) v max first at (suc k) f m l =
-    ⊎-elim small (more (varint-ends fuel (v / 128) (max / 128) false (at + 1) k)) (below-or v 128)
-  where
-    small : v < 128 → read max first at (take (suc k) (write v)) ≡ ends
-    small h = absurd (omega (arith, ap length (write-small v h)))
-
-    more :
-        (v / 128 ≤ fuel → v / 128 ≤ max / 128 → k < length (write (v / 128)) → read (max / 128) false (at + 1) (take k (write (v / 128))) ≡ ends) →
-        128 ≤ v → read max first at (take (suc k) (write v)) ≡ ends
-    more again h =
-        let e = write-more v h in
-        let n : k < length (write (v / 128)) = omega (arith, ap length e) in
-        let r = again (omega arith) (omega arith) n in
-        ap (λ (o : List ℕ). read max first at (take (suc k) o)) e
-        ∙ step-more max first at (128 + v % 128) (take k (write (v / 128))) (omega arith) (omega arith)
-        ∙ ap (after (128 + v % 128)) r
-
 module _ (p : List ℕ) where
-  -- what stands at the end of a packet that ends inside octets
-  rest-is : (i : ℕ) (l : List ℕ) → Ends p i l → drop i p ≡ take (length p - i) l
-  rest-is i l e =
-      let f = e .from in
-      let s = e .short in
-      let h = e .has in
-      let n = ap length (h .whole) in
-      let m = simp (length-append, length-take) at n in
-      let z : length (h .post) ≡ 0 = omega (arith, h .starts) in
-      ap (drop i) (h .whole) ∙ drop-at (h .pre) (take (length p - i) l ++ h .post) i (h .starts) ∙ none (h .post) z
-    where
-      none : (x : List ℕ) → length x ≡ 0 → take (length p - i) l ++ x ≡ take (length p - i) l
-      none [] z = append-nil _
-      none (b ∷ x) z = absurd (omega arith)
-
   -- ---- octets of a known number
 
   known-ends :
@@ -94,33 +43,6 @@ module _ (p : List ℕ) where
         octets = λ x. one-octets p x;
         ends = λ i x f l e. known-ends n i x (f .0) l e;
       }
-
-  -- ---- a number of at most 32 bits
-
-  module _ (s : Settings) where
-    pub number-stays : (w : Reading) → going w ≡ false → uinteger s p w .walk ≡ w
-    number-stays w h = ap (λ (x : Step ℕ). x .walk) (number-refused s p w h)
-
-    pub number-ends :
-        (i n : ℕ) → n < 4294967296 → i + length (uintegerOctets s n) ≤ headerEnd → Ends p i (uintegerOctets s n) →
-        uinteger s p (goes i) .walk ≡ refused (i + began (uintegerOctets s n ∷ []) (length p - i)) 6
-    unfolding uintegerOctets uintegerStep
-    number-ends i n f l e =
-        let h = e .short in
-        let g = e .from in
-        let t = take-all headerEnd p (omega arith) in
-        let k : length p - i < length (write n) = omega arith in
-        let r : readAt 32 (take headerEnd p) i ≡ ends =
-        ap (λ (x : List ℕ). readAt 32 x i) t
-        ∙ ap (read (2 ^ 32 - 1) true i) (rest-is i (write n) e)
-        ∙ varint-ends n n (2 ^ 32 - 1) true i (length p - i) (omega arith) (omega arith) k in
-        let u : _≡_ {A = ℕ} (pick (leb headerEnd (length p)) 12 6) 6 = ap (λ (b : Bool). pick b 12 6) (lt-leb headerEnd (length p) (omega arith)) in
-        ap (λ (x : Step ℕ). x .walk) (number-found s p (goes i) refl r)
-        ∙ ap (refused i) u
-        ∙ at-start p i (write n) e
-
-    pub number-cut : Cut p (numberF p s) (λ n. uintegerOctets s n ∷ [])
-    number-cut = record { stays = number-stays; octets = λ n. one-octets p (uintegerOctets s n); ends = number-ends }
 
   -- ---- fields put together
 

@@ -21,7 +21,7 @@ use Rattle.packet.specs.Format.{Each}
 use Rattle.format.specs.Told.{content}
 use Rattle.format.proofs.Field.{Field, told}
 use Rattle.format.proofs.Combine.{guard, dep, formed}
-use Rattle.format.proofs.Numbers.{numberF}
+use Rattle.format.proofs.Encoding.{numberF}
 use Rattle.format.proofs.Contents.{partF}
 use Rattle.format.proofs.Many.{steps, values, spots, many, steps-last, spots-last}
 

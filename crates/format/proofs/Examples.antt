@@ -12,6 +12,7 @@ use Rattle.utf8.specs.Test.{ended, begins, follows, accepts, isText}
 use Rattle.utf8.proofs.Laws.{is-text}
 use Rattle.varint.specs.Varint.{octetsOf as varintOctets, write}
 use Rattle.walk.specs.declared.Settings.{Settings}
+use Rattle.walk.specs.Profile.{varintProfile}
 use Rattle.packet.specs.declared.Header.{Header}
 use Rattle.fields.specs.Form.{uintegerOctets, blobOctets, textOctets, partOctets, joined, domainOctets}
 use Rattle.packet.specs.Format.{Values, Each, presence, identification, fixedOctets, frontOctets, counterOctets, backOctets, secondaryOctets, dataOctets, octetsOf, InRange}
@@ -26,7 +27,7 @@ pub figure-in-range : InRange settings values
 unfolding octetsOf identification dataOctets secondaryOctets fixedOctets presence frontOctets counterOctets backOctets wide
 figure-in-range =
     record {
-      settings = record { t-low = omega arith; t-top = omega arith };
+      settings = record { t-low = omega arith; t-top = omega arith; profile-top = omega arith };
       head =
           record {
             packet-type = omega arith;
@@ -61,7 +62,7 @@ figure-in-range =
     }
 
 abbrev pub two : Settings
-two = record { t = 2 }
+two = record { t = 2; profile = varintProfile }
 
 -- a first segment, every field at a limit or with some content
 abbrev pub full : Values
@@ -119,7 +120,7 @@ unfolding octetsOf identification dataOctets secondaryOctets fixedOctets presenc
     textOctets partOctets joined domainOctets write varintOctets Each isText accepts ended begins follows
 full-in-range =
     record {
-      settings = record { t-low = omega arith; t-top = omega arith };
+      settings = record { t-low = omega arith; t-top = omega arith; profile-top = omega arith };
       head =
           record {
             packet-type = omega arith;

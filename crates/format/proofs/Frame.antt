@@ -137,8 +137,7 @@ module _
       let w = words in
       let n = packet-long s v in
       record {
-        t-low = r .settings .t-low;
-        t-top = r .settings .t-top;
+        settings = r .settings;
         six = omega arith;
         version = omega (arith, w .w0, word-is p 0, r .head .packet-type, r .head .apid, o 1);
         second = omega (arith, w .w0, word-is p 0, r .head .packet-type, r .head .apid, o 1);

@@ -25,15 +25,15 @@ abbrev Lengthy : Type 0 → Type 0 → ℕ → Type 0
 Lengthy A B n = (n ≡ 5 → A) × (n ≡ 27 → B)
 
 module _ (A B : Type 0) where
-  others : OfFields (Lengthy A B)
-  others =
+  others : (s : Settings) → OfFields s (Lengthy A B)
+  others s =
       record {
         none = (λ e. absurd (omega (arith, e)), λ e. absurd (omega (arith, e)));
         six = (λ e. absurd (omega (arith, e)), λ e. absurd (omega (arith, e)));
         seven = (λ e. absurd (omega (arith, e)), λ e. absurd (omega (arith, e)));
         eight = (λ e. absurd (omega (arith, e)), λ e. absurd (omega (arith, e)));
         nine = (λ e. absurd (omega (arith, e)), λ e. absurd (omega (arith, e)));
-        ten = (λ e. absurd (omega (arith, e)), λ e. absurd (omega (arith, e)));
+        ten = λ d. (λ e. absurd (omega (arith, e)), λ e. absurd (omega (arith, e)));
         eleven = (λ e. absurd (omega (arith, e)), λ e. absurd (omega (arith, e)));
         twelve = (λ e. absurd (omega (arith, e)), λ e. absurd (omega (arith, e)));
         thirteen = (λ e. absurd (omega (arith, e)), λ e. absurd (omega (arith, e)));
@@ -49,7 +49,7 @@ module _ (s : Settings) (p : List ℕ) where
 
   by-length : Lengthy (length p < wanted p) (wanted p < length p) (ended s p .refused)
   by-length =
-      ended-has (Lengthy (length p < wanted p) (wanted p < length p)) (others _ _) s p
+      ended-has s (Lengthy (length p < wanted p) (wanted p < length p)) (others _ _ s) p
       (record {
         fifteen = other _ _ 15 (λ e. omega (arith, e)) (λ e. omega (arith, e));
         one = other _ _ 1 (λ e. omega (arith, e)) (λ e. omega (arith, e));
@@ -77,11 +77,11 @@ module _ (s : Settings) (p : List ℕ) where
   few-not : length p < 6 → Lengthy ⊥ ⊥ (ended s p .refused)
   unfolding begun
   few-not l =
-      let k = others ⊥ ⊥ in
+      let k = others ⊥ ⊥ s in
       let f = other ⊥ ⊥ 15 (λ e. omega (arith, e)) (λ e. omega (arith, e)) in
       let o = other ⊥ ⊥ 1 (λ e. omega (arith, e)) (λ e. omega (arith, e)) in
-      let c = check-ok (Lengthy ⊥ ⊥) k in
-      fields-keep (Lengthy ⊥ ⊥) k s p (rw (few-start l) (c false 1 _ o (c _ 15 _ f (c _ 15 (goes 6) f (k .none)))))
+      let c = check-ok s (Lengthy ⊥ ⊥) k in
+      fields-keep s (Lengthy ⊥ ⊥) k p (rw (few-start l) (c false 1 _ o (c _ 15 _ f (c _ 15 _ f (c _ 15 (goes 6) f (k .none))))))
 
   -- ---- what they tell
 
@@ -89,7 +89,7 @@ module _ (s : Settings) (p : List ℕ) where
   unfolding readPacket acceptedHeader refusedHeader
   refusal-is n h = ⊎-elim (λ e. absurd (omega (arith, rw e at h))) (λ e. rw e refl) (bool (going (ended s p)))
 
-  number-is : (n : ℕ) → readPacket s p .refusal .number ≡ suc n → ended s p .refused ≡ suc n
+  pub number-is : (n : ℕ) → readPacket s p .refusal .number ≡ suc n → ended s p .refused ≡ suc n
   unfolding refusalOf
   number-is n h = sym (ap (λ (r : _). r .number) (refusal-is n h)) ∙ h
 

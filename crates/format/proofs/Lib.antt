@@ -1,8 +1,12 @@
 pub mod Field
 pub mod Combine
 pub mod Numbers
-pub mod Contents
 pub mod Many
+pub mod Cut
+pub mod CutWays
+pub mod Varints
+pub mod Encoding
+pub mod Contents
 pub mod Domain
 pub mod Flags
 pub mod FixedPart
@@ -13,12 +17,11 @@ pub mod Frame
 pub mod Only
 pub mod Back
 pub mod TwoWay
-pub mod Cut
-pub mod CutWays
 pub mod CutFields
 pub mod CutOff
 pub mod Refusals
 pub mod Lengths
+pub mod Fixed
 pub mod Stretches
 pub mod Order
 pub mod Accepting

@@ -135,7 +135,7 @@ module _ (s : Settings) (p : List ℕ) where
       let f = told-front in
       let b = told-body k in
       record {
-        settings = record { t-low = d .t-low; t-top = d .t-top };
+        settings = d .settings;
         head = fit-head s p told (k .fit) (omega (arith, f .packet-type)) (omega (arith, f .apid, d .idle));
         flags = omega (arith, f .flags, o 2);
         sequence-count = omega (arith, f .sequence-count);

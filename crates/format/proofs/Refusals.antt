@@ -5,16 +5,16 @@ use Prim.Native.Nat.{ℕ, zero, suc, _+_}
 use mathlib.Core.Path.{_≡_, refl}
 use mathlib.Core.Bool.{Bool, true, false}
 use mathlib.Core.List.{List}
-use lib.ListN.{length, take}
+use lib.ListN.{length}
 use lib.Dec.{leb, eqb}
 use Rattle.octets.specs.Octets.{pick, octetAt}
-use Rattle.varint.specs.Varint.{Got, value, ends, bad, readAt}
 use Rattle.walk.specs.declared.Settings.{Settings}
-use Rattle.walk.specs.Walk.{Reading, Step, goes, refused, going, headerEnd, octets, check, fieldFrom, uintegerStep, uinteger, begun}
+use Rattle.walk.specs.Walk.{Reading, Step, goes, refused, going, headerEnd, octets, check, fieldFrom, uinteger, begun}
 use Rattle.fields.specs.Fields.{opt, block, blob, text, markedText, part, Parts, partsMost, noParts, partAt, partsTo, domain}
 use Rattle.packet.specs.declared.Present.{Present}
 use Rattle.packet.specs.FixedPart.{octetField, wideField, afterSdu, afterArea, afterService, afterOperation, afterVersion, afterSession}
 use Rattle.packet.specs.FixedPart.{afterSecondary, afterQualifier, afterTransaction, afterPresence, fixedEnd}
+use Rattle.format.proofs.Encoding.{strict, encoding}
 use Rattle.packet.specs.Reading.{wanted, primaryTests, segmented, idsOf, textsOf, bodyTest, startAt, hasAt, textsAt, ended}
 
 -- what holds of both sides of a choice
@@ -22,14 +22,14 @@ pub picked : {A : Type 0} (F : A → Type 0) (b : Bool) (x y : A) → F x → F 
 picked F true x y f g = f
 picked F false x y f g = g
 
--- the numbers by which a field is refused, 14 with them, and none
-pub record OfFields (P : ℕ → Type 0) : Type 0 where
+-- the numbers by which a field is refused, 14 with them, and none; 10 only if some octets write no UInteger
+pub record OfFields (s : Settings) (P : ℕ → Type 0) : Type 0 where
   pub none : P 0
   pub six : P 6
   pub seven : P 7
   pub eight : P 8
   pub nine : P 9
-  pub ten : P 10
+  pub ten : strict s ≡ true → P 10
   pub eleven : P 11
   pub twelve : P 12
   pub thirteen : P 13
@@ -46,7 +46,7 @@ pub record OfStart (p : List ℕ) (P : ℕ → Type 0) : Type 0 where
   pub five : leb (wanted p) (length p) ≡ false → P 5
   pub twenty-seven : leb (length p) (wanted p) ≡ false → P 27
 
-module _ (P : ℕ → Type 0) (k : OfFields P) where
+module _ (s : Settings) (P : ℕ → Type 0) (k : OfFields s P) where
   abbrev Ok : Reading → Type 0
   Ok w = P (w .refused)
 
@@ -74,15 +74,8 @@ module _ (P : ℕ → Type 0) (k : OfFields P) where
   unfolding fieldFrom
   field-ok w r h = picked Ok (going r) r (refused (w .at) (r .refused)) h h
 
-  number-ok : (s : Settings) (p : List ℕ) (w : Reading) → Ok w → Ok (uinteger s p w .walk)
-  unfolding uinteger uintegerStep
-  number-ok s p w h =
-      picked (λ (x : Step ℕ). Ok (x .walk)) (going w) _ (record { walk = w; value = 0 }) (go (readAt 32 (take headerEnd p) (w .at))) h
-    where
-      go : (g : Got) → Ok (uintegerStep p (w .at) g .walk)
-      go (value v next) = k .none
-      go ends = picked P (leb headerEnd (length p)) 12 6 (k .twelve) (k .six)
-      go bad = k .ten
+  number-ok : (p : List ℕ) (w : Reading) → Ok w → Ok (uinteger s p w .walk)
+  number-ok = encoding s .numbers P (k .none) (k .six) (k .twelve) (k .ten)
 
   -- a step that keeps it
   abbrev Keeps : {A : Type 0} → (Reading → Step A) → Type 0
@@ -92,14 +85,14 @@ module _ (P : ℕ → Type 0) (k : OfFields P) where
   opt-ok {A = A} there none step f w h =
       picked (λ (x : Step A). Ok (x .walk)) there (step w) (record { walk = w; value = none }) (f w h) h
 
-  module _ (s : Settings) (p : List ℕ) where
+  module _ (p : List ℕ) where
     block-ok : (n : ℕ) → Keeps (block n p)
     unfolding block
     block-ok n w h = octets-ok p n w h
 
     blob-ok : Keeps (blob s p)
     unfolding blob
-    blob-ok w h = field-ok w _ (octets-ok p (uinteger s p w .value) (uinteger s p w .walk) (number-ok s p w h))
+    blob-ok w h = field-ok w _ (octets-ok p (uinteger s p w .value) (uinteger s p w .walk) (number-ok p w h))
 
     text-ok : Keeps (text s p)
     unfolding text
@@ -118,8 +111,8 @@ module _ (P : ℕ → Type 0) (k : OfFields P) where
     unfolding domain
     domain-ok w h =
         picked (λ (x : Step Parts). Ok (x .walk)) (leb (uinteger s p w .value) partsMost) _ _
-        (parts-ok (uinteger s p w .value) (record { walk = uinteger s p w .walk; value = noParts (uinteger s p w .value) }) (number-ok s p w h))
-        (check-ok false 13 (uinteger s p w .walk) (k .thirteen) (number-ok s p w h))
+        (parts-ok (uinteger s p w .value) (record { walk = uinteger s p w .walk; value = noParts (uinteger s p w .value) }) (number-ok p w h))
+        (check-ok false 13 (uinteger s p w .walk) (k .thirteen) (number-ok p w h))
 
     octet-ok : Keeps (octetField p)
     unfolding octetField
@@ -148,7 +141,7 @@ module _ (P : ℕ → Type 0) (k : OfFields P) where
     ids-ok : (h : Present) → Keeps (idsOf s h p)
     unfolding idsOf
     ids-ok h w o =
-        opt-ok (h .priority) 0 (uinteger s p) (number-ok s p) _
+        opt-ok (h .priority) 0 (uinteger s p) (number-ok p) _
         (opt-ok (segmented p) 0 (wideField 4 p) (wide-ok 4) _
         (opt-ok (h .destination) 0 (octetField p) octet-ok _ (opt-ok (h .source) 0 (octetField p) octet-ok w o)))
 
@@ -173,7 +166,9 @@ module _ (P : ℕ → Type 0) (k : OfFields P) where
         (check-by _ 5 _ (o .five)
         (check-ok _ 4 _ (o .four)
         (check-ok _ 3 _ (o .three)
-        (check-ok _ 2 _ (o .two) (check-ok _ 1 _ (o .one) (check-ok _ 15 _ (o .fifteen) (check-ok _ 15 (goes 6) (o .fifteen) (k .none))))))))
+        (check-ok _ 2 _ (o .two)
+        (check-ok _ 1 _ (o .one)
+        (check-ok _ 15 _ (o .fifteen) (check-ok _ 15 _ (o .fifteen) (check-ok _ 15 (goes 6) (o .fifteen) (k .none)))))))))
 
     -- the number that reading is refused by, 0 if it is not
     pub ended-has : OfStart p P → Ok (ended s p)

@@ -14,7 +14,8 @@ use Rattle.packet.specs.declared.Present.{Present}
 use Rattle.packet.specs.FixedPart.{octetField, wideField}
 use Rattle.format.specs.Told.{content}
 use Rattle.format.proofs.Field.{Field, then, seq, maybe, told}
-use Rattle.format.proofs.Numbers.{wideF, octetF, blockF, numberF}
+use Rattle.format.proofs.Numbers.{wideF, octetF, blockF}
+use Rattle.format.proofs.Encoding.{numberF}
 use Rattle.format.proofs.Contents.{blobF, textF}
 use Rattle.format.proofs.Domain.{placesOf, domainF}
 use Rattle.format.proofs.FixedPart.{Fixed, fixedF}

@@ -13,16 +13,35 @@ use borrow.Author.Tests.{eqb-true, eqb-false, leb-true, ltb-true, not-true, eq-e
 use Rattle.octets.specs.Octets.{pick, octetAt, number}
 use Rattle.octets.proofs.Lists.{bool}
 use Rattle.walk.specs.declared.Settings.{Settings}
+use Rattle.walk.specs.Profile.{fixedProfile}
 use Rattle.walk.specs.Walk.{Reading, goes, going, check, begun, timestampLeast, timestampMost}
+use Rattle.packet.specs.Format.{SettingsInRange}
 use Rattle.walk.proofs.Steps.{check-held, check-ok}
 use Rattle.packet.specs.declared.Header.{Header}
 use Rattle.packet.specs.Reading.{wanted, primaryTests, segmented, bodyTest, startAt, ended, refusalOf, refusedHeader, acceptedHeader, readPacket}
 use Rattle.packet.proofs.Whole.{accepts}
 
+-- 15 passed
+pub begun-only : (s : Settings) → going (begun s) ≡ true → (begun s ≡ goes 6) × SettingsInRange s
+unfolding begun
+begun-only s g =
+    let c = check-held (leb (s .profile) fixedProfile) 14 _ g in
+    let b = check-held (leb (s .t) timestampMost) 14 _ (c .went) in
+    let a = check-held (leb timestampLeast (s .t)) 14 _ (b .went) in (
+      c .same ∙ b .same ∙ a .same,
+      record { t-low = leb-true _ _ (a .held); t-top = leb-true _ _ (b .held); profile-top = leb-true _ _ (c .held) },
+    )
+
+pub begun-back : (s : Settings) → SettingsInRange s → begun s ≡ goes 6
+unfolding begun
+begun-back s r =
+    check-ok (leb (s .profile) fixedProfile) 15 _ (le-leb _ _ (r .profile-top))
+    ∙ check-ok (leb (s .t) timestampMost) 15 _ (le-leb _ _ (r .t-top))
+    ∙ check-ok (leb timestampLeast (s .t)) 15 (goes 6) (le-leb _ _ (r .t-low))
+
 -- 15, 1 to 5 and 27 passed
 pub record Opens (s : Settings) (p : List ℕ) : Type 0 where
-  pub t-low : timestampLeast ≤ s .t
-  pub t-top : s .t ≤ timestampMost
+  pub settings : SettingsInRange s
   pub six : 6 ≤ length p
   pub version : octetAt p 0 < 32
   pub second : octetAt p 0 / 8 % 2 ≡ 1
@@ -35,7 +54,7 @@ Withdrawn h = h .withdrawn ≡ true ↔ ((h .refusal .number ≡ 0) × (h .has .
 
 module _ (s : Settings) (p : List ℕ) where
   pub start-only : going (startAt s p) ≡ true → (startAt s p ≡ goes 6) × Opens s p
-  unfolding primaryTests begun
+  unfolding primaryTests
   start-only g =
       let f = check-held (leb (length p) (wanted p)) 26 _ g in
       let e = check-held (leb (wanted p) (length p)) 4 _ (f .went) in
@@ -43,12 +62,10 @@ module _ (s : Settings) (p : List ℕ) where
       let c = check-held (eqb (octetAt p 0 / 8 % 2) 1) 2 _ (d .went) in
       let b = check-held (ltb (octetAt p 0) 32) 1 _ (c .went) in
       let a = check-held (leb 6 (length p)) 0 _ (b .went) in
-      let u = check-held (leb (s .t) timestampMost) 14 _ (a .went) in
-      let t = check-held (leb timestampLeast (s .t)) 14 _ (u .went) in (
-        f .same ∙ e .same ∙ d .same ∙ c .same ∙ b .same ∙ a .same ∙ u .same ∙ t .same,
+      let t = begun-only s (a .went) in (
+        f .same ∙ e .same ∙ d .same ∙ c .same ∙ b .same ∙ a .same ∙ t .0,
         record {
-          t-low = leb-true _ _ (t .held);
-          t-top = leb-true _ _ (u .held);
+          settings = t .1;
           six = leb-true _ _ (a .held);
           version = ltb-true _ _ (b .held);
           second = eqb-true _ _ (c .held);
@@ -58,7 +75,7 @@ module _ (s : Settings) (p : List ℕ) where
       )
 
   pub start-back : Opens s p → startAt s p ≡ goes 6
-  unfolding primaryTests begun
+  unfolding primaryTests
   start-back h =
       check-ok (leb (length p) (wanted p)) 27 _ (le-leb (length p) (wanted p) (omega (arith, h .long)))
       ∙ check-ok (leb (wanted p) (length p)) 5 _ (le-leb (wanted p) (length p) (omega (arith, h .long)))
@@ -66,8 +83,7 @@ module _ (s : Settings) (p : List ℕ) where
       ∙ check-ok (eqb (octetAt p 0 / 8 % 2) 1) 3 _ (eq-eqb _ _ (h .second))
       ∙ check-ok (ltb (octetAt p 0) 32) 2 _ (lt-ltb _ _ (h .version))
       ∙ check-ok (leb 6 (length p)) 1 _ (le-leb _ _ (h .six))
-      ∙ check-ok (leb (s .t) timestampMost) 15 _ (le-leb _ _ (h .t-top))
-      ∙ check-ok (leb timestampLeast (s .t)) 15 (goes 6) (le-leb _ _ (h .t-low))
+      ∙ begun-back s (h .settings)
 
   -- 14
   pub record Body (w : Reading) : Type 0 where

@@ -1,9 +1,8 @@
 // Joining: a packet arrives, and if it came whole its body is told, else what is complete is taken out; and the view of a body.
 //
 // Joining tells where the body is: in which buffer, from which place on, how long; the view hands that part out, read only. For a
-// packet that came whole neither the store nor the output is touched. If taking refuses, the arrived segment stays in the store. T
-// and the store's order are checked once; what follows is an inner function that takes any octets, for whoever keeps a store in
-// order.
+// packet that came whole neither the store nor the output is touched. If taking refuses, the arrived segment stays in the store. Settings
+// and the store's order are checked once; what follows is an inner function that takes any octets, for whoever keeps a store in order.
 ghost use mathlib.Core.Path.{_≡_};
 ghost use Prim.Native.Nat.{_<_};
 ghost use lib.ListN.{length};

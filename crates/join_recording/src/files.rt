@@ -4,6 +4,7 @@ ghost use lib.ListN.{length};
 use crate::counts;
 use crate::say;
 use counts::COUNTS;
+use walk::Settings;
 
 const INPUT: i32 = 0;
 
@@ -13,10 +14,21 @@ const ERROR: i32 = 2;
 
 const HYPHEN: u8 = 45;
 
-// The program's arguments: the recording, and the file for its findings.
+// The program's arguments: the recording, the file for its findings, T, and the profile.
 const RECORDING: usize = 1;
 
 const REPORT: usize = 2;
+
+const TIMESTAMP: usize = 3;
+
+const PROFILE: usize = 4;
+
+const ZERO: u8 = 48;
+
+const NINE: u8 = 57;
+
+// A number with more digits than this one stands for the largest.
+const LARGE: u64 = 100000;
 
 // Whether a call failed only because a signal came.
 fn interrupted(got: isize) -> bool {
@@ -111,6 +123,54 @@ pub fn input() -> i32 {
         return -1;
     }
     open(&name[..n])
+}
+
+// The number that decimal digits write; the largest of all for any other text, and for a large number. No setting is so large.
+fn decimal(x: &[u8]) -> u64 {
+    if x.len() == 0 {
+        return u64::MAX;
+    }
+    let mut n: u64 = 0;
+    let mut i: usize = 0;
+    while i < x.len() {
+        let digit = x[i];
+        if digit < ZERO {
+            return u64::MAX;
+        }
+        if NINE < digit {
+            return u64::MAX;
+        }
+        if LARGE <= n {
+            return u64::MAX;
+        }
+        n = n * 10 + (digit - ZERO) as u64;
+        i += 1;
+    }
+    n
+}
+
+// The number that an argument writes, or the usual one if it is not there.
+fn number(k: usize, usual: u64) -> u64 {
+    if os::arg_count() <= k {
+        return usual;
+    }
+    let mut x = io::buffer();
+    let n = os::arg(k, &mut x);
+    if os::errno() != 0 {
+        return u64::MAX;
+    }
+    decimal(&x[..n])
+}
+
+// The settings, as the third and the fourth argument name them. Whether they are in range is not tested here.
+pub fn settings() -> Settings {
+    let usual = recording::usual();
+    let t = number(TIMESTAMP, usual.t as u64);
+    let profile = number(PROFILE, usual.profile);
+    Settings {
+        t: t as usize,
+        profile: profile,
+    }
 }
 
 // Closes standard output: a full disk may show only now. Whether it went well; if not, that is told.

@@ -1,15 +1,16 @@
 // The recording program, SPEC G-1 to G-7: joins a recording and writes its messages to standard output.
 //
-//   join_recording [RECORDING [REPORT]]
+//   join_recording [RECORDING [REPORT [TIMESTAMP [PROFILE]]]]
 //
-// The recording is a file, or standard input if it is `-` or not named. The octets in hand stand in a window; `steps::step` says what to
-// write and how many octets it used up, and if it wants more, what is left goes to the window's front and more is read after it. Messages
-// are gathered and written together: before each read, since it may wait, and if the next message might find no room. A failed read or
-// write is told on standard error. A program has no exit status, so at the end its findings go to the new file REPORT, or to standard
-// error if none is named.
+// The recording is a file, or standard input if it is `-` or not named. The octets in hand stand in a window; `steps` says what to write and
+// how many octets it used up, and if it wants more, what is left goes to the window's front and more is read after it. Messages are
+// gathered and written together: before each read, since it may wait, and if the next message might find no room. A failed read or write
+// is told on standard error. A program has no exit status, so at the end its findings go to the new file REPORT, or to standard error if
+// none is named. TIMESTAMP and PROFILE are the settings in decimal digits: T, 8 if it is not named, and the profile, 1 for four octets, 0 or
+// not named for Varints. If they are refused, nothing is read and no report is made.
 //
-// Proved here: the program is safe and ends, and each step meets what it asks: the store stays in order from the first step to the
-// last. Module files reads and writes, counts has the numbers of the findings, say tells them.
+// Proved here: the program is safe and ends, and each step meets what it asks: the settings are in range, and the store stays in order
+// from the first step to the last. Module files reads and writes, counts has the numbers of the findings, say tells them.
 mod counts;
 mod files;
 mod say;
@@ -17,16 +18,15 @@ mod say;
 ghost use mathlib.Core.Path.{_≡_};
 ghost use Prim.Native.Nat.{_+_, _≤_};
 ghost use lib.ListN.{length};
+ghost use Rattle.walk.specs.Walk.{begun};
 ghost use Rattle.cells.specs.Rows.{zeroRow};
 ghost use Rattle.cells.specs.Order.{countIn, gate};
-ghost use Rattle.steps.specs.Stepping.{room, stepped, storeBehind};
-ghost use Rattle.steps.specs.Told.{doneOf};
-ghost use Rattle.recording.specs.Recording.{settings, cellCount};
+ghost use Rattle.steps.specs.Stepping.{room};
+ghost use Rattle.recording.specs.Recording.{cellCount};
 use cells::CELL;
 use counts::COUNTS;
 use recording::CELLS;
 use recording::STORE;
-use steps::Done;
 use steps::SPACE;
 use steps::What;
 use walk::Settings;
@@ -161,30 +161,9 @@ fn wait(
     refill(fd, buf, from, till, counts)
 }
 
-// One step, with the output from a place on.
-fn step_into(
-    store: &mut [u8],
-    zero: &[u8],
-    window: &[u8],
-    ends: bool,
-    out: &mut [u8],
-    at: usize,
-) -> Done
-    requires { ⌜ now zero ≡ zeroRow (length (now zero)) ⌝ }
-    requires { ⌜ gate settings (length (now zero)) (now store) ≡ 0 ⌝ }
-    requires { ⌜ cellCount ≡ countIn (length (now zero)) (now store) ⌝ }
-    requires { ⌜ at + (6 + room) ≤ length (now out) ⌝ }
-    ensures { λ r. ⌜ r ≡ doneOf (stepped settings (length (now (zero .entry))) (now (store .entry)) (now (window .entry)) ends) ⌝ }
-    ensures { λ r. ⌜ now (store .exit) ≡ storeBehind settings (length (now (zero .entry))) (now (store .entry))
-        (stepped settings (length (now (zero .entry))) (now (store .entry)) (now (window .entry)) ends) ⌝ }
-{
-    let s = Settings { t: 8 };
-    let to = at + SPACE;
-    steps::step(s, store, CELLS, zero, window, ends, &mut out[at..to])
-}
-
 // One step, and what it says is gathered; if it wants more octets, they are read.
 fn turn(
+    s: Settings,
     fd: i32,
     store: &mut [u8],
     zero: &[u8],
@@ -197,18 +176,18 @@ fn turn(
     counts: &mut [u64; COUNTS],
 ) -> Hand
     requires { ⌜ now zero ≡ zeroRow (length (now zero)) ⌝ }
-    requires { ⌜ gate settings (length (now zero)) (now store) ≡ 0 ⌝ }
+    requires { ⌜ gate s (length (now zero)) (now store) ≡ 0 ⌝ }
     requires { ⌜ cellCount ≡ countIn (length (now zero)) (now store) ⌝ }
     requires { ⌜ at + (6 + room) ≤ length (now out) ⌝ }
     requires { ⌜ from ≤ till ⌝ }
     requires { ⌜ till ≤ length (now buf) ⌝ }
-    ensures { λ r. ⌜ gate settings (length (now (zero .entry))) (now (store .exit)) ≡ 0 ⌝ }
+    ensures { λ r. ⌜ gate s (length (now (zero .entry))) (now (store .exit)) ≡ 0 ⌝ }
     ensures { λ r. ⌜ cellCount ≡ countIn (length (now (zero .entry))) (now (store .exit)) ⌝ }
     ensures { λ r. ⌜ r .from ≤ r .till ⌝ }
     ensures { λ r. ⌜ r .till ≤ length (now (buf .entry)) ⌝ }
     ensures { λ r. ⌜ r .at + (6 + room) ≤ length (now (out .entry)) ⌝ }
 {
-    let d = step_into(store, zero, &buf[from..till], ends, out, at);
+    let d = steps::step_there(s, store, CELLS, zero, &buf[from..till], ends, out, at);
     let what = d.what;
     let used = d.used;
     let written = d.written;
@@ -233,6 +212,7 @@ fn last(gathered: &[u8], stop: u8, counts: &mut [u64; COUNTS]) -> u8 {
 
 // Steps until one stops, and why. A proved loop has to end, so it counts down from a number that no run uses up.
 fn run(
+    s: Settings,
     fd: i32,
     store: &mut [u8],
     zero: &[u8],
@@ -241,7 +221,7 @@ fn run(
     counts: &mut [u64; COUNTS],
 ) -> u8
     requires { ⌜ now zero ≡ zeroRow (length (now zero)) ⌝ }
-    requires { ⌜ gate settings (length (now zero)) (now store) ≡ 0 ⌝ }
+    requires { ⌜ gate s (length (now zero)) (now store) ≡ 0 ⌝ }
     requires { ⌜ cellCount ≡ countIn (length (now zero)) (now store) ⌝ }
     requires { ⌜ 6 + room ≤ length (now out) ⌝ }
 {
@@ -251,7 +231,7 @@ fn run(
     let mut ends = false;
     let mut turns = u64::MAX;
     while turns > 0 {
-        let h = turn(fd, store, zero, buf, from, till, ends, out, at, counts);
+        let h = turn(s, fd, store, zero, buf, from, till, ends, out, at, counts);
         from = h.from;
         till = h.till;
         at = h.at;
@@ -273,31 +253,39 @@ fn closed(stop: u8, counts: &[u64; COUNTS]) -> u8 {
 }
 
 // The end of a run: its findings.
-fn end(store: &[u8], counts: &mut [u64; COUNTS], stop: u8) {
-    let left = tally::left(Settings { t: 8 }, store);
+fn end(s: Settings, store: &[u8], counts: &mut [u64; COUNTS], stop: u8) {
+    let left = tally::left(s, store);
     counts::add(counts, counts::SEGMENTS, left.segments as u64);
     counts::add(counts, counts::KEYS, left.keys as u64);
     let because = closed(stop, counts);
     let to = files::report();
     if to >= 0 {
-        say::findings(to, counts, store, because);
+        say::findings(to, s, counts, store, because);
     }
 }
 
-// Joins the recording that is open.
-fn join(fd: i32) {
+// Joins the recording that is open, under settings that are in range.
+fn join(s: Settings, fd: i32)
+    requires { ⌜ begun s .refused ≡ 0 ⌝ }
+{
     let zero = [0u8; CELL];
     let mut store = [0u8; STORE];
     let mut buf = [0u8; WINDOW];
     let mut out = [0u8; GATHERED];
     let mut counts = [0u64; COUNTS];
-    let stop = run(fd, &mut store, &zero, &mut buf, &mut out, &mut counts);
-    end(&store, &mut counts, stop);
+    let stop = run(s, fd, &mut store, &zero, &mut buf, &mut out, &mut counts);
+    end(s, &store, &mut counts, stop);
 }
 
 fn main() {
+    let s = files::settings();
+    let w = walk::begin(s);
+    if w.refused != 0 {
+        say::not_joined(w.refused);
+        return;
+    }
     let fd = files::input();
     if fd >= 0 {
-        join(fd);
+        join(s, fd);
     }
 }

@@ -91,6 +91,13 @@ pub fn failed(x: &[u8], n: u64) {
     os::fail(b"");
 }
 
+// The settings are refused by this number.
+pub fn not_joined(k: u8) {
+    text(ERROR, b"the settings are refused with ");
+    number(ERROR, k as u64);
+    newline(ERROR);
+}
+
 // ---- the names of the numbers
 
 // Where the line of a table that a place lies in ends.
@@ -223,20 +230,20 @@ fn segment(to: i32, t: Told) {
     newline(to);
 }
 
-fn segments(to: i32, store: &[u8]) {
+fn segments(to: i32, s: Settings, store: &[u8]) {
     let mut i: usize = 0;
     while i < CELLS {
-        segment(to, tally::cell(Settings { t: 8 }, store, i));
+        segment(to, tally::cell(s, store, i));
         i += 1;
     }
 }
 
 // All of them: the numbers, which refusals occurred, what is left in the store, and why it stopped.
-pub fn findings(to: i32, counts: &[u64; COUNTS], store: &[u8], stop: u8) {
+pub fn findings(to: i32, s: Settings, counts: &[u64; COUNTS], store: &[u8], stop: u8) {
     numbers(to, counts);
     refusals(to, counts);
     began(to, counts);
-    segments(to, store);
+    segments(to, s, store);
     text(to, b"stop");
     next(to, stop as u64);
     newline(to);

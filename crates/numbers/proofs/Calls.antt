@@ -52,4 +52,4 @@ pub join-numbered : (κs : L.Lfts 3) (a : _) (r : _) (x : _) → joins.Post κs 
 join-numbered κs a r x k = subst (λ (h : Joined). Numbered ofJoining (h .refusal .number)) (sym (k .0)) (join _ _ _ _ _)
 
 pub join-all-numbered : (κs : L.Lfts 2) (a : _) (r : _) (x : _) → alls.Post κs a r x → Numbered ofRecording (r .refusal .number)
-join-all-numbered κs a r x k = subst (λ (h : Recorded). Numbered ofRecording (h .refusal .number)) (sym (k .0)) (all _ _)
+join-all-numbered κs a r x k = subst (λ (h : Recorded). Numbered ofRecording (h .refusal .number)) (sym (k .0)) (all _ _ _)

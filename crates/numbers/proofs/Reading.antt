@@ -19,15 +19,15 @@ Known n = Numbered ofReading n
 known : (n : ℕ) → has (0 ∷ ofReading) n ≡ true → Known n
 known n e = among (0 ∷ ofReading) n e
 
-fields : OfFields Known
-fields =
+fields : (s : Settings) → OfFields s Known
+fields s =
     record {
       none = known 0 refl;
       six = known 6 refl;
       seven = known 7 refl;
       eight = known 8 refl;
       nine = known 9 refl;
-      ten = known 10 refl;
+      ten = λ e. known 10 refl;
       eleven = known 11 refl;
       twelve = known 12 refl;
       thirteen = known 13 refl;
@@ -52,4 +52,4 @@ module _ (s : Settings) (p : List ℕ) where
   unfolding readPacket acceptedHeader refusedHeader refusalOf
   reading =
       picked (λ (x : Header). Known (x .refusal .number)) (going (ended s p)) (acceptedHeader s p) (refusedHeader (refusalOf p (ended s p)))
-      (known 0 refl) (ended-has Known fields s p (start p))
+      (known 0 refl) (ended-has s Known (fields s) p (start p))

@@ -34,7 +34,7 @@ module _ (l : List ℕ) where
 
   settings-ok : (s : Settings) (r : Tested) → has l 15 ≡ true → Ok r → Ok (settingsTest s r)
   unfolding settingsTest
-  settings-ok s r e h = unless-ok _ 15 _ e (unless-ok _ 15 r e h)
+  settings-ok s r e h = unless-ok _ 15 _ e (unless-ok _ 15 _ e (unless-ok _ 15 r e h))
 
   zone-ok : (old : Bool) (v : HeaderValues) (r : Tested) → has l 30 ≡ true → Ok r → Ok (zoneTest old v r)
   unfolding zoneTest

@@ -20,7 +20,7 @@ use Rattle.taking.specs.Told.{takenOf}
 use Rattle.join.specs.Joining.{tookAs, joinedBy, joining}
 use Rattle.join.specs.Told.{joinedOf}
 use Rattle.recording.specs.declared.Recorded.{Recorded}
-use Rattle.recording.specs.Ending.{recordedOf}
+use Rattle.recording.specs.Ending.{refusedBy as byRecording, recordedOf}
 use Rattle.numbers.specs.Lists.{Numbered, ofReading, ofArrival, ofTaking, ofJoining, ofOrder, ofRecording}
 use Rattle.format.proofs.Refusals.{picked}
 use Rattle.numbers.proofs.Among.{has, among, among-all}
@@ -104,8 +104,15 @@ order s Z st =
     picked (Numbered ofOrder) (eqb (begun s .refused) 0) _ 15
     (picked (Numbered ofOrder) (inOrder s Z st) 0 16 (among (0 ∷ ofOrder) 0 refl) (among (0 ∷ ofOrder) 16 refl)) (among (0 ∷ ofOrder) 15 refl)
 
-pub all : (long : ℕ) (x : List ℕ) → Numbered ofRecording (recordedOf long x .refusal .number)
+all-by : (s : Settings) (n long : ℕ) → Numbered ofRecording (byRecording s n long)
+unfolding byRecording
+all-by s n long =
+    picked (Numbered ofRecording) (eqb (begun s .refused) 0) _ 15
+    (picked (Numbered ofRecording) (leb n long) 0 21 (among (0 ∷ ofRecording) 0 refl) (among (0 ∷ ofRecording) 21 refl))
+    (among (0 ∷ ofRecording) 15 refl)
+
+pub all : (s : Settings) (long : ℕ) (x : List ℕ) → Numbered ofRecording (recordedOf s long x .refusal .number)
 unfolding recordedOf
-all long x =
-    picked (λ (r : Recorded). Numbered ofRecording (r .refusal .number)) (leb (length x) long) _ _ (among (0 ∷ ofRecording) 0 refl)
-    (among (0 ∷ ofRecording) 21 refl)
+all s long x =
+    picked (λ (r : Recorded). Numbered ofRecording (r .refusal .number)) (eqb (byRecording s (length x) long) 0) _ _ (among (0 ∷ ofRecording) 0 refl)
+    (all-by s (length x) long)

@@ -27,9 +27,9 @@ ofJoining = ofArrival ++ (20 ∷ 21 ∷ [])
 abbrev pub ofWriting : List ℕ
 ofWriting = 15 ∷ 22 ∷ 30 ∷ 13 ∷ 28 ∷ 23 ∷ 12 ∷ 14 ∷ 21 ∷ []
 
--- a whole recording joined: the output is too short
+-- a whole recording joined: the settings; the output is too short
 abbrev pub ofRecording : List ℕ
-ofRecording = 21 ∷ []
+ofRecording = 15 ∷ 21 ∷ []
 
 -- the order of a store alone
 abbrev pub ofOrder : List ℕ

@@ -1,17 +1,18 @@
 -- SPEC's figure 14: a packet of 27 octets with neither optional fields nor a body, its values, and all that reading answers of
--- it with T 8. The tables and examples of the other crates cite it.
+-- it with T 8 and Varints. The tables and examples of the other crates cite it.
 -- Assumes nothing: these are definitions.
 use Prim.Native.Nat.{ℕ}
 use mathlib.Core.List.{List, [], _∷_}
 use mathlib.Core.Bool.{false}
 use lib.ListN.{replicate}
 use Rattle.walk.specs.declared.Settings.{Settings}
+use Rattle.walk.specs.Profile.{varintProfile}
 use Rattle.fields.specs.Fields.{nowhere, place}
 use Rattle.packet.specs.declared.Header.{Header}
 use Rattle.packet.specs.Format.{Values}
 
 abbrev pub settings : Settings
-settings = record { t = 8 }
+settings = record { t = 8; profile = varintProfile }
 
 -- so many zeros: a body, or an output before it is written to
 abbrev pub zeros : ℕ → List ℕ

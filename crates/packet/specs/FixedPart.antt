@@ -7,13 +7,11 @@ use Rattle.octets.specs.Octets.{octetAt, number}
 use Rattle.walk.specs.Walk.{Reading, Step, octets, check, fieldFrom}
 use Rattle.packet.specs.declared.Fixed.{Fixed}
 use Rattle.packet.specs.declared.Present.{Present}
+-- a number of n octets, and an octet
+unfoldable pub use Rattle.walk.specs.Walk.{wideField}
 
--- an octet, and a number of n octets
 unfoldable pub octetField : List ℕ → Reading → Step ℕ
 octetField p w = record { walk = octets p 1 w; value = octetAt p (w .at) }
-
-unfoldable pub wideField : ℕ → List ℕ → Reading → Step ℕ
-wideField n p w = record { walk = octets p n w; value = number n p (w .at) }
 
 -- binding version and SDU type, an octet: 7, then 8
 unfoldable pub afterSdu : List ℕ → Reading → Reading

@@ -9,6 +9,7 @@ use lib.Dec.{eqb}
 use Rattle.octets.specs.Octets.{pick, Octets, wide}
 use Rattle.utf8.specs.Text.{Text}
 use Rattle.walk.specs.declared.Settings.{Settings}
+use Rattle.walk.specs.Profile.{fixedProfile}
 use Rattle.walk.specs.Walk.{timestampLeast, timestampMost}
 use Rattle.fields.specs.Fields.{partsMost}
 use Rattle.fields.specs.Form.{uintegerOctets, blobOctets, textOctets, domainOctets}
@@ -169,10 +170,11 @@ headerMost = 256
 abbrev pub packetMost : ℕ
 packetMost = 65542
 
--- T 1 to 16 (15)
+-- T 1 to 16, and a profile that there is (15)
 pub record SettingsInRange (s : Settings) : Type 0 where
   pub t-low : timestampLeast ≤ s .t
   pub t-top : s .t ≤ timestampMost
+  pub profile-top : s .profile ≤ fixedProfile
 
 -- a header's fields within their widths and ranges, absent ones without a value (22), at most sixteen parts (13); zone, session name
 -- and each part text (28)

@@ -396,8 +396,9 @@ fn counter_if(there: bool, p: &[u8], w: Walk) -> Counter
     ensures { λ r. ⌜ r ≡ asCounter (opt there 0 (wideField 4 (now (p .entry))) (ofWalk w)) ⌝ }
 {
     if there {
-        let v = w.octets(p, 4);
-        let x = SegmentCounter(octets::be32(p, w.at as usize));
+        let n = walk::read_four(p, w);
+        let v = n.walk;
+        let x = SegmentCounter(n.value);
         return Counter { walk: v, value: x };
     }
     let x = SegmentCounter(0);

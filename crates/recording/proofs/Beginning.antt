@@ -5,7 +5,9 @@ use mathlib.Core.Path.{_≡_, refl, ap, sym}
 use mathlib.Core.List.{List}
 use native.Mathlib.Omega.{arith}
 use lib.ListN.{length, replicate, length-replicate}
-use Rattle.walk.specs.Walk.{begun, check}
+use borrow.Author.Tests.{eq-eqb}
+use Rattle.walk.specs.declared.Settings.{Settings}
+use Rattle.walk.specs.Walk.{begun}
 use Rattle.cells.specs.Order.{countIn, cellSize, gate}
 use Rattle.cells.proofs.Empty.{empty-order, empty-count}
 use Rattle.steps.specs.Stepping.{room}
@@ -14,9 +16,9 @@ use Rattle.recording.specs.Recording.{settings, cellCount, emptyStore}
 pub begin-count : cellCount ≡ countIn cellSize emptyStore
 begin-count = sym (empty-count settings cellSize cellCount (omega arith))
 
-pub begin-gate : gate settings cellSize emptyStore ≡ 0
-unfolding gate begun check
-begin-gate = rw (empty-order settings cellSize cellCount (omega arith) (omega arith) (omega arith)) refl
+pub begin-gate : (s : Settings) → begun s .refused ≡ 0 → gate s cellSize emptyStore ≡ 0
+unfolding gate
+begin-gate s h = rw (eq-eqb (begun s .refused) 0 h, empty-order s cellSize cellCount (omega arith) (omega arith) (omega arith)) refl
 
 pub spare-begins : {l : List ℕ} → l ≡ replicate 65542 0 → 6 + room ≤ length l
 spare-begins e = omega (arith, ap length e, length-replicate {A = ℕ} 65542 0)

@@ -6,6 +6,7 @@ use mathlib.Core.Bool.{true}
 use mathlib.Core.Logic.{inl}
 use mathlib.Core.List.{List, [], _∷_, _++_, append-nil}
 use Rattle.octets.specs.Octets.{number, alike, wide}
+use Rattle.walk.specs.Walk.{begun, check}
 use Rattle.packet.specs.Figure14.{packet}
 use Rattle.format.proofs.Figure14.{reads}
 use Rattle.cells.specs.Order.{countIn, cellSize, gate}
@@ -53,6 +54,6 @@ module _ (Z : ℕ) (st : List ℕ) (g : gate settings Z st ≡ 0) where
       ∙ append-nil (framed (without packet))
       ∙ written
 
-pub figure-14 : recorded alone ≡ given
-unfolding recorded
-figure-14 = alone-gives cellSize emptyStore begin-gate 28
+pub figure-14 : recorded settings alone ≡ given
+unfolding recorded begun check
+figure-14 = alone-gives cellSize emptyStore (begin-gate settings refl) 28

@@ -4,6 +4,7 @@ pub mod Figure
 pub mod Rooms
 mod Weights
 pub mod Shorter
+pub mod Tested
 mod Reaching
 mod Leaving
 mod Calls

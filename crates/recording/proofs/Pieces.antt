@@ -21,7 +21,7 @@ use Rattle.cells.specs.Order.{cellSize}
 use Rattle.cells.proofs.Held.{both-true}
 use Rattle.steps.specs.Stepping.{Found, nothing, other, cut, whole, begins, foundIn, Came, cameOf, wrote, Stepped, wanting, ended, unmarked, torn}
 use Rattle.steps.specs.Stepping.{came, stepBy, stepped, storeBehind, usedBy, writtenBy}
-use Rattle.recording.specs.Recording.{recordedFrom, recorded, settings, emptyStore}
+use Rattle.recording.specs.Recording.{recordedFrom, recorded, emptyStore}
 use Rattle.recording.specs.Handing.{Hand, inHand, endsWith, Outcome, onward, handed}
 use Rattle.steps.proofs.Places.{found-nothing, found-cut}
 use Rattle.steps.proofs.Showing.{other-more, whole-more, cut-tells, nothing-tells}
@@ -197,10 +197,10 @@ module _ (s : Settings) (Z : ℕ) where
 
 -- G-4
 pub pieces :
-    (x : List ℕ) (hs : List Hand) → handed settings cellSize emptyStore x hs .stopped ≡ true →
-    handed settings cellSize emptyStore x hs .output ≡ recorded x
+    (s : Settings) (x : List ℕ) (hs : List Hand) → handed s cellSize emptyStore x hs .stopped ≡ true →
+    handed s cellSize emptyStore x hs .output ≡ recorded s x
 unfolding recorded
-pieces x hs t = pieces-from settings cellSize hs emptyStore x t (length x) (omega arith)
+pieces s x hs t = pieces-from s cellSize hs emptyStore x t (length x) (omega arith)
 
 -- ---- they come to a stop
 
@@ -266,8 +266,8 @@ module _ (s : Settings) (Z : ℕ) where
 
 -- a recording in full hands, as many as will do: the steps come to a stop, and have written what it comes to
 pub pieces-full :
-    (x : List ℕ) (hs : List Hand) → Octets x → ((h : Hand) → List·Memᴰ h hs → Full settings cellSize h) → length x < length hs →
-    (handed settings cellSize emptyStore x hs .stopped ≡ true) × (handed settings cellSize emptyStore x hs .output ≡ recorded x)
-pieces-full x hs o a l =
-    let t = full-stops settings cellSize hs emptyStore x o a l in
-    (t, pieces x hs t)
+    (s : Settings) (x : List ℕ) (hs : List Hand) → Octets x → ((h : Hand) → List·Memᴰ h hs → Full s cellSize h) → length x < length hs →
+    (handed s cellSize emptyStore x hs .stopped ≡ true) × (handed s cellSize emptyStore x hs .output ≡ recorded s x)
+pieces-full s x hs o a l =
+    let t = full-stops s cellSize hs emptyStore x o a l in
+    (t, pieces s x hs t)

@@ -9,20 +9,20 @@ use mathlib.Core.List.{List, [], _++_, append-nil, append-assoc}
 use native.Mathlib.Omega.{arith}
 use lib.ListN.{length, take, drop, length-append, length-drop, replicate, length-replicate}
 use lib.Seq.{sets, length-sets, take-all, drop-drop}
-use borrow.Author.Tests.{le-leb, lt-leb}
+use borrow.Author.Tests.{ne-eqb}
 use Rattle.octets.specs.Octets.{Octets}
 use Rattle.octets.proofs.Lists.{sets-append}
 use Rattle.walk.specs.declared.Settings.{Settings}
 use Rattle.cells.specs.Rows.{zeroRow}
 use Rattle.cells.specs.Order.{countIn, cellSize, gate}
-use Rattle.walk.specs.Walk.{refusal}
+use Rattle.walk.specs.Walk.{refusal, begun}
 use Rattle.steps.specs.declared.Done.{Done}
 use Rattle.recording.specs.declared.Why.{Why}
 use Rattle.recording.specs.declared.Why.the-variants.{Unsaid}
 use Rattle.steps.specs.Stepping.{Found, nothing, other, cut, whole, foundIn, Stepped, stepBy, stepped, storeBehind, usedBy, writtenBy}
 use Rattle.recording.specs.Recording.{recordedFrom, recorded, settings, cellCount, emptyStore}
 use Rattle.steps.specs.Told.{doneOf}
-use Rattle.recording.specs.Ending.{past, reachFrom, reach, whyAt, whyOf, recordedOf, outRecorded}
+use Rattle.recording.specs.Ending.{past, reachFrom, reach, whyAt, whyOf, refusedBy, recordedOf, outRecorded}
 use Rattle.steps.proofs.Steps.{used-most, done-used, done-written}
 use Rattle.steps.proofs.Kept.{step-gate, step-count}
 use Rattle.recording.proofs.Beginning.{begin-gate, begin-count}
@@ -94,38 +94,38 @@ reach-most x = reach-within (length x) x
 -- ---- all steps
 
 -- what holds between two steps: so much is done, and the rest comes to the rest of what the recording comes to
-pub record Going (x out₀ : List ℕ) (Z : ℕ) (st out : List ℕ) (place written : ℕ) : Type 0 where
+pub record Going (s : Settings) (x out₀ : List ℕ) (Z : ℕ) (st out : List ℕ) (place written : ℕ) : Type 0 where
   pub plain : Octets x
   pub wide : length x ≤ length out₀
   pub within : place ≤ length x
-  pub order : gate settings Z st ≡ 0
+  pub order : gate s Z st ≡ 0
   pub count : cellCount ≡ countIn Z st
   pub done : List ℕ
   pub output : out ≡ sets out₀ 0 done
   pub long : length done ≡ written
   pub fuel : ℕ
   pub enough : length (drop place x) ≤ fuel
-  pub rest : done ++ recordedFrom settings Z fuel st (drop place x) ≡ recorded x
+  pub rest : done ++ recordedFrom s Z fuel st (drop place x) ≡ recorded s x
   pub reached : place + reachFrom fuel (drop place x) ≡ reach x
 
 pub going-first :
-    (x out₀ : List ℕ) {zero st : List ℕ} → zero ≡ zeroRow cellSize → st ≡ emptyStore → Octets x → length x ≤ length out₀ →
-    Going x out₀ (length zero) st out₀ 0 0
+    (s : Settings) (x out₀ : List ℕ) → begun s .refused ≡ 0 → {zero st : List ℕ} → zero ≡ zeroRow cellSize → st ≡ emptyStore → Octets x → length x ≤ length out₀ →
+    Going s x out₀ (length zero) st out₀ 0 0
 unfolding recorded reach
-going-first x out₀ {zero} {st} ez es o h =
+going-first s x out₀ g {zero} {st} ez es o h =
     let e : length zero ≡ cellSize = ap length ez ∙ length-replicate {A = ℕ} cellSize 0 in
     record {
       plain = o;
       wide = h;
       within = omega arith;
-      order = ap₂ (λ (Z : ℕ) (y : List ℕ). gate settings Z y) e es ∙ begin-gate;
+      order = ap₂ (λ (Z : ℕ) (y : List ℕ). gate s Z y) e es ∙ begin-gate s g;
       count = begin-count ∙ sym (ap₂ (λ (Z : ℕ) (y : List ℕ). countIn Z y) e es);
       done = [];
       output = refl;
       long = refl;
       fuel = length x;
       enough = omega arith;
-      rest = ap₂ (λ (Z : ℕ) (y : List ℕ). recordedFrom settings Z (length x) y x) e es;
+      rest = ap₂ (λ (Z : ℕ) (y : List ℕ). recordedFrom s Z (length x) y x) e es;
       reached = omega arith;
     }
 
@@ -137,7 +137,7 @@ zero-own {zero} e = e ∙ ap zeroRow (sym (ap length e ∙ length-replicate {A =
 pub rest-lent : (x : List ℕ) (place : ℕ) → take (length x - place) (drop place x) ≡ drop place x
 rest-lent x place = take-all (length x - place) (drop place x) (omega (arith, length-drop place x))
 
-module _ {x out₀ : List ℕ} {Z : ℕ} {st out : List ℕ} {place written : ℕ} (inv : Going x out₀ Z st out place written) where
+module _ {s : Settings} {x out₀ : List ℕ} {Z : ℕ} {st out : List ℕ} {place written : ℕ} (inv : Going s x out₀ Z st out place written) where
   abbrev y : List ℕ
   y = drop place x
 
@@ -152,53 +152,53 @@ module _ {x out₀ : List ℕ} {Z : ℕ} {st out : List ℕ} {place written : �
         going-long,
         inv .wide,
         inv .long,
-        recorded-most x (inv .plain),
+        recorded-most s x (inv .plain),
         ap length (inv .rest),
-        length-append (inv .done) (recordedFrom settings Z (inv .fuel) st y),
+        length-append (inv .done) (recordedFrom s Z (inv .fuel) st y),
       )
 
-  module _ {w : List ℕ} (ew : w ≡ y) {d : Done} {st' out' : List ℕ} (ed : d ≡ doneOf (stepped settings Z st w true))
-      (es : st' ≡ storeBehind settings Z st (stepped settings Z st w true)) (eo : out' ≡ sets out written (writtenBy (stepped settings Z st w true))) where
+  module _ {w : List ℕ} (ew : w ≡ y) {d : Done} {st' out' : List ℕ} (ed : d ≡ doneOf (stepped s Z st w true))
+      (es : st' ≡ storeBehind s Z st (stepped s Z st w true)) (eo : out' ≡ sets out written (writtenBy (stepped s Z st w true))) where
     abbrev h : Stepped
-    h = stepped settings Z st y true
+    h = stepped s Z st y true
 
     used-is : d .used ≡ usedBy h
     used-is =
-        ap (λ (r : Done). r .used) ed ∙ done-used settings Z st w true (stepped settings Z st w true) ∙ ap (λ (v : List ℕ). usedBy (stepped settings Z st v true)) ew
+        ap (λ (r : Done). r .used) ed ∙ done-used s Z st w true (stepped s Z st w true) ∙ ap (λ (v : List ℕ). usedBy (stepped s Z st v true)) ew
 
     written-is : d .written ≡ length (writtenBy h)
     written-is =
         ap (λ (r : Done). r .written) ed
-        ∙ done-written settings Z st w true (stepped settings Z st w true)
-        ∙ ap (λ (v : List ℕ). length (writtenBy (stepped settings Z st v true))) ew
+        ∙ done-written s Z st w true (stepped s Z st w true)
+        ∙ ap (λ (v : List ℕ). length (writtenBy (stepped s Z st v true))) ew
 
-    store-is : st' ≡ storeBehind settings Z st h
-    store-is = es ∙ ap (λ (v : List ℕ). storeBehind settings Z st (stepped settings Z st v true)) ew
+    store-is : st' ≡ storeBehind s Z st h
+    store-is = es ∙ ap (λ (v : List ℕ). storeBehind s Z st (stepped s Z st v true)) ew
 
     output-is : out' ≡ sets out written (writtenBy h)
-    output-is = eo ∙ ap (λ (v : List ℕ). sets out written (writtenBy (stepped settings Z st v true))) ew
+    output-is = eo ∙ ap (λ (v : List ℕ). sets out written (writtenBy (stepped s Z st v true))) ew
 
     used-within : d .used ≤ length y
-    used-within = omega (arith, used-is, used-most settings Z st y true)
+    used-within = omega (arith, used-is, used-most s Z st y true)
 
     more-by :
-        (f : ℕ) → length y ≤ f → inv .done ++ recordedFrom settings Z f st y ≡ recorded x → place + reachFrom f y ≡ reach x → 0 < d .used →
-        Going x out₀ Z st' out' (place + d .used) (written + d .written)
+        (f : ℕ) → length y ≤ f → inv .done ++ recordedFrom s Z f st y ≡ recorded s x → place + reachFrom f y ≡ reach x → 0 < d .used →
+        Going s x out₀ Z st' out' (place + d .used) (written + d .written)
     more-by zero e r q u = absurd (omega (arith, used-within))
     more-by (suc f) e r q u =
         let k : drop (usedBy h) y ≡ drop (place + d .used) x =
         drop-drop (usedBy h) place x ∙ ap (λ (n : ℕ). drop (place + n) x) (sym used-is) in
-        let t : recordedFrom settings Z f (storeBehind settings Z st h) (drop (usedBy h) y) ≡ recordedFrom settings Z f st' (drop (place + d .used) x) =
-        ap₂ (λ (a b : List ℕ). recordedFrom settings Z f a b) (sym store-is) k in
+        let t : recordedFrom s Z f (storeBehind s Z st h) (drop (usedBy h) y) ≡ recordedFrom s Z f st' (drop (place + d .used) x) =
+        ap₂ (λ (a b : List ℕ). recordedFrom s Z f a b) (sym store-is) k in
         let v : reachFrom f (drop (past (foundIn y)) y) ≡ reachFrom f (drop (place + d .used) x) =
-        ap (λ (n : ℕ). reachFrom f (drop n y)) (past-used settings Z st y) ∙ ap (reachFrom f) k in
+        ap (λ (n : ℕ). reachFrom f (drop n y)) (past-used s Z st y) ∙ ap (reachFrom f) k in
         let n : written ≡ 0 + length (inv .done) = omega (arith, inv .long) in
         record {
           plain = inv .plain;
           wide = inv .wide;
           within = omega (arith, used-within, length-drop place x, inv .within);
-          order = ap (λ (a : List ℕ). gate settings Z a) store-is ∙ step-gate settings Z st h (inv .order);
-          count = step-count settings Z st h (inv .count) ∙ ap (λ (a : List ℕ). countIn Z a) (sym store-is);
+          order = ap (λ (a : List ℕ). gate s Z a) store-is ∙ step-gate s Z st h (inv .order);
+          count = step-count s Z st h (inv .count) ∙ ap (λ (a : List ℕ). countIn Z a) (sym store-is);
           done = inv .done ++ writtenBy h;
           output =
               output-is
@@ -208,29 +208,29 @@ module _ {x out₀ : List ℕ} {Z : ℕ} {st out : List ℕ} {place written : �
           fuel = f;
           enough = omega (arith, ap length k, length-drop (usedBy h) y, used-is, used-within);
           rest =
-              append-assoc (inv .done) (writtenBy h) (recordedFrom settings Z f st' (drop (place + d .used) x))
+              append-assoc (inv .done) (writtenBy h) (recordedFrom s Z f st' (drop (place + d .used) x))
               ∙ ap (λ (l : List ℕ). inv .done ++ (writtenBy h ++ l)) (sym t)
-              ∙ ap (λ (l : List ℕ). inv .done ++ l) (sym (one settings Z f st y))
+              ∙ ap (λ (l : List ℕ). inv .done ++ l) (sym (one s Z f st y))
               ∙ r;
-          reached = omega (arith, q, reach-one f y, v, past-used settings Z st y, used-is);
+          reached = omega (arith, q, reach-one f y, v, past-used s Z st y, used-is);
         }
 
     -- a step that goes on
-    pub going-more : (d .used ≡ 0 → ⊥) → Going x out₀ Z st' out' (place + d .used) (written + d .written)
+    pub going-more : (d .used ≡ 0 → ⊥) → Going s x out₀ Z st' out' (place + d .used) (written + d .written)
     going-more u = more-by (inv .fuel) (inv .enough) (inv .rest) (inv .reached) (omega arith)
 
     -- the last step
-    pub going-done : d .used ≡ 0 → (place ≡ reach x) × ((written ≡ length (recorded x)) × (out' ≡ sets out₀ 0 (recorded x)))
+    pub going-done : d .used ≡ 0 → (place ≡ reach x) × ((written ≡ length (recorded s x)) × (out' ≡ sets out₀ 0 (recorded s x)))
     going-done u =
         let n : usedBy h ≡ 0 = sym used-is ∙ u in
-        let a = unused-stops settings Z st y n in
-        let b : inv .done ≡ recorded x =
-        sym (append-nil (inv .done)) ∙ ap (λ (l : List ℕ). inv .done ++ l) (sym (stops settings Z (inv .fuel) st y a)) ∙ inv .rest in
-        let r = reach-stops (inv .fuel) y (past-used settings Z st y ∙ n) in (
+        let a = unused-stops s Z st y n in
+        let b : inv .done ≡ recorded s x =
+        sym (append-nil (inv .done)) ∙ ap (λ (l : List ℕ). inv .done ++ l) (sym (stops s Z (inv .fuel) st y a)) ∙ inv .rest in
+        let r = reach-stops (inv .fuel) y (past-used s Z st y ∙ n) in (
           omega (arith, inv .reached),
           (
             sym (inv .long) ∙ ap length b,
-            output-is ∙ ap (sets out written) (stop-silent settings Z st y a) ∙ inv .output ∙ ap (sets out₀ 0) b,
+            output-is ∙ ap (sets out written) (stop-silent s Z st y a) ∙ inv .output ∙ ap (sets out₀ 0) b,
           ),
         )
 
@@ -241,25 +241,28 @@ store-begins e = let k : 32768 ≡ cellCount * cellSize = omega arith in e ∙ a
 
 -- ---- what is told
 
-module _ (x out : List ℕ) where
-  pub told-short : length out < length x → record { refusal = refusal 21; why = Unsaid; place = 0; written = 0 } ≡ recordedOf (length out) x
-  unfolding recordedOf
-  told-short h = rw (lt-leb (length x) (length out) h) refl
+module _ (s : Settings) (x out : List ℕ) {k : ℕ} (e : k ≡ refusedBy s (length x) (length out)) where
+  -- refused: the number, and the output as it was
+  module _ (h : k ≡ 0 → ⊥) where
+    pub told-refused : record { refusal = refusal k; why = Unsaid; place = 0; written = 0 } ≡ recordedOf s (length out) x
+    unfolding recordedOf
+    told-refused = rw (sym e, ne-eqb k 0 h) refl
 
-  pub out-short : length out < length x → out ≡ outRecorded out x
-  unfolding outRecorded
-  out-short h = rw (lt-leb (length x) (length out) h) refl
+    pub out-refused : out ≡ outRecorded s out x
+    unfolding outRecorded
+    out-refused = rw (sym e, ne-eqb k 0 h) refl
 
-  pub out-all : length x ≤ length out → {l : List ℕ} → l ≡ sets out 0 (recorded x) → l ≡ outRecorded out x
-  unfolding outRecorded
-  out-all h e = rw (le-leb (length x) (length out) h) e
+  module _ (h : k ≡ 0) where
+    pub out-all : {l : List ℕ} → l ≡ sets out 0 (recorded s x) → l ≡ outRecorded s out x
+    unfolding outRecorded
+    out-all f = rw (sym e, h) f
 
-  pub told-all :
-      length x ≤ length out → {r : List ℕ} {w : Why} {n m : ℕ} → n ≡ reach x → m ≡ length (recorded x) → r ≡ take (length x - n) (drop n x) →
-      w ≡ whyAt (foundIn r) → record { refusal = refusal 0; why = w; place = n; written = m } ≡ recordedOf (length out) x
-  unfolding recordedOf
-  told-all h {r} {w} {n} {m} en em er ew =
-      let a : r ≡ drop (reach x) x =
-      er ∙ take-all (length x - n) (drop n x) (omega (arith, length-drop n x)) ∙ ap (λ (k : ℕ). drop k x) en in
-      let b : w ≡ whyOf x = ew ∙ ap (λ (k : List ℕ). whyAt (foundIn k)) a in
-      rw (le-leb (length x) (length out) h) (rw (b, en, em) refl)
+    pub told-all :
+        {r : List ℕ} {w : Why} {n m : ℕ} → n ≡ reach x → m ≡ length (recorded s x) → r ≡ take (length x - n) (drop n x) →
+        w ≡ whyAt (foundIn r) → record { refusal = refusal 0; why = w; place = n; written = m } ≡ recordedOf s (length out) x
+    unfolding recordedOf
+    told-all {r} {w} {n} {m} en em er ew =
+        let a : r ≡ drop (reach x) x =
+        er ∙ take-all (length x - n) (drop n x) (omega (arith, length-drop n x)) ∙ ap (λ (k : ℕ). drop k x) en in
+        let b : w ≡ whyOf x = ew ∙ ap (λ (k : List ℕ). whyAt (foundIn k)) a in
+        rw (sym e, h) (rw (b, en, em) refl)

@@ -19,7 +19,7 @@ use Rattle.taking.specs.Taking.{Took, message as message', unable, writing, too
 use Rattle.join.specs.Joining.{tookAs, joinedBy, storeBy, joining, storeJoined}
 use Rattle.steps.specs.Stepping.{Found, nothing, other, cut, whole, foundIn, longest, room, over, refused, kept, cameBy, cameOf, storeAfter, without}
 use Rattle.steps.specs.Stepping.{wrote, stepBy, stepped, storeBehind, usedBy, writtenBy}
-use Rattle.recording.specs.Recording.{recordedFrom, recorded, settings, cellCount, emptyStore}
+use Rattle.recording.specs.Recording.{recordedFrom, recorded, cellCount, emptyStore}
 use Rattle.steps.proofs.Frames.{framed-long}
 use Rattle.steps.proofs.Showing.{whole-tells}
 use Rattle.steps.proofs.Steps.{used-most}
@@ -110,9 +110,9 @@ module _ (s : Settings) (Z : ℕ) where
       omega (arith, length-append (writtenBy d) (recordedFrom s Z f y z), length-drop (usedBy d) x)
 
 -- the law: what a recording comes to is never longer than it
-pub recorded-most : (x : List ℕ) → Octets x → length (recorded x) ≤ length x
+pub recorded-most : (s : Settings) (x : List ℕ) → Octets x → length (recorded s x) ≤ length x
 unfolding recorded
-recorded-most x o =
-    let a = recorded-from settings cellSize (length x) emptyStore x o in
-    let b = weighs-none settings cellSize cellCount (omega arith) in
+recorded-most s x o =
+    let a = recorded-from s cellSize (length x) emptyStore x o in
+    let b = weighs-none s cellSize cellCount (omega arith) in
     omega arith

@@ -1,11 +1,12 @@
 -- Joining a recording.
--- SPEC G-2, G-3: T 8, 32 cells, from mark to mark, as far as whole packets follow.
+-- SPEC G-2, G-3: 32 cells, from mark to mark, as far as whole packets follow; T 8 and Varints if nothing else is said.
 -- Assumes nothing: these are definitions.
 use Prim.Native.Nat.{ℕ, zero, suc, _*_}
 use mathlib.Core.Bool.{true}
 use mathlib.Core.List.{List, [], _++_}
 use lib.ListN.{length, drop, replicate}
 use Rattle.walk.specs.declared.Settings.{Settings}
+use Rattle.walk.specs.Profile.{varintProfile}
 use Rattle.cells.specs.Order.{cellSize}
 use Rattle.steps.specs.Stepping.{stepped, storeBehind, usedBy, writtenBy}
 
@@ -17,9 +18,9 @@ recordedFrom s Z (suc f) st x =
     let r = recordedFrom s Z f (storeBehind s Z st d) (drop (usedBy d) x) in
     writtenBy d ++ r
 
--- SPEC G-2
+-- SPEC G-2: of a recording of which nothing else is said
 abbrev pub settings : Settings
-settings = record { t = 8 }
+settings = record { t = 8; profile = varintProfile }
 
 abbrev pub cellCount : ℕ
 cellCount = 32
@@ -28,5 +29,5 @@ abbrev pub emptyStore : List ℕ
 emptyStore = replicate (cellCount * cellSize) 0
 
 -- no more steps than octets
-unfoldable pub recorded : List ℕ → List ℕ
-recorded x = recordedFrom settings cellSize (length x) emptyStore x
+unfoldable pub recorded : Settings → List ℕ → List ℕ
+recorded s x = recordedFrom s cellSize (length x) emptyStore x

@@ -132,7 +132,10 @@ fn sender(m: u8) -> Sender {
 // Packet i of a message with this body. How many octets it has.
 pub fn packet(m: u8, i: u8, body: &[u8], out: &mut [u8]) -> usize {
     let all = rich(m);
-    let s = Settings { t: 8 };
+    let s = Settings {
+        t: 8,
+        profile: walk::PROFILE_VARINT,
+    };
     let c = cut::packet_by(
         true,
         s,

@@ -2,7 +2,7 @@
 -- Assumes nothing.
 use Prim.Native.Nat.{ℕ, _+_, _-_, _≤_}
 use mathlib.Core.Path.{_≡_, refl, ap, ap₂, _∙_}
-use mathlib.Core.Bool.{true}
+use mathlib.Core.Bool.{Bool}
 use mathlib.Core.List.{List, _++_}
 use native.Mathlib.Omega.{arith}
 use lib.ListN.{length, take, drop}
@@ -14,9 +14,9 @@ use Rattle.steps.specs.Told.{doneOf}
 use Rattle.steps.proofs.Frames.{sets-part}
 use Rattle.steps.proofs.Steps.{written-most, done-written}
 
-module _ (s : Settings) (Z : ℕ) (st w : List ℕ) where
+module _ (s : Settings) (Z : ℕ) (st w : List ℕ) (ends : Bool) where
   abbrev g : Stepped
-  g = stepped s Z st w true
+  g = stepped s Z st w ends
 
   -- the front of a spare buffer is what was written
   pub spare-front :
@@ -24,9 +24,9 @@ module _ (s : Settings) (Z : ℕ) (st w : List ℕ) where
       take (d .written - 0) (drop 0 y) ≡ writtenBy g
   spare-front spare {d} {y} ed ey h =
       let m = writtenBy g in
-      let a = ap (λ (x : Done). x .written) ed ∙ done-written s Z st w true g in
+      let a = ap (λ (x : Done). x .written) ed ∙ done-written s Z st w ends g in
       let n : d .written - 0 ≡ length m = omega arith in
-      ap₂ (λ (k : ℕ) (l : List ℕ). take k l) n (ey ∙ sets-eq m spare 0 (omega (arith, written-most s Z st w true)))
+      ap₂ (λ (k : ℕ) (l : List ℕ). take k l) n (ey ∙ sets-eq m spare 0 (omega (arith, written-most s Z st w ends)))
       ∙ take-at m (drop (0 + length m) spare) (length m) refl
 
   -- the part of the output that was lent
@@ -35,4 +35,4 @@ module _ (s : Settings) (Z : ℕ) (st w : List ℕ) where
       take at out ++ (y ++ drop k (drop at out)) ≡ sets out at (writtenBy g)
   there-out out at k h l e =
       ap (λ (z : List ℕ). take at out ++ (z ++ drop k (drop at out))) e
-      ∙ sets-part out (writtenBy g) at k h (omega (arith, written-most s Z st w true))
+      ∙ sets-part out (writtenBy g) at k h (omega (arith, written-most s Z st w ends))

@@ -327,13 +327,14 @@ fn step_spare(
     d
 }
 
-// The same if the output has room for the longest message from the place on.
-fn step_there(
+// A step that writes straight into the output from a place on, which has room there for the longest message.
+pub fn step_there(
     s: Settings,
     store: &mut [u8],
     n: usize,
     zero: &[u8],
     rest: &[u8],
+    ends: bool,
     out: &mut [u8],
     at: usize,
 ) -> Done
@@ -341,14 +342,14 @@ fn step_there(
     requires { ⌜ gate s (length (now zero)) (now store) ≡ 0 ⌝ }
     requires { ⌜ n ≡ countIn (length (now zero)) (now store) ⌝ }
     requires { ⌜ at + (6 + room) ≤ length (now out) ⌝ }
-    ensures { λ r. ⌜ r ≡ doneOf (stepped s (length (now (zero .entry))) (now (store .entry)) (now (rest .entry)) true) ⌝ }
+    ensures { λ r. ⌜ r ≡ doneOf (stepped s (length (now (zero .entry))) (now (store .entry)) (now (rest .entry)) ends) ⌝ }
     ensures { λ r. ⌜ now (store .exit) ≡ storeBehind s (length (now (zero .entry))) (now (store .entry))
-        (stepped s (length (now (zero .entry))) (now (store .entry)) (now (rest .entry)) true) ⌝ }
+        (stepped s (length (now (zero .entry))) (now (store .entry)) (now (rest .entry)) ends) ⌝ }
     ensures { λ r. ⌜ now (out .exit) ≡ sets (now (out .entry)) at
-        (writtenBy (stepped s (length (now (zero .entry))) (now (store .entry)) (now (rest .entry)) true)) ⌝ }
+        (writtenBy (stepped s (length (now (zero .entry))) (now (store .entry)) (now (rest .entry)) ends)) ⌝ }
 {
     let to = at + SPACE;
-    step(s, store, n, zero, rest, true, &mut out[at..to])
+    step(s, store, n, zero, rest, ends, &mut out[at..to])
 }
 
 // Straight into the output, but for the messages that come near its end.
@@ -376,5 +377,5 @@ pub fn step_at(
     if out.len() - at < SPACE {
         return step_spare(s, store, n, zero, rest, spare, out, at);
     }
-    step_there(s, store, n, zero, rest, out, at)
+    step_there(s, store, n, zero, rest, true, out, at)
 }

@@ -1,6 +1,6 @@
 // The store of arrived segments: what a packet's arrival comes to, and taking a complete message out.
 //
-// The store is lent memory of 1 to 4,096 cells of 1,024 octets; an empty one is all zeros. Each public call has T and the store's order
+// The store is lent memory of 1 to 4,096 cells of 1,024 octets; an empty one is all zeros. Each public call has settings and order
 // checked by `opening` before anything else, and then calls an inner function of `arrival` or `taking` that takes any octets, by the
 // chains that the check has made. Whoever keeps a store in order calls their like without chains, and saves the check.
 ghost use mathlib.Core.Path.{_≡_};

@@ -1,6 +1,6 @@
 // Taking from the store: the complete message with its first in the lowest cell is found, written out, and its cells are freed.
 //
-// The store is any octets here, and the size of a cell is that of the zero cell lent: T and the store's order are tested by
+// The store is any octets here, and the size of a cell is that of the zero cell lent: settings and the store's order are tested by
 // `store::take`, or by whoever keeps a store in order.
 pub mod clearing;
 

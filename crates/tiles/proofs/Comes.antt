@@ -12,13 +12,15 @@ use lib.ListN.{length}
 use lib.Dec.{eqb}
 use Rattle.octets.specs.Octets.{pick}
 use Rattle.walk.specs.declared.Refusal.{Refusal}
+use Rattle.walk.specs.declared.Settings.{Settings}
+use Rattle.packet.specs.Format.{SettingsInRange}
 use Rattle.walk.specs.Walk.{refusal}
 use Rattle.cells.specs.Messages.{Run, picked, top}
 use Rattle.arrival.specs.Arriving.{Arrived, whole, stored, again, refused, arrived, storeWith}
 use Rattle.taking.specs.Taking.{Took, message, unable, writing, took}
 use Rattle.join.specs.Joining.{tookAs, joinedBy, joining as joiningOf}
 use Rattle.steps.specs.Stepping.{room, over, kept, refused as refusedBy, message as messageOf, cameBy, cameOf}
-use Rattle.recording.specs.Recording.{settings, cellCount}
+use Rattle.recording.specs.Recording.{cellCount}
 use Rattle.recording.proofs.Rooms.{message-fits}
 use Rattle.demand3.specs.Traffic.{takenFrom}
 use Rattle.demand3.specs.Calls.{Call, joining, goesOn, draws, storeAt, tookBy}
@@ -34,8 +36,8 @@ use Rattle.tiles.proofs.Joinings.{output, output-long, short, callsOf, 
 -- ---- a message that a packet completes is taken by its joining
 
 -- what a joining takes, by what its arrival comes to
-abbrev takenBy : List ℕ → List ℕ → ℕ → Arrived → Option Took
-takenBy st p long a = pick (goesOn a) (some (took settings Z (storeWith Z st p a) long)) none
+abbrev takenBy : Settings → List ℕ → List ℕ → ℕ → Arrived → Option Took
+takenBy s st p long a = pick (goesOn a) (some (took s Z (storeWith Z st p a) long)) none
 
 -- a refusal is no message
 no-message : (k : Refusal) (r : Run) (b : Bool) → pick b kept (refusedBy k) ≡ messageOf r → ⊥
@@ -46,91 +48,91 @@ took-by : (t : Took) (r : Run) → cameBy (tookAs t) ≡ messageOf r → t ≡ m
 took-by (message q) r e = let d : q ≡ r = cc e in ap message d
 took-by (unable k) r e = absurd (no-message (refusal k) r (eqb k 20) e)
 
-came-by : (st p : List ℕ) (a : Arrived) (r : Run) → cameBy (joinedBy settings Z st p room a) ≡ messageOf r → takenBy st p room a ≡ some (message r)
-came-by st p whole r e = let z : _≡_ {A = ℕ} 0 1 = cc e in absurd (omega arith)
-came-by st p (stored i) r e = ap some (took-by (took settings Z (storeWith Z st p (stored i)) room) r e)
-came-by st p again r e = ap some (took-by (took settings Z (storeWith Z st p again) room) r e)
-came-by st p (refused k) r e = absurd (no-message k r (eqb (k .number) 20) e)
+came-by : (s : Settings) (st p : List ℕ) (a : Arrived) (r : Run) → cameBy (joinedBy s Z st p room a) ≡ messageOf r → takenBy s st p room a ≡ some (message r)
+came-by s st p whole r e = let z : _≡_ {A = ℕ} 0 1 = cc e in absurd (omega arith)
+came-by s st p (stored i) r e = ap some (took-by (took s Z (storeWith Z st p (stored i)) room) r e)
+came-by s st p again r e = ap some (took-by (took s Z (storeWith Z st p again) room) r e)
+came-by s st p (refused k) r e = absurd (no-message k r (eqb (k .number) 20) e)
 
-by-came : (st p : List ℕ) (a : Arrived) (r : Run) → takenBy st p room a ≡ some (message r) → cameBy (joinedBy settings Z st p room a) ≡ messageOf r
-by-came st p whole r e = let z : _≡_ {A = ℕ} 0 1 = cc e in absurd (omega arith)
-by-came st p (stored i) r e =
-    let d : took settings Z (storeWith Z st p (stored i)) room ≡ message r = cc e in ap (λ (t : Took). cameBy (tookAs t)) d
-by-came st p again r e = let d : took settings Z (storeWith Z st p again) room ≡ message r = cc e in ap (λ (t : Took). cameBy (tookAs t)) d
-by-came st p (refused k) r e = let z : _≡_ {A = ℕ} 0 1 = cc e in absurd (omega arith)
+by-came : (s : Settings) (st p : List ℕ) (a : Arrived) (r : Run) → takenBy s st p room a ≡ some (message r) → cameBy (joinedBy s Z st p room a) ≡ messageOf r
+by-came s st p whole r e = let z : _≡_ {A = ℕ} 0 1 = cc e in absurd (omega arith)
+by-came s st p (stored i) r e =
+    let d : took s Z (storeWith Z st p (stored i)) room ≡ message r = cc e in ap (λ (t : Took). cameBy (tookAs t)) d
+by-came s st p again r e = let d : took s Z (storeWith Z st p again) room ≡ message r = cc e in ap (λ (t : Took). cameBy (tookAs t)) d
+by-came s st p (refused k) r e = let z : _≡_ {A = ℕ} 0 1 = cc e in absurd (omega arith)
 
-module _ (st p : List ℕ) (r : Run) where
+module _ (s : Settings) (st p : List ℕ) (r : Run) where
   abbrev c : Call
   c = joining p output
 
-  taken-is : tookBy settings Z st c ≡ takenBy st p room (arrived settings Z st p)
+  taken-is : tookBy s Z st c ≡ takenBy s st p room (arrived s Z st p)
   unfolding tookBy
-  taken-is = ap (λ (n : ℕ). takenBy st p n (arrived settings Z st p)) output-long
+  taken-is = ap (λ (n : ℕ). takenBy s st p n (arrived s Z st p)) output-long
 
-  pub came-taken : cameOf settings Z st p ≡ messageOf r → (short p ≡ true) × (tookBy settings Z st c ≡ some (message r))
+  pub came-taken : cameOf s Z st p ≡ messageOf r → (short p ≡ true) × (tookBy s Z st c ≡ some (message r))
   unfolding cameOf joiningOf
   came-taken e = go (short p) e
     where
-      go : (b : Bool) → pick b (cameBy (joinedBy settings Z st p room (arrived settings Z st p))) over ≡ messageOf r →
-          (b ≡ true) × (tookBy settings Z st c ≡ some (message r))
-      go true d = (refl, taken-is ∙ came-by st p (arrived settings Z st p) r d)
+      go : (b : Bool) → pick b (cameBy (joinedBy s Z st p room (arrived s Z st p))) over ≡ messageOf r →
+          (b ≡ true) × (tookBy s Z st c ≡ some (message r))
+      go true d = (refl, taken-is ∙ came-by s st p (arrived s Z st p) r d)
       go false d = let z : _≡_ {A = ℕ} 0 1 = cc d in absurd (omega arith)
 
-  pub taken-came : short p ≡ true → tookBy settings Z st c ≡ some (message r) → cameOf settings Z st p ≡ messageOf r
+  pub taken-came : short p ≡ true → tookBy s Z st c ≡ some (message r) → cameOf s Z st p ≡ messageOf r
   unfolding cameOf joiningOf
   taken-came f e =
-      ap (λ (b : Bool). pick b (cameBy (joinedBy settings Z st p room (arrived settings Z st p))) over) f
-      ∙ by-came st p (arrived settings Z st p) r (sym taken-is ∙ e)
+      ap (λ (b : Bool). pick b (cameBy (joinedBy s Z st p room (arrived s Z st p))) over) f
+      ∙ by-came s st p (arrived s Z st p) r (sym taken-is ∙ e)
 
 -- ---- the output is long enough
 
-pub in-use : InUse settings cellCount
-in-use = record { settings = record { t-low = omega arith; t-top = omega arith }; some = omega arith; most = omega arith }
+pub in-use : (s : Settings) → SettingsInRange s → InUse s cellCount
+in-use s r = record { settings = r; some = omega arith; most = omega arith }
 
 pub one-octet : 1 ≤ Z
 one-octet = omega arith
 
-module _ (st : List ℕ) (k : Kept settings Z cellCount st) (long : ℕ) (l : room ≤ long) where
-  never-21 : took settings Z st long ≢ unable 21
-  never-21 e = go (picked suc top (cellsIn settings Z cellCount st)) refl
+module _ (s : Settings) (st : List ℕ) (k : Kept s Z cellCount st) (long : ℕ) (l : room ≤ long) where
+  never-21 : took s Z st long ≢ unable 21
+  never-21 e = go (picked suc top (cellsIn s Z cellCount st)) refl
     where
-      is : takenFrom suc top (cellsIn settings Z cellCount st) long ≡ unable 21
-      is = sym (took-is settings Z cellCount st k long) ∙ e
+      is : takenFrom suc top (cellsIn s Z cellCount st) long ≡ unable 21
+      is = sym (took-is s Z cellCount st k long) ∙ e
 
-      fits : (r : Run) → picked suc top (cellsIn settings Z cellCount st) ≡ some r → length (writing r) ≤ long
+      fits : (r : Run) → picked suc top (cellsIn s Z cellCount st) ≡ some r → length (writing r) ≤ long
       fits r d =
           let few = k .count in
-          let a = message-fits settings Z (omega arith) st (omega arith) r (ap (λ (n : ℕ). picked suc top (cellsIn settings Z n st)) few ∙ d) in
+          let a = message-fits s Z (omega arith) st (omega arith) r (ap (λ (n : ℕ). picked suc top (cellsIn s Z n st)) few ∙ d) in
           omega arith
 
-      go : (o : Option Run) → picked suc top (cellsIn settings Z cellCount st) ≡ o → ⊥
+      go : (o : Option Run) → picked suc top (cellsIn s Z cellCount st) ≡ o → ⊥
       go none d =
-          let f : unable 20 ≡ unable 21 = sym (nothing-picked suc top (cellsIn settings Z cellCount st) long d .0) ∙ is in
+          let f : unable 20 ≡ unable 21 = sym (nothing-picked suc top (cellsIn s Z cellCount st) long d .0) ∙ is in
           let z : _≡_ {A = ℕ} 20 21 = cc f in
           omega arith
       go (some r) d =
-          let f : message r ≡ unable 21 = sym (picked-taken suc top (cellsIn settings Z cellCount st) long r d (fits r d)) ∙ is in
+          let f : message r ≡ unable 21 = sym (picked-taken suc top (cellsIn s Z cellCount st) long r d (fits r d)) ∙ is in
           let z : _≡_ {A = ℕ} 0 1 = cc f in
           omega arith
 
 -- so nothing complete is left
-pub calls-join : (ps : List (List ℕ)) → OnlyJoins settings Z cellCount (callsOf ps)
+pub calls-join : (s : Settings) → SettingsInRange s → (ps : List (List ℕ)) → OnlyJoins s Z cellCount (callsOf ps)
 unfolding tookBy
-calls-join ps =
+calls-join s range ps =
     record {
       joins = λ x y c e. let a = call-at ps x c y e in (a .packet, output, a .call);
-      long = λ x y c e. let a = call-at ps x c y e in subst (λ (d : Call). tookBy settings Z (storeBehind settings Z cellCount x) d ≢ some (unable 21)) (sym (a .call)) (plenty x (a .packet));
+      long = λ x y c e. let a = call-at ps x c y e in subst (λ (d : Call). tookBy s Z (storeBehind s Z cellCount x) d ≢ some (unable 21)) (sym (a .call)) (plenty x (a .packet));
     }
   where
-    plenty : (x : List Call) (p : List ℕ) → tookBy settings Z (storeBehind settings Z cellCount x) (joining p output) ≢ some (unable 21)
-    plenty x p e = go (draws settings Z (storeBehind settings Z cellCount x) (joining p output)) e
+    plenty : (x : List Call) (p : List ℕ) → tookBy s Z (storeBehind s Z cellCount x) (joining p output) ≢ some (unable 21)
+    plenty x p e = go (draws s Z (storeBehind s Z cellCount x) (joining p output)) e
       where
         at : List ℕ
-        at = storeAt settings Z (storeBehind settings Z cellCount x) (joining p output)
+        at = storeAt s Z (storeBehind s Z cellCount x) (joining p output)
 
-        kept′ : Kept settings Z cellCount at
-        kept′ = at-keeps settings Z cellCount (storeBehind settings Z cellCount x) (behind-keeps settings Z cellCount one-octet in-use x) (joining p output)
+        kept′ : Kept s Z cellCount at
+        kept′ = at-keeps s Z cellCount (storeBehind s Z cellCount x) (behind-keeps s Z cellCount one-octet (in-use s range) x) (joining p output)
 
-        go : (b : Bool) → pick b (some (took settings Z at (length output))) none ≡ some (unable 21) → ⊥
-        go true d = let f : took settings Z at (length output) ≡ unable 21 = cc d in never-21 at kept′ (length output) (omega (arith, output-long)) f
+        go : (b : Bool) → pick b (some (took s Z at (length output))) none ≡ some (unable 21) → ⊥
+        go true d = let f : took s Z at (length output) ≡ unable 21 = cc d in never-21 s at kept′ (length output) (omega (arith, output-long)) f
         go false d = let z : _≡_ {A = ℕ} 0 1 = cc d in omega arith

@@ -12,7 +12,7 @@ use Rattle.octets.specs.Octets.{Octets, number, alike, wide}
 use Rattle.octets.specs.Laying.{together}
 use Rattle.octets.proofs.Has.{octets-nil, octets-one, octets-append}
 use Rattle.fields.specs.Form.{split}
-use Rattle.packet.specs.Format.{presence, identification, fixedOctets, frontOctets, backOctets, headerOctets}
+use Rattle.packet.specs.Format.{presence, identification, fixedOctets, frontOctets, backOctets, headerOctets, SettingsInRange}
 use Rattle.packet.specs.declared.Header.{Header}
 use Rattle.packet.specs.Reading.{readPacket}
 use Rattle.format.proofs.Figure14.{reads}
@@ -127,6 +127,9 @@ all-good =
 
 -- ---- the hypotheses
 
+in-range : SettingsInRange settings
+in-range = record { t-low = omega arith; t-top = omega arith; profile-top = omega arith }
+
 day-packets : packetsOf dayRecording ≡ dayPackets
 unfolding foundIn number alike
 day-packets = recording-packets dayPackets torn (λ p h. all-mem Good dayPackets all-good p h .1) refl
@@ -145,7 +148,7 @@ torn-octets =
     (octets-append (0x4d ∷ []) (0x50 ∷ []) (octets-one 0x4d (omega arith)) (octets-one 0x50 (omega arith)))
     (octets-one 0x18 (omega arith))
 
-pub day-recording : RecordingOf messages dayRecording
+pub day-recording : RecordingOf settings messages dayRecording
 day-recording =
     record {
       octets = octets-append (marked dayPackets) torn (marked-octets dayPackets all-good) torn-octets;
@@ -154,8 +157,8 @@ day-recording =
       packets = λ p h. all-mem Good dayPackets all-good p (subst (List·Memᴰ p) day-packets h) .0 .1;
     }
 
-pub day-room : RoomAlong dayRecording
-day-room = recording-room dayRecording (omega (arith, ap length day-packets))
+pub day-room : RoomAlong settings dayRecording
+day-room = recording-room settings in-range dayRecording (omega (arith, ap length day-packets))
 
 -- ---- both messages
 
@@ -168,32 +171,32 @@ at-place (p ∷ l) (suc i) h = List·Memᴰ·tail (at-place l i (omega arith))
 in-day : (i : ℕ) → i < 11 → List·Memᴰ (getD dayPackets i []) (packetsOf dayRecording)
 in-day i h = subst (List·Memᴰ (getD dayPackets i [])) (sym day-packets) (at-place dayPackets i h)
 
-three-in : AllIn three dayRecording
+three-in : AllIn settings three dayRecording
 three-in zero l = (of-three 0 0, in-day 4 (omega arith), three-reads 0 (omega arith) 0 (omega arith))
 three-in (suc zero) l = (of-three 1 1, in-day 8 (omega arith), three-reads 1 (omega arith) 1 (omega arith))
 three-in (suc (suc zero)) l = (of-three 2 2, in-day 0 (omega arith), three-reads 2 (omega arith) 2 (omega arith))
 three-in (suc (suc (suc i))) l = absurd (omega (arith, three-many))
 
-two-in : AllIn two dayRecording
+two-in : AllIn settings two dayRecording
 two-in zero l = (of-two 0 3, in-day 1 (omega arith), two-reads 0 (omega arith) 3 (omega arith))
 two-in (suc zero) l = (of-two 1 4, in-day 9 (omega arith), two-reads 1 (omega arith) 4 (omega arith))
 two-in (suc (suc i)) l = absurd (omega arith)
 
-pub day-three : List·Memᴰ (frameOf three) (framesOf dayRecording)
-day-three = recording-delivers messages dayRecording day-recording day-room three (List·Memᴰ·head refl) three-in
+pub day-three : List·Memᴰ (frameOf settings three) (framesOf settings dayRecording)
+day-three = recording-delivers settings in-range messages dayRecording day-recording day-room three (List·Memᴰ·head refl) three-in
 
-pub day-two : List·Memᴰ (frameOf two) (framesOf dayRecording)
-day-two = recording-delivers messages dayRecording day-recording day-room two (List·Memᴰ·tail (List·Memᴰ·head refl)) two-in
+pub day-two : List·Memᴰ (frameOf settings two) (framesOf settings dayRecording)
+day-two = recording-delivers settings in-range messages dayRecording day-recording day-room two (List·Memᴰ·tail (List·Memᴰ·head refl)) two-in
 
 -- and the whole packet
 single-read : readPacket settings single .refusal .number ≡ 0
 single-read = ap (λ (h : Header). h .refusal .number) reads
 
-pub day-single : List·Memᴰ (wholePacket single) (framesOf dayRecording)
-day-single = recording-whole dayRecording single .1 (in-day 3 (omega arith), omega arith, single-read, refl)
+pub day-single : List·Memᴰ (wholePacket single) (framesOf settings dayRecording)
+day-single = recording-whole settings in-range dayRecording single .1 (in-day 3 (omega arith), omega arith, single-read, refl)
 
 -- ---- their octets
 
-two-octets : frameOctets (frameOf two) ≡ 0x4d ∷ 0x4d ∷ 0 ∷ 0 ∷ 0 ∷ 33 ∷ (theKey ++ (21 ∷ 22 ∷ 23 ∷ 24 ∷ 25 ∷ 26 ∷ 27 ∷ 28 ∷ 29 ∷ 30 ∷ []))
+two-octets : frameOctets (frameOf settings two) ≡ 0x4d ∷ 0x4d ∷ 0 ∷ 0 ∷ 0 ∷ 33 ∷ (theKey ++ (21 ∷ 22 ∷ 23 ∷ 24 ∷ 25 ∷ 26 ∷ 27 ∷ 28 ∷ 29 ∷ 30 ∷ []))
 unfolding framed wide together headOf split identification headerOctets fixedOctets presence frontOctets backOctets
 two-octets = refl

@@ -10,11 +10,12 @@ use lib.ListN.{length, drop}
 use Rattle.octets.specs.Octets.{Octets}
 use Rattle.octets.specs.Laying.{together}
 use Rattle.octets.proofs.Has.{octets-drop, octets-part}
+use Rattle.walk.specs.declared.Settings.{Settings}
 use Rattle.cells.specs.Rows.{sizeIn}
 use Rattle.cells.specs.Order.{cellSize}
 use Rattle.steps.specs.Stepping.{Found, nothing, other, cut, whole, foundIn, Came, over, refused, kept, wholly, message, cameOf, storeAfter, wrote, stepBy, stepped, storeBehind, usedBy, writtenBy}
 use Rattle.steps.proofs.Showing.{whole-tells}
-use Rattle.recording.specs.Recording.{settings, emptyStore, recordedFrom, recorded}
+use Rattle.recording.specs.Recording.{emptyStore, recordedFrom, recorded}
 use Rattle.recording.specs.Ending.{past}
 use Rattle.tiles.specs.Along.{inFront, packetsFrom, storeFrom, Frame, frameOctets, framesBy, framesFrom, framesOf}
 use Rattle.tiles.specs.Written.{Stands, RecordingFrames}
@@ -48,29 +49,29 @@ came-frames p kept l = refl
 came-frames p wholly l = refl
 came-frames p (message r) l = refl
 
-frames-from : (f : ℕ) (st x : List ℕ) → recordedFrom settings Z f st x ≡ octetsOf (framesFrom st (packetsFrom f x))
+frames-from : (s : Settings) (f : ℕ) (st x : List ℕ) → recordedFrom s Z f st x ≡ octetsOf (framesFrom s st (packetsFrom f x))
 unfolding recordedFrom packetsFrom framesFrom stepped together
-frames-from zero st x = refl
-frames-from (suc f) st x = go (frames-from f) (foundIn x) refl
+frames-from s zero st x = refl
+frames-from s (suc f) st x = go (frames-from s f) (foundIn x) refl
   where
-    stops : ((sx y : List ℕ) → recordedFrom settings Z f sx y ≡ octetsOf (framesFrom sx (packetsFrom f y))) → (d : Found) → foundIn x ≡ d → past d ≡ 0 →
-        recordedFrom settings Z f st x ≡ []
-    stops ih d e h = ih st x ∙ ap (λ (l : List (List ℕ)). octetsOf (framesFrom st l)) (stop-none f x d e h)
+    stops : ((sx y : List ℕ) → recordedFrom s Z f sx y ≡ octetsOf (framesFrom s sx (packetsFrom f y))) → (d : Found) → foundIn x ≡ d → past d ≡ 0 →
+        recordedFrom s Z f st x ≡ []
+    stops ih d e h = ih st x ∙ ap (λ (l : List (List ℕ)). octetsOf (framesFrom s st l)) (stop-none f x d e h)
 
-    go : ((sx y : List ℕ) → recordedFrom settings Z f sx y ≡ octetsOf (framesFrom sx (packetsFrom f y))) → (d : Found) → foundIn x ≡ d →
-        writtenBy (stepBy settings Z st true d) ++
-        recordedFrom settings Z f (storeBehind settings Z st (stepBy settings Z st true d)) (drop (usedBy (stepBy settings Z st true d)) x)
-        ≡ octetsOf (framesFrom st (inFront d (packetsFrom f (drop (past d) x))))
+    go : ((sx y : List ℕ) → recordedFrom s Z f sx y ≡ octetsOf (framesFrom s sx (packetsFrom f y))) → (d : Found) → foundIn x ≡ d →
+        writtenBy (stepBy s Z st true d) ++
+        recordedFrom s Z f (storeBehind s Z st (stepBy s Z st true d)) (drop (usedBy (stepBy s Z st true d)) x)
+        ≡ octetsOf (framesFrom s st (inFront d (packetsFrom f (drop (past d) x))))
     go ih nothing e = stops ih nothing e refl
     go ih other e = stops ih other e refl
     go ih cut e = stops ih cut e refl
     go ih (whole p) e =
-        ap (λ (l : List ℕ). wrote p (cameOf settings Z st p) ++ l) (ih (storeAfter settings Z st p) (drop (past (whole p)) x))
-        ∙ came-frames p (cameOf settings Z st p) (framesFrom (storeAfter settings Z st p) (packetsFrom f (drop (past (whole p)) x)))
+        ap (λ (l : List ℕ). wrote p (cameOf s Z st p) ++ l) (ih (storeAfter s Z st p) (drop (past (whole p)) x))
+        ∙ came-frames p (cameOf s Z st p) (framesFrom s (storeAfter s Z st p) (packetsFrom f (drop (past (whole p)) x)))
 
 pub recording-frames : RecordingFrames
 unfolding recorded
-recording-frames x = frames-from (length x) emptyStore x
+recording-frames s x = frames-from s (length x) emptyStore x
 
 -- ---- its packets are octets
 
@@ -96,31 +97,31 @@ packets-octets (suc f) x o p h = go (foundIn x) refl (packets-octets f (drop (pa
 -- ---- the frames, one by one
 
 -- the packet that a frame is of
-pub record Framed (st : List ℕ) (ps : List (List ℕ)) (w : Frame) : Type 0 where
+pub record Framed (s : Settings) (st : List ℕ) (ps : List (List ℕ)) (w : Frame) : Type 0 where
   pub before : List (List ℕ)
   pub packet : List ℕ
   pub after : List (List ℕ)
   pub place : ps ≡ before ++ packet ∷ after
-  pub its : List·Memᴰ w (framesBy packet (cameOf settings Z (storeFrom st before) packet))
+  pub its : List·Memᴰ w (framesBy packet (cameOf s Z (storeFrom s st before) packet))
 
-pub frame-at : (ps : List (List ℕ)) (st : List ℕ) (w : Frame) → List·Memᴰ w (framesFrom st ps) → Framed st ps w
+pub frame-at : (s : Settings) (ps : List (List ℕ)) (st : List ℕ) (w : Frame) → List·Memᴰ w (framesFrom s st ps) → Framed s st ps w
 unfolding framesFrom storeFrom
-frame-at [] st w h = absurd (List·Memᴰ·not-nil h)
-frame-at (p ∷ ps) st w h = go (frame-at ps (storeAfter settings Z st p) w) (List·Memᴰ·append-cases (framesBy p (cameOf settings Z st p)) h)
+frame-at s [] st w h = absurd (List·Memᴰ·not-nil h)
+frame-at s (p ∷ ps) st w h = go (frame-at s ps (storeAfter s Z st p) w) (List·Memᴰ·append-cases (framesBy p (cameOf s Z st p)) h)
   where
-    go : (List·Memᴰ w (framesFrom (storeAfter settings Z st p) ps) → Framed (storeAfter settings Z st p) ps w) →
-        List·Memᴰ w (framesBy p (cameOf settings Z st p)) ⊎ List·Memᴰ w (framesFrom (storeAfter settings Z st p) ps) → Framed st (p ∷ ps) w
+    go : (List·Memᴰ w (framesFrom s (storeAfter s Z st p) ps) → Framed s (storeAfter s Z st p) ps w) →
+        List·Memᴰ w (framesBy p (cameOf s Z st p)) ⊎ List·Memᴰ w (framesFrom s (storeAfter s Z st p) ps) → Framed s st (p ∷ ps) w
     go ih (inl k) = record { before = []; packet = p; after = ps; place = refl; its = k }
     go ih (inr k) =
         let v = ih k in
         record { before = p ∷ v .before; packet = v .packet; after = v .after; place = ap (λ (l : List (List ℕ)). p ∷ l) (v .place); its = v .its }
 
-pub at-frame : (before : List (List ℕ)) (p : List ℕ) (after : List (List ℕ)) (st : List ℕ) (w : Frame) →
-    List·Memᴰ w (framesBy p (cameOf settings Z (storeFrom st before) p)) → List·Memᴰ w (framesFrom st (before ++ p ∷ after))
+pub at-frame : (s : Settings) (before : List (List ℕ)) (p : List ℕ) (after : List (List ℕ)) (st : List ℕ) (w : Frame) →
+    List·Memᴰ w (framesBy p (cameOf s Z (storeFrom s st before) p)) → List·Memᴰ w (framesFrom s st (before ++ p ∷ after))
 unfolding framesFrom storeFrom
-at-frame [] p after st w h = Memᴰ·append-left (framesFrom (storeAfter settings Z st p) after) h
-at-frame (q ∷ before) p after st w h =
-    Memᴰ·append-right (framesBy q (cameOf settings Z st q)) (at-frame before p after (storeAfter settings Z st q) w h)
+at-frame s [] p after st w h = Memᴰ·append-left (framesFrom s (storeAfter s Z st p) after) h
+at-frame s (q ∷ before) p after st w h =
+    Memᴰ·append-right (framesBy q (cameOf s Z st q)) (at-frame s before p after (storeAfter s Z st q) w h)
 
 -- a frame's octets stand in what is written
 stands-in : (l : List Frame) (w : Frame) → List·Memᴰ w l → Stands (frameOctets w) (octetsOf l)
@@ -137,5 +138,5 @@ stands-in (v ∷ l) w h = go (stands-in l w) (List·Memᴰ·cases-cons h)
           ap (λ (y : List ℕ). frameOctets v ++ y) (a .2) ∙ sym (append-assoc (frameOctets v) (a .0) (frameOctets w ++ a .1)),
         )
 
-pub frame-stands : (x : List ℕ) (w : Frame) → List·Memᴰ w (framesOf x) → Stands (frameOctets w) (recorded x)
-frame-stands x w h = let a = stands-in (framesOf x) w h in (a .0, a .1, recording-frames x ∙ a .2)
+pub frame-stands : (s : Settings) (x : List ℕ) (w : Frame) → List·Memᴰ w (framesOf s x) → Stands (frameOctets w) (recorded s x)
+frame-stands s x w h = let a = stands-in (framesOf s x) w h in (a .0, a .1, recording-frames s x ∙ a .2)

@@ -10,9 +10,10 @@ use native.Mathlib.Omega.{arith}
 use lib.ListN.{length, replicate, length-replicate}
 use lib.Dec.{leb}
 use Rattle.octets.specs.Octets.{pick}
+use Rattle.walk.specs.declared.Settings.{Settings}
 use Rattle.join.specs.Joining.{storeJoined}
 use Rattle.steps.specs.Stepping.{longest, room, storeAfter as stepStore}
-use Rattle.recording.specs.Recording.{settings, cellCount, emptyStore}
+use Rattle.recording.specs.Recording.{cellCount, emptyStore}
 use Rattle.demand3.specs.Traffic.{after}
 use Rattle.demand3.specs.Calls.{Call, joining, Handed, storeBy, storeAfter}
 use Rattle.demand3.specs.Presupposed.{storeBehind}
@@ -47,18 +48,18 @@ calls-append [] b = refl
 calls-append (p ∷ a) b = ap (λ (l : List Call). callFor p ++ l) (calls-append a b) ∙ sym (append-assoc (callFor p) (callsOf a) (callsOf b))
 
 -- the store along the packets
-calls-from : (ps : List (List ℕ)) (st : List ℕ) → storeAfter settings Z st (callsOf ps) ≡ storeFrom st ps
+calls-from : (s : Settings) (ps : List (List ℕ)) (st : List ℕ) → storeAfter s Z st (callsOf ps) ≡ storeFrom s st ps
 unfolding callsOf storeFrom storeAfter storeBy stepStore
-calls-from [] st = refl
-calls-from (p ∷ ps) st = go (calls-from ps) (short p)
+calls-from s [] st = refl
+calls-from s (p ∷ ps) st = go (calls-from s ps) (short p)
   where
-    go : ((x : List ℕ) → storeAfter settings Z x (callsOf ps) ≡ storeFrom x ps) → (b : Bool) →
-        storeAfter settings Z st (pick b (joining p output ∷ []) [] ++ callsOf ps) ≡ storeFrom (pick b (storeJoined settings Z st p room) st) ps
-    go ih true = ih (storeJoined settings Z st p (length output)) ∙ ap (λ (n : ℕ). storeFrom (storeJoined settings Z st p n) ps) output-long
+    go : ((x : List ℕ) → storeAfter s Z x (callsOf ps) ≡ storeFrom s x ps) → (b : Bool) →
+        storeAfter s Z st (pick b (joining p output ∷ []) [] ++ callsOf ps) ≡ storeFrom s (pick b (storeJoined s Z st p room) st) ps
+    go ih true = ih (storeJoined s Z st p (length output)) ∙ ap (λ (n : ℕ). storeFrom s (storeJoined s Z st p n) ps) output-long
     go ih false = ih st
 
-pub calls-store : (ps : List (List ℕ)) → storeBehind settings Z cellCount (callsOf ps) ≡ storeFrom emptyStore ps
-calls-store ps = calls-from ps emptyStore
+pub calls-store : (s : Settings) (ps : List (List ℕ)) → storeBehind s Z cellCount (callsOf ps) ≡ storeFrom s emptyStore ps
+calls-store s ps = calls-from s ps emptyStore
 
 -- ---- where a call comes from
 

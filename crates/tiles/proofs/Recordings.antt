@@ -10,6 +10,8 @@ use mathlib.Core.List.{List, [], _∷_, _++_, List·Memᴰ, List·Memᴰ·head, 
 use native.Mathlib.Omega.{arith}
 use lib.ListN.{length}
 use borrow.Author.Tests.{le-leb}
+use Rattle.walk.specs.declared.Settings.{Settings}
+use Rattle.packet.specs.Format.{SettingsInRange}
 use Rattle.packet.specs.Reading.{readPacket}
 use Rattle.cells.specs.Segments.{segOf}
 use Rattle.cells.specs.Order.{cellAt}
@@ -17,7 +19,7 @@ use Rattle.cells.specs.Messages.{Run, bodyOf, look}
 use Rattle.taking.specs.Taking.{message}
 use Rattle.demand3.specs.Cells.{hasFree}
 use Rattle.steps.specs.Stepping.{longest, Came, over, refused, kept, wholly, message as messageOf, cameOf}
-use Rattle.recording.specs.Recording.{settings, cellCount, emptyStore}
+use Rattle.recording.specs.Recording.{cellCount, emptyStore}
 use Rattle.demand3.specs.Calls.{Call, arrival, joining, Handed, arrivedStore, tookBy, storeAfter}
 use Rattle.sender.specs.Sending.{stepsOf}
 use Rattle.demand3.specs.Sendings.{Sending, ReadsAs, manyOf, segmentAt, keyIn, startOf}
@@ -56,7 +58,7 @@ joined-came p (messageOf r) k c b h = (r, refl, go (List·Memᴰ·cases-cons h))
     go (inl e) = e
     go (inr e) = absurd (List·Memᴰ·not-nil e)
 
-module _ (ms : List Sending) (x : List ℕ) (g : RecordingOf ms x) where
+module _ (s : Settings) (range : SettingsInRange s) (ms : List Sending) (x : List ℕ) (g : RecordingOf s ms x) where
   abbrev ps : List (List ℕ)
   ps = packetsOf x
 
@@ -65,7 +67,7 @@ module _ (ms : List Sending) (x : List ℕ) (g : RecordingOf ms x) where
 
   -- ---- what demand 3 presupposes
 
-  traffic : Traffic settings Z ms calls
+  traffic : Traffic s Z ms calls
   traffic =
       record {
         cut = g .cut;
@@ -75,110 +77,110 @@ module _ (ms : List Sending) (x : List ℕ) (g : RecordingOf ms x) where
       }
 
   -- a segment of a message is short enough to be joined
-  own-short : (m : Sending) → List·Memᴰ m ms → (i : ℕ) → i < manyOf settings m → (p : List ℕ) → List·Memᴰ p ps → ReadsAs settings p (segmentAt settings m i) →
+  own-short : (m : Sending) → List·Memᴰ m ms → (i : ℕ) → i < manyOf s m → (p : List ℕ) → List·Memᴰ p ps → ReadsAs s p (segmentAt s m i) →
       short p ≡ true
   own-short m h i l p k r =
-      let f = own-fits settings Z m (g .cut m h) i l p (packets-octets (length x) x (g .octets) p k) r in
+      let f = own-fits s Z m (g .cut m h) i l p (packets-octets (length x) x (g .octets) p k) r in
       le-leb (length p) longest (omega arith)
 
-  all-came : (m : Sending) → List·Memᴰ m ms → AllIn m x → AllCame settings m calls
+  all-came : (m : Sending) → List·Memᴰ m ms → AllIn s m x → AllCame s m calls
   all-came m h f i l = let a = f i l in (a .0, in-handed ps (a .0) (a .1) (own-short m h i l (a .0) (a .1) (a .2)), a .2)
 
-  room-of : RoomAlong x → Room settings Z cellCount calls
+  room-of : RoomAlong s x → Room s Z cellCount calls
   room-of room u v c p e b ok seg fit new =
       let a = call-at ps u c v e in
       let same : p ≡ a .packet = joining-brings (a .packet) output p c (a .call) b in
-      let there : storeBehind settings Z cellCount u ≡ storeAlong (a .before) =
-      ap (storeBehind settings Z cellCount) (a .earlier) ∙ calls-store (a .before) in
+      let there : storeBehind s Z cellCount u ≡ storeAlong s (a .before) =
+      ap (storeBehind s Z cellCount) (a .earlier) ∙ calls-store s (a .before) in
       let place : ps ≡ a .before ++ p ∷ a .after = a .place ∙ ap (λ (q : List ℕ). a .before ++ q ∷ a .after) (sym same) in
-      ap (λ (st : List ℕ). hasFree (cellsIn settings Z cellCount st)) there
+      ap (λ (st : List ℕ). hasFree (cellsIn s Z cellCount st)) there
       ∙ room (a .before) (a .after) p place ok seg fit
-      (ap (λ (st : List ℕ). look (cellsIn settings Z cellCount st) (segOf p (readPacket settings p) .key) (segOf p (readPacket settings p) .counter)) (sym there) ∙ new)
+      (ap (λ (st : List ℕ). look (cellsIn s Z cellCount st) (segOf p (readPacket s p) .key) (segOf p (readPacket s p) .counter)) (sym there) ∙ new)
 
   -- ---- whatever a call takes under a message's key is a message
 
-  genuine-at : (u v : List Call) (c : Call) → calls ≡ u ++ c ∷ v → (r : Run) → tookBy settings Z (storeBehind settings Z cellCount u) c ≡ some (message r) →
-      (m : Sending) → List·Memᴰ m ms → r .head .key ≡ keyIn settings m →
-      (w : Sending) × List·Memᴰ w ms × (keyIn settings w ≡ keyIn settings m) × Delivers settings Z cellCount w (storeBehind settings Z cellCount u) c
+  genuine-at : (u v : List Call) (c : Call) → calls ≡ u ++ c ∷ v → (r : Run) → tookBy s Z (storeBehind s Z cellCount u) c ≡ some (message r) →
+      (m : Sending) → List·Memᴰ m ms → r .head .key ≡ keyIn s m →
+      (w : Sending) × List·Memᴰ w ms × (keyIn s w ≡ keyIn s m) × Delivers s Z cellCount w (storeBehind s Z cellCount u) c
   genuine-at u v c e r t m h k =
-      genuine·whole settings cellCount in-use ms u v c (subst (Traffic settings Z ms) e traffic) r t m h k
+      genuine·whole s cellCount (in-use s range) ms u v c (subst (Traffic s Z ms) e traffic) r t m h k
 
   -- two messages with one key and one first counter are one
-  same-message : (m w : Sending) → List·Memᴰ m ms → List·Memᴰ w ms → keyIn settings m ≡ keyIn settings w → startOf settings m ≡ startOf settings w → m ≡ w
-  same-message m w h k e s = go (g .apart m w h k)
+  same-message : (m w : Sending) → List·Memᴰ m ms → List·Memᴰ w ms → keyIn s m ≡ keyIn s w → startOf s m ≡ startOf s w → m ≡ w
+  same-message m w h k e y = go (g .apart m w h k)
     where
-      go : (m ≡ w) ⊎ (keyIn settings m ≢ keyIn settings w) ⊎
-          ((i j : ℕ) → i < manyOf settings m → j < manyOf settings w → segmentAt settings m i .counter ≢ segmentAt settings w j .counter) → m ≡ w
+      go : (m ≡ w) ⊎ (keyIn s m ≢ keyIn s w) ⊎
+          ((i j : ℕ) → i < manyOf s m → j < manyOf s w → segmentAt s m i .counter ≢ segmentAt s w j .counter) → m ≡ w
       go (inl d) = d
       go (inr (inl d)) = absurd (d e)
       go (inr (inr d)) =
           absurd
           (d 0 0 (let a = g .cut m h .many in omega arith) (let a = g .cut w k .many in omega arith)
-          (ap (stepsOf suc 0) s))
+          (ap (stepsOf suc 0) y))
 
   -- ---- every message is written
 
-  delivers : RoomAlong x → (m : Sending) → List·Memᴰ m ms → AllIn m x → List·Memᴰ (frameOf m) (framesOf x)
+  delivers : RoomAlong s x → (m : Sending) → List·Memᴰ m ms → AllIn s m x → List·Memᴰ (frameOf s m) (framesOf s x)
   unfolding storeAfter
-  delivers room m h all = go (taken-or settings Z m calls emptyStore)
+  delivers room m h all = go (taken-or s Z m calls emptyStore)
     where
-      given : Given settings Z cellCount ms calls
+      given : Given s Z cellCount ms calls
       given = record { traffic = traffic; room = room-of room }
 
-      by : Taken settings Z m emptyStore calls → List·Memᴰ (frameOf m) (framesOf x)
+      by : Taken s Z m emptyStore calls → List·Memᴰ (frameOf s m) (framesOf s x)
       by t =
           let a = call-at ps (t .earlier) (t .call) (t .others) (t .place) in
-          let st = storeBehind settings Z cellCount (t .earlier) in
+          let st = storeBehind s Z cellCount (t .earlier) in
           let r = t .takes .0 in
           let w = genuine-at (t .earlier) (t .others) (t .call) (t .place) r (t .takes .1) m h (t .takes .2 .0) in
-          let key : r .head .key ≡ keyIn settings (w .0) = t .takes .2 .0 ∙ sym (w .2) in
-          let start : startOf settings m ≡ startOf settings (w .0) =
-          sym (t .takes .2 .1) ∙ run-counter (w .0) st (t .call) r (t .takes .1) key (w .3) in
+          let key : r .head .key ≡ keyIn s (w .0) = t .takes .2 .0 ∙ sym (w .2) in
+          let start : startOf s m ≡ startOf s (w .0) =
+          sym (t .takes .2 .1) ∙ run-counter s (w .0) st (t .call) r (t .takes .1) key (w .3) in
           let same : m ≡ w .0 = same-message m (w .0) h (w .1) (sym (w .2)) start in
-          let frame = run-frame (w .0) st (t .call) r (t .takes .1) key (w .3) in
-          let there : st ≡ storeAlong (a .before) = ap (storeBehind settings Z cellCount) (a .earlier) ∙ calls-store (a .before) in
-          let took : tookBy settings Z (storeAlong (a .before)) (joining (a .packet) output) ≡ some (message r) =
-          ap (λ (y : List ℕ). tookBy settings Z y (joining (a .packet) output)) (sym there) ∙ ap (tookBy settings Z st) (sym (a .call)) ∙ t .takes .1 in
-          let came = taken-came (storeAlong (a .before)) (a .packet) r (a .fits) took in
-          subst (λ (y : List (List ℕ)). List·Memᴰ (frameOf m) (framesFrom emptyStore y)) (sym (a .place))
-          (at-frame (a .before) (a .packet) (a .after) emptyStore (frameOf m)
-          (subst (λ (y : Came). List·Memᴰ (frameOf m) (framesBy (a .packet) y)) (sym came)
-          (List·Memᴰ·head (ap frameOf same ∙ sym frame))))
+          let frame = run-frame s (w .0) st (t .call) r (t .takes .1) key (w .3) in
+          let there : st ≡ storeAlong s (a .before) = ap (storeBehind s Z cellCount) (a .earlier) ∙ calls-store s (a .before) in
+          let took : tookBy s Z (storeAlong s (a .before)) (joining (a .packet) output) ≡ some (message r) =
+          ap (λ (y : List ℕ). tookBy s Z y (joining (a .packet) output)) (sym there) ∙ ap (tookBy s Z st) (sym (a .call)) ∙ t .takes .1 in
+          let came = taken-came s (storeAlong s (a .before)) (a .packet) r (a .fits) took in
+          subst (λ (y : List (List ℕ)). List·Memᴰ (frameOf s m) (framesFrom s emptyStore y)) (sym (a .place))
+          (at-frame s (a .before) (a .packet) (a .after) emptyStore (frameOf s m)
+          (subst (λ (y : Came). List·Memᴰ (frameOf s m) (framesBy (a .packet) y)) (sym came)
+          (List·Memᴰ·head (ap (frameOf s) same ∙ sym frame))))
 
-      go : Untaken settings Z m emptyStore calls ⊎ Taken settings Z m emptyStore calls → List·Memᴰ (frameOf m) (framesOf x)
+      go : Untaken s Z m emptyStore calls ⊎ Taken s Z m emptyStore calls → List·Memᴰ (frameOf s m) (framesOf s x)
       go (inl u) =
           absurd
-          (none-is Z one-octet settings cellCount in-use calls (only-joins·whole settings cellCount in-use calls (calls-join ps)) m (g .cut m h)
-          (demand3·whole settings cellCount in-use ms [] calls given m h fresh u .complete .1 (all-came m h all)))
+          (none-is Z one-octet s cellCount (in-use s range) calls (only-joins·whole s cellCount (in-use s range) calls (calls-join s range ps)) m (g .cut m h)
+          (demand3·whole s cellCount (in-use s range) ms [] calls given m h fresh u .complete .1 (all-came m h all)))
       go (inr t) = by t
 
   -- ---- and nothing else under its key
 
   -- all segments of what is handed out are in the recording
   all-in : (before : List (List ℕ)) (p : List ℕ) (after : List (List ℕ)) → ps ≡ before ++ p ∷ after → (w : Sending) →
-      Delivers settings Z cellCount w (storeBehind settings Z cellCount (callsOf before)) (joining p output) → AllIn w x
+      Delivers s Z cellCount w (storeBehind s Z cellCount (callsOf before)) (joining p output) → AllIn s w x
   all-in before p after e w d i l =
       let a = d .there i l in
-      let at : storeBehind settings Z cellCount (callsOf before ++ arrival p ∷ []) ≡ arrivedStore settings Z (storeBehind settings Z cellCount (callsOf before)) p =
-      arrived-more settings Z emptyStore (callsOf before) p in
-      let c = held-came Z one-octet settings cellCount in-use (callsOf before ++ arrival p ∷ []) (a .0) (segmentAt settings w i) (a .1)
-      (ap (λ (st : List ℕ). cellAt settings Z st (a .0)) at ∙ a .2) in
+      let at : storeBehind s Z cellCount (callsOf before ++ arrival p ∷ []) ≡ arrivedStore s Z (storeBehind s Z cellCount (callsOf before)) p =
+      arrived-more s Z emptyStore (callsOf before) p in
+      let c = held-came Z one-octet s cellCount (in-use s range) (callsOf before ++ arrival p ∷ []) (a .0) (segmentAt s w i) (a .1)
+      (ap (λ (st : List ℕ). cellAt s Z st (a .0)) at ∙ a .2) in
       (c .0, in-recording (c .0) (handed-more (callsOf before) p (c .0) (c .1)), c .2)
     where
       in-recording : (q : List ℕ) → Handed q (callsOf before) ⊎ (q ≡ p) → List·Memᴰ q ps
       in-recording q (inl k) = subst (List·Memᴰ q) (sym e) (Memᴰ·append-left (p ∷ after) (handed-in before q k))
       in-recording q (inr k) = subst (List·Memᴰ q) (sym e) (Memᴰ·append-right before (List·Memᴰ·head k))
 
-  genuine : (k : List ℕ) (c : ℕ) (b : List ℕ) → List·Memᴰ (joined k c b) (framesOf x) → (m : Sending) → List·Memᴰ m ms → k ≡ keyIn settings m →
-      (w : Sending) × List·Memᴰ w ms × (joined k c b ≡ frameOf w) × AllIn w x
+  genuine : (k : List ℕ) (c : ℕ) (b : List ℕ) → List·Memᴰ (joined k c b) (framesOf s x) → (m : Sending) → List·Memᴰ m ms → k ≡ keyIn s m →
+      (w : Sending) × List·Memᴰ w ms × (joined k c b ≡ frameOf s w) × AllIn s w x
   genuine k c b f m h e = by (genuine-at u (callsOf (a .after)) call place r took m h key)
     where
-      a : Framed emptyStore ps (joined k c b)
-      a = frame-at ps emptyStore (joined k c b) f
+      a : Framed s emptyStore ps (joined k c b)
+      a = frame-at s ps emptyStore (joined k c b) f
 
-      v : (r : Run) × (cameOf settings Z (storeAlong (a .before)) (a .packet) ≡ messageOf r) ×
+      v : (r : Run) × (cameOf s Z (storeAlong s (a .before)) (a .packet) ≡ messageOf r) ×
           (joined k c b ≡ joined (r .head .key) (r .head .counter) (bodyOf r))
-      v = joined-came (a .packet) (cameOf settings Z (storeAlong (a .before)) (a .packet)) k c b (a .its)
+      v = joined-came (a .packet) (cameOf s Z (storeAlong s (a .before)) (a .packet)) k c b (a .its)
 
       r : Run
       r = v .0
@@ -190,36 +192,36 @@ module _ (ms : List Sending) (x : List ℕ) (g : RecordingOf ms x) where
       u = callsOf (a .before)
 
       st : List ℕ
-      st = storeBehind settings Z cellCount u
+      st = storeBehind s Z cellCount u
 
-      t : (short (a .packet) ≡ true) × (tookBy settings Z (storeAlong (a .before)) call ≡ some (message r))
-      t = came-taken (storeAlong (a .before)) (a .packet) r (v .1)
+      t : (short (a .packet) ≡ true) × (tookBy s Z (storeAlong s (a .before)) call ≡ some (message r))
+      t = came-taken s (storeAlong s (a .before)) (a .packet) r (v .1)
 
       place : calls ≡ u ++ call ∷ callsOf (a .after)
       place = ap callsOf (a .place) ∙ at-call (a .before) (a .packet) (a .after) (t .0)
 
-      took : tookBy settings Z st call ≡ some (message r)
-      took = ap (λ (y : List ℕ). tookBy settings Z y call) (calls-store (a .before)) ∙ t .1
+      took : tookBy s Z st call ≡ some (message r)
+      took = ap (λ (y : List ℕ). tookBy s Z y call) (calls-store s (a .before)) ∙ t .1
 
-      key : r .head .key ≡ keyIn settings m
+      key : r .head .key ≡ keyIn s m
       key = cc (v .2, e)
 
-      by : (w : Sending) × List·Memᴰ w ms × (keyIn settings w ≡ keyIn settings m) × Delivers settings Z cellCount w st call →
-          (w : Sending) × List·Memᴰ w ms × (joined k c b ≡ frameOf w) × AllIn w x
+      by : (w : Sending) × List·Memᴰ w ms × (keyIn s w ≡ keyIn s m) × Delivers s Z cellCount w st call →
+          (w : Sending) × List·Memᴰ w ms × (joined k c b ≡ frameOf s w) × AllIn s w x
       by w = (
         w .0,
         w .1,
-        v .2 ∙ run-frame (w .0) st call r took (key ∙ sym (w .2)) (w .3),
+        v .2 ∙ run-frame s (w .0) st call r took (key ∙ sym (w .2)) (w .3),
         all-in (a .before) (a .packet) (a .after) (a .place) (w .0) (w .3),
       )
 
 -- ---- the laws
 
 pub recording-delivers : RecordingDelivers
-recording-delivers ms x g room = delivers ms x g room
+recording-delivers s range ms x g room = delivers s range ms x g room
 
 pub recording-genuine : RecordingGenuine
-recording-genuine ms x g = genuine ms x g
+recording-genuine s range ms x g = genuine s range ms x g
 
 pub recording-has : RecordingHas
-recording-has ms x g room m h all = frame-stands x (frameOf m) (delivers ms x g room m h all)
+recording-has s range ms x g room m h all = frame-stands s x (frameOf s m) (delivers s range ms x g room m h all)

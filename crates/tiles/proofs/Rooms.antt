@@ -14,7 +14,7 @@ use Rattle.cells.specs.Segments.{segOf}
 use Rattle.cells.specs.Messages.{look}
 use Rattle.demand3.specs.Cells.{hasFree}
 use Rattle.steps.specs.Stepping.{longest}
-use Rattle.recording.specs.Recording.{settings, cellCount}
+use Rattle.recording.specs.Recording.{cellCount}
 use Rattle.demand3.specs.Calls.{joining, packetsIn}
 use Rattle.demand3.specs.Presupposed.{cellsIn}
 use Rattle.demand3.proofs.Roomy.{room·whole}
@@ -35,8 +35,8 @@ calls-most (p ∷ ps) = go (calls-most ps) (short p)
     go ih false = omega arith
 
 pub recording-room : RecordingRoom
-recording-room x l before after p e ok seg fit new =
-    ap (λ (st : List ℕ). hasFree (cellsIn settings Z cellCount st)) (sym (calls-store before))
-    ∙ room·whole settings cellCount in-use (callsOf (packetsOf x)) (omega (arith, calls-most (packetsOf x))) (callsOf before) (callsOf after) (joining p output) p
+recording-room s range x l before after p e ok seg fit new =
+    ap (λ (st : List ℕ). hasFree (cellsIn s Z cellCount st)) (sym (calls-store s before))
+    ∙ room·whole s cellCount (in-use s range) (callsOf (packetsOf x)) (omega (arith, calls-most (packetsOf x))) (callsOf before) (callsOf after) (joining p output) p
     (ap callsOf e ∙ at-call before p after (le-leb (length p) longest (omega arith))) (inr (output, refl)) ok seg fit
-    (ap (λ (st : List ℕ). look (cellsIn settings Z cellCount st) (segOf p (readPacket settings p) .key) (segOf p (readPacket settings p) .counter)) (calls-store before) ∙ new)
+    (ap (λ (st : List ℕ). look (cellsIn s Z cellCount st) (segOf p (readPacket s p) .key) (segOf p (readPacket s p) .counter)) (calls-store s before) ∙ new)

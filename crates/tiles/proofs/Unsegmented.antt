@@ -12,6 +12,8 @@ use lib.Dec.{leb, ltb, eqb}
 use borrow.Author.Tests.{eqb-true, eq-eqb, leb-true, le-leb}
 use Rattle.octets.specs.Octets.{pick}
 use Rattle.walk.specs.declared.Refusal.{Refusal}
+use Rattle.walk.specs.declared.Settings.{Settings}
+use Rattle.packet.specs.Format.{SettingsInRange}
 use Rattle.walk.specs.Walk.{refusal}
 use Rattle.packet.specs.Reading.{readPacket, segmented}
 use Rattle.cells.specs.Segments.{Seg, segOf, sameRest}
@@ -20,7 +22,7 @@ use Rattle.arrival.specs.Arriving.{Arrived, whole, stored, again, refused, plac
 use Rattle.taking.specs.Taking.{Took, message, unable, took}
 use Rattle.join.specs.Joining.{tookAs, joinedBy, joining as joiningOf}
 use Rattle.steps.specs.Stepping.{longest, room, Came, over, kept, wholly, refused as refusedBy, message as messageOf, cameBy, cameOf}
-use Rattle.recording.specs.Recording.{settings, cellCount, emptyStore}
+use Rattle.recording.specs.Recording.{cellCount, emptyStore}
 use Rattle.demand3.proofs.Steps.{Kept, arrived-is}
 use Rattle.demand3.proofs.Carried.{behind-keeps}
 use Rattle.tiles.specs.Along.{packetsOf, storeAlong, wholePacket, joined, framesBy, framesFrom, framesOf}
@@ -31,12 +33,12 @@ use Rattle.tiles.proofs.Comes.{in-use, one-octet}
 
 -- ---- an arrival that is whole
 
-module _ (st p : List ℕ) where
-  segment-no : (n : ℕ) (t : Seg) → segmentArrived settings Z st n t ≡ whole → ⊥
+module _ (s : Settings) (st p : List ℕ) where
+  segment-no : (n : ℕ) (t : Seg) → segmentArrived s Z st n t ≡ whole → ⊥
   unfolding segmentArrived placed
-  segment-no n t e = go (look (cellsOf settings Z st n) (t .key) (t .counter)) e
+  segment-no n t e = go (look (cellsOf s Z st n) (t .key) (t .counter)) e
     where
-      new : (b : Bool) → pick b (stored (lowestFree settings Z st n)) (refused (refusal 19)) ≡ whole → ⊥
+      new : (b : Bool) → pick b (stored (lowestFree s Z st n)) (refused (refusal 19)) ≡ whole → ⊥
       new true d = let z : _≡_ {A = ℕ} 0 1 = cc d in omega arith
       new false d = let z : _≡_ {A = ℕ} 0 1 = cc d in omega arith
 
@@ -44,28 +46,28 @@ module _ (st p : List ℕ) where
       old true d = let z : _≡_ {A = ℕ} 0 1 = cc d in omega arith
       old false d = let z : _≡_ {A = ℕ} 0 1 = cc d in omega arith
 
-      go : (o : Option Seg) → beside o t (placed n (lowestFree settings Z st n)) ≡ whole → ⊥
-      go none d = new (ltb (lowestFree settings Z st n) n) d
+      go : (o : Option Seg) → beside o t (placed n (lowestFree s Z st n)) ≡ whole → ⊥
+      go none d = new (ltb (lowestFree s Z st n) n) d
       go (some u) d = old (sameRest u t) d
 
-  in-whole : (n : ℕ) → arrivedIn settings Z st n p ≡ whole → (readPacket settings p .refusal .number ≡ 0) × (segmented p ≡ false)
+  in-whole : (n : ℕ) → arrivedIn s Z st n p ≡ whole → (readPacket s p .refusal .number ≡ 0) × (segmented p ≡ false)
   unfolding arrivedIn
-  in-whole n e = go (eqb (readPacket settings p .refusal .number) 0) refl (segmented p) (leb (2 + length p) Z) e
+  in-whole n e = go (eqb (readPacket s p .refusal .number) 0) refl (segmented p) (leb (2 + length p) Z) e
     where
       k : ℕ
-      k = readPacket settings p .refusal .number
+      k = readPacket s p .refusal .number
 
-      go : (a : Bool) → eqb (readPacket settings p .refusal .number) 0 ≡ a → (b c : Bool) →
-          pick a (pick b (pick c (segmentArrived settings Z st n (segOf p (readPacket settings p))) (refused (refusal 17))) whole) (refused (readPacket settings p .refusal)) ≡ whole →
-          (readPacket settings p .refusal .number ≡ 0) × (b ≡ false)
+      go : (a : Bool) → eqb (readPacket s p .refusal .number) 0 ≡ a → (b c : Bool) →
+          pick a (pick b (pick c (segmentArrived s Z st n (segOf p (readPacket s p))) (refused (refusal 17))) whole) (refused (readPacket s p .refusal)) ≡ whole →
+          (readPacket s p .refusal .number ≡ 0) × (b ≡ false)
       go true f false c d = (eqb-true k 0 f, refl)
-      go true f true true d = absurd (segment-no n (segOf p (readPacket settings p)) d)
+      go true f true true d = absurd (segment-no n (segOf p (readPacket s p)) d)
       go true f true false d = let z : _≡_ {A = ℕ} 0 1 = cc d in absurd (omega arith)
       go false f b c d = let z : _≡_ {A = ℕ} 0 1 = cc d in absurd (omega arith)
 
-  whole-in : (n : ℕ) → readPacket settings p .refusal .number ≡ 0 → segmented p ≡ false → arrivedIn settings Z st n p ≡ whole
+  whole-in : (n : ℕ) → readPacket s p .refusal .number ≡ 0 → segmented p ≡ false → arrivedIn s Z st n p ≡ whole
   unfolding arrivedIn
-  whole-in n a b = rw (eq-eqb (readPacket settings p .refusal .number) 0 a, b) refl
+  whole-in n a b = rw (eq-eqb (readPacket s p .refusal .number) 0 a, b) refl
 
   -- ---- and what it comes to
 
@@ -77,26 +79,26 @@ module _ (st p : List ℕ) where
   took-no (message r) e = let z : _≡_ {A = ℕ} 0 1 = cc e in omega arith
   took-no (unable k) e = not-wholly (refusal k) (eqb k 20) e
 
-  wholly-by : (a : Arrived) → cameBy (joinedBy settings Z st p room a) ≡ wholly → a ≡ whole
+  wholly-by : (a : Arrived) → cameBy (joinedBy s Z st p room a) ≡ wholly → a ≡ whole
   wholly-by whole e = refl
-  wholly-by (stored i) e = absurd (took-no (took settings Z (storeWith Z st p (stored i)) room) e)
-  wholly-by again e = absurd (took-no (took settings Z (storeWith Z st p again) room) e)
+  wholly-by (stored i) e = absurd (took-no (took s Z (storeWith Z st p (stored i)) room) e)
+  wholly-by again e = absurd (took-no (took s Z (storeWith Z st p again) room) e)
   wholly-by (refused k) e = absurd (not-wholly k (eqb (k .number) 20) e)
 
-  came-whole : cameOf settings Z st p ≡ wholly → (short p ≡ true) × (arrived settings Z st p ≡ whole)
+  came-whole : cameOf s Z st p ≡ wholly → (short p ≡ true) × (arrived s Z st p ≡ whole)
   unfolding cameOf joiningOf
   came-whole e = go (short p) e
     where
-      go : (b : Bool) → pick b (cameBy (joinedBy settings Z st p room (arrived settings Z st p))) over ≡ wholly →
-          (b ≡ true) × (arrived settings Z st p ≡ whole)
-      go true d = (refl, wholly-by (arrived settings Z st p) d)
+      go : (b : Bool) → pick b (cameBy (joinedBy s Z st p room (arrived s Z st p))) over ≡ wholly →
+          (b ≡ true) × (arrived s Z st p ≡ whole)
+      go true d = (refl, wholly-by (arrived s Z st p) d)
       go false d = let z : _≡_ {A = ℕ} 0 1 = cc d in absurd (omega arith)
 
-  whole-came : short p ≡ true → arrived settings Z st p ≡ whole → cameOf settings Z st p ≡ wholly
+  whole-came : short p ≡ true → arrived s Z st p ≡ whole → cameOf s Z st p ≡ wholly
   unfolding cameOf joiningOf
   whole-came a b =
-      ap (λ (k : Bool). pick k (cameBy (joinedBy settings Z st p room (arrived settings Z st p))) over) a
-      ∙ ap (λ (k : Arrived). cameBy (joinedBy settings Z st p room k)) b
+      ap (λ (k : Bool). pick k (cameBy (joinedBy s Z st p room (arrived s Z st p))) over) a
+      ∙ ap (λ (k : Arrived). cameBy (joinedBy s Z st p room k)) b
 
 -- ---- among the frames
 
@@ -126,31 +128,31 @@ split-at (q ∷ l) p h = go (split-at l p) (List·Memᴰ·cases-cons h)
     go ih (inr k) = let v = ih k in (q ∷ v .0, v .1, ap (λ (y : List (List ℕ)). q ∷ y) (v .2))
 
 -- the store along a recording is in order
-along-kept : (ps : List (List ℕ)) → Kept settings Z cellCount (storeAlong ps)
-along-kept ps = subst (Kept settings Z cellCount) (calls-store ps) (behind-keeps settings Z cellCount one-octet in-use (callsOf ps))
+along-kept : (s : Settings) → SettingsInRange s → (ps : List (List ℕ)) → Kept s Z cellCount (storeAlong s ps)
+along-kept s range ps = subst (Kept s Z cellCount) (calls-store s ps) (behind-keeps s Z cellCount one-octet (in-use s range) (callsOf ps))
 
 pub recording-whole : RecordingWhole
-recording-whole x p = (there, back)
+recording-whole s range x p = (there, back)
   where
-    there : List·Memᴰ (wholePacket p) (framesOf x) →
-        List·Memᴰ p (packetsOf x) × (length p ≤ longest) × (readPacket settings p .refusal .number ≡ 0) × (segmented p ≡ false)
+    there : List·Memᴰ (wholePacket p) (framesOf s x) →
+        List·Memᴰ p (packetsOf x) × (length p ≤ longest) × (readPacket s p .refusal .number ≡ 0) × (segmented p ≡ false)
     there h =
-        let a = frame-at (packetsOf x) emptyStore (wholePacket p) h in
-        let st = storeAlong (a .before) in
-        let v = whole-frame p (a .packet) (cameOf settings Z st (a .packet)) (a .its) in
-        let c = came-whole st p (ap (cameOf settings Z st) (v .1) ∙ v .0) in
-        let w = in-whole st p cellCount (sym (arrived-is settings Z cellCount st (along-kept (a .before)) p) ∙ c .1) in
+        let a = frame-at s (packetsOf x) emptyStore (wholePacket p) h in
+        let st = storeAlong s (a .before) in
+        let v = whole-frame p (a .packet) (cameOf s Z st (a .packet)) (a .its) in
+        let c = came-whole s st p (ap (cameOf s Z st) (v .1) ∙ v .0) in
+        let w = in-whole s st p cellCount (sym (arrived-is s Z cellCount st (along-kept s range (a .before)) p) ∙ c .1) in
         let m : List·Memᴰ p (packetsOf x) = subst (List·Memᴰ p) (sym (a .place)) (Memᴰ·append-right (a .before) (List·Memᴰ·head (v .1))) in
         (m, leb-true (length p) longest (c .0), w .0, w .1)
 
-    back : List·Memᴰ p (packetsOf x) × (length p ≤ longest) × (readPacket settings p .refusal .number ≡ 0) × (segmented p ≡ false) →
-        List·Memᴰ (wholePacket p) (framesOf x)
+    back : List·Memᴰ p (packetsOf x) × (length p ≤ longest) × (readPacket s p .refusal .number ≡ 0) × (segmented p ≡ false) →
+        List·Memᴰ (wholePacket p) (framesOf s x)
     back h =
         let a = split-at (packetsOf x) p (h .0) in
-        let st = storeAlong (a .0) in
+        let st = storeAlong s (a .0) in
         let c =
-        whole-came st p (le-leb (length p) longest (h .1))
-        (arrived-is settings Z cellCount st (along-kept (a .0)) p ∙ whole-in st p cellCount (h .2) (h .3)) in
-        subst (λ (y : List (List ℕ)). List·Memᴰ (wholePacket p) (framesFrom emptyStore y)) (sym (a .2))
-        (at-frame (a .0) p (a .1) emptyStore (wholePacket p)
+        whole-came s st p (le-leb (length p) longest (h .1))
+        (arrived-is s Z cellCount st (along-kept s range (a .0)) p ∙ whole-in s st p cellCount (h .2) (h .3)) in
+        subst (λ (y : List (List ℕ)). List·Memᴰ (wholePacket p) (framesFrom s emptyStore y)) (sym (a .2))
+        (at-frame s (a .0) p (a .1) emptyStore (wholePacket p)
         (subst (λ (y : Came). List·Memᴰ (wholePacket p) (framesBy p y)) (sym c) (List·Memᴰ·head refl)))

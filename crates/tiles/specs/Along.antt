@@ -5,12 +5,13 @@ use mathlib.Core.Path.{_≡_}
 use mathlib.Core.List.{List, [], _∷_, _++_}
 use lib.ListN.{length, drop}
 use Rattle.octets.specs.Octets.{number}
+use Rattle.walk.specs.declared.Settings.{Settings}
 use Rattle.cells.specs.Order.{cellSize}
 use Rattle.cells.specs.Messages.{bodyOf}
 use Rattle.packet.specs.Mark.{packetMark}
 use Rattle.steps.specs.Stepping.{Found, nothing, other, cut, whole, foundIn, storeAfter, framed, without}
 use Rattle.steps.specs.Stepping.{Came, over, refused, kept, wholly, message, cameOf}
-use Rattle.recording.specs.Recording.{settings, emptyStore}
+use Rattle.recording.specs.Recording.{emptyStore}
 use Rattle.recording.specs.Ending.{past}
 
 -- ---- its packets
@@ -45,13 +46,13 @@ Sized p = length p ≡ number 2 p 4 + 7
 -- ---- the store
 
 -- after some packets; one above 32,768 octets is passed over, any other is joined
-unfoldable pub storeFrom : List ℕ → List (List ℕ) → List ℕ
-storeFrom st [] = st
-storeFrom st (p ∷ ps) = storeFrom (storeAfter settings cellSize st p) ps
+unfoldable pub storeFrom : Settings → List ℕ → List (List ℕ) → List ℕ
+storeFrom s st [] = st
+storeFrom s st (p ∷ ps) = storeFrom s (storeAfter s cellSize st p) ps
 
 -- from the empty store on
-abbrev pub storeAlong : List (List ℕ) → List ℕ
-storeAlong ps = storeFrom emptyStore ps
+abbrev pub storeAlong : Settings → List (List ℕ) → List ℕ
+storeAlong s ps = storeFrom s emptyStore ps
 
 -- ---- what is written
 
@@ -73,12 +74,12 @@ framesBy p kept = []
 framesBy p wholly = wholePacket p ∷ []
 framesBy p (message r) = joined (r .head .key) (r .head .counter) (bodyOf r) ∷ []
 
-unfoldable pub framesFrom : List ℕ → List (List ℕ) → List Frame
-framesFrom st [] = []
-framesFrom st (p ∷ ps) =
-    let r = framesFrom (storeAfter settings cellSize st p) ps in
-    framesBy p (cameOf settings cellSize st p) ++ r
+unfoldable pub framesFrom : Settings → List ℕ → List (List ℕ) → List Frame
+framesFrom s st [] = []
+framesFrom s st (p ∷ ps) =
+    let r = framesFrom s (storeAfter s cellSize st p) ps in
+    framesBy p (cameOf s cellSize st p) ++ r
 
 -- the frames of a recording, in order
-abbrev pub framesOf : List ℕ → List Frame
-framesOf x = framesFrom emptyStore (packetsOf x)
+abbrev pub framesOf : Settings → List ℕ → List Frame
+framesOf s x = framesFrom s emptyStore (packetsOf x)

@@ -12,6 +12,7 @@ use borrow.Author.Tests.{leb-true, le-leb, eq-eqb}
 use Rattle.octets.specs.Octets.{pick, Octets, most32}
 use Rattle.walk.specs.declared.Settings.{Settings}
 use Rattle.walk.specs.declared.Tested.{Tested}
+use Rattle.walk.specs.Profile.{fixedProfile}
 use Rattle.walk.specs.Walk.{noneFailed, timestampLeast, timestampMost}
 use Rattle.fields.specs.Fields.{partsMost}
 use Rattle.packet.specs.Format.{Values, segment, secondaryOctets, octetsOf, headerMost, packetMost}
@@ -56,12 +57,18 @@ module _ (old : Bool) (s : Settings) (v : HeaderValues) (o : PacketValues) (t : 
       let y = unless-fine (zoneFits old (v .has)) 29 _ (e .before) in
       let f = unlessAll-fine (packetChecks o) 21 _ (y .before) in
       let g = unlessAll-fine (headerChecks s v t) 21 _ (f .0) in
-      let i = unless-fine (leb (s .t) timestampMost) 14 _ (g .0) in
+      let k = unless-fine (leb (s .profile) fixedProfile) 14 _ (g .0) in
+      let i = unless-fine (leb (s .t) timestampMost) 14 _ (k .before) in
       let j = unless-fine (leb timestampLeast (s .t)) 14 _ (i .before) in
       record {
         range =
             record {
-              settings = record { t-low = leb-true timestampLeast (s .t) (j .held); t-top = leb-true (s .t) timestampMost (i .held) };
+              settings =
+                  record {
+                    t-low = leb-true timestampLeast (s .t) (j .held);
+                    t-top = leb-true (s .t) timestampMost (i .held);
+                    profile-top = leb-true (s .profile) fixedProfile (k .held);
+                  };
               head = checks-range s v t (g .1) (u .1) (leb-true (length (t .lengths)) partsMost (e .held)) w p;
               flags = omega (arith, leb-true (o .flags) 3 (f .1 .0));
               sequence-count = omega (arith, leb-true (o .«sequence_count» .0) countMost (f .1 .1 .0));
@@ -104,7 +111,8 @@ module _ (old : Bool) (s : Settings) (v : HeaderValues) (o : PacketValues) (t : 
     settings-fine : settingsTest s noneFailed ≡ noneFailed
     unfolding settingsTest
     settings-fine =
-        unless-true (leb (s .t) timestampMost) 15 _ (le-leb (s .t) timestampMost (k .range .settings .t-top))
+        unless-true (leb (s .profile) fixedProfile) 15 _ (le-leb (s .profile) fixedProfile (k .range .settings .profile-top))
+        ∙ unless-true (leb (s .t) timestampMost) 15 _ (le-leb (s .t) timestampMost (k .range .settings .t-top))
         ∙ unless-true (leb timestampLeast (s .t)) 15 _ (le-leb timestampLeast (s .t) (k .range .settings .t-low))
 
     values-fine : valueRefusal old s v o t ≡ noneFailed

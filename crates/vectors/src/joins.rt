@@ -3,10 +3,16 @@ use crate::case;
 use crate::print;
 use join::Which;
 
-// Number 1 is T, part 1 the packet. Answers: the refusal, the buffer, place and length, H, the octets of the body, the first's counter,
-// what the refusal tells.
+// Number 1 is T, number 2 the profile, part 1 the packet. Answers: the refusal, the buffer, place and length, H, the octets of the body,
+// the first's counter, what the refusal tells.
 pub fn join(c: &[u8], store: &mut [u8], out: &mut [u8]) {
-    let answer = flat_store::join(case::number(c, 1), store, case::part(c, 1), out);
+    let answer = flat_store::join(
+        case::number(c, 1),
+        case::number(c, 2),
+        store,
+        case::part(c, 1),
+        out,
+    );
     print::numbers(&answer);
 }
 

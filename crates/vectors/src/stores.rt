@@ -1,23 +1,28 @@
 // The store: the check of its order inside arrival and taking, a packet's arrival, and taking.
 //
-// Number 1 is T, and part 1 of an arrival is the packet.
+// Number 1 is T, number 2 the profile, and part 1 of an arrival is the packet.
 use crate::case;
 use crate::print;
 
 // Answers: the refusal, 15 or 16, and the number of cells of a store in order.
 pub fn order(c: &[u8], store: &[u8]) {
-    let answer = flat_store::in_order(case::number(c, 1), store);
+    let answer = flat_store::in_order(case::number(c, 1), case::number(c, 2), store);
     print::numbers(&answer);
 }
 
 // Answers: the refusal; 1 whole, 2 stored or 3 held; what the refusal tells.
 pub fn arrive(c: &[u8], store: &mut [u8]) {
-    let answer = flat_store::arrive(case::number(c, 1), store, case::part(c, 1));
+    let answer = flat_store::arrive(
+        case::number(c, 1),
+        case::number(c, 2),
+        store,
+        case::part(c, 1),
+    );
     print::numbers(&answer);
 }
 
 // Answers: the refusal, H, the octets of the body, the first's counter.
 pub fn take(c: &[u8], store: &mut [u8], out: &mut [u8]) {
-    let answer = flat_store::take(case::number(c, 1), store, out);
+    let answer = flat_store::take(case::number(c, 1), case::number(c, 2), store, out);
     print::numbers(&answer);
 }

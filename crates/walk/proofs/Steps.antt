@@ -18,8 +18,7 @@ use Rattle.varint.specs.declared.Found.{Found}
 use Rattle.varint.specs.Answer.{found}
 use Rattle.varint.proofs.Told.{got, told}
 use Rattle.varint.proofs.Laws.{within, only-written}
-use Rattle.walk.specs.declared.Settings.{Settings}
-use Rattle.walk.specs.Walk.{Reading, goes, refused, going, headerEnd, octets, check, fieldFrom, uintegerStep, uinteger}
+use Rattle.walk.specs.Walk.{Reading, goes, refused, going, headerEnd, octets, check, fieldFrom, varintStep, varintField}
 
 -- ---- by cases
 
@@ -57,13 +56,13 @@ module _ (ok : Bool) (k : ℕ) (w : Reading) where
   unfolding check
   check-fails h f = simp (h, f)
 
-module _ (s : Settings) (p : List ℕ) (w : Reading) where
-  pub number-refused : going w ≡ false → uinteger s p w ≡ record { walk = w; value = 0 }
-  unfolding uinteger
+module _ (p : List ℕ) (w : Reading) where
+  pub number-refused : going w ≡ false → varintField p w ≡ record { walk = w; value = 0 }
+  unfolding varintField
   number-refused h = simp h
 
-  pub number-found : going w ≡ true → {g : Got} → readAt 32 (take headerEnd p) (w .at) ≡ g → uinteger s p w ≡ uintegerStep p (w .at) g
-  unfolding uinteger
+  pub number-found : going w ≡ true → {g : Got} → readAt 32 (take headerEnd p) (w .at) ≡ g → varintField p w ≡ varintStep p (w .at) g
+  unfolding varintField
   number-found h e = simp (h, e)
 
 -- ---- what a step that goes on tells
@@ -161,10 +160,10 @@ limited p n e = ⊎-elim short long (below-or (length p) headerEnd)
     long h = let k : n - 0 ≡ headerEnd = omega arith in ap (λ (j : ℕ). take j p) k
 
 -- from the answer of the Varint's reader, over the octets up to the limit, to the definition
-module _ (s : Settings) (p : List ℕ) (w : Reading) {end : ℕ} {r q : Found}
+module _ (p : List ℕ) (w : Reading) {end : ℕ} {r q : Found}
     (e : end ≡ min headerEnd (length p)) (h : r ≡ found (readAt 32 (take (end - 0) (drop 0 p)) (w .at))) (d : r ≡ q) where
   pub number-got : readAt 32 (take headerEnd p) (w .at) ≡ got q
   number-got = rw (limited p end e) at (told (readAt 32 (take (end - 0) (drop 0 p)) (w .at)) h d)
 
-  pub number-told : w .refused ≡ 0 → uinteger s p w ≡ uintegerStep p (w .at) (got q)
-  number-told g = number-found s p w (eq-eqb (w .refused) 0 g) number-got
+  pub number-told : w .refused ≡ 0 → varintField p w ≡ varintStep p (w .at) (got q)
+  number-told g = number-found p w (eq-eqb (w .refused) 0 g) number-got

@@ -1,20 +1,21 @@
 -- A reading: where it stands, or by which number it was refused. All refusals of reading are made by `octets`, `uinteger` and `check`.
--- SPEC R-2 to R-5, V-4: first 12, then 6, then the value, octet by octet; a content whose length is known is tested as a whole.
+-- SPEC R-2 to R-5, R-12, V-4: first 12, then 6, then the value, octet by octet; a content whose length is known is tested as a whole.
 -- Assumes nothing: these are definitions.
 use Prim.Native.Nat.{ℕ, _+_}
 use mathlib.Core.List.{List}
 use mathlib.Core.Bool.{Bool}
 use lib.ListN.{length, take}
 use lib.Dec.{leb, eqb}
-use Rattle.octets.specs.Octets.{pick}
+use Rattle.octets.specs.Octets.{pick, number}
 use Rattle.varint.specs.Varint.{Got, value, ends, bad, readAt}
 use Rattle.walk.specs.declared.Settings.{Settings}
 use Rattle.walk.specs.declared.Refusal.{Refusal}
 use Rattle.walk.specs.declared.Tested.{Tested}
+use Rattle.walk.specs.Profile.{fixedProfile, byProfile, uintegerSize}
 
--- the settings for any number given as T; whether it is in range is tested on the number as it is given
-abbrev pub settingsOf : ℕ → Settings
-settingsOf t = record { t = t }
+-- the settings for any numbers given as T and as the profile; whether they are in range is tested on the numbers as they are given
+abbrev pub settingsOf : ℕ → ℕ → Settings
+settingsOf t profile = record { t = t; profile = profile }
 
 -- the next place; or the number of the refusal, and where it was refused: if octets were missing, where their field began
 pub record Reading : Type 0 where
@@ -83,15 +84,24 @@ unfoldable pub fieldFrom : Reading → Reading → Reading
 fieldFrom w r = pick (going r) r (refused (w .at) (r .refused))
 
 -- what a Varint's reading from a place on means here. Where its octets end, the header's limit comes first: 12, else 6
-unfoldable pub uintegerStep : List ℕ → ℕ → Got → Step ℕ
-uintegerStep p at (value v next) = record { walk = goes next; value = v }
-uintegerStep p at ends = record { walk = refused at (pick (leb headerEnd (length p)) 12 6); value = 0 }
-uintegerStep p at bad = record { walk = refused at 10; value = 0 }
+unfoldable pub varintStep : List ℕ → ℕ → Got → Step ℕ
+varintStep p at (value v next) = record { walk = goes next; value = v }
+varintStep p at ends = record { walk = refused at (pick (leb headerEnd (length p)) 12 6); value = 0 }
+varintStep p at bad = record { walk = refused at 10; value = 0 }
 
--- an unsigned number of at most 32 bits, under the settings: a Varint, among the octets up to the header's limit
+-- a Varint of at most 32 bits, among the octets up to the header's limit
+unfoldable pub varintField : List ℕ → Reading → Step ℕ
+varintField p w = pick (going w) (varintStep p (w .at) (readAt 32 (take headerEnd p) (w .at))) (record { walk = w; value = 0 })
+
+-- a number of n octets, tested as a whole
+unfoldable pub wideField : ℕ → List ℕ → Reading → Step ℕ
+wideField n p w = record { walk = octets p n w; value = number n p (w .at) }
+
+-- an unsigned number of at most 32 bits, under the settings
 unfoldable pub uinteger : Settings → List ℕ → Reading → Step ℕ
-uinteger s p w = pick (going w) (uintegerStep p (w .at) (readAt 32 (take headerEnd p) (w .at))) (record { walk = w; value = 0 })
+uinteger s p w = byProfile s varintField (wideField uintegerSize) p w
 
--- where reading begins: 15 for T, and then the secondary header after the six octets of the primary one
+-- where reading begins: 15 for T and the profile, and then the secondary header after the six octets of the primary one
 unfoldable pub begun : Settings → Reading
-begun s = check (leb (s .t) timestampMost) 15 (check (leb timestampLeast (s .t)) 15 (goes 6))
+begun s =
+    check (leb (s .profile) fixedProfile) 15 (check (leb (s .t) timestampMost) 15 (check (leb timestampLeast (s .t)) 15 (goes 6)))

@@ -2,13 +2,16 @@
 //
 // A `Walk` goes by value through every step; a refused one passes through unchanged, so the code above is straight-line. Two
 // steps test octets (`octets` and `read_uinteger`: 12, then 6, then 10), one tests a value (`check`). `Settings` is what both sides
-// agreed on. Lengths, counts and the priority are read by `read_uinteger`, and nothing else knows how they are written.
+// agreed on. Lengths, counts and the priority are read by `read_uinteger`, and nothing else asks how they are written: each is a Varint, or
+// under the first pods' profile four octets.
 ghost use mathlib.Core.Path.{_≡_};
 ghost use Prim.Native.Nat.{min};
 ghost use lib.Dec.{leb};
 ghost use Rattle.octets.specs.Octets.{pick};
 ghost use lib.ListN.{length};
 ghost use Rattle.walk.specs.Walk.{goes as goesAt, refused as refusedBy, octets as octetsOf, check as checkOf, uinteger, begun};
+ghost use Rattle.walk.specs.Walk.{varintField, wideField};
+ghost use Rattle.walk.specs.Profile.{uintegerSize};
 ghost use Rattle.walk.specs.Walk.{unless as unlessOf, refusal as refusalOf, headerEnd, fieldFrom};
 ghost use Rattle.walk.specs.Inner.{asWalk, ofWalk, asUInteger};
 use varint::Found;
@@ -19,6 +22,14 @@ pub const HEADER_END: usize = 262;
 pub const TIMESTAMP_LEAST: usize = 1;
 
 pub const TIMESTAMP_MOST: usize = 16;
+
+// The profiles: every UInteger is a Varint, or has four octets. There is none after the second.
+pub const PROFILE_VARINT: u64 = 0;
+
+pub const PROFILE_FIXED: u64 = 1;
+
+// The octets of a UInteger that is no Varint.
+pub const UINTEGER: usize = 4;
 
 // The refusals by name; docs/SPEC.md has the rule of each.
 // Fewer than six octets.
@@ -63,7 +74,7 @@ pub const REFUSED_MANY_PARTS: u8 = 13;
 // A segment without a body.
 pub const REFUSED_EMPTY_SEGMENT: u8 = 14;
 
-// T or P out of range.
+// T, the profile or P out of range.
 pub const REFUSED_SETTINGS: u8 = 15;
 
 // Store not in order.
@@ -111,9 +122,10 @@ pub const REFUSED_WITHDRAWN: u8 = 30;
 // A state of salvaging that can not be one.
 pub const REFUSED_STATE: u8 = 40;
 
-// What both sides agreed on: T, the octets of a timestamp.
+// What both sides agreed on: T, the octets of a timestamp, and the profile.
 pub struct Settings {
     pub t: usize,
+    pub profile: u64,
 }
 
 // A refusal: its number of SPEC's list, 0 if there is none; beside 5 and 27 the octets that are missing or left over; beside 6 the place in
@@ -250,9 +262,9 @@ fn end_refusal(p: &[u8]) -> u8
     REFUSED_HEADER_ENDS
 }
 
-// An unsigned number of at most 32 bits at the place, refused by 12, 6 or 10.
-pub fn read_uinteger(s: Settings, p: &[u8], w: Walk) -> UInteger
-    ensures { λ r. ⌜ r ≡ asUInteger (uinteger s (now (p .entry)) (ofWalk w)) ⌝ }
+// A Varint of at most 32 bits at the place, refused by 12, 6 or 10.
+fn read_varint(p: &[u8], w: Walk) -> UInteger
+    ensures { λ r. ⌜ r ≡ asUInteger (varintField (now (p .entry)) (ofWalk w)) ⌝ }
 {
     if w.refused != 0 {
         return UInteger { walk: w, value: 0 };
@@ -286,6 +298,28 @@ pub fn read_uinteger(s: Settings, p: &[u8], w: Walk) -> UInteger
     }
 }
 
+// Four octets as a number at the place, refused by 12 or 6 as a whole.
+pub fn read_four(p: &[u8], w: Walk) -> UInteger
+    ensures { λ r. ⌜ r ≡ asUInteger (wideField uintegerSize (now (p .entry)) (ofWalk w)) ⌝ }
+{
+    let walk = w.octets(p, UINTEGER);
+    let value = octets::be32(p, w.at as usize);
+    UInteger {
+        walk: walk,
+        value: value,
+    }
+}
+
+// An unsigned number of at most 32 bits at the place, as the profile has it.
+pub fn read_uinteger(s: Settings, p: &[u8], w: Walk) -> UInteger
+    ensures { λ r. ⌜ r ≡ asUInteger (uinteger s (now (p .entry)) (ofWalk w)) ⌝ }
+{
+    if s.profile == PROFILE_FIXED {
+        return read_four(p, w);
+    }
+    read_varint(p, w)
+}
+
 // Where reading begins, refused by 15.
 pub fn begin(s: Settings) -> Walk
     ensures { λ r. ⌜ r ≡ asWalk (begun s) ⌝ }
@@ -293,4 +327,5 @@ pub fn begin(s: Settings) -> Walk
     let w = goes(6);
     w.check(TIMESTAMP_LEAST <= s.t, REFUSED_SETTINGS)
         .check(s.t <= TIMESTAMP_MOST, REFUSED_SETTINGS)
+        .check(s.profile <= PROFILE_FIXED, REFUSED_SETTINGS)
 }

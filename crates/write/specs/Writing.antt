@@ -10,6 +10,7 @@ use lib.Dec.{leb, eqb}
 use Rattle.octets.specs.Octets.{pick}
 use Rattle.walk.specs.declared.Settings.{Settings}
 use Rattle.walk.specs.declared.Tested.{Tested}
+use Rattle.walk.specs.Profile.{fixedProfile}
 use Rattle.walk.specs.Walk.{refusal, noneFailed, unless, timestampLeast, timestampMost}
 use Rattle.fields.specs.Fields.{partsMost}
 use Rattle.fields.specs.Form.{split}
@@ -20,9 +21,10 @@ use Rattle.write.specs.declared.PacketValues.{PacketValues}
 use Rattle.write.specs.declared.Written.{Written}
 use Rattle.write.specs.Given.{Lent, headOf, packetOf, headerChecks, packetChecks, utf8Checks, unlessAll}
 
--- 15: T outside its range
+-- 15: T outside its range, or a profile that there is not
 unfoldable pub settingsTest : Settings → Tested → Tested
-settingsTest s r = unless (leb (s .t) timestampMost) 15 (unless (leb timestampLeast (s .t)) 15 r)
+settingsTest s r =
+    unless (leb (s .profile) fixedProfile) 15 (unless (leb (s .t) timestampMost) 15 (unless (leb timestampLeast (s .t)) 15 r))
 
 -- 30: a zone, but for the old writer
 abbrev pub zoneFits : Bool → Present → Bool

@@ -120,12 +120,13 @@ pub struct Written {
 
 // ---- the tests
 
-// 15: T.
+// 15: T and the profile.
 pub fn test_settings(s: Settings, r: Tested) -> Tested
     ensures { λ q. ⌜ q ≡ settingsTest s r ⌝ }
 {
     let a = walk::unless(r, walk::TIMESTAMP_LEAST <= s.t, REFUSED_SETTINGS);
-    walk::unless(a, s.t <= walk::TIMESTAMP_MOST, REFUSED_SETTINGS)
+    let b = walk::unless(a, s.t <= walk::TIMESTAMP_MOST, REFUSED_SETTINGS);
+    walk::unless(b, s.profile <= walk::PROFILE_FIXED, REFUSED_SETTINGS)
 }
 
 fn number_fits(there: bool, x: u64, most: u64) -> bool

@@ -3,7 +3,7 @@
 use crate::told;
 use orlyukan::{
     Arrived, Cut, CutPacket, Header, Joined, Next, Order, Reading, Recording, Refusal, SegmentCounter, Sender, SequenceCount,
-    Taken, Which, Written,
+    Settings, Taken, Which, Written,
 };
 
 /// The values of a packet beside its header's.
@@ -19,17 +19,26 @@ pub trait Calls {
     fn next_sequence_count(&self, sequence_count: SequenceCount) -> Result<SequenceCount, Refusal>;
     fn after_packet(&self, sender: Sender) -> Result<Sender, Refusal>;
     fn after_segment(&self, sender: Sender) -> Result<Sender, Refusal>;
-    fn read(&self, t: u64, packet: &[u8]) -> Reading;
-    fn write(&self, t: u64, header: &Header, numbers: Numbers, body: &[u8], out: &mut [u8]) -> Written;
-    fn cut_count(&self, t: u64, p: u64, header: &Header, body_length: u64, sender: Sender) -> Cut;
+    fn read(&self, s: Settings, packet: &[u8]) -> Reading;
+    fn write(&self, s: Settings, header: &Header, numbers: Numbers, body: &[u8], out: &mut [u8]) -> Written;
+    fn cut_count(&self, s: Settings, p: u64, header: &Header, body_length: u64, sender: Sender) -> Cut;
     #[allow(clippy::too_many_arguments)]
-    fn cut_packet(&self, t: u64, p: u64, header: &Header, body: &[u8], sender: Sender, i: u64, out: &mut [u8]) -> CutPacket;
-    fn in_order(&self, t: u64, store: &[u8]) -> Order;
-    fn arrive(&self, t: u64, store: &mut [u8], packet: &[u8]) -> Arrived;
-    fn take(&self, t: u64, store: &mut [u8], out: &mut [u8]) -> Taken;
-    fn join(&self, t: u64, store: &mut [u8], packet: &[u8], out: &mut [u8]) -> Joined;
+    fn cut_packet(
+        &self,
+        s: Settings,
+        p: u64,
+        header: &Header,
+        body: &[u8],
+        sender: Sender,
+        i: u64,
+        out: &mut [u8],
+    ) -> CutPacket;
+    fn in_order(&self, s: Settings, store: &[u8]) -> Order;
+    fn arrive(&self, s: Settings, store: &mut [u8], packet: &[u8]) -> Arrived;
+    fn take(&self, s: Settings, store: &mut [u8], out: &mut [u8]) -> Taken;
+    fn join(&self, s: Settings, store: &mut [u8], packet: &[u8], out: &mut [u8]) -> Joined;
     fn view<'a>(&self, packet: &'a [u8], joined: &'a [u8], which: Which, place: u64, length: u64) -> &'a [u8];
-    fn join_recording(&self, recording: &[u8], out: &mut [u8]) -> Recording;
+    fn join_recording(&self, s: Settings, recording: &[u8], out: &mut [u8]) -> Recording;
 }
 
 /// The proved library, through its wrappers.
@@ -52,44 +61,53 @@ impl Calls for Library {
         orlyukan::after_segment(sender)
     }
 
-    fn read(&self, t: u64, packet: &[u8]) -> Reading {
-        orlyukan::read(t, packet)
+    fn read(&self, s: Settings, packet: &[u8]) -> Reading {
+        orlyukan::read(s, packet)
     }
 
-    fn write(&self, t: u64, header: &Header, n: Numbers, body: &[u8], out: &mut [u8]) -> Written {
-        orlyukan::write(t, header, n.flags, n.sequence_count, n.counter, body, out)
+    fn write(&self, s: Settings, header: &Header, n: Numbers, body: &[u8], out: &mut [u8]) -> Written {
+        orlyukan::write(s, header, n.flags, n.sequence_count, n.counter, body, out)
     }
 
-    fn cut_count(&self, t: u64, p: u64, header: &Header, body_length: u64, sender: Sender) -> Cut {
-        orlyukan::cut_count(t, p, header, body_length, sender)
+    fn cut_count(&self, s: Settings, p: u64, header: &Header, body_length: u64, sender: Sender) -> Cut {
+        orlyukan::cut_count(s, p, header, body_length, sender)
     }
 
-    fn cut_packet(&self, t: u64, p: u64, header: &Header, body: &[u8], sender: Sender, i: u64, out: &mut [u8]) -> CutPacket {
-        orlyukan::cut_packet(t, p, header, body, sender, i, out)
+    fn cut_packet(
+        &self,
+        s: Settings,
+        p: u64,
+        header: &Header,
+        body: &[u8],
+        sender: Sender,
+        i: u64,
+        out: &mut [u8],
+    ) -> CutPacket {
+        orlyukan::cut_packet(s, p, header, body, sender, i, out)
     }
 
-    fn in_order(&self, t: u64, store: &[u8]) -> Order {
-        orlyukan::in_order(t, store)
+    fn in_order(&self, s: Settings, store: &[u8]) -> Order {
+        orlyukan::in_order(s, store)
     }
 
-    fn arrive(&self, t: u64, store: &mut [u8], packet: &[u8]) -> Arrived {
-        orlyukan::arrive(t, store, packet)
+    fn arrive(&self, s: Settings, store: &mut [u8], packet: &[u8]) -> Arrived {
+        orlyukan::arrive(s, store, packet)
     }
 
-    fn take(&self, t: u64, store: &mut [u8], out: &mut [u8]) -> Taken {
-        orlyukan::take(t, store, out)
+    fn take(&self, s: Settings, store: &mut [u8], out: &mut [u8]) -> Taken {
+        orlyukan::take(s, store, out)
     }
 
-    fn join(&self, t: u64, store: &mut [u8], packet: &[u8], out: &mut [u8]) -> Joined {
-        orlyukan::join(t, store, packet, out)
+    fn join(&self, s: Settings, store: &mut [u8], packet: &[u8], out: &mut [u8]) -> Joined {
+        orlyukan::join(s, store, packet, out)
     }
 
     fn view<'a>(&self, packet: &'a [u8], joined: &'a [u8], which: Which, place: u64, length: u64) -> &'a [u8] {
         orlyukan::view(packet, joined, which, place, length)
     }
 
-    fn join_recording(&self, recording: &[u8], out: &mut [u8]) -> Recording {
-        orlyukan::join_recording(recording, out)
+    fn join_recording(&self, s: Settings, recording: &[u8], out: &mut [u8]) -> Recording {
+        orlyukan::join_recording(s, recording, out)
     }
 }
 
@@ -121,37 +139,54 @@ impl Calls for Model {
         model::after_segment(model_sender(sender)).map(told::sender).map_err(told::refusal)
     }
 
-    fn read(&self, t: u64, packet: &[u8]) -> Reading {
-        told::reading(t, model::read(t, packet))
+    fn read(&self, s: Settings, packet: &[u8]) -> Reading {
+        told::reading(s.t, model::read(told::settings(s), packet))
     }
 
-    fn write(&self, t: u64, header: &Header, n: Numbers, body: &[u8], out: &mut [u8]) -> Written {
-        told::written(model::write(t, &told::values(header), n.flags, n.sequence_count.0, n.counter.0, body, out))
+    fn write(&self, s: Settings, header: &Header, n: Numbers, body: &[u8], out: &mut [u8]) -> Written {
+        told::written(model::write(
+            told::settings(s),
+            &told::values(header),
+            n.flags,
+            n.sequence_count.0,
+            n.counter.0,
+            body,
+            out,
+        ))
     }
 
-    fn cut_count(&self, t: u64, p: u64, header: &Header, body_length: u64, sender: Sender) -> Cut {
-        told::cut(sender, model::count(t, p, &told::values(header), body_length, model_sender(sender)))
+    fn cut_count(&self, s: Settings, p: u64, header: &Header, body_length: u64, sender: Sender) -> Cut {
+        told::cut(sender, model::count(told::settings(s), p, &told::values(header), body_length, model_sender(sender)))
     }
 
-    fn cut_packet(&self, t: u64, p: u64, header: &Header, body: &[u8], sender: Sender, i: u64, out: &mut [u8]) -> CutPacket {
-        let made = model::packet(t, p, &told::values(header), body, model_sender(sender), i, out);
+    fn cut_packet(
+        &self,
+        s: Settings,
+        p: u64,
+        header: &Header,
+        body: &[u8],
+        sender: Sender,
+        i: u64,
+        out: &mut [u8],
+    ) -> CutPacket {
+        let made = model::packet(told::settings(s), p, &told::values(header), body, model_sender(sender), i, out);
         told::cut_packet(sender, made)
     }
 
-    fn in_order(&self, t: u64, store: &[u8]) -> Order {
-        told::order(model::in_order(t, store))
+    fn in_order(&self, s: Settings, store: &[u8]) -> Order {
+        told::order(model::in_order(told::settings(s), store))
     }
 
-    fn arrive(&self, t: u64, store: &mut [u8], packet: &[u8]) -> Arrived {
-        told::arrived(model::arrive(t, store, packet))
+    fn arrive(&self, s: Settings, store: &mut [u8], packet: &[u8]) -> Arrived {
+        told::arrived(model::arrive(told::settings(s), store, packet))
     }
 
-    fn take(&self, t: u64, store: &mut [u8], out: &mut [u8]) -> Taken {
-        told::taken(model::take(t, store, out))
+    fn take(&self, s: Settings, store: &mut [u8], out: &mut [u8]) -> Taken {
+        told::taken(model::take(told::settings(s), store, out))
     }
 
-    fn join(&self, t: u64, store: &mut [u8], packet: &[u8], out: &mut [u8]) -> Joined {
-        told::joined(model::join(t, store, packet, out))
+    fn join(&self, s: Settings, store: &mut [u8], packet: &[u8], out: &mut [u8]) -> Joined {
+        told::joined(model::join(told::settings(s), store, packet, out))
     }
 
     fn view<'a>(&self, packet: &'a [u8], joined: &'a [u8], which: Which, place: u64, length: u64) -> &'a [u8] {
@@ -163,12 +198,13 @@ impl Calls for Model {
         model::view(packet, joined, which, place, length)
     }
 
-    fn join_recording(&self, recording: &[u8], out: &mut [u8]) -> Recording {
-        if out.len() < recording.len() {
-            return Recording { refusal: 21, written: 0, place: 0, stop: None };
+    fn join_recording(&self, s: Settings, recording: &[u8], out: &mut [u8]) -> Recording {
+        match model::join_recording(told::settings(s), recording, out.len()) {
+            Err(refusal) => Recording { refusal: refusal.number.into(), written: 0, place: 0, stop: None },
+            Ok(messages) => {
+                out[..messages.len()].copy_from_slice(&messages);
+                told::recording(messages.len(), model::recording_end(recording))
+            }
         }
-        let messages = model::join_recording(recording);
-        out[..messages.len()].copy_from_slice(&messages);
-        told::recording(messages.len(), model::recording_end(recording))
     }
 }

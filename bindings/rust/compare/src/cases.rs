@@ -6,11 +6,11 @@ use crate::calls::Numbers;
 use crate::json::{parse, Json};
 use orlyukan::{
     Apid, Arrived, Cut, CutPacket, Header, Joined, Kind, Next, Place, Reading, SecondaryApid, SegmentCounter, Sender,
-    SequenceCount, Taken, Which, Written,
+    SequenceCount, Settings, Taken, Which, Written, VARINT,
 };
 
 /// The change requests that have landed and have cases of their own, in the order in which they landed.
-const LANDED: [&str; 3] = ["T-01", "T-04", "T-12"];
+const LANDED: [&str; 4] = ["T-01", "T-04", "T-12", "T-10"];
 
 /// The cases of a call, from the latest folder that has some, or nothing, with a word, if the folder is missing.
 pub fn load(call: &str) -> Option<Vec<Json>> {
@@ -88,6 +88,11 @@ impl Lent {
             authentication: &self.authentication,
         }
     }
+}
+
+/// T and the profile; a case that says none has Varints.
+pub fn settings(case: &Json) -> Settings {
+    Settings { t: case.number("T"), profile: case.number_or("profile", VARINT) }
 }
 
 fn place(json: &Json) -> Place {

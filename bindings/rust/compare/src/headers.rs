@@ -2,7 +2,7 @@
 
 use crate::random::Random;
 use orlyukan::raw::RawHeader;
-use orlyukan::{Apid, Header, SecondaryApid};
+use orlyukan::{Apid, Header, SecondaryApid, Settings, FIXED};
 
 /// A header's values with what they borrow from.
 #[derive(Clone, Debug, Default)]
@@ -54,24 +54,25 @@ impl Owned {
     }
 
     /// H by the octets of a packet that the model's old writer writes; nothing if it refuses.
-    pub fn h(&self, t: u64) -> Option<usize> {
+    pub fn h(&self, s: Settings) -> Option<usize> {
         let mut out = vec![0; 70_000];
-        let size = model::write_old(t, &crate::told::values(&self.header()), 3, 0, 0, &[], &mut out).ok()?;
+        let size = model::write_old(crate::told::settings(s), &crate::told::values(&self.header()), 3, 0, 0, &[], &mut out).ok()?;
         Some(size - 6)
     }
 }
 
-fn varint_length(n: usize) -> usize {
-    if n < 128 {
-        1
-    } else {
-        2
+/// The octets of a length.
+fn length_of(s: Settings, n: usize) -> usize {
+    match (s.profile, n) {
+        (FIXED, _) => 4,
+        (_, 0..=127) => 1,
+        _ => 2,
     }
 }
 
 /// How many octets the next text may have, out of what is left of the header.
-fn text_length(r: &mut Random, left: &mut usize) -> usize {
-    let most = left.saturating_sub(2);
+fn text_length(r: &mut Random, s: Settings, left: &mut usize) -> usize {
+    let most = left.saturating_sub(length_of(s, 128));
     let length = match r.below(5) {
         0 => 0,
         1 => r.index(4).min(most),
@@ -79,18 +80,18 @@ fn text_length(r: &mut Random, left: &mut usize) -> usize {
         3 => r.index(most + 1),
         _ => r.index(20).min(most),
     };
-    *left = left.saturating_sub(length + varint_length(length));
+    *left = left.saturating_sub(length + length_of(s, length));
     length
 }
 
-fn domain(r: &mut Random, o: &mut Owned, left: &mut usize) {
+fn domain(r: &mut Random, s: Settings, o: &mut Owned, left: &mut usize) {
     let parts = r.pick(&[0, 1, 1, 2, 3, 15, 16, 16]);
-    *left = left.saturating_sub(1);
+    *left = left.saturating_sub(length_of(s, 0));
     for _ in 0..parts {
         *left = left.saturating_sub(1);
-        let most = if r.once_in(3) { *left } else { (*left).min(6) };
+        let most = if r.once_in(3) { *left } else { (*left).min(5 + length_of(s, 0)) };
         let mut own = most;
-        let length = text_length(r, &mut own);
+        let length = text_length(r, s, &mut own);
         *left -= most - own;
         o.domain_lengths.push(length as u64);
     }
@@ -100,7 +101,7 @@ fn domain(r: &mut Random, o: &mut Owned, left: &mut usize) {
 }
 
 /// A header in range, whose H is mostly at most 256; now and then just at the limit.
-pub fn fitting(r: &mut Random, t: u64) -> Owned {
+pub fn fitting(r: &mut Random, s: Settings) -> Owned {
     let mut o = Owned::default();
     let present: u64 = if r.once_in(3) { 0 } else { r.any() & r.any() | r.pick(&[0, 0, 1, 0xff]) };
     let has = |k: u64| present >> k & 1;
@@ -131,22 +132,22 @@ pub fn fitting(r: &mut Random, t: u64) -> Owned {
         priority: has(2)
             * r.pick(&[0, 127, 128, 16_383, 16_384, 2_097_151, 2_097_152, 268_435_455, 268_435_456, 4_294_967_295]),
     };
-    o.timestamp = r.octets((has(3) * t.min(32)) as usize);
+    o.timestamp = r.octets((has(3) * s.t.min(32)) as usize);
     // 21 fixed, two ids, five of the priority, the timestamp: what is left for texts
     let mut left = 228 - o.timestamp.len().min(100);
     if has(4) == 1 {
-        let length = text_length(r, &mut left);
+        let length = text_length(r, s, &mut left);
         o.zone = r.text(length);
     }
     if has(5) == 1 {
-        let length = text_length(r, &mut left);
+        let length = text_length(r, s, &mut left);
         o.session_name = r.text(length);
     }
     if has(6) == 1 {
-        domain(r, &mut o, &mut left);
+        domain(r, s, &mut o, &mut left);
     }
     if has(7) == 1 {
-        let length = if r.once_in(4) { left + r.index(8) } else { text_length(r, &mut left) };
+        let length = if r.once_in(4) { left + r.index(8) } else { text_length(r, s, &mut left) };
         o.authentication = r.octets(length);
     }
     o

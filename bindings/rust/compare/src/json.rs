@@ -20,6 +20,12 @@ impl Json {
         self.get(name).as_number()
     }
 
+    /// The same, or another number if the name is not there.
+    pub fn number_or(&self, name: &str, other: u64) -> u64 {
+        let Json::Object(pairs) = self else { panic!("no object: {self:?}") };
+        pairs.iter().find(|(key, _)| key == name).map_or(other, |(_, value)| value.as_number())
+    }
+
     pub fn text(&self, name: &str) -> &str {
         let Json::Text(text) = self.get(name) else { panic!("{name} is no text") };
         text

@@ -3,24 +3,31 @@
 use crate::headers::{self, Owned};
 use crate::random::Random;
 use crate::told;
+use orlyukan::Settings;
 
 /// The octets of a packet of these values; nothing if they can't be written.
-pub fn packet_of(t: u64, o: &Owned, flags: u64, sequence_count: u64, counter: u64, body: &[u8]) -> Option<Vec<u8>> {
+pub fn packet_of(s: Settings, o: &Owned, flags: u64, sequence_count: u64, counter: u64, body: &[u8]) -> Option<Vec<u8>> {
     let mut out = vec![0; 600 + body.len()];
-    let size = model::write_old(t, &told::values(&o.header()), flags, sequence_count, counter, body, &mut out).ok()?;
+    let size =
+        model::write_old(told::settings(s), &told::values(&o.header()), flags, sequence_count, counter, body, &mut out).ok()?;
     out.truncate(size);
     Some(out)
 }
 
-/// A packet that is mostly accepted under T.
-pub fn accepted(r: &mut Random, t: u64) -> Vec<u8> {
+/// The settings, or if they are refused those nearest to them.
+pub fn in_range(s: Settings) -> Settings {
+    Settings { t: s.t.clamp(1, 16), profile: s.profile.min(1) }
+}
+
+/// A packet that is mostly accepted under the settings.
+pub fn accepted(r: &mut Random, s: Settings) -> Vec<u8> {
     loop {
-        let o = headers::fitting(r, t);
+        let o = headers::fitting(r, s);
         let flags = r.pick(&[0, 1, 2, 3, 3, 3]);
         let counter = if flags == 3 { 0 } else { r.bits(32) };
         let length = if r.once_in(50) { r.index(1200) } else { r.index(40) };
         let body = r.octets(length + usize::from(flags != 3));
-        if let Some(packet) = packet_of(t.clamp(1, 16), &o, flags, r.bits(14), counter, &body) {
+        if let Some(packet) = packet_of(in_range(s), &o, flags, r.bits(14), counter, &body) {
             return packet;
         }
     }
@@ -34,7 +41,7 @@ pub fn set_length(packet: &mut [u8]) {
     }
 }
 
-/// Octets after the fixed part that only look like fields: Varints of every sort, presence octets, lengths.
+/// Octets after the fixed part that only look like fields: Varints of every sort, numbers of four octets, presence octets, lengths.
 fn seeming(r: &mut Random) -> Vec<u8> {
     let mut packet = vec![0x18, 0x05, 0xc0, 0, 0, 0];
     packet[2] = r.pick(&[0xc0, 0x40, 0x00, 0x80]);
@@ -63,6 +70,12 @@ fn seeming(r: &mut Random) -> Vec<u8> {
             &[0x80, 0x80, 0x80, 0x80, 0x01],
             &[0x80, 0x80, 0x80, 0x80, 0x10],
             &[0x01, 0x02],
+            &[0xff, 0xff, 0xff, 0xff],
+            &[0, 0, 0, 0x10],
+            &[0, 0, 0, 0x11],
+            &[0, 0, 0, 1, 1, 0, 0, 0, 2],
+            &[0, 0, 0, 0xe6],
+            &[0, 0, 1, 0],
         ]);
         packet.extend(piece);
         if r.once_in(3) {
@@ -109,11 +122,11 @@ pub fn damage(r: &mut Random, packet: &mut Vec<u8>) {
 }
 
 /// Any octets to be read: a packet, a damaged one, what seems one, or noise.
-pub fn any(r: &mut Random, t: u64) -> Vec<u8> {
+pub fn any(r: &mut Random, s: Settings) -> Vec<u8> {
     match r.below(10) {
-        0..=3 => accepted(r, t),
+        0..=3 => accepted(r, s),
         4..=6 => {
-            let mut packet = accepted(r, t);
+            let mut packet = accepted(r, s);
             damage(r, &mut packet);
             packet
         }

@@ -1,5 +1,7 @@
 //! Numbers by chance from a fixed seed, and the edges that chance alone would miss.
 
+use orlyukan::Settings;
+
 pub struct Random(u64);
 
 impl Random {
@@ -130,6 +132,23 @@ impl Random {
             return self.pick(&[0, 17, 18, 256, 65_536, 1 << 32, u64::MAX]);
         }
         self.between(1, 16)
+    }
+
+    /// The profile: mostly one that there is.
+    pub fn profile(&mut self) -> u64 {
+        if self.once_in(60) {
+            return self.pick(&[2, 3, 255, 256, 257, 1 << 32, u64::MAX]);
+        }
+        self.below(2)
+    }
+
+    pub fn settings(&mut self) -> Settings {
+        Settings { t: self.t(), profile: self.profile() }
+    }
+
+    /// Settings that are in range.
+    pub fn good_settings(&mut self) -> Settings {
+        Settings { t: self.between(1, 16), profile: self.below(2) }
     }
 
     pub fn shuffle<A>(&mut self, list: &mut [A]) {

@@ -3,17 +3,15 @@
 use crate::packets;
 use crate::random::Random;
 use crate::stores;
-
-/// The program's T.
-const T: u64 = 8;
+use orlyukan::Settings;
 
 /// The packets of a recording in the order in which they come.
-fn arrivals(r: &mut Random) -> Vec<Vec<u8>> {
+fn arrivals(r: &mut Random, s: Settings) -> Vec<Vec<u8>> {
     let mut all = Vec::new();
     for _ in 0..r.between(1, 4) {
-        let message = stores::message(r, T);
+        let message = stores::message(r, s);
         if r.once_in(3) {
-            all.extend(stores::near(r, T, &message).packets);
+            all.extend(stores::near(r, s, &message).packets);
         }
         all.extend(message.packets);
     }
@@ -22,7 +20,7 @@ fn arrivals(r: &mut Random) -> Vec<Vec<u8>> {
         r.shuffle(&mut all[..end]);
     }
     for _ in 0..r.below(5) {
-        let mut packet = if r.once_in(2) { all[r.index(all.len())].clone() } else { packets::any(r, T) };
+        let mut packet = if r.once_in(2) { all[r.index(all.len())].clone() } else { packets::any(r, s) };
         if r.once_in(3) {
             packets::damage(r, &mut packet);
         }
@@ -42,9 +40,9 @@ fn whole(length: usize) -> Vec<u8> {
 }
 
 /// A recording; mostly well marked to its end.
-pub fn any(r: &mut Random) -> Vec<u8> {
+pub fn any(r: &mut Random, s: Settings) -> Vec<u8> {
     let mut recording = Vec::new();
-    for mut packet in arrivals(r) {
+    for mut packet in arrivals(r, s) {
         if packet.len() < 7 {
             continue;
         }
@@ -69,10 +67,10 @@ pub fn any(r: &mut Random) -> Vec<u8> {
 }
 
 /// Enough segments without an end that the 32 cells are full, and what comes then.
-pub fn full(r: &mut Random) -> Vec<u8> {
+pub fn full(r: &mut Random, s: Settings) -> Vec<u8> {
     let mut recording = Vec::new();
     for _ in 0..r.between(12, 30) {
-        let message = stores::message(r, T);
+        let message = stores::message(r, s);
         for packet in message.packets.iter().skip(usize::from(r.once_in(2))) {
             recording.extend([0x4d, 0x50]);
             recording.extend(packet);

@@ -3,7 +3,8 @@
 use crate::headers::{self, Owned};
 use crate::packets::{self, packet_of};
 use crate::random::Random;
-use orlyukan::CELL;
+use crate::told;
+use orlyukan::{Settings, CELL};
 
 /// A message cut into segments: the packets, in their order.
 pub struct Message {
@@ -21,8 +22,8 @@ fn piece(r: &mut Random, most: usize) -> Vec<u8> {
 }
 
 /// Segments of one header from a counter on: a first, continuations and a last.
-fn cut(r: &mut Random, t: u64, o: &Owned, start: u64, count: u64) -> Option<Message> {
-    let room = 1022 - 6 - o.h(t)?.min(252) - 4;
+fn cut(r: &mut Random, s: Settings, o: &Owned, start: u64, count: u64) -> Option<Message> {
+    let room = 1022 - 6 - o.h(s)?.min(252) - 4;
     let mut packets = Vec::new();
     for i in 0..count {
         let flags = match i {
@@ -33,19 +34,19 @@ fn cut(r: &mut Random, t: u64, o: &Owned, start: u64, count: u64) -> Option<Mess
         // Now and then a first or a last inside the run.
         let flags = if r.once_in(25) { r.below(3) } else { flags };
         let body = piece(r, room);
-        packets.push(packet_of(t, o, flags, r.bits(14), start + i, &body)?);
+        packets.push(packet_of(s, o, flags, r.bits(14), start + i, &body)?);
     }
     Some(Message { packets })
 }
 
 /// A message whose segments fit a cell.
-pub fn message(r: &mut Random, t: u64) -> Message {
+pub fn message(r: &mut Random, s: Settings) -> Message {
     loop {
-        let o = headers::fitting(r, t);
+        let o = headers::fitting(r, s);
         let count = r.between(2, 5);
         let any = r.bits(31);
         let start = r.pick(&[0, 1, 7, u64::from(u32::MAX) - count + 1, any]);
-        if let Some(message) = cut(r, t, &o, start, count) {
+        if let Some(message) = cut(r, s, &o, start, count) {
             return message;
         }
     }
@@ -53,9 +54,9 @@ pub fn message(r: &mut Random, t: u64) -> Message {
 
 /// The same segments with a key that differs in one bit: of the transaction id, the packet type, the APID, another field of the fixed
 /// part, or of what stands after the counter.
-pub fn near(r: &mut Random, t: u64, of: &Message) -> Message {
+pub fn near(r: &mut Random, s: Settings, of: &Message) -> Message {
     let mut bits = vec![(25, 1), (18, 0x80), (0, 0x10), (1, 2), (7, 1), (16, 1), (14, 0x20), (15, 1), (13, 1)];
-    if let Ok(read) = model::read(t, &of.packets[0]) {
+    if let Ok(read) = model::read(told::settings(s), &of.packets[0]) {
         let stamp = model::Span { place: read.timestamp, length: u32::from(read.has(3)) };
         let texts = [stamp, read.zone, read.session_name, read.domain[0], read.authentication];
         let after: Vec<_> = texts.iter().filter(|text| text.length > 0).map(|text| (text.place as usize, 1)).collect();
@@ -101,12 +102,12 @@ fn fill(r: &mut Random, store: &mut Store) {
 }
 
 /// A store in order, or nearly so: a few cells that hold segments of one, two or three messages.
-pub fn in_order(r: &mut Random, t: u64) -> Store {
-    let t = t.clamp(1, 16);
-    let first = message(r, t);
+pub fn in_order(r: &mut Random, s: Settings) -> Store {
+    let s = packets::in_range(s);
+    let first = message(r, s);
     let mut messages = vec![first];
     for _ in 0..r.below(3) {
-        let next = if r.once_in(2) { near(r, t, &messages[0]) } else { message(r, t) };
+        let next = if r.once_in(2) { near(r, s, &messages[0]) } else { message(r, s) };
         messages.push(next);
     }
     let segments: usize = messages.iter().map(|m| m.packets.len()).sum();
@@ -135,7 +136,7 @@ pub fn damage(r: &mut Random, store: &mut Store) {
         7 => store.octets[at + 1023] = 1,
         _ => {
             store.octets[at..at + CELL].fill(0);
-            let packet = packets::any(r, 8);
+            let packet = packets::any(r, 8.into());
             let length = packet.len().min(1022);
             store.put(cell, &packet[..length]);
         }
@@ -143,8 +144,8 @@ pub fn damage(r: &mut Random, store: &mut Store) {
 }
 
 /// Any store: mostly in order.
-pub fn any(r: &mut Random, t: u64) -> Store {
-    let mut store = in_order(r, t);
+pub fn any(r: &mut Random, s: Settings) -> Store {
+    let mut store = in_order(r, s);
     if r.once_in(6) {
         damage(r, &mut store);
     }
@@ -152,7 +153,7 @@ pub fn any(r: &mut Random, t: u64) -> Store {
 }
 
 /// A packet to arrive at a store: a segment of its messages as it was or changed, one of another, a whole packet, or noise.
-pub fn arriving(r: &mut Random, t: u64, store: &Store) -> Vec<u8> {
+pub fn arriving(r: &mut Random, s: Settings, store: &Store) -> Vec<u8> {
     let message = &store.messages[r.index(store.messages.len())];
     let mut packet = message.packets[r.index(message.packets.len())].clone();
     match r.below(12) {
@@ -170,11 +171,11 @@ pub fn arriving(r: &mut Random, t: u64, store: &Store) -> Vec<u8> {
             packets::set_length(&mut packet);
         }
         8 => {
-            let other = self::message(r, t.clamp(1, 16));
+            let other = self::message(r, packets::in_range(s));
             packet = other.packets[r.index(other.packets.len())].clone();
         }
-        9 => packet = packets::accepted(r, t),
-        10 => packet = packets::any(r, t),
+        9 => packet = packets::accepted(r, s),
+        10 => packet = packets::any(r, s),
         _ => {
             packet.push(0);
             packets::set_length(&mut packet);

@@ -3,8 +3,12 @@
 use model::Refusal;
 use orlyukan::{
     Apid, Arrived, Cut, CutPacket, Header, Joined, Kind, Next, Order, Place, Reading, Recording, SecondaryApid, SegmentCounter,
-    Sender, SequenceCount, Stop, Taken, Which, Written,
+    Sender, SequenceCount, Settings, Stop, Taken, Which, Written,
 };
+
+pub fn settings(s: Settings) -> model::Settings {
+    model::Settings { t: s.t, profile: s.profile }
+}
 
 fn place(span: model::Span) -> Place {
     Place { place: span.place.into(), length: span.length.into() }

@@ -5,7 +5,7 @@ use compare::headers::{self, Owned};
 use compare::packets;
 use compare::random::Random;
 use compare::tally::Tally;
-use orlyukan::{Next, SegmentCounter, Sender, SequenceCount};
+use orlyukan::{Next, SegmentCounter, Sender, SequenceCount, Settings};
 
 const CASES: u64 = 120_000;
 
@@ -13,10 +13,10 @@ const CASES: u64 = 120_000;
 fn read() {
     let (mut r, mut tally) = (Random::new(1), Tally::new("read"));
     for case in 0..CASES {
-        let t = r.t();
-        let packet = packets::any(&mut r, t);
-        let (ours, theirs) = (Library.read(t, &packet), Model.read(t, &packet));
-        assert_eq!(ours, theirs, "case {case}: T {t}, {packet:02x?}");
+        let s = r.settings();
+        let packet = packets::any(&mut r, s);
+        let (ours, theirs) = (Library.read(s, &packet), Model.read(s, &packet));
+        assert_eq!(ours, theirs, "case {case}: {s:?}, {packet:02x?}");
         tally.meet(ours.refusal);
     }
     tally.close(&(1..=15).chain([27, 28]).collect::<Vec<u64>>(), CASES);
@@ -31,14 +31,14 @@ fn read_long() {
             .copy_from_slice(&[0x18, 5, 0xc0, 0, 0, 0x14, 0, 0, 1, 0, 2, 0, 3, 1, 0x20, 6, 0, 7, 0, 0, 0, 0, 0, 0, 0, 9, 0]);
         for field in [0xffff, 0xfffe, (length as u64).wrapping_sub(7) as u16, (length as u64).wrapping_sub(6) as u16, 0] {
             packet[4..6].copy_from_slice(&u16::to_be_bytes(field));
-            assert_eq!(Library.read(8, &packet), Model.read(8, &packet), "{length} octets, length field {field}");
+            assert_eq!(Library.read(8.into(), &packet), Model.read(8.into(), &packet), "{length} octets, length field {field}");
         }
     }
 }
 
 /// A header, mostly in range and without a zone.
-fn header(r: &mut Random, t: u64) -> Owned {
-    let mut header = headers::fitting(r, t);
+fn header(r: &mut Random, s: Settings) -> Owned {
+    let mut header = headers::fitting(r, s);
     if !r.once_in(12) {
         headers::without_zone(&mut header);
     }
@@ -65,8 +65,8 @@ fn numbers(r: &mut Random) -> Numbers {
 fn write() {
     let (mut r, mut tally) = (Random::new(2), Tally::new("write"));
     for case in 0..CASES {
-        let t = r.t();
-        let (owned, n) = (header(&mut r, t), numbers(&mut r));
+        let s = r.settings();
+        let (owned, n) = (header(&mut r, s), numbers(&mut r));
         let length = match r.below(200) {
             0 => 65_542 - 27 - r.index(60),
             1 => 70_000,
@@ -74,23 +74,23 @@ fn write() {
             _ => r.index(50),
         };
         let body = r.octets(length);
-        let size = owned.h(t).unwrap_or(40) + 10 + length;
+        let size = owned.h(s).unwrap_or(40) + 10 + length;
         let room = r.room(size);
         let mut ours = r.octets(room);
         let mut theirs = ours.clone();
         let given = ours.clone();
-        let answer = Library.write(t, &owned.header(), n, &body, &mut ours);
-        assert_eq!(answer, Model.write(t, &owned.header(), n, &body, &mut theirs), "case {case}: T {t}, {n:?}, {owned:?}");
-        assert_eq!(ours, theirs, "case {case}: T {t}, {n:?}, {owned:?}");
+        let answer = Library.write(s, &owned.header(), n, &body, &mut ours);
+        assert_eq!(answer, Model.write(s, &owned.header(), n, &body, &mut theirs), "case {case}: {s:?}, {n:?}, {owned:?}");
+        assert_eq!(ours, theirs, "case {case}: {s:?}, {n:?}, {owned:?}");
         assert!(answer.refusal == 0 || ours == given, "case {case}: octets changed on a refusal");
         tally.meet(answer.refusal);
     }
     tally.close(&[12, 13, 14, 15, 21, 22, 23, 28, 30], CASES);
 }
 
-/// A message to cut: T, P, header, the body's length and the sender, near the edges where answers change.
+/// A message to cut: the settings, P, header, the body's length and the sender, near the edges where answers change.
 struct Message {
-    t: u64,
+    s: Settings,
     p: u64,
     owned: Owned,
     body: u64,
@@ -98,9 +98,9 @@ struct Message {
 }
 
 fn message(r: &mut Random) -> Message {
-    let t = r.t();
-    let owned = header(r, t);
-    let h = owned.h(t).unwrap_or(100) as u64;
+    let s = r.settings();
+    let owned = header(r, s);
+    let h = owned.h(s).unwrap_or(100) as u64;
     let body = match r.below(40) {
         0 => 0,
         1 => r.pick(&[1_048_576, 1_048_577]),
@@ -124,7 +124,7 @@ fn message(r: &mut Random) -> Message {
         _ => Next::At(SegmentCounter(r.bits(32))),
     };
     let sequence_count = if r.once_in(60) { r.too_wide(16_384) } else { r.bits(14) };
-    Message { t, p, owned, body, sender: Sender { sequence_count: SequenceCount(sequence_count), counter } }
+    Message { s, p, owned, body, sender: Sender { sequence_count: SequenceCount(sequence_count), counter } }
 }
 
 #[test]
@@ -135,9 +135,9 @@ fn cut_count() {
         if r.once_in(100) {
             m.body = r.pick(&[1 << 20, (1 << 20) + 1, 1 << 32, u64::MAX, u64::MAX - 40]);
         }
-        let ours = Library.cut_count(m.t, m.p, &m.owned.header(), m.body, m.sender);
-        let theirs = Model.cut_count(m.t, m.p, &m.owned.header(), m.body, m.sender);
-        assert_eq!(ours, theirs, "case {case}: T {}, P {}, B {}, {:?}, {:?}", m.t, m.p, m.body, m.sender, m.owned);
+        let ours = Library.cut_count(m.s, m.p, &m.owned.header(), m.body, m.sender);
+        let theirs = Model.cut_count(m.s, m.p, &m.owned.header(), m.body, m.sender);
+        assert_eq!(ours, theirs, "case {case}: {:?}, P {}, B {}, {:?}, {:?}", m.s, m.p, m.body, m.sender, m.owned);
         tally.meet(ours.refusal);
     }
     tally.close(&[12, 13, 15, 22, 23, 24, 25, 28, 30], CASES);
@@ -150,7 +150,7 @@ fn cut_packet() {
     for case in 0..CASES {
         let m = message(&mut r);
         let given = &long[..m.body as usize];
-        let count = Model.cut_count(m.t, m.p, &m.owned.header(), m.body, m.sender).count;
+        let count = Model.cut_count(m.s, m.p, &m.owned.header(), m.body, m.sender).count;
         let i = match r.below(8) {
             0 => r.pick(&[count, count + 1, u64::MAX, 1 << 32]),
             1 => count.saturating_sub(1),
@@ -161,10 +161,10 @@ fn cut_packet() {
         let mut ours = r.octets(room);
         let mut theirs = ours.clone();
         let before = ours.clone();
-        let answer = Library.cut_packet(m.t, m.p, &m.owned.header(), given, m.sender, i, &mut ours);
-        let expected = Model.cut_packet(m.t, m.p, &m.owned.header(), given, m.sender, i, &mut theirs);
-        assert_eq!(answer, expected, "case {case}: T {}, P {}, B {}, i {i}, {:?}, {:?}", m.t, m.p, m.body, m.sender, m.owned);
-        assert_eq!(ours, theirs, "case {case}: T {}, P {}, B {}, i {i}, {:?}, {:?}", m.t, m.p, m.body, m.sender, m.owned);
+        let answer = Library.cut_packet(m.s, m.p, &m.owned.header(), given, m.sender, i, &mut ours);
+        let expected = Model.cut_packet(m.s, m.p, &m.owned.header(), given, m.sender, i, &mut theirs);
+        assert_eq!(answer, expected, "case {case}: {:?}, P {}, B {}, i {i}, {:?}, {:?}", m.s, m.p, m.body, m.sender, m.owned);
+        assert_eq!(ours, theirs, "case {case}: {:?}, P {}, B {}, i {i}, {:?}, {:?}", m.s, m.p, m.body, m.sender, m.owned);
         assert!(answer.refusal == 0 || ours == before, "case {case}: octets changed on a refusal");
         tally.meet(answer.refusal);
     }
@@ -176,8 +176,8 @@ fn name_refusal(name: &[u8]) -> u64 {
     let mut owned = Owned { session_name: name.to_vec(), ..Owned::default() };
     owned.n.has_session_name = 1;
     let sender = Sender { sequence_count: SequenceCount(0), counter: Next::At(SegmentCounter(0)) };
-    let ours = Library.cut_count(8, 300, &owned.header(), 1, sender);
-    assert_eq!(ours, Model.cut_count(8, 300, &owned.header(), 1, sender), "session name {name:02x?}");
+    let ours = Library.cut_count(8.into(), 300, &owned.header(), 1, sender);
+    assert_eq!(ours, Model.cut_count(8.into(), 300, &owned.header(), 1, sender), "session name {name:02x?}");
     ours.refusal
 }
 

@@ -47,7 +47,7 @@ fn all() -> Vec<(u8, Vec<u8>)> {
 }
 
 fn compare(figure: u8, octets: &[u8]) -> u64 {
-    let (ours, theirs) = (Library.read(8, octets), Model.read(8, octets));
+    let (ours, theirs) = (Library.read(8.into(), octets), Model.read(8.into(), octets));
     assert_eq!(ours, theirs, "near figure {figure}: {octets:02x?}");
     ours.refusal
 }
@@ -94,7 +94,7 @@ fn read_at_every_length() {
         octets[4..6].copy_from_slice(&field.to_be_bytes());
         let said = u64::from(field) + 7;
         for length in 0..=octets.len() {
-            let (ours, theirs) = (Library.read(8, &octets[..length]), Model.read(8, &octets[..length]));
+            let (ours, theirs) = (Library.read(8.into(), &octets[..length]), Model.read(8.into(), &octets[..length]));
             assert_eq!(ours, theirs, "{length} octets, {said} by the length field");
             let (number, off) = match length as u64 {
                 ..6 => (1, 0),
@@ -109,12 +109,12 @@ fn read_at_every_length() {
 /// A refusal made a `Result`: it tells the same, and says it in words.
 #[test]
 fn refusals() {
-    let refused = |octets: &[u8]| Library.read(8, octets).accepted().expect_err("a bad packet").to_string();
+    let refused = |octets: &[u8]| Library.read(8.into(), octets).accepted().expect_err("a bad packet").to_string();
     assert_eq!(refused(&FIGURE_14[..26]), "refusal 5: octets missing: 1");
     assert_eq!(refused(&[&FIGURE_14[..], &[0]].concat()), "refusal 27: octets left over: 1");
     let mut cut_off = FIGURE_14[..15].to_vec();
     cut_off[5] = 8;
     assert_eq!(refused(&cut_off), "refusal 6: the packet ends in the field at octet 8 of its secondary header");
-    assert_eq!(Library.read(8, &cut_off).refused(), Refusal { number: 6, off: 0, began: 8 });
+    assert_eq!(Library.read(8.into(), &cut_off).refused(), Refusal { number: 6, off: 0, began: 8 });
     assert_eq!(refused(&[]), "refusal 1");
 }

@@ -2,9 +2,9 @@
 
 use compare::calls::{Calls, Library, Model, Numbers};
 use compare::random::Random;
-use orlyukan::{Apid, Header, SegmentCounter, SequenceCount, CELL, CELLS};
+use orlyukan::{Apid, Header, SegmentCounter, SequenceCount, Settings, CELL, CELLS, VARINT};
 
-const T: u64 = 8;
+const USUAL: Settings = Settings { t: 8, profile: VARINT };
 
 /// A segment: its transaction id, flags and counter, and a body that tells them.
 fn segment(transaction: u64, flags: u64, counter: u64) -> Vec<u8> {
@@ -12,7 +12,7 @@ fn segment(transaction: u64, flags: u64, counter: u64) -> Vec<u8> {
     let body = [transaction.to_be_bytes(), counter.to_be_bytes()].concat();
     let mut out = vec![0; 64];
     let n = Numbers { flags, sequence_count: SequenceCount(counter % 16_384), counter: SegmentCounter(counter) };
-    let size = Model.write(T, &header, n, &body, &mut out).length;
+    let size = Model.write(USUAL, &header, n, &body, &mut out).length;
     out.truncate(size as usize);
     out
 }
@@ -30,11 +30,11 @@ fn store(cells: usize, packets: &[Vec<u8>]) -> Vec<u8> {
 fn both(what: &str, given: &[u8], packet: &[u8], room: usize) -> (u64, u64) {
     let (mut ours, mut theirs) = (given.to_vec(), given.to_vec());
     let (mut our_out, mut their_out) = (vec![0xee; room], vec![0xee; room]);
-    let arrived = Library.arrive(T, &mut ours, packet);
-    assert_eq!(arrived, Model.arrive(T, &mut theirs, packet), "{what}");
+    let arrived = Library.arrive(USUAL, &mut ours, packet);
+    assert_eq!(arrived, Model.arrive(USUAL, &mut theirs, packet), "{what}");
     assert!(ours == theirs, "{what}: the stores differ after an arrival");
-    let taken = Library.take(T, &mut ours, &mut our_out);
-    assert_eq!(taken, Model.take(T, &mut theirs, &mut their_out), "{what}");
+    let taken = Library.take(USUAL, &mut ours, &mut our_out);
+    assert_eq!(taken, Model.take(USUAL, &mut theirs, &mut their_out), "{what}");
     assert!(ours == theirs && our_out == their_out, "{what}: the buffers differ after a taking");
     (arrived.refusal, taken.refusal)
 }
@@ -89,8 +89,8 @@ fn many_messages() {
     let (mut ours, mut theirs) = (store(300, &packets), store(300, &packets));
     let (mut our_out, mut their_out) = (vec![0; 300], vec![0; 300]);
     for k in 0..61 {
-        let taken = Library.take(T, &mut ours, &mut our_out);
-        assert_eq!(taken, Model.take(T, &mut theirs, &mut their_out));
+        let taken = Library.take(USUAL, &mut ours, &mut our_out);
+        assert_eq!(taken, Model.take(USUAL, &mut theirs, &mut their_out));
         assert!(ours == theirs && our_out == their_out);
         assert_eq!(taken.refusal, if k < 60 { 0 } else { 20 });
     }

@@ -67,7 +67,7 @@ fn calls() {
     assert_eq!(count, 13);
 }
 
-/// What an arrival comes to, which buffer holds a body, why a recording stopped.
+/// The profiles, what an arrival comes to, which buffer holds a body, why a recording stopped.
 #[test]
 fn numbers() {
     let defined = HEADER.lines().filter_map(|line| line.strip_prefix("#define ORL_"));
@@ -78,5 +78,5 @@ fn numbers() {
         assert!(RAW.contains(&declared), "no {declared}");
         count += 1;
     }
-    assert_eq!(count, 9);
+    assert_eq!(count, 11);
 }

@@ -28,30 +28,32 @@ fn spoiled<A>() -> A {
 fn answers_are_filled() {
     let mut r = Random::new(31);
     for case in 0..CASES {
-        let t = r.t();
-        let store = stores::any(&mut r, t);
-        let packet = if r.once_in(2) { packets::any(&mut r, t) } else { stores::arriving(&mut r, t, &store) };
+        let s = r.settings();
+        let store = stores::any(&mut r, s);
+        let packet = if r.once_in(2) { packets::any(&mut r, s) } else { stores::arriving(&mut r, s, &store) };
         let mut reading: Reading = spoiled();
-        unsafe { raw::orl_read(t, packet.as_ptr(), packet.len(), &mut reading) };
-        assert_eq!(reading, Library.read(t, &packet), "case {case}");
+        unsafe { raw::orl_read(s.t, s.profile, packet.as_ptr(), packet.len(), &mut reading) };
+        assert_eq!(reading, Library.read(s, &packet), "case {case}");
 
         let (mut one, mut other) = (store.octets.clone(), store.octets.clone());
         let mut arrived: RawArrived = spoiled();
-        unsafe { raw::orl_arrive(t, one.as_mut_ptr(), one.len(), packet.as_ptr(), packet.len(), &mut arrived) };
-        let answer = Library.arrive(t, &mut other, &packet);
+        unsafe { raw::orl_arrive(s.t, s.profile, one.as_mut_ptr(), one.len(), packet.as_ptr(), packet.len(), &mut arrived) };
+        let answer = Library.arrive(s, &mut other, &packet);
         let kind = answer.kind.map_or(0, |kind| kind as u64 + 1);
         assert_eq!(arrived, RawArrived { refusal: answer.refusal, kind, off: answer.off, began: answer.began });
 
         let (mut out, mut second) = (vec![0; 3000], vec![0; 3000]);
         let mut taken: RawTaken = spoiled();
-        unsafe { raw::orl_take(t, one.as_mut_ptr(), one.len(), out.as_mut_ptr(), out.len(), &mut taken) };
-        let answer = Library.take(t, &mut other, &mut second);
+        unsafe { raw::orl_take(s.t, s.profile, one.as_mut_ptr(), one.len(), out.as_mut_ptr(), out.len(), &mut taken) };
+        let answer = Library.take(s, &mut other, &mut second);
         assert_eq!(taken, RawTaken { refusal: answer.refusal, h: answer.h, b: answer.b, counter: answer.counter.0 });
 
         let mut joined: RawJoined = spoiled();
         let (to, room) = (out.as_mut_ptr(), out.len());
-        unsafe { raw::orl_join(t, one.as_mut_ptr(), one.len(), packet.as_ptr(), packet.len(), to, room, &mut joined) };
-        let a = Library.join(t, &mut other, &packet, &mut second);
+        unsafe {
+            raw::orl_join(s.t, s.profile, one.as_mut_ptr(), one.len(), packet.as_ptr(), packet.len(), to, room, &mut joined)
+        };
+        let a = Library.join(s, &mut other, &packet, &mut second);
         let which = a.which as u64;
         let Joined { refusal, place, length, h, b, counter, off, began, .. } = a;
         let expected = RawJoined { refusal, which, place, length, h, b, counter: counter.0, off, began };
@@ -59,8 +61,8 @@ fn answers_are_filled() {
         assert!(one == other && out == second, "case {case}: buffers differ");
 
         let mut order: RawNumber = spoiled();
-        unsafe { raw::orl_in_order(t, one.as_ptr(), one.len(), &mut order) };
-        let answer = Library.in_order(t, &one);
+        unsafe { raw::orl_in_order(s.t, s.profile, one.as_ptr(), one.len(), &mut order) };
+        let answer = Library.in_order(s, &one);
         assert_eq!(order, RawNumber { refusal: answer.refusal, number: answer.cells });
     }
 }
@@ -87,7 +89,7 @@ fn raw_count(sender: RawSender) -> RawCut {
     let (none, lengths, mut answer) = ([0u8; 1], [0u64; 1], spoiled::<RawCut>());
     let e = none.as_ptr();
     // SAFETY: pointers to what is there, with length 0.
-    unsafe { raw::orl_cut_count(8, 64, &figure_14(), e, 0, e, 0, e, 0, e, 0, lengths.as_ptr(), 0, e, 0, 38, &sender, &mut answer) };
+    unsafe { raw::orl_cut_count(8, 0, 64, &figure_14(), e, 0, e, 0, e, 0, e, 0, lengths.as_ptr(), 0, e, 0, 38, &sender, &mut answer) };
     answer
 }
 
@@ -97,7 +99,7 @@ fn raw_packet(sender: RawSender, i: u64, out: &mut [u8]) -> RawCut {
     let e = none.as_ptr();
     // SAFETY: pointers to what is there, with length 0 or the body's 38 octets.
     unsafe {
-        raw::orl_cut_packet(8, 64, &figure_14(), e, 0, e, 0, e, 0, e, 0, lengths.as_ptr(), 0, e, 0, e, 38, &sender, i,
+        raw::orl_cut_packet(8, 0, 64, &figure_14(), e, 0, e, 0, e, 0, e, 0, lengths.as_ptr(), 0, e, 0, e, 38, &sender, i,
             out.as_mut_ptr(), out.len(), &mut answer);
     }
     answer
@@ -197,7 +199,7 @@ fn recordings() {
     let header = Header { packet_type: 1, ..Header::default() };
     let mut packet = vec![0; 100];
     let numbers = Numbers { flags: 3, sequence_count: SequenceCount(0), counter: SegmentCounter(0) };
-    let size = Library.write(8, &header, numbers, b"tile", &mut packet).length;
+    let size = Library.write(8.into(), &header, numbers, b"tile", &mut packet).length;
     let whole = [b"MP", &packet[..size as usize]].concat();
     let n = whole.len();
     let cases: [(Vec<u8>, usize, u64); 8] = [
@@ -213,13 +215,15 @@ fn recordings() {
     for (recording, place, stop) in cases {
         let mut out = vec![0xee; recording.len() + 3];
         let mut answer: RawRecording = spoiled();
-        unsafe { raw::orl_join_recording(recording.as_ptr(), recording.len(), out.as_mut_ptr(), recording.len(), &mut answer) };
+        unsafe {
+            raw::orl_join_recording(8, 0, recording.as_ptr(), recording.len(), out.as_mut_ptr(), recording.len(), &mut answer)
+        };
         let written = if recording.is_empty() { 0 } else { n as u64 };
         assert_eq!(answer, RawRecording { refusal: 0, written, place: place as u64, stop }, "{recording:02x?}");
         assert!(out[written as usize..].iter().all(|octet| *octet == 0xee), "octets after the output changed");
         if let Some(short) = recording.len().checked_sub(1) {
             let mut out = vec![0xee; short];
-            unsafe { raw::orl_join_recording(recording.as_ptr(), recording.len(), out.as_mut_ptr(), short, &mut answer) };
+            unsafe { raw::orl_join_recording(8, 0, recording.as_ptr(), recording.len(), out.as_mut_ptr(), short, &mut answer) };
             assert_eq!(answer, RawRecording { refusal: 21, ..RawRecording::default() });
             assert!(out.iter().all(|octet| *octet == 0xee), "octets changed on a refusal");
         }

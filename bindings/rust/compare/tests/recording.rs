@@ -4,20 +4,25 @@ use compare::calls::{Calls, Library, Model};
 use compare::random::Random;
 use compare::recordings;
 use compare::tally::Tally;
-use orlyukan::{Recording, Stop};
+use orlyukan::{Recording, Settings, Stop, VARINT};
 
 const CASES: u64 = 120_000;
+
+/// Of a recording of which nothing else is said.
+const USUAL: Settings = Settings { t: 8, profile: VARINT };
 
 #[test]
 fn join_recording() {
     let (mut r, mut tally) = (Random::new(21), Tally::new("join_recording"));
     let (mut octets, mut messages, mut stops) = (0, 0, [0; 3]);
     for case in 0..CASES {
-        let recording = if r.once_in(12) { recordings::full(&mut r) } else { recordings::any(&mut r) };
+        let made = if r.once_in(2) { USUAL } else { r.good_settings() };
+        let s = if r.once_in(8) { r.settings() } else { made };
+        let recording = if r.once_in(12) { recordings::full(&mut r, made) } else { recordings::any(&mut r, made) };
         let room = if r.once_in(20) { r.room(recording.len()) } else { recording.len() + 2 };
         let (mut ours, mut theirs) = (vec![0xee; room], vec![0xee; room]);
-        let answer = Library.join_recording(&recording, &mut ours);
-        assert_eq!(answer, Model.join_recording(&recording, &mut theirs), "case {case}: {recording:02x?}");
+        let answer = Library.join_recording(s, &recording, &mut ours);
+        assert_eq!(answer, Model.join_recording(s, &recording, &mut theirs), "case {case}: {s:?}, {recording:02x?}");
         assert!(ours == theirs, "case {case}: {recording:02x?}");
         tally.meet(answer.refusal);
         if let Some(stop) = answer.stop {
@@ -28,7 +33,7 @@ fn join_recording() {
     }
     println!("join_recording: {octets} octets, {messages} recordings with a message");
     println!("join_recording: ended {}, unmarked {}, torn {}", stops[0], stops[1], stops[2]);
-    tally.close(&[21], CASES);
+    tally.close(&[15, 21], CASES);
     assert!(messages > CASES / 4 && !stops.contains(&0));
 }
 
@@ -54,9 +59,14 @@ fn whole_unmarked_torn() {
         for program in [&Library as &dyn Calls, &Model] {
             let mut out = vec![0xee; recording.len()];
             let short = recording.len() - 1;
-            assert_eq!(program.join_recording(&recording, &mut out[..short]), refused, "{}: {more:02x?}", program.name());
+            assert_eq!(
+                program.join_recording(USUAL, &recording, &mut out[..short]),
+                refused,
+                "{}: {more:02x?}",
+                program.name()
+            );
             assert!(out.iter().all(|octet| *octet == 0xee), "{}: {more:02x?}", program.name());
-            assert_eq!(program.join_recording(&recording, &mut out), expected, "{}: {more:02x?}", program.name());
+            assert_eq!(program.join_recording(USUAL, &recording, &mut out), expected, "{}: {more:02x?}", program.name());
             assert_eq!(out[..8], *b"MM\0\0\0\x17\x18\x05", "{}: {more:02x?}", program.name());
             assert_eq!(out[8..29], packet[6..], "{}: {more:02x?}", program.name());
         }

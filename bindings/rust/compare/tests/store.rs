@@ -12,13 +12,13 @@ const CASES: u64 = 120_000;
 fn in_order() {
     let (mut r, mut tally) = (Random::new(11), Tally::new("in_order"));
     for case in 0..CASES {
-        let t = r.t();
-        let mut store = stores::any(&mut r, t);
+        let s = r.settings();
+        let mut store = stores::any(&mut r, s);
         if r.once_in(3) && !store.octets.is_empty() && store.octets.len() % 1024 == 0 {
             stores::damage(&mut r, &mut store);
         }
-        let answer = Library.in_order(t, &store.octets);
-        assert_eq!(answer, Model.in_order(t, &store.octets), "case {case}: T {t}");
+        let answer = Library.in_order(s, &store.octets);
+        assert_eq!(answer, Model.in_order(s, &store.octets), "case {case}: {s:?}");
         tally.meet(answer.refusal);
     }
     tally.close(&[15, 16], CASES);
@@ -29,13 +29,13 @@ fn arrive() {
     let (mut r, mut tally) = (Random::new(12), Tally::new("arrive"));
     let mut kinds = [0u64; 3];
     for case in 0..CASES {
-        let t = r.t();
-        let given = stores::any(&mut r, t);
-        let packet = stores::arriving(&mut r, t, &given);
+        let s = r.settings();
+        let given = stores::any(&mut r, s);
+        let packet = stores::arriving(&mut r, s, &given);
         let (mut ours, mut theirs) = (given.octets.clone(), given.octets.clone());
-        let answer = Library.arrive(t, &mut ours, &packet);
-        assert_eq!(answer, Model.arrive(t, &mut theirs, &packet), "case {case}: T {t}, {packet:02x?}");
-        assert!(ours == theirs, "case {case}: the stores differ: T {t}, {packet:02x?}");
+        let answer = Library.arrive(s, &mut ours, &packet);
+        assert_eq!(answer, Model.arrive(s, &mut theirs, &packet), "case {case}: {s:?}, {packet:02x?}");
+        assert!(ours == theirs, "case {case}: the stores differ: {s:?}, {packet:02x?}");
         assert!(answer.kind == Some(Kind::Stored) || ours == given.octets, "case {case}: the store changed");
         if let Some(kind) = answer.kind {
             kinds[kind as usize] += 1;
@@ -59,14 +59,14 @@ fn output(r: &mut Random, store: &Store) -> Vec<u8> {
 fn take() {
     let (mut r, mut tally) = (Random::new(13), Tally::new("take"));
     for case in 0..CASES {
-        let t = r.t();
-        let given = stores::any(&mut r, t);
+        let s = r.settings();
+        let given = stores::any(&mut r, s);
         let (mut ours, mut theirs) = (given.octets.clone(), given.octets.clone());
         let mut our_out = output(&mut r, &given);
         let mut their_out = our_out.clone();
         let before = our_out.clone();
-        let answer = Library.take(t, &mut ours, &mut our_out);
-        assert_eq!(answer, Model.take(t, &mut theirs, &mut their_out), "case {case}: T {t}");
+        let answer = Library.take(s, &mut ours, &mut our_out);
+        assert_eq!(answer, Model.take(s, &mut theirs, &mut their_out), "case {case}: {s:?}");
         assert!(ours == theirs, "case {case}: the stores differ");
         assert_eq!(our_out, their_out, "case {case}: the outputs differ");
         assert!(answer.refusal == 0 || (ours == given.octets && our_out == before), "case {case}: octets changed on a refusal");
@@ -80,15 +80,15 @@ fn join() {
     let (mut r, mut tally) = (Random::new(14), Tally::new("join"));
     let mut which = [0u64; 3];
     for case in 0..CASES {
-        let t = r.t();
-        let given = stores::any(&mut r, t);
-        let packet = stores::arriving(&mut r, t, &given);
+        let s = r.settings();
+        let given = stores::any(&mut r, s);
+        let packet = stores::arriving(&mut r, s, &given);
         let (mut ours, mut theirs) = (given.octets.clone(), given.octets.clone());
         let mut our_out = output(&mut r, &given);
         let mut their_out = our_out.clone();
-        let answer = Library.join(t, &mut ours, &packet, &mut our_out);
-        assert_eq!(answer, Model.join(t, &mut theirs, &packet, &mut their_out), "case {case}: T {t}, {packet:02x?}");
-        assert!(ours == theirs, "case {case}: the stores differ: T {t}, {packet:02x?}");
+        let answer = Library.join(s, &mut ours, &packet, &mut our_out);
+        assert_eq!(answer, Model.join(s, &mut theirs, &packet, &mut their_out), "case {case}: {s:?}, {packet:02x?}");
+        assert!(ours == theirs, "case {case}: the stores differ: {s:?}, {packet:02x?}");
         assert_eq!(our_out, their_out, "case {case}: the outputs differ");
         let (place, length) = (answer.place, answer.length);
         let part = Library.view(&packet, &our_out, answer.which, place, length);
@@ -108,30 +108,30 @@ fn many_steps() {
     let mut r = Random::new(15);
     let mut taken = 0;
     for run in 0..400 {
-        let t = r.between(1, 16);
+        let s = r.good_settings();
         let cells = r.between(2, 24) as usize;
         let (mut ours, mut theirs) = (vec![0; cells * 1024], vec![0; cells * 1024]);
-        let mut pool: Vec<Vec<u8>> = (0..3).flat_map(|_| stores::message(&mut r, t).packets).collect();
+        let mut pool: Vec<Vec<u8>> = (0..3).flat_map(|_| stores::message(&mut r, s).packets).collect();
         let (mut our_out, mut their_out) = (vec![0xee; 8000], vec![0xee; 8000]);
         for step in 0..300 {
             if r.once_in(20) {
-                pool = (0..3).flat_map(|_| stores::message(&mut r, t).packets).collect();
+                pool = (0..3).flat_map(|_| stores::message(&mut r, s).packets).collect();
             }
             let packet = pool[r.index(pool.len())].clone();
             match r.below(8) {
                 0 => {
-                    let answer = Library.take(t, &mut ours, &mut our_out);
-                    assert_eq!(answer, Model.take(t, &mut theirs, &mut their_out), "run {run}, step {step}");
+                    let answer = Library.take(s, &mut ours, &mut our_out);
+                    assert_eq!(answer, Model.take(s, &mut theirs, &mut their_out), "run {run}, step {step}");
                     taken += u64::from(answer.refusal == 0);
                 }
                 1 => {
-                    let answer = Library.join(t, &mut ours, &packet, &mut our_out);
-                    assert_eq!(answer, Model.join(t, &mut theirs, &packet, &mut their_out), "run {run}, step {step}");
+                    let answer = Library.join(s, &mut ours, &packet, &mut our_out);
+                    assert_eq!(answer, Model.join(s, &mut theirs, &packet, &mut their_out), "run {run}, step {step}");
                     taken += u64::from(answer.refusal == 0);
                 }
                 _ => {
-                    let answer = Library.arrive(t, &mut ours, &packet);
-                    assert_eq!(answer, Model.arrive(t, &mut theirs, &packet), "run {run}, step {step}");
+                    let answer = Library.arrive(s, &mut ours, &packet);
+                    assert_eq!(answer, Model.arrive(s, &mut theirs, &packet), "run {run}, step {step}");
                 }
             }
             assert!(ours == theirs && our_out == their_out, "run {run}, step {step}: buffers differ");

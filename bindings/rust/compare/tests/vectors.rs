@@ -16,9 +16,9 @@ fn each(call: &str, run: impl Fn(&dyn Calls, &Json, &Json)) {
 #[test]
 fn read() {
     each("read", |program, case, expect| {
-        let t = case.number("T");
-        let answer = program.read(t, &case.octets("packet"));
-        assert_eq!(answer, cases::reading(t, expect.get("answer")), "{}: {case:?}", program.name());
+        let s = cases::settings(case);
+        let answer = program.read(s, &case.octets("packet"));
+        assert_eq!(answer, cases::reading(s.t, expect.get("answer")), "{}: {case:?}", program.name());
     });
 }
 
@@ -26,7 +26,7 @@ fn read() {
 fn write() {
     each("write", |program, case, expect| {
         let (lent, mut out) = (Lent::new(case.get("header")), case.octets("out"));
-        let answer = program.write(case.number("T"), &lent.header(), cases::numbers(case), &case.octets("body"), &mut out);
+        let answer = program.write(cases::settings(case), &lent.header(), cases::numbers(case), &case.octets("body"), &mut out);
         assert_eq!(answer, cases::written(expect.get("answer")), "{}: {case:?}", program.name());
         assert_eq!(out, expect.octets("out"), "{}: {case:?}", program.name());
     });
@@ -36,8 +36,8 @@ fn write() {
 fn count() {
     each("count", |program, case, expect| {
         let (lent, sender) = (Lent::new(case.get("header")), cases::sender(case.get("sender")));
-        let (t, p) = (case.number("T"), case.number("P"));
-        let answer = program.cut_count(t, p, &lent.header(), case.number("body_length"), sender);
+        let (s, p) = (cases::settings(case), case.number("P"));
+        let answer = program.cut_count(s, p, &lent.header(), case.number("body_length"), sender);
         assert_eq!(answer, cases::cut(expect.get("answer")), "{}: {case:?}", program.name());
     });
 }
@@ -46,8 +46,8 @@ fn count() {
 fn packet() {
     each("packet", |program, case, expect| {
         let (lent, sender) = (Lent::new(case.get("header")), cases::sender(case.get("sender")));
-        let (t, p, mut out) = (case.number("T"), case.number("P"), case.octets("out"));
-        let answer = program.cut_packet(t, p, &lent.header(), &case.octets("body"), sender, case.number("i"), &mut out);
+        let (s, p, mut out) = (cases::settings(case), case.number("P"), case.octets("out"));
+        let answer = program.cut_packet(s, p, &lent.header(), &case.octets("body"), sender, case.number("i"), &mut out);
         assert_eq!(answer, cases::cut_packet(expect.get("answer")), "{}: {case:?}", program.name());
         assert_eq!(out, expect.octets("out"), "{}: {case:?}", program.name());
     });
@@ -56,7 +56,7 @@ fn packet() {
 #[test]
 fn in_order() {
     each("in_order", |program, case, expect| {
-        let answer = program.in_order(case.number("T"), &case.octets("store"));
+        let answer = program.in_order(cases::settings(case), &case.octets("store"));
         assert_eq!(answer.refusal, expect.get("answer").number("refusal"), "{}: {case:?}", program.name());
     });
 }
@@ -65,7 +65,7 @@ fn in_order() {
 fn arrive() {
     each("arrive", |program, case, expect| {
         let mut store = case.octets("store");
-        let answer = program.arrive(case.number("T"), &mut store, &case.octets("packet"));
+        let answer = program.arrive(cases::settings(case), &mut store, &case.octets("packet"));
         assert_eq!(answer, cases::arrived(expect.get("answer")), "{}: {case:?}", program.name());
         assert_eq!(store, expect.octets("store"), "{}: {case:?}", program.name());
     });
@@ -75,7 +75,7 @@ fn arrive() {
 fn take() {
     each("take", |program, case, expect| {
         let (mut store, mut out) = (case.octets("store"), case.octets("out"));
-        let answer = program.take(case.number("T"), &mut store, &mut out);
+        let answer = program.take(cases::settings(case), &mut store, &mut out);
         assert_eq!(answer, cases::taken(expect.get("answer")), "{}: {case:?}", program.name());
         assert_eq!(store, expect.octets("store"), "{}: {case:?}", program.name());
         assert_eq!(out, expect.octets("out"), "{}: {case:?}", program.name());
@@ -86,7 +86,7 @@ fn take() {
 fn join() {
     each("join", |program, case, expect| {
         let (mut store, mut out) = (case.octets("store"), case.octets("out"));
-        let answer = program.join(case.number("T"), &mut store, &case.octets("packet"), &mut out);
+        let answer = program.join(cases::settings(case), &mut store, &case.octets("packet"), &mut out);
         assert_eq!(answer, cases::joined(expect.get("answer")), "{}: {case:?}", program.name());
         assert_eq!(store, expect.octets("store"), "{}: {case:?}", program.name());
         assert_eq!(out, expect.octets("out"), "{}: {case:?}", program.name());
@@ -108,7 +108,7 @@ fn program() {
     each("program", |program, case, expect| {
         let recording = case.octets("stream");
         let mut out = vec![0; recording.len()];
-        let answer = program.join_recording(&recording, &mut out);
+        let answer = program.join_recording(8.into(), &recording, &mut out);
         assert_eq!(answer.refusal, expect.get("answer").number("refusal"), "{}: {case:?}", program.name());
         assert_eq!(out[..answer.written as usize], expect.octets("out"), "{}: {case:?}", program.name());
     });

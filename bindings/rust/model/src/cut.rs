@@ -1,6 +1,6 @@
 //! Cutting a message into packets of at most P octets.
 
-use crate::values::{hold, refusal, test_timestamp, Refusal, Sender, Values};
+use crate::values::{hold, refusal, Refusal, Sender, Settings, Tested, Values};
 use crate::write::{header_size, lay, test_values, Sequence, Writer};
 use crate::{CONTINUATION, FIRST, HEADER_LIMIT, LAST, LAST_COUNTER, PACKET_LIMIT, PRIMARY, SEQUENCE_COUNTS, UNSEGMENTED};
 
@@ -9,6 +9,7 @@ const BODY_LIMIT: u64 = 1_048_576;
 
 /// How a message is cut.
 struct Plan {
+    settings: Tested,
     header: usize,
     /// How many packets: 1 is one unsegmented packet.
     count: u64,
@@ -17,28 +18,28 @@ struct Plan {
 }
 
 /// 15 to 25, in their order.
-fn plan(t: u64, p: u64, v: &Values, body: u64, sender: Sender) -> Result<Plan, Refusal> {
-    let t = test_timestamp(t)?;
+fn plan(settings: Settings, p: u64, v: &Values, body: u64, sender: Sender) -> Result<Plan, Refusal> {
+    let s = settings.test()?;
     hold((27..=PACKET_LIMIT as u64).contains(&p), 15)?;
     hold(sender.sequence_count < SEQUENCE_COUNTS && sender.counter.unwrap_or(0) <= LAST_COUNTER, 22)?;
-    test_values(Writer::Today, t, v)?;
+    test_values(Writer::Today, s, v)?;
     hold(body <= BODY_LIMIT, 23)?;
-    let header = header_size(v);
+    let header = header_size(s, v);
     if (PRIMARY + header) as u64 + body <= p {
         hold(header <= HEADER_LIMIT, 12)?;
-        return Ok(Plan { header, count: 1, carried: body as usize });
+        return Ok(Plan { settings: s, header, count: 1, carried: body as usize });
     }
     hold(header + 4 <= HEADER_LIMIT, 12)?;
     let carried = (p as usize).checked_sub(header + 10).filter(|c| *c > 0).ok_or(refusal(24))?;
     let count = body.div_ceil(carried as u64);
     let start = sender.counter.ok_or(refusal(25))?;
     hold(start + (count - 1) <= LAST_COUNTER, 25)?;
-    Ok(Plan { header, count, carried })
+    Ok(Plan { settings: s, header, count, carried })
 }
 
 /// How many packets a message takes, and the sender's two numbers after it.
-pub fn count(t: u64, p: u64, v: &Values, body: u64, sender: Sender) -> Result<(u64, Sender), Refusal> {
-    let plan = plan(t, p, v, body, sender)?;
+pub fn count(settings: impl Into<Settings>, p: u64, v: &Values, body: u64, sender: Sender) -> Result<(u64, Sender), Refusal> {
+    let plan = plan(settings.into(), p, v, body, sender)?;
     let segments = if plan.count == 1 { 0 } else { plan.count };
     let counter = sender.counter.map(|start| start + segments).filter(|next| *next <= LAST_COUNTER);
     let sequence_count = (sender.sequence_count + plan.count) % SEQUENCE_COUNTS;
@@ -46,8 +47,16 @@ pub fn count(t: u64, p: u64, v: &Values, body: u64, sender: Sender) -> Result<(u
 }
 
 /// Writes packet number i of a message over the front of an output: the octets it took.
-pub fn packet(t: u64, p: u64, v: &Values, body: &[u8], sender: Sender, i: u64, out: &mut [u8]) -> Result<usize, Refusal> {
-    let plan = plan(t, p, v, body.len() as u64, sender)?;
+pub fn packet(
+    settings: impl Into<Settings>,
+    p: u64,
+    v: &Values,
+    body: &[u8],
+    sender: Sender,
+    i: u64,
+    out: &mut [u8],
+) -> Result<usize, Refusal> {
+    let plan = plan(settings.into(), p, v, body.len() as u64, sender)?;
     hold(i < plan.count, 26)?;
     let from = i as usize * plan.carried;
     let to = (from + plan.carried).min(body.len());
@@ -62,6 +71,6 @@ pub fn packet(t: u64, p: u64, v: &Values, body: &[u8], sender: Sender, i: u64, o
     let out = out.get_mut(..size).ok_or(refusal(21))?;
     let sequence_count = ((sender.sequence_count + i) % SEQUENCE_COUNTS) as u16;
     let counter = (sender.counter.unwrap_or(0) + i) as u32;
-    lay(v, Sequence { flags, sequence_count, counter }, &body[from..to], out);
+    lay(plan.settings, v, Sequence { flags, sequence_count, counter }, &body[from..to], out);
     Ok(size)
 }

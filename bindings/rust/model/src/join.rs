@@ -2,7 +2,7 @@
 
 use crate::read::read;
 use crate::store::{arrive, take, Kind};
-use crate::values::Refusal;
+use crate::values::{Refusal, Settings};
 
 /// Which buffer holds a body.
 #[derive(Clone, Copy, Debug, PartialEq, Eq)]
@@ -24,13 +24,14 @@ pub struct Joined {
 }
 
 /// Arrival, and if the packet did not come whole, taking.
-pub fn join(t: u64, store: &mut [u8], packet: &[u8], out: &mut [u8]) -> Result<Joined, Refusal> {
-    if arrive(t, store, packet)? == Kind::Whole {
-        let body = read(t, packet)?.body;
+pub fn join(settings: impl Into<Settings>, store: &mut [u8], packet: &[u8], out: &mut [u8]) -> Result<Joined, Refusal> {
+    let s = settings.into();
+    if arrive(s, store, packet)? == Kind::Whole {
+        let body = read(s, packet)?.body;
         let (place, length) = (body.place as usize, body.length as usize);
         return Ok(Joined { which: Which::Packet, place, length, h: 0, b: 0, counter: 0 });
     }
-    let taken = take(t, store, out)?;
+    let taken = take(s, store, out)?;
     Ok(Joined { which: Which::Joined, place: 2 + taken.h, length: taken.b, h: taken.h, b: taken.b, counter: taken.counter })
 }
 

@@ -1,6 +1,6 @@
 //! Reading one packet.
 
-use crate::values::{hold, is_text, refusal, test_timestamp, Refusal};
+use crate::values::{hold, is_text, refusal, Refusal, Settings, Tested};
 use crate::varint::varint_step;
 use crate::{HEADER_LIMIT, PARTS, PRIMARY, UNSEGMENTED};
 
@@ -62,6 +62,8 @@ struct Walk<'a> {
     at: usize,
     /// Where the field at hand began.
     began: usize,
+    /// Whether a UInteger has four octets.
+    is_fixed: bool,
 }
 
 /// The place after the last octet that a secondary header may have.
@@ -116,9 +118,19 @@ impl Walk<'_> {
         Ok(value)
     }
 
+    /// A priority, a length or a count. Four octets are one content.
+    fn uinteger(&mut self) -> Result<u32, Refusal> {
+        if !self.is_fixed {
+            return self.varint();
+        }
+        let place = self.content(4)?.place as usize;
+        let octets: &[u8; 4] = self.packet[place..].first_chunk().expect("they are there");
+        Ok(u32::from_be_bytes(*octets))
+    }
+
     /// A length and that many octets of any value.
     fn blob(&mut self) -> Result<Span, Refusal> {
-        let length = self.varint()?;
+        let length = self.uinteger()?;
         self.content(length as usize)
     }
 
@@ -131,7 +143,7 @@ impl Walk<'_> {
 
     /// A count of parts, then each with its presence octet: as many fields, and one more.
     fn domain(&mut self, parts: &mut [Span; PARTS]) -> Result<u8, Refusal> {
-        let count = self.field().varint()?;
+        let count = self.field().uinteger()?;
         hold(count as usize <= PARTS, 13)?;
         for part in &mut parts[..count as usize] {
             hold(self.field().octet()? == 1, 11)?;
@@ -221,7 +233,7 @@ fn read_optional(t: usize, walk: &mut Walk, r: &mut Reading) -> Result<(), Refus
         r.counter = walk.field().counter()?;
     }
     if r.has(2) {
-        r.priority = walk.field().varint()?;
+        r.priority = walk.field().uinteger()?;
     }
     if r.has(3) {
         r.timestamp = walk.field().content(t)?.place;
@@ -241,13 +253,13 @@ fn read_optional(t: usize, walk: &mut Walk, r: &mut Reading) -> Result<(), Refus
     Ok(())
 }
 
-/// Reads one packet under T: every value, place and length, or the refusal that comes first.
-pub fn read(t: u64, packet: &[u8]) -> Result<Reading, Refusal> {
-    let t = test_timestamp(t)?;
+/// Reads one packet under the settings: every value, place and length, or the refusal that comes first.
+pub fn read(settings: impl Into<Settings>, packet: &[u8]) -> Result<Reading, Refusal> {
+    let Tested { t, is_fixed } = settings.into().test()?;
     let mut r = Reading::default();
     read_primary(packet, &mut r)?;
     read_fixed(&packet[PRIMARY..], &mut r)?;
-    let mut walk = Walk { packet, at: PRIMARY + 21, began: PRIMARY + 21 };
+    let mut walk = Walk { packet, at: PRIMARY + 21, began: PRIMARY + 21, is_fixed };
     read_optional(t, &mut walk, &mut r)?;
     let counted = if r.flags == UNSEGMENTED { 0 } else { 4 };
     hold(counted == 0 || walk.at < packet.len(), 14)?;

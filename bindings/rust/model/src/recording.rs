@@ -1,4 +1,4 @@
-//! The small program: the messages of a recording, with T 8 and 32 cells.
+//! The small program: the messages of a recording, with 32 cells.
 //!
 //! The recording lies in memory, so a cell is a segment's place in it and nothing is copied until a message is complete. A message
 //! goes out as soon as it is complete, so the only one that can be complete is the one to which the last arrival belongs.
@@ -6,9 +6,9 @@
 use crate::read::read;
 use crate::segment::Segment;
 use crate::store::whole;
+use crate::values::{hold, Refusal, Settings};
 use crate::{FIRST, LAST, UNSEGMENTED};
 
-const T: u64 = 8;
 const ROOMS: usize = 32;
 const PACKET_MARK: [u8; 2] = [0x4d, 0x50];
 const MESSAGE_MARK: [u8; 2] = [0x4d, 0x4d];
@@ -107,15 +107,20 @@ fn next_packet(recording: &[u8]) -> Option<(&[u8], &[u8])> {
     after.split_at_checked(usize::from(u16::from_be_bytes([primary[4], primary[5]])) + 7)
 }
 
-/// All messages of a recording, each after its mark and its length.
-pub fn join_recording(recording: &[u8]) -> Vec<u8> {
+/// All messages of a recording, each after its mark and its length; 15 for the settings, 21 if there is not room for as many octets as the
+/// recording has.
+pub fn join_recording(settings: impl Into<Settings>, recording: &[u8], room: usize) -> Result<Vec<u8>, Refusal> {
+    let settings = settings.into();
+    settings.test()?;
+    hold(recording.len() <= room, 21)?;
     let mut out = Vec::with_capacity(recording.len());
-    join_recording_into(recording, &mut out);
-    out
+    join_recording_into(settings, recording, &mut out);
+    Ok(out)
 }
 
-/// The same, after what stands in the output already.
-pub fn join_recording_into(recording: &[u8], out: &mut Vec<u8>) {
+/// The same, under settings in range, after what stands in the output already.
+pub fn join_recording_into(settings: impl Into<Settings>, recording: &[u8], out: &mut Vec<u8>) {
+    let settings = settings.into();
     let mut rooms = Rooms { held: [None; ROOMS], counters: [0; ROOMS] };
     let mut rest = recording;
     while let Some((packet, after)) = next_packet(rest) {
@@ -123,7 +128,7 @@ pub fn join_recording_into(recording: &[u8], out: &mut Vec<u8>) {
         if packet.len() > MOST {
             continue;
         }
-        let Ok(reading) = read(T, packet) else { continue };
+        let Ok(reading) = read(settings, packet) else { continue };
         if reading.flags == UNSEGMENTED {
             let (id, data) = whole(packet);
             begin(id.len() + data.len(), out);

@@ -5,7 +5,7 @@ use std::collections::HashMap;
 use crate::hash::Build;
 use crate::read::read;
 use crate::segment::Segment;
-use crate::values::{hold, refusal, test_timestamp, Refusal};
+use crate::values::{hold, refusal, Refusal, Settings};
 use crate::{CONTINUATION, FIRST, LAST, PRIMARY, UNSEGMENTED};
 
 /// The octets of a cell.
@@ -48,7 +48,7 @@ struct Index<'a> {
 }
 
 /// What stands in a cell: nothing in a free one, a segment in a held one; 16 in any other.
-fn look(t: u64, cell: &[u8]) -> Result<Option<Segment<'_>>, Refusal> {
+fn look(settings: Settings, cell: &[u8]) -> Result<Option<Segment<'_>>, Refusal> {
     if !cell.starts_with(&HELD) {
         hold(cell == ZERO, 16)?;
         return Ok(None);
@@ -57,20 +57,20 @@ fn look(t: u64, cell: &[u8]) -> Result<Option<Segment<'_>>, Refusal> {
     hold(length <= ROOM, 16)?;
     let (packet, tail) = cell[MARK..].split_at(length);
     hold(tail == &ZERO[..tail.len()], 16)?;
-    let reading = read(t, packet).map_err(|_| refusal(16))?;
+    let reading = read(settings, packet).map_err(|_| refusal(16))?;
     hold(reading.flags != UNSEGMENTED, 16)?;
     Ok(Some(Segment::new(packet, &reading)))
 }
 
 impl<'a> Index<'a> {
     /// 16 for a store that is not in order.
-    fn new(t: u64, store: &'a [u8]) -> Result<Self, Refusal> {
+    fn new(settings: Settings, store: &'a [u8]) -> Result<Self, Refusal> {
         let count = store.len() / CELL;
         hold(store.len() % CELL == 0 && (1..=CELLS).contains(&count), 16)?;
         let mut cells = Vec::with_capacity(count);
         let mut places = HashMap::with_capacity_and_hasher(count, Build::default());
         for (i, cell) in store.chunks_exact(CELL).enumerate() {
-            let found = look(t, cell)?;
+            let found = look(settings, cell)?;
             if let Some(segment) = found {
                 hold(places.insert(segment, i as u16).is_none(), 16)?;
             }
@@ -119,17 +119,19 @@ impl<'a> Index<'a> {
 }
 
 /// Whether a store is in order: 15 or 16 if it is not.
-pub fn in_order(t: u64, store: &[u8]) -> Result<Order, Refusal> {
-    test_timestamp(t)?;
-    let index = Index::new(t, store)?;
+pub fn in_order(settings: impl Into<Settings>, store: &[u8]) -> Result<Order, Refusal> {
+    let settings = settings.into();
+    settings.test()?;
+    let index = Index::new(settings, store)?;
     Ok(Order { cells: index.cells.len(), held: index.places.len() })
 }
 
 /// Takes a packet into the store.
-pub fn arrive(t: u64, store: &mut [u8], packet: &[u8]) -> Result<Kind, Refusal> {
-    test_timestamp(t)?;
-    let index = Index::new(t, store)?;
-    let reading = read(t, packet)?;
+pub fn arrive(settings: impl Into<Settings>, store: &mut [u8], packet: &[u8]) -> Result<Kind, Refusal> {
+    let settings = settings.into();
+    settings.test()?;
+    let index = Index::new(settings, store)?;
+    let reading = read(settings, packet)?;
     if reading.flags == UNSEGMENTED {
         return Ok(Kind::Whole);
     }
@@ -147,9 +149,10 @@ pub fn arrive(t: u64, store: &mut [u8], packet: &[u8]) -> Result<Kind, Refusal> 
 }
 
 /// Takes the complete message with its first in the lowest cell out of the store.
-pub fn take(t: u64, store: &mut [u8], out: &mut [u8]) -> Result<Taken, Refusal> {
-    test_timestamp(t)?;
-    let index = Index::new(t, store)?;
+pub fn take(settings: impl Into<Settings>, store: &mut [u8], out: &mut [u8]) -> Result<Taken, Refusal> {
+    let settings = settings.into();
+    settings.test()?;
+    let index = Index::new(settings, store)?;
     let run = index.complete().ok_or(refusal(20))?;
     let first = index.held(run[0]);
     let b = run.iter().map(|cell| index.held(*cell).body().len()).sum();

@@ -65,10 +65,33 @@ pub(crate) fn hold(test: bool, number: u8) -> Result<(), Refusal> {
     }
 }
 
-/// T is 1 to 16 octets, in every call that takes it.
-pub(crate) fn test_timestamp(t: u64) -> Result<usize, Refusal> {
-    hold((1..=16).contains(&t), 15)?;
-    Ok(t as usize)
+/// T, and how a UInteger is written: 0 as a Varint, 1 as four octets.
+#[derive(Clone, Copy, Debug, PartialEq, Eq)]
+pub struct Settings {
+    pub t: u64,
+    pub profile: u64,
+}
+
+/// T alone: with Varints.
+impl From<u64> for Settings {
+    fn from(t: u64) -> Self {
+        Settings { t, profile: 0 }
+    }
+}
+
+/// Settings that have been tested.
+#[derive(Clone, Copy)]
+pub(crate) struct Tested {
+    pub t: usize,
+    pub is_fixed: bool,
+}
+
+impl Settings {
+    /// T is 1 to 16 octets and the profile one of two, in every call that takes them.
+    pub(crate) fn test(self) -> Result<Tested, Refusal> {
+        hold((1..=16).contains(&self.t) && self.profile <= 1, 15)?;
+        Ok(Tested { t: self.t as usize, is_fixed: self.profile == 1 })
+    }
 }
 
 /// Whether octets are well-formed text.

@@ -13,6 +13,15 @@ pub(crate) fn varint_length(value: u32) -> usize {
     }
 }
 
+/// The octets of a UInteger.
+pub(crate) fn uinteger_length(is_fixed: bool, value: u32) -> usize {
+    if is_fixed {
+        4
+    } else {
+        varint_length(value)
+    }
+}
+
 /// One more octet of a Varint, number k from 0, judged as soon as it is read: the value so far, and whether it ends here.
 pub(crate) fn varint_step(value: u32, k: u32, octet: u8) -> Result<(u32, bool), Refusal> {
     hold(k == 0 || octet != 0, 10)?;

@@ -1,7 +1,7 @@
 //! Writing one packet, and what cutting shares with it: the tests of values, the sizes, the octets of a header.
 
-use crate::values::{hold, is_text, refusal, test_timestamp, Refusal, Values};
-use crate::varint::{put_varint, varint_length};
+use crate::values::{hold, is_text, refusal, Refusal, Settings, Tested, Values};
+use crate::varint::{put_varint, uinteger_length};
 use crate::{HEADER_LIMIT, PACKET_LIMIT, PARTS, PRIMARY, SEQUENCE_COUNTS, UNSEGMENTED};
 
 /// The most octets of lent text for one field.
@@ -49,7 +49,7 @@ pub(crate) enum Writer {
 }
 
 /// 22 for any value out of its range, then 30, then 13, then 28.
-pub(crate) fn test_values(writer: Writer, t: usize, v: &Values) -> Result<(), Refusal> {
+pub(crate) fn test_values(writer: Writer, s: Tested, v: &Values) -> Result<(), Refusal> {
     let plain = v.packet_type <= 1
         && v.apid < 2047
         && v.sdu <= 21
@@ -65,7 +65,7 @@ pub(crate) fn test_values(writer: Writer, t: usize, v: &Values) -> Result<(), Re
     let numbers = optional_number(v.has_source, v.source, 0xff)
         && optional_number(v.has_destination, v.destination, 0xff)
         && optional_number(v.has_priority, v.priority, u64::from(u32::MAX));
-    let timestamp = v.has_timestamp <= 1 && v.timestamp.len() == if v.has_timestamp == 1 { t } else { 0 };
+    let timestamp = v.has_timestamp <= 1 && v.timestamp.len() == if v.has_timestamp == 1 { s.t } else { 0 };
     let texts = optional_text(v.has_zone, v.zone)
         && optional_text(v.has_session_name, v.session_name)
         && optional_text(v.has_domain, v.domain)
@@ -77,38 +77,39 @@ pub(crate) fn test_values(writer: Writer, t: usize, v: &Values) -> Result<(), Re
     hold(is_text(v.zone) && is_text(v.session_name) && domain_is_text(v), 28)
 }
 
-fn text_size(present: u64, text: &[u8]) -> usize {
+fn text_size(s: Tested, present: u64, text: &[u8]) -> usize {
     if present == 1 {
-        varint_length(text.len() as u32) + text.len()
+        uinteger_length(s.is_fixed, text.len() as u32) + text.len()
     } else {
         0
     }
 }
 
-fn domain_size(v: &Values) -> usize {
+fn domain_size(s: Tested, v: &Values) -> usize {
     if v.has_domain == 0 {
         return 0;
     }
-    let lengths: usize = v.domain_lengths.iter().map(|length| 1 + varint_length(*length as u32)).sum();
-    1 + lengths + v.domain.len()
+    let lengths: usize = v.domain_lengths.iter().map(|length| 1 + uinteger_length(s.is_fixed, *length as u32)).sum();
+    uinteger_length(s.is_fixed, v.domain_lengths.len() as u32) + lengths + v.domain.len()
 }
 
 /// H of tested values: the secondary header's octets without a counter.
-pub(crate) fn header_size(v: &Values) -> usize {
-    let priority = if v.has_priority == 1 { varint_length(v.priority as u32) } else { 0 };
+pub(crate) fn header_size(s: Tested, v: &Values) -> usize {
+    let priority = if v.has_priority == 1 { uinteger_length(s.is_fixed, v.priority as u32) } else { 0 };
     21 + (v.has_source + v.has_destination) as usize
         + priority
         + v.timestamp.len()
-        + text_size(v.has_zone, v.zone)
-        + text_size(v.has_session_name, v.session_name)
-        + domain_size(v)
-        + text_size(v.has_authentication, v.authentication)
+        + text_size(s, v.has_zone, v.zone)
+        + text_size(s, v.has_session_name, v.session_name)
+        + domain_size(s, v)
+        + text_size(s, v.has_authentication, v.authentication)
 }
 
 /// The octets of a packet, laid one after the other.
 struct Pen<'a> {
     out: &'a mut [u8],
     at: usize,
+    is_fixed: bool,
 }
 
 impl Pen<'_> {
@@ -117,22 +118,25 @@ impl Pen<'_> {
         self.at += octets.len();
     }
 
-    fn varint(&mut self, value: u32) {
-        let length = varint_length(value);
+    fn uinteger(&mut self, value: u32) {
+        if self.is_fixed {
+            return self.put(&value.to_be_bytes());
+        }
+        let length = uinteger_length(false, value);
         put_varint(value, &mut self.out[self.at..self.at + length]);
         self.at += length;
     }
 
     fn text(&mut self, present: u64, text: &[u8]) {
         if present == 1 {
-            self.varint(text.len() as u32);
+            self.uinteger(text.len() as u32);
             self.put(text);
         }
     }
 
     fn domain(&mut self, v: &Values) {
         if v.has_domain == 1 {
-            self.varint(v.domain_lengths.len() as u32);
+            self.uinteger(v.domain_lengths.len() as u32);
             let mut text = v.domain;
             for length in v.domain_lengths {
                 let (part, rest) = text.split_at(*length as usize);
@@ -173,9 +177,9 @@ fn front(v: &Values, s: Sequence, size: usize) -> [u8; 27] {
 }
 
 /// Lays a packet of tested values over an output of just its size.
-pub(crate) fn lay(v: &Values, s: Sequence, body: &[u8], out: &mut [u8]) {
+pub(crate) fn lay(settings: Tested, v: &Values, s: Sequence, body: &[u8], out: &mut [u8]) {
     let front = front(v, s, out.len());
-    let mut pen = Pen { out, at: 0 };
+    let mut pen = Pen { out, at: 0, is_fixed: settings.is_fixed };
     pen.put(&front);
     if v.has_source == 1 {
         pen.put(&[v.source as u8]);
@@ -187,7 +191,7 @@ pub(crate) fn lay(v: &Values, s: Sequence, body: &[u8], out: &mut [u8]) {
         pen.put(&s.counter.to_be_bytes());
     }
     if v.has_priority == 1 {
-        pen.varint(v.priority as u32);
+        pen.uinteger(v.priority as u32);
     }
     pen.put(v.timestamp);
     pen.text(v.has_zone, v.zone);
@@ -199,7 +203,7 @@ pub(crate) fn lay(v: &Values, s: Sequence, body: &[u8], out: &mut [u8]) {
 
 fn write_by(
     writer: Writer,
-    t: u64,
+    settings: impl Into<Settings>,
     v: &Values,
     flags: u64,
     sequence_count: u64,
@@ -207,18 +211,18 @@ fn write_by(
     body: &[u8],
     out: &mut [u8],
 ) -> Result<usize, Refusal> {
-    let t = test_timestamp(t)?;
+    let s = settings.into().test()?;
     let segmented = flags != u64::from(UNSEGMENTED);
     let counted = counter <= if segmented { u64::from(u32::MAX) } else { 0 };
     hold(flags <= 3 && sequence_count < SEQUENCE_COUNTS && counted, 22)?;
-    test_values(writer, t, v)?;
-    let header = header_size(v) + if segmented { 4 } else { 0 };
+    test_values(writer, s, v)?;
+    let header = header_size(s, v) + if segmented { 4 } else { 0 };
     let size = PRIMARY + header + body.len();
     hold(size <= PACKET_LIMIT, 23)?;
     hold(header <= HEADER_LIMIT, 12)?;
     hold(!segmented || !body.is_empty(), 14)?;
     let out = out.get_mut(..size).ok_or(refusal(21))?;
-    lay(v, Sequence { flags: flags as u8, sequence_count: sequence_count as u16, counter: counter as u32 }, body, out);
+    lay(s, v, Sequence { flags: flags as u8, sequence_count: sequence_count as u16, counter: counter as u32 }, body, out);
     Ok(size)
 }
 

@@ -1,32 +1,30 @@
--- `fields::put_uinteger` meets its contract: the Varint is written whole or not at all.
+-- `fields::put_uinteger` meets its contract: the profile chooses as in the definition, and either writing is whole or not at all.
 -- Assumes nothing.
 use borrow.Author.Needs.{needs}
-use Rattle.fields.proofs.Written.{number-done, number-full}
+use borrow.Author.Tests.{eq-eqb, ne-eqb}
 use Rattle.fields.proofs.put_uinteger.Statement.{statement}
 use Rattle.fields.proofs.put_uinteger.Tie as tie
+use Rattle.fields.specs.Form.{uintegerOctets}
 
-put-requires : tie.Need-put-requires
-put-requires c κs = search needs
-
-enum-known-next : tie.Need-enum-known-next
-enum-known-next c = search needs
-
-enum-told : tie.Need-enum-told
-enum-told c = search needs
+lay-number-requires : tie.Need-lay-number-requires
+lay-number-requires c κs = search needs
 
 same-length : tie.Need-same-length
 same-length c = search needs
 
 returns : tie.Need-returns
-returns c = number-done _ _ _ _ _ (c .before .before .before .before .before .put .ensures .0) (c .before .before .before .before .before .put .ensures .1) (c .before .next .given .1)
+unfolding uintegerOctets
+returns c = simp (eq-eqb _ _ (c .before .before .before .before .if1 .taken)) (c .before .before .lay-number .ensures)
+
+put-varint-requires : tie.Need-put-varint-requires
+put-varint-requires c κs = search needs
 
 same-length-2 : tie.Need-same-length-2
 same-length-2 c = search needs
 
 returns-2 : tie.Need-returns-2
-returns-2 c = number-full _ _ _ _ _ (c .before .before .before .before .put .ensures .0) (c .before .before .before .before .put .ensures .1) (c .enum-told .given .1)
+unfolding uintegerOctets
+returns-2 c = simp (ne-eqb _ _ (c .before .before .before .before .if1 .left)) (c .before .before .put-varint .ensures)
 
 pub put-uinteger-spec : {M : Type 1} → statement M
-put-uinteger-spec =
-    tie.close
-    (tie.spec put-requires enum-known-next enum-told same-length returns same-length-2 returns-2)
+put-uinteger-spec = tie.close (tie.spec lay-number-requires same-length returns put-varint-requires same-length-2 returns-2)

@@ -10,14 +10,14 @@ test-limit-requires c κs = search needs
 too-wide-requires : tie.Need-too-wide-requires
 too-wide-requires c κs = search needs
 
-element-copy-out-t11 : tie.Need-element-copy-out-t11
-element-copy-out-t11 c = search needs
+element-copy-out-t10 : tie.Need-element-copy-out-t10
+element-copy-out-t10 c = search needs
 
-element-copy-out-t14 : tie.Need-element-copy-out-t14
-element-copy-out-t14 c = search needs
+element-copy-out-t13 : tie.Need-element-copy-out-t13
+element-copy-out-t13 c = search needs
 
-element-copy-out-t17 : tie.Need-element-copy-out-t17
-element-copy-out-t17 c = search needs
+element-copy-out-t16 : tie.Need-element-copy-out-t16
+element-copy-out-t16 c = search needs
 
 returns : tie.Need-returns
 returns c =
@@ -30,7 +30,7 @@ cut-too-wide-spec =
     (tie.spec
     test-limit-requires
     too-wide-requires
-    element-copy-out-t11
-    element-copy-out-t14
-    element-copy-out-t17
+    element-copy-out-t10
+    element-copy-out-t13
+    element-copy-out-t16
     returns)

@@ -1,9 +1,8 @@
--- `flat_store::in_order` meets its contract: T is tested, then the order.
+-- `flat_store::in_order` meets its contract: T and the profile are tested, then the order.
 -- Assumes nothing.
 use denote.Ref.{now}
 use mathlib.Core.Path.{ap, sym, _∙_}
 use Rattle.walk.specs.declared.Walk.{Walk}
-use Rattle.walk.specs.Walk.{settingsOf}
 use Rattle.flat_store.proofs.Telling.{order-15, order-16, order-some}
 use borrow.Author.Needs.{needs}
 use Rattle.flat_store.proofs.in_order.Statement.{statement}

@@ -21,10 +21,10 @@ slice-aggregate-run-4 : tie.Need-slice-aggregate-run-4
 slice-aggregate-run-4 c = sym (length-replicate {A = ℕ} 262144 0)
 
 run-requires : tie.Need-run-requires
-run-requires c κs = (begins-zero refl, (begins-order refl refl, (begins-cells refl refl, begins-spare refl)))
+run-requires c κs = (begins-zero refl, (begins-order _ (c .before .before .before .before .before .pre) refl refl, (begins-cells refl refl, begins-spare refl)))
 
 slice-aggregate-end : tie.Need-slice-aggregate-end
-slice-aggregate-end c = sym (c .before .before .before .before .run .kept .1 .0 ∙ length-replicate {A = ℕ} 32768 0)
+slice-aggregate-end c = sym (c .before .before .before .before .run .kept .1 .1 .0 ∙ length-replicate {A = ℕ} 32768 0)
 
 end-requires : tie.Need-end-requires
 end-requires c κs = search needs

@@ -8,17 +8,17 @@ use borrow.Author.Needs.{needs}
 use Rattle.join_recording.proofs.turn.Statement.{statement}
 use Rattle.join_recording.proofs.turn.Tie as tie
 
-sub-step-into : tie.Need-sub-step-into
-sub-step-into c = search needs
+sub-step-there : tie.Need-sub-step-there
+sub-step-there c = search needs
 
-part-step-into-start : tie.Need-part-step-into-start
-part-step-into-start c = search needs
+part-step-there-start : tie.Need-part-step-there-start
+part-step-there-start c = search needs
 
-part-step-into-end : tie.Need-part-step-into-end
-part-step-into-end c = search needs
+part-step-there-end : tie.Need-part-step-there-end
+part-step-there-end c = search needs
 
-step-into-requires : tie.Need-step-into-requires
-step-into-requires c κs =
+step-there-requires : tie.Need-step-there-requires
+step-there-requires c κs =
     let p = c .before .before .before .before .before .before .before .before .pre in
     (p .0, (p .1 .0, (p .1 .1 .0, p .1 .1 .1 .0)))
 
@@ -35,7 +35,9 @@ part-wait-end : tie.Need-part-wait-end
 part-wait-end c = search needs
 
 wait-requires : tie.Need-wait-requires
-wait-requires c κs = search needs
+wait-requires c κs =
+    let p = c .before .before .before .before .before .before .before .before .before .before .before .before .before .before .before .before .before .before .before .pre in
+    (p .1 .1 .1 .1 .0, p .1 .1 .1 .1 .1)
 
 same-length : tie.Need-same-length
 same-length c = search needs
@@ -50,9 +52,9 @@ returns : tie.Need-returns
 returns c =
     let b = c .before .before .before .before .before .before .before .before .before .before .before .before .before in
     let a = b .before .before .before .before .before .before .before .before .before in
-    let h = b .step-into .ensures in
-    let k = step-after (length (now (a .args .zero))) (now (a .args .store)) (now (a .args .buf)) (a .args .ends) (a .args .from) (a .args .till)
-    (h .0) (h .1) (a .pre .1 .0) (a .pre .1 .1 .0) in
+    let h = b .step-there .ensures in
+    let k = step-after (a .args .s) (length (now (a .args .zero))) (now (a .args .store)) (now (a .args .buf)) (a .args .ends) (a .args .from) (a .args .till)
+    (h .0) (h .1 .0) (a .pre .1 .0) (a .pre .1 .1 .0) in
     let w = c .before .before .wait .ensures in
     (k .order, (k .cells, (w .0, (w .1 .0, omega (arith, w .1 .1, a .pre .1 .1 .1 .0)))))
 
@@ -75,9 +77,9 @@ returns-2 : tie.Need-returns-2
 returns-2 c =
     let b = c .before .before .before .before .before .before .before .before in
     let a = b .before .before .before .before .before .before .before .before .before in
-    let h = b .step-into .ensures in
-    let k = step-after (length (now (a .args .zero))) (now (a .args .store)) (now (a .args .buf)) (a .args .ends) (a .args .from) (a .args .till)
-    (h .0) (h .1) (a .pre .1 .0) (a .pre .1 .1 .0) in
+    let h = b .step-there .ensures in
+    let k = step-after (a .args .s) (length (now (a .args .zero))) (now (a .args .store)) (now (a .args .buf)) (a .args .ends) (a .args .from) (a .args .till)
+    (h .0) (h .1 .0) (a .pre .1 .0) (a .pre .1 .1 .0) in
     let w = c .in-hand .ensures in (
       k .order,
       (
@@ -96,28 +98,28 @@ add-gather : tie.Need-add-gather
 add-gather c =
     let b = c .before .before .before .before .before .before .before .before in
     let a = b .before .before .before .before .before .before .before .before .before in
-    let h = b .step-into .ensures in
-    let k = step-after (length (now (a .args .zero))) (now (a .args .store)) (now (a .args .buf)) (a .args .ends) (a .args .from) (a .args .till)
-    (h .0) (h .1) (a .pre .1 .0) (a .pre .1 .1 .0) in
+    let h = b .step-there .ensures in
+    let k = step-after (a .args .s) (length (now (a .args .zero))) (now (a .args .store)) (now (a .args .buf)) (a .args .ends) (a .args .from) (a .args .till)
+    (h .0) (h .1 .0) (a .pre .1 .0) (a .pre .1 .1 .0) in
     omega (arith, k .used-few, a .pre .1 .1 .1 .1 .0, a .pre .1 .1 .1 .1 .1)
 
 add-gather-2 : tie.Need-add-gather-2
 add-gather-2 c =
     let b = c .before .before .before .before .before .before .before .before in
     let a = b .before .before .before .before .before .before .before .before .before in
-    let h = b .step-into .ensures in
-    let k = step-after (length (now (a .args .zero))) (now (a .args .store)) (now (a .args .buf)) (a .args .ends) (a .args .from) (a .args .till)
-    (h .0) (h .1) (a .pre .1 .0) (a .pre .1 .1 .0) in
-    omega (arith, k .written-few, a .pre .1 .1 .1 .0)
+    let h = b .step-there .ensures in
+    let k = step-after (a .args .s) (length (now (a .args .zero))) (now (a .args .store)) (now (a .args .buf)) (a .args .ends) (a .args .from) (a .args .till)
+    (h .0) (h .1 .0) (a .pre .1 .0) (a .pre .1 .1 .0) in
+    omega (arith, k .written-few, a .pre .1 .1 .1 .0, a .good .1 .1 .1 .1 .1 .1 .1 .1 .0 .0)
 
 gather-requires : tie.Need-gather-requires
 gather-requires c κs =
     let b = c .before .before .before .before .before .before .before .before .before .before in
     let a = b .before .before .before .before .before .before .before .before .before in
-    let h = b .step-into .ensures in
-    let k = step-after (length (now (a .args .zero))) (now (a .args .store)) (now (a .args .buf)) (a .args .ends) (a .args .from) (a .args .till)
-    (h .0) (h .1) (a .pre .1 .0) (a .pre .1 .1 .0) in
-    let l = b .step-into .kept .1 .1 .1 .1 .0 in
+    let h = b .step-there .ensures in
+    let k = step-after (a .args .s) (length (now (a .args .zero))) (now (a .args .store)) (now (a .args .buf)) (a .args .ends) (a .args .from) (a .args .till)
+    (h .0) (h .1 .0) (a .pre .1 .0) (a .pre .1 .1 .0) in
+    let l = b .step-there .kept .1 .1 .1 .1 .1 .1 .0 in
     (omega (arith, l, k .written-few, a .pre .1 .1 .1 .0), omega (arith, l, a .pre .1 .1 .1 .0))
 
 same-length-7 : tie.Need-same-length-7
@@ -133,10 +135,10 @@ returns-3 : tie.Need-returns-3
 returns-3 c =
     let b = c .before .before .before .before .before .before .before .before .before .before .before in
     let a = b .before .before .before .before .before .before .before .before .before in
-    let h = b .step-into .ensures in
-    let k = step-after (length (now (a .args .zero))) (now (a .args .store)) (now (a .args .buf)) (a .args .ends) (a .args .from) (a .args .till)
-    (h .0) (h .1) (a .pre .1 .0) (a .pre .1 .1 .0) in
-    let l = b .step-into .kept .1 .1 .1 .1 .0 in
+    let h = b .step-there .ensures in
+    let k = step-after (a .args .s) (length (now (a .args .zero))) (now (a .args .store)) (now (a .args .buf)) (a .args .ends) (a .args .from) (a .args .till)
+    (h .0) (h .1 .0) (a .pre .1 .0) (a .pre .1 .1 .0) in
+    let l = b .step-there .kept .1 .1 .1 .1 .1 .1 .0 in
     let w = c .gather .ensures in (
       k .order,
       (
@@ -151,6 +153,6 @@ returns-3 c =
 pub turn-spec : {M : Type 1} → statement M
 turn-spec =
     tie.close
-    (tie.spec sub-step-into part-step-into-start part-step-into-end step-into-requires enum-told sub-wait part-wait-start part-wait-end
+    (tie.spec sub-step-there part-step-there-start part-step-there-end step-there-requires enum-told sub-wait part-wait-start part-wait-end
     wait-requires same-length same-length-2 same-length-3 returns why-requires in-hand-requires same-length-4 same-length-5 same-length-6
     returns-2 note-requires add-gather add-gather-2 gather-requires same-length-7 same-length-8 same-length-9 returns-3)

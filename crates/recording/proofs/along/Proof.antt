@@ -12,16 +12,16 @@ use Rattle.recording.proofs.along.Statement.{statement}
 use Rattle.recording.proofs.along.Tie as tie
 
 abbrev Inv-loop : tie.InvT-loop
-Inv-loop store₀ zero x spare₀ out₀ s n place₀ written₀ store spare out place written =
-    Going x out₀ (length zero) store out place written × ((length store ≡ length store₀) × ((length spare ≡ length spare₀) × (length out ≡ length out₀)))
+Inv-loop s store₀ zero x spare₀ out₀ n place₀ written₀ store spare out place written =
+    Going s x out₀ (length zero) store out place written × ((length store ≡ length store₀) × ((length spare ≡ length spare₀) × (length out ≡ length out₀)))
 
 abbrev μ-loop : tie.MeasureT-loop
-μ-loop store₀ zero x spare₀ out₀ s n place₀ written₀ store spare out place written = length x - place
+μ-loop s store₀ zero x spare₀ out₀ n place₀ written₀ store spare out place written = length x - place
 
 loop-holds : tie.Need-loop-holds Inv-loop μ-loop
 loop-holds c =
     let g = c .before .before .before .before .before .pre in
-    (going-first _ _ (g .0) (g .1 .0) (λ i. c .before .before .shared-slice-known2 .given i .fits) (g .1 .1 .1), (refl, (refl, refl)))
+    (going-first _ _ _ (g .0) (g .1 .0) (g .1 .1 .0) (λ i. c .before .before .shared-slice-known2 .given i .fits) (g .1 .1 .1 .1), (refl, (refl, refl)))
 
 sub-step-at : tie.Need-sub-step-at Inv-loop μ-loop
 sub-step-at c = omega (arith, c .before .loop .inv .0 .within)
@@ -35,12 +35,12 @@ part-step-at-end c = search needs
 step-at-requires : tie.Need-step-at-requires Inv-loop μ-loop
 step-at-requires c κs =
     let g = c .before .before .before .before in (
-      zero-own (g .before .before .before .before .before .before .pre .0),
+      zero-own (g .before .before .before .before .before .before .pre .1 .0),
       (
         g .loop .inv .0 .order,
         (
           g .loop .inv .0 .count,
-          (omega (arith, g .before .before .before .before .before .before .pre .1 .1 .0, g .loop .inv .1 .1 .0), going-room (g .loop .inv .0)),
+          (omega (arith, g .before .before .before .before .before .before .pre .1 .1 .1 .0, g .loop .inv .1 .1 .0), going-room (g .loop .inv .0)),
         ),
       ),
     )
@@ -84,7 +84,13 @@ add-written c =
     (c .before .before .before .before .before .before .before .step-at .ensures .0)
     (c .before .before .before .before .before .before .before .step-at .ensures .1 .0)
     (c .before .before .before .before .before .before .before .step-at .ensures .1 .1) (c .if1 .left) in
-    omega (arith, going-room k, going-long k)
+    omega (
+      arith,
+      going-room k,
+      going-long k,
+      c .before .before .before .before .before .before .before .before .before .before .before .before .before .before .before .before .before .before .good
+          .1 .1 .1 .1 .1 .0,
+    )
 
 loop-less : tie.Need-loop-less Inv-loop μ-loop
 loop-less c =

@@ -57,7 +57,7 @@ returns c =
       (
         g .step .ensures .1 .0,
         c .before .before .copy .ensures ∙ ap (λ (l : List ℕ). sets (now (h .args .out)) (h .args .at) l)
-            (spare-front _ _ _ _ (now (h .args .spare)) (g .step .ensures .0) (g .step .ensures .1 .1) (h .pre .1 .1 .1)),
+            (spare-front _ _ _ _ _ (now (h .args .spare)) (g .step .ensures .0) (g .step .ensures .1 .1) (h .pre .1 .1 .1)),
       ),
     )
 

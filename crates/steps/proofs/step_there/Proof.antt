@@ -49,7 +49,7 @@ returns : tie.Need-returns
 returns c =
     let g = c .before .before .before .before .before .before .before .before .before .before .before in
     let h = c .before .before .before .before .step .ensures in
-    (h .0, (h .1 .0, there-out _ _ _ _ _ _ (g .args .at + 65542 - g .args .at) (omega (arith, g .pre .1 .1 .1)) (omega arith) (h .1 .1)))
+    (h .0, (h .1 .0, there-out _ _ _ _ _ _ _ (g .args .at + 65542 - g .args .at) (omega (arith, g .pre .1 .1 .1)) (omega arith) (h .1 .1)))
 
 pub step-there-spec : {M : Type 1} → statement M
 step-there-spec =

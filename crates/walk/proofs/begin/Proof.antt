@@ -14,9 +14,14 @@ check-requires c κs = search needs
 check-requires-2 : tie.Need-check-requires-2
 check-requires-2 c κs = search needs
 
+check-requires-3 : tie.Need-check-requires-3
+check-requires-3 c κs = search needs
+
 returns : tie.Need-returns
 unfolding begun
-returns c = simp (c .check2 .ensures, c .before .before .check .ensures, c .before .before .before .before .goes .ensures)
+returns c =
+    let a = c .before .before in
+    simp (c .check3 .ensures, a .check2 .ensures, a .before .before .check .ensures, a .before .before .before .before .goes .ensures)
 
 pub begin-spec : {M : Type 1} → statement M
-begin-spec = tie.close (tie.spec goes-requires check-requires check-requires-2 returns)
+begin-spec = tie.close (tie.spec goes-requires check-requires check-requires-2 check-requires-3 returns)

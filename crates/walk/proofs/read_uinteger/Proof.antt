@@ -1,121 +1,24 @@
--- `walk::read_uinteger` meets its contract: each case of the Varint's reading is the definition's, and a place within the limit and a
--- value of 32 bits fit.
+-- `walk::read_uinteger` meets its contract: the profile chooses as in the definition.
 -- Assumes nothing.
 use borrow.Author.Needs.{needs}
-use borrow.Author.Tests.{ne-eqb}
-use denote.Ref.{now}
-use mathlib.Core.Path.{sym, ap}
-use native.Mathlib.Omega.{arith}
-use Rattle.walk.proofs.Steps.{number-refused, number-got, number-told, number-small}
+use borrow.Author.Tests.{eq-eqb, ne-eqb}
 use Rattle.walk.proofs.read_uinteger.Statement.{statement}
 use Rattle.walk.proofs.read_uinteger.Tie as tie
-use Rattle.walk.specs.Inner.{ofWalk, asUInteger}
-use Rattle.walk.specs.Walk.{uintegerStep}
+use Rattle.walk.specs.Walk.{uinteger}
+
+read-four-requires : tie.Need-read-four-requires
+read-four-requires c κs = search needs
 
 returns : tie.Need-returns
-returns c = ap asUInteger (sym (number-refused _ _ _ (ne-eqb _ _ (c .if1 .taken))))
+unfolding uinteger
+returns c = simp (eq-eqb _ _ (c .before .if1 .taken)) (c .read-four .ensures)
 
-cast-at : tie.Need-cast-at
-cast-at c = search needs
-
-before-limit-requires : tie.Need-before-limit-requires
-before-limit-requires c κs = search needs
-
-end-refusal-requires : tie.Need-end-refusal-requires
-end-refusal-requires c κs = search needs
-
-sub-head : tie.Need-sub-head
-sub-head c = search needs
-
-part-head-start : tie.Need-part-head-start
-part-head-start c = search needs
-
-part-head-end : tie.Need-part-head-end
-part-head-end c = search needs
-
-read32-requires : tie.Need-read32-requires
-read32-requires c κs = search needs
-
-enum-known-v : tie.Need-enum-known-v
-enum-known-v c = search needs
-
-cast-goes : tie.Need-cast-goes
-cast-goes c =
-    let call = c .before .before .before in
-    let entry = call .before .before .before .before .before .before .before .before in
-    let g = number-got (entry .args .s) (now (entry .args .p)) (ofWalk (entry .args .w)) (call .before .before .before .before-limit .ensures) (call .read32 .ensures) (c .before .v .given .1) in
-    omega (arith, number-small (now (entry .args .p)) (entry .args .w .at) _ _ (λ i. call .before .before .before .before .before .before .before .shared-slice-known .given i .fits) g .next-top)
-
-goes-requires : tie.Need-goes-requires
-goes-requires c κs = search needs
-
-cast-t20 : tie.Need-cast-t20
-cast-t20 c =
-    let call = c .before .before .before .before in
-    let entry = call .before .before .before .before .before .before .before .before in
-    let g = number-got (entry .args .s) (now (entry .args .p)) (ofWalk (entry .args .w)) (call .before .before .before .before-limit .ensures)
-    (call .read32 .ensures) (c .before .before .v .given .1) in
-    omega (arith, number-small (now (entry .args .p)) (entry .args .w .at) _ _ (λ i. call .before .before .before .before .before .before .before .shared-slice-known .given i .fits) g .value-top)
-
-enum-told : tie.Need-enum-told
-enum-told c = search needs
-
-refused-requires : tie.Need-refused-requires
-refused-requires c κs = search needs
-
-enum-told-2 : tie.Need-enum-told-2
-enum-told-2 c = search needs
-
-refused-requires-2 : tie.Need-refused-requires-2
-refused-requires-2 c κs = search needs
+read-varint-requires : tie.Need-read-varint-requires
+read-varint-requires c κs = search needs
 
 returns-2 : tie.Need-returns-2
-unfolding uintegerStep
-returns-2 c =
-    let call = c .before .before .before .before in
-    let entry = call .before .before .before .before .before .before .before .before in
-    let t = number-told (entry .args .s) (now (entry .args .p)) (ofWalk (entry .args .w)) (call .before .before .before .before-limit .ensures)
-    (call .read32 .ensures) (c .before .before .v .given .1) (call .before .before .before .before .before .if1 .left) in
-    simp (c .goes .ensures, t)
-
-returns-3 : tie.Need-returns-3
-unfolding uintegerStep
-returns-3 c =
-    let call = c .before .before .before in
-    let entry = call .before .before .before .before .before .before .before .before in
-    let t = number-told (entry .args .s) (now (entry .args .p)) (ofWalk (entry .args .w)) (call .before .before .before .before-limit .ensures)
-    (call .read32 .ensures) (c .before .enum-told .given .1) (call .before .before .before .before .before .if1 .left) in
-    simp (c .refused .ensures, call .before .before .end-refusal .ensures, t)
-
-returns-4 : tie.Need-returns-4
-unfolding uintegerStep
-returns-4 c =
-    let call = c .before .before .before in
-    let entry = call .before .before .before .before .before .before .before .before in
-    let t = number-told (entry .args .s) (now (entry .args .p)) (ofWalk (entry .args .w)) (call .before .before .before .before-limit .ensures)
-    (call .read32 .ensures) (c .before .enum-told2 .given .1) (call .before .before .before .before .before .if1 .left) in
-    simp (c .refused2 .ensures, t)
+unfolding uinteger
+returns-2 c = simp (ne-eqb _ _ (c .before .if1 .left)) (c .read-varint .ensures)
 
 pub read-uinteger-spec : {M : Type 1} → statement M
-read-uinteger-spec =
-    tie.close
-    (tie.spec
-    returns
-    cast-at
-    before-limit-requires
-    end-refusal-requires
-    sub-head
-    part-head-start
-    part-head-end
-    read32-requires
-    enum-known-v
-    cast-goes
-    goes-requires
-    cast-t20
-    enum-told
-    refused-requires
-    enum-told-2
-    refused-requires-2
-    returns-2
-    returns-3
-    returns-4)
+read-uinteger-spec = tie.close (tie.spec read-four-requires returns read-varint-requires returns-2)

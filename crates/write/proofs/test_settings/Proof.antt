@@ -11,9 +11,12 @@ unless-requires c κs = search needs
 unless-requires-2 : tie.Need-unless-requires-2
 unless-requires-2 c κs = search needs
 
+unless-requires-3 : tie.Need-unless-requires-3
+unless-requires-3 c κs = search needs
+
 returns : tie.Need-returns
 unfolding settingsTest
-returns c = simp (c .unless2 .ensures, c .before .before .unless .ensures)
+returns c = let a = c .before .before in simp (c .unless3 .ensures, a .unless2 .ensures, a .before .before .unless .ensures)
 
 pub test-settings-spec : {M : Type 1} → statement M
-test-settings-spec = tie.close (tie.spec unless-requires unless-requires-2 returns)
+test-settings-spec = tie.close (tie.spec unless-requires unless-requires-2 unless-requires-3 returns)
