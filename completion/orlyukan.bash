@@ -2,22 +2,24 @@
 # shellcheck shell=bash
 
 _orlyukan() {
-    local word=${COMP_WORDS[COMP_CWORD]} options='' name
+    local word=${COMP_WORDS[COMP_CWORD]} before=${COMP_WORDS[COMP_CWORD - 1]} options='' name
     COMPREPLY=()
     if [ "$COMP_CWORD" -eq 1 ]; then
-        mapfile -t COMPREPLY < <(compgen -W 'join check split package help --version' -- "$word")
+        mapfile -t COMPREPLY < <(compgen -W 'join check salvage split package help --version' -- "$word")
         return
     fi
     case ${COMP_WORDS[1]} in
-    join) options='--force --json --profile --timestamp --help --' ;;
-    check) options='--json --profile --timestamp --help --' ;;
+    join) options='--force --json --profile --timestamp --salvage --list --picture --help --' ;;
+    check) options='--json --profile --timestamp --salvage --help --' ;;
+    salvage) options='--force --json --profile --timestamp --list --picture --help --' ;;
     split | package) options='--force --help --' ;;
     *) return ;;
     esac
     for name in "${COMP_WORDS[@]:2:COMP_CWORD-2}"; do [ "$name" != -- ] || options=''; done
-    if [ -n "$options" ] && [ "${COMP_WORDS[COMP_CWORD - 1]}" = --profile ]; then
+    case $before in --list | --picture) options='' ;; esac
+    if [ -n "$options" ] && [ "$before" = --profile ]; then
         mapfile -t COMPREPLY < <(compgen -W 'varint fixed' -- "$word")
-    elif [ -n "$options" ] && [ "${COMP_WORDS[COMP_CWORD - 1]}" = --timestamp ]; then
+    elif [ -n "$options" ] && [ "$before" = --timestamp ]; then
         mapfile -t COMPREPLY < <(compgen -W '1 2 3 4 5 6 7 8 9 10 11 12 13 14 15 16' -- "$word")
     elif [ -n "$options" ] && [ "${word:0:1}" = - ]; then
         mapfile -t COMPREPLY < <(compgen -W "$options" -- "$word")

@@ -2,7 +2,8 @@
  * A target for a coverage-guided fuzzer over the calls for C. The first octet of an input chooses what is done with the rest. Every
  * buffer is just as long as it is said to be, so that the address sanitizer sees any octet outside. Beside that the answers are held
  * to what SPEC ties together: a packet that reads writes back to the octet, a message that is cut comes out of the store as it
- * went in, a refusal changes nothing, and a recording gives the messages that joining gives one packet at a time.
+ * went in, a refusal changes nothing, a recording gives the messages that joining gives one packet at a time, and kept and skipped
+ * entries cover a damaged one, however often salvaging stops.
  */
 #include <stdio.h>
 #include <stdlib.h>
@@ -256,14 +257,45 @@ static void recording(struct rest in) {
     free(octet), free(out), free(store), free(joined);
 }
 
+/* a damaged recording, salvaged by calls of any grants and rooms; what they list covers it, and what is kept reads */
+static void salvaging(struct rest in) {
+    uint64_t t = number(&in, 1), profile = t >> 6, grant = number(&in, 2), room = number(&in, 1) % 9, begin = 0, place = 0;
+    size_t length = in.left, at = 0;
+    uint8_t *file = octets(&in, &length);
+    uint64_t *list = malloc(room * sizeof *list + 1);
+    struct orl_salvage_answer a;
+    do {
+        orl_salvage(t, profile, file, length, begin, place, grant, list, room, &a);
+        hold(a.refusal == 0 || (a.refusal == 15 && (t < 1 || t > 16 || profile > ORL_FIXED)), "a state of a run is not refused");
+        hold(a.tested <= grant && 3 * a.entries <= room && a.begin <= a.place && a.place <= length, "no more than was granted");
+        for (uint64_t k = 0; k < a.entries; k++) {
+            uint64_t kind = list[3 * k], from = list[3 * k + 1], octet = list[3 * k + 2];
+            struct orl_read_answer r;
+            hold(kind <= 1 && from == at && octet > 0 && octet <= length - at, "entries stand one after another");
+            if (kind == ORL_KEPT) {
+                hold(octet > 2 && memcmp(file + from, "MP", 2) == 0, "a kept packet stands after a mark");
+                orl_read(t, profile, file + from + 2, octet - 2, &r);
+                hold(r.refusal == 0, "a kept packet reads");
+            }
+            at += octet;
+        }
+        if (a.refusal || (a.place == place && a.begin == begin)) break;
+        begin = a.begin, place = a.place;
+    } while (!a.done);
+    hold(a.refusal || at == a.begin, "what is listed goes up to the open stretch");
+    hold(!a.done || at == length, "what is done covers the file");
+    free(file), free(list);
+}
+
 int LLVMFuzzerTestOneInput(const uint8_t *data, size_t size) {
     struct rest in = {data, size};
-    switch (number(&in, 1) % 5) {
+    switch (number(&in, 1) % 6) {
     case 0: reading(in); break;
     case 1: cutting(in); break;
     case 2: storing(in, 0); break;
     case 3: storing(in, 1); break;
-    default: recording(in); break;
+    case 4: recording(in); break;
+    default: salvaging(in); break;
     }
     return 0;
 }

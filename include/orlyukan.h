@@ -1,17 +1,19 @@
 /*
- * Orlyukan for C and C++: reading, writing, cutting, storing and joining MAL messages in CCSDS Space Packets.
+ * Orlyukan for C and C++: reading, writing, cutting, storing and joining MAL messages in CCSDS Space Packets, and salvaging damaged
+ * recordings of them.
  *
  * Link with libcapi.a, which `rt staticlib capi` writes for Linux on x86-64. The library keeps nothing between calls, allocates
  * nothing, reads and writes only the memory that it is lent, and always comes back.
  *
  * How every call is made
  *
- * - Every number is a uint64_t. A slice is a pointer and a length: octets, or for the lengths of domain parts uint64_t.
+ * - Every number is a uint64_t. A slice is a pointer and a length: octets, or for the lengths of domain parts and the list of
+ *   orl_salvage uint64_t.
  * - The answer is the last parameter, a struct of uint64_t fields that the call fills whole. Its first field is the refusal: 0
  *   if the call did what was asked, else a number of the list below. On a refusal all other fields are 0, but for a sender's
- *   numbers, which are told back as they were given, and for off and began, which say more of 5, 27 and 6 (see below); and no
- *   octet that was lent has changed. (orl_join says when it is otherwise.)
- * - On success only the octets that the call names have changed; the rest of a buffer is as it was.
+ *   numbers, which are told back as they were given, and for off and began, which say more of 5, 27 and 6 (see below); and
+ *   nothing that was lent has changed. (orl_join says when it is otherwise.)
+ * - On success only what the call names has changed; the rest of a buffer is as it was.
  * - t is T, the octets of a timestamp that both sides agreed on, 1 to 16. profile says how lengths, counts and priorities are
  *   written: ORL_VARINT, or ORL_FIXED for four octets each, as the first pods have it. Any other value is refused by 15. What a
  *   store holds has one T and one profile; nothing in it says which, and to keep to them is the caller's part.
@@ -22,7 +24,7 @@
  * - Every pointer is valid for its length, or for its struct, throughout the call, and is not NULL. If the length is 0
  *   nothing is read or written through it, and it may point to anything, but not be NULL: "" or the address of any object will
  *   do.
- * - Memory that a call may write (store, out, answer) overlaps no other memory lent to the same call. Memory that is only read
+ * - Memory that a call may write (store, out, list, answer) overlaps no other memory lent to the same call. Memory that is only read
  *   may.
  * - While a call runs, no other thread writes what was lent to it, and none reads what it may write: one thread at a time for a
  *   store. Calls on separate memory may run at the same time.
@@ -60,6 +62,7 @@
  *   27  the slice is longer than the packet's length field says: off octets are left over
  *   28  a network zone, session name or domain part that is not well-formed UTF-8
  *   30  a network zone to write or to cut: it is withdrawn
+ *   40  orl_salvage: a state that can not be one: begin above place, or place after the file's end
  *
  * If several apply, the answer is the one that comes first: reading 15, 1 to 4, 5 or 27, then as the header is read from left to
  * right, 14; writing 15, 22, 30, 13, 28, 23, 12, 14, 21; cutting 15, 22, 30, 13, 28, 23, 12, 24, 25, 26, 21; arrival 15, 16, those
@@ -377,6 +380,35 @@ struct orl_join_recording_answer {
  */
 void orl_join_recording(uint64_t t, uint64_t profile, const uint8_t *recording, size_t recording_length, uint8_t *out,
                         size_t out_length, struct orl_join_recording_answer *answer);
+
+/* ---- a damaged recording ---- */
+
+/* The kinds of an entry. */
+#define ORL_SKIPPED 0 /* a stretch with no packet in it that reading accepts after the mark 4D 50 */
+#define ORL_KEPT 1    /* the mark 4D 50 and a packet that reading accepts */
+
+struct orl_salvage_answer {
+    uint64_t refusal; /* 15 or 40 */
+    uint64_t tested;  /* places tested, at most the grant */
+    uint64_t entries; /* entries listed, three numbers each, from the first of list on: kind, place, length */
+    uint64_t begin;   /* where the stretch begins that is still open; the place if none is */
+    uint64_t place;   /* the next place */
+    uint64_t done;    /* 1 if the whole file is listed */
+};
+
+/*
+ * Salvages a recording with torn places. From the left: the mark 4D 50 with a packet after it that reading accepts within the file is
+ * kept, and the next place is the one after them; any other place is passed over by one octet. What is passed over between two kept
+ * packets is one skipped stretch, so that kept and skipped entries together cover the file, each octet once.
+ *
+ * Begin with 0 and 0; then give begin and place as the answer before told them, until it is done. A call tests at most grant places,
+ * and ends too before a place if fewer than two entries are free in list, or at the file's end if none is free for a stretch that is
+ * open there. That stretch goes over to the next call and is listed once: however often it stops, the list is the same. In one call
+ * n packets need room for n + 1 entries at least, and room for one entry an octet of the file is always enough. list_length counts
+ * numbers, three an entry.
+ */
+void orl_salvage(uint64_t t, uint64_t profile, const uint8_t *file, size_t file_length, uint64_t begin, uint64_t place,
+                 uint64_t grant, uint64_t *list, size_t list_length, struct orl_salvage_answer *answer);
 
 #ifdef __cplusplus
 }

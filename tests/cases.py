@@ -12,7 +12,8 @@ are not. Their answers are those of tests/model.py, which must agree with the fi
 cutting are added figure 14 written, numbers one above what the type of their field holds, which are refused by 22 and never cut to the
 width, and headers with a zone, alone and beside every other fault. To those of the view are added views of no buffer, to those of a
 recording outputs just too short and just long enough. Where and why a recording stops is told by stop(), which knows marks and length
-fields and nothing else.
+fields and nothing else. A run of salvaging is a case for each of its calls; to those of salvaging are added small files with lists of any
+length, answered by the model, which must agree with the file too.
 """
 
 import itertools
@@ -25,7 +26,7 @@ import model
 
 CRATE = pathlib.Path(__file__).resolve().parent.parent / "crates" / "vectors"
 # The change requests that have landed and have cases of their own, in the order in which they landed.
-LANDED = ("T-01", "T-04", "T-12", "T-10")
+LANDED = ("T-01", "T-04", "T-12", "T-10", "T-09")
 MOST_IN_PAIR = 255
 FIGURE_14 = bytes.fromhex("18 05 C0 00 00 14 00 00 01 00 02 00 03 01 20 06 00 07 00 00 00 00 00 00 00 09 00")
 
@@ -204,6 +205,28 @@ def recording_line(row):
     return line([0, len(written), place, STOPS.index(why)], out=written + out[len(written) :])
 
 
+ENTRY_KINDS = ["skipped", "kept"]
+UNTOUCHED = 77  # what stands in each number of a list before a call
+
+
+def state(given):
+    """Begin and place: a stretch is open from `open` on, if that is not null."""
+    return [given["place"] if given["open"] is None else given["open"], given["place"]]
+
+
+def lent(row):
+    """How many numbers the list of a case has: three an entry."""
+    return row["numbers"] if "numbers" in row else 3 * row["free"]
+
+
+def salvage_line(row):
+    """The line of an answer of salvaging: its numbers, then all of the list."""
+    a = answer(row)
+    flat = [n for kind, place, length in a["entries"] for n in (ENTRY_KINDS.index(kind), place, length)]
+    flat += [UNTOUCHED] * (lent(row) - len(flat))
+    return line([a["refusal"], a["tested"], len(a["entries"]), *state(a["state"]), int(a["done"]), *flat])
+
+
 def nothing(row):
     return b""
 
@@ -303,6 +326,12 @@ CALLS = {
         lambda row: [],
         lambda row: [octets(row["text"])],
         lambda row: line([answer(row)["refusal"]]),
+    ),
+    "salvage": Call(
+        14,
+        lambda row: [row["T"], profile(row), *state(row["state"]), row["grant"], lent(row)],
+        lambda row: [octets(row["file"])],
+        salvage_line,
     ),
     "count": Call(
         5,
@@ -588,6 +617,37 @@ def short_rows():
         yield {"stream": stream.hex(), "out_length": long, "expect": {"answer": {"refusal": refusal}, "out": message.hex()}}
 
 
+def run_rows(run):
+    """The calls of a run of salvaging, each a case of its own."""
+    told, at, listed = answer(run), {"place": 0, "open": None}, 0
+    for (grant, free), each in zip(run["calls"], told["each"]):
+        entries = told["entries"][listed : listed + each["listed"]]
+        row = {"T": run["T"], "profile": profile(run), "file": run["file"], "state": at, "grant": grant, "free": free}
+        yield row | {"expect": {"answer": each | {"refusal": 0, "entries": entries}}}
+        at, listed = each["state"], listed + each["listed"]
+
+
+def list_rows():
+    """Small files from each state, with each grant and with lists of any length, three numbers an entry or not; T and profile out of range."""
+    marked = b"MP" + FIGURE_14
+    for file in (b"", b"a", b"MP", b"a" + marked + b"b", marked[:-1] + marked, marked + marked):
+        ends = {place for place in (0, 1, 28, 29, 30, len(file), len(file) + 1) if place <= len(file) + 1}
+        for place, opened in itertools.product(sorted(ends), (None, 0, 31)):
+            for grant, numbers in itertools.product((0, 1, 2, 100), (0, 3, 5, 6, 11)):
+                yield model_row(8, model.VARINT, file, {"place": place, "open": opened}, grant, numbers)
+    for t in (0, 1, 16, 17, (1 << 64) - 1):
+        yield model_row(t, model.VARINT, marked, {"place": 30, "open": None}, 0, 0)
+    for profile in UNKNOWN:
+        yield model_row(8, profile, marked, {"place": 30, "open": None}, 0, 0)
+
+
+def model_row(t, profile, file, at, grant, numbers):
+    """A case of salvaging with the model's answer."""
+    told = model.salvage(t, file, *state(at), grant, numbers // 3, profile)
+    told["state"] = {"place": told["place"], "open": told["begin"]}
+    return {"T": t, "profile": profile, "file": file.hex(), "state": at, "grant": grant, "numbers": numbers, "expect": {"answer": told}}
+
+
 def rows(vectors, call):
     """The cases of a call in its newest file."""
     files = [vectors / f"{call}.jsonl", *(vectors / request / f"{call}.jsonl" for request in LANDED)]
@@ -601,6 +661,16 @@ def check_model(row):
     got = model.read(row["T"], octets(row["packet"]), profile(row))
     if got != {name: value for name, value in answer(row).items() if name in got}:
         sys.exit(f"cases.py: tests/model.py disagrees on T {row['T']}, packet {row['packet']}")
+
+
+def check_salvage(row):
+    """The model agrees with the file."""
+    asked = (row["T"], octets(row["file"]), *state(row["state"]), row["grant"], row["free"], profile(row))
+    got, said = model.salvage(*asked), answer(row)
+    entries = [list(entry) for entry in got["entries"]]
+    told = [got["refusal"], got["tested"], entries, got["begin"], got["place"], got["done"]]
+    if told != [said["refusal"], said["tested"], said["entries"], *state(said["state"]), said["done"]]:
+        sys.exit(f"cases.py: tests/model.py disagrees on salvaging {row}")
 
 
 def cases(vectors):
@@ -630,6 +700,11 @@ def cases(vectors):
         yield "views of no buffer", CALLS["view"], row
     for row in short_rows():
         yield "outputs for a recording", CALLS["program"], row
+    for run in rows(vectors, "salvage_run"):
+        for row in run_rows(run):
+            yield "calls of salvage_run", CALLS["salvage"], row
+    for row in list_rows():
+        yield "lists for salvaging", CALLS["salvage"], row
 
 
 def main(arguments):
@@ -638,6 +713,8 @@ def main(arguments):
     vectors = pathlib.Path(arguments[0])
     for row in rows(vectors, "read"):
         check_model(row)
+    for row in rows(vectors, "salvage"):
+        check_salvage(row)
     stdin, stdout, counts = bytearray(), [], {}
     for name, call, row in cases(vectors):
         stdin.extend(call.encoded(row))

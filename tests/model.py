@@ -1,5 +1,5 @@
-"""A model of reading a packet and of joining a recording, written from the rules and independent of the code: see read()
-and Joining."""
+"""A model of reading a packet, of joining a recording and of salvaging a damaged one, written from the rules and independent of the code:
+see read(), Joining and salvage()."""
 
 PRESENCE = ("source", "destination", "priority", "timestamp", "zone", "session_name", "domain", "authentication")
 HEADER_LIMIT = 256
@@ -321,3 +321,39 @@ class Joining:
 
     def write(self, message):
         self.output += b"MM" + len(message).to_bytes(4, "big") + message
+
+
+# Salvaging a damaged recording.
+
+
+def kept(t, file, place, profile=VARINT):
+    """The octets of a mark and a packet that reading accepts, if they stand at this place of the file; else 0."""
+    if file[place : place + 2] != b"MP" or len(file) < place + 8:
+        return 0
+    size = 2 + 7 + int.from_bytes(file[place + 6 : place + 8], "big")
+    if len(file) < place + size or read(t, file[place + 2 : place + size], profile)["refusal"]:
+        return 0
+    return size
+
+
+def salvage(t, file, begin, place, grant, free, profile=VARINT):
+    """One call from a state on: what it answers, each entry as its kind, its place and its length."""
+    refusal = 15 if not 1 <= t <= 16 or profile not in (VARINT, FIXED) else 0 if begin <= place <= len(file) else 40
+    if refusal:
+        return {"refusal": refusal, "tested": 0, "entries": [], "begin": 0, "place": 0, "done": False}
+    tested, entries = 0, []
+    while place < len(file) and tested < grant and len(entries) + 2 <= free:
+        tested += 1
+        size = kept(t, file, place, profile)
+        if size == 0:
+            place += 1
+            continue
+        if begin < place:
+            entries.append(("skipped", begin, place - begin))
+        entries.append(("kept", place, size))
+        begin = place = place + size
+    if begin < place == len(file) and len(entries) < free:
+        entries.append(("skipped", begin, place - begin))
+        begin = place
+    done = begin == place == len(file)
+    return {"refusal": 0, "tested": tested, "entries": entries, "begin": begin, "place": place, "done": done}

@@ -1,13 +1,16 @@
 #!/usr/bin/env python3
-"""recordings.py [VECTORS_DIR]: runs the program itself over many recordings, and compares what it writes and says with the model.
+"""recordings.py [VECTORS_DIR]: runs the programs themselves over many recordings, and compares what they write and say with the model.
 
 First the cases of VECTORS_DIR/program.jsonl, each a whole recording and what it must give (VECTORS_DIR is ../shared/vectors beside this
 repository unless it is named; where there is none, they are left out). Then MUTATED recordings made from the samples by a fixed seed:
 octets changed, parts cut out, repeated, moved and put into another sample, packets resized and given other transaction ids. The
-program must end by itself, in time, write what tests/model.py writes, and count what it counts. The program must have been built
-(`./orlyukan join` or `rt check join_recording`).
+program must end by itself, in time, write what tests/model.py writes, and count what it counts. Then the salvaging program over
+SALVAGED of these, with more torn places, some between longer stretches of noise than its window holds: its list must be the model's,
+cover the recording exactly, and its packets must be the kept ones. The programs must have been built (`./orlyukan join` and
+`./orlyukan salvage`, or `rt check join_recording salvage_recording`).
 """
 
+import functools
 import multiprocessing
 import os
 import pathlib
@@ -23,21 +26,24 @@ import model
 
 ROOT = pathlib.Path(__file__).resolve().parent.parent
 PROGRAM = ROOT / "target" / "bin" / "join_recording"
+SALVAGER = ROOT / "target" / "bin" / "salvage_recording"
 MUTATED = 10000
+SALVAGED = 1000
+WINDOW = 524288
 SEED = 524
 SECONDS = 20
 AT_ONCE = 50
 MOST_SHOWN = 5
 
 
-def words():
-    """The words that run the program: on another processor than x86-64 under the Rattle kit's emulator."""
+def words(program=PROGRAM):
+    """The words that run a program: on another processor than x86-64 under the Rattle kit's emulator."""
     machine = os.uname().machine
     if machine == "x86_64":
-        return [PROGRAM]
+        return [program]
     kit = os.environ.get("RATTLE_HOME") or pathlib.Path(shutil.which("rt")).resolve().parent.parent
     tools = pathlib.Path(kit) / "on" / machine / "toolchain"
-    return [tools / "bin" / "qemu-x86_64", tools / "lib" / "ld-linux-x86-64.so.2", "--library-path", tools / "lib", PROGRAM]
+    return [tools / "bin" / "qemu-x86_64", tools / "lib" / "ld-linux-x86-64.so.2", "--library-path", tools / "lib", program]
 
 
 STOPS = (model.ENDED, model.UNMARKED, model.TORN)
@@ -79,6 +85,97 @@ def fault(stream):
     if said != findings(joining):
         return f"it found {said} where the model finds {findings(joining)}"
     return None
+
+
+# Salvaging.
+
+HEADER = "kind,place,length,apid,transaction,flags,counter\n"
+FLAGS = {1: "first", 0: "continuation", 2: "last", 3: "unsegmented"}
+
+
+@functools.lru_cache(maxsize=2)
+def entries(stream):
+    """The model's list of a recording."""
+    return model.salvage(8, stream, 0, 0, len(stream), len(stream) + 2)["entries"]
+
+
+def line(stream, kind, place, length):
+    """An entry as the program lists it."""
+    if kind == "skipped":
+        return f"skipped,{place},{length},,,,\n"
+    a = model.read(8, stream[place + 2 : place + length])
+    counter = "" if a["flags"] == 3 else a["counter"]
+    return f"kept,{place},{length},{a['apid']},{a['transaction']},{FLAGS[a['flags']]},{counter}\n"
+
+
+def listed(stream):
+    """The whole list of a recording, as text."""
+    return HEADER + "".join(line(stream, *entry) for entry in entries(stream))
+
+
+def kept(stream):
+    """The kept packets, each after its mark, as a recording."""
+    return b"".join(stream[place : place + length] for kind, place, length in entries(stream) if kind == "kept")
+
+
+def covers(text, stream):
+    """Whether the entries of a list stand one after another from the recording's beginning to its end."""
+    at = 0
+    for row in text.splitlines()[1:]:
+        place, length = map(int, row.split(",")[1:3])
+        if place != at or length < 1:
+            return False
+        at += length
+    return at == len(stream)
+
+
+def saved(stream):
+    """What the program must find in a recording, but for the octets that it wrote and read."""
+    found = entries(stream)
+    lines = []
+    for kind, count, octets in (("kept", "packets", "kept"), ("skipped", "stretches", "skipped")):
+        lengths = [length for one, _, length in found if one == kind]
+        lines += [f"{count} {len(lengths)}", f"{octets} {sum(lengths)}"]
+    return [*lines, "stop 1", "done"]
+
+
+def salvage_fault(stream):
+    """What is wrong with a salvage of a recording: once for the list, once for the packets."""
+    for list_to, packets_to, must in ((1, 0, listed(stream).encode()), (0, 1, kept(stream))):
+        given = [*words(SALVAGER), "8", "0", str(list_to), str(packets_to), "0", "-"]
+        try:
+            ran = subprocess.run(given, input=stream, capture_output=True, timeout=SECONDS, check=False)
+        except subprocess.TimeoutExpired:
+            return f"it did not end within {SECONDS} s"
+        if ran.returncode != 0:
+            return f"it ended with status {ran.returncode}"
+        if ran.stdout != must:
+            return "it listed something else than the model" if list_to else "it wrote other packets than the model keeps"
+        if list_to and not covers(ran.stdout.decode("ascii"), stream):
+            return "its list does not cover the recording"
+        said = [line for line in ran.stderr.decode("ascii").splitlines() if line.split()[0] not in ("listed", "written", "read")]
+        if said != saved(stream):
+            return f"it found {said} where the model finds {saved(stream)}"
+    return None
+
+
+def noise(pick, size):
+    """Octets of any value, with marks among them."""
+    return b"MP".join(pick.randbytes(size // 8) for _ in range(8))
+
+
+def torn(samples):
+    """Damaged recordings, with noise put in here and there. Each hundredth is longer than the window, and its noise than a packet."""
+    pick = random.Random(SEED)
+    for number, stream in enumerate(mutated(samples)):
+        if number == SALVAGED:
+            return
+        for _ in range(pick.randrange(3)):
+            at = pick.randrange(len(stream) + 1)
+            stream = stream[:at] + noise(pick, pick.choice((8, 80, 800))) + stream[at:]
+        if number % 100 == 0:
+            stream = b"".join((stream, noise(pick, pick.randrange(3 * WINDOW)), stream, bytes(pick.randrange(WINDOW)), stream))
+        yield stream
 
 
 # Recordings.
@@ -193,17 +290,17 @@ def mutated(samples):
         yield stream
 
 
-def tried(stream):
+def tried(judge, stream):
     """A recording, and what is wrong with it."""
-    found = fault(stream)
+    found = judge(stream)
     return (stream if found else b""), found
 
 
-def run(name, streams):
-    """Runs the program over recordings. How many were at fault."""
+def run(name, streams, judge=fault):
+    """Runs a program over recordings. How many were at fault."""
     count, faults = 0, 0
     with multiprocessing.Pool() as pool:
-        for stream, found in pool.imap(tried, streams, AT_ONCE):
+        for stream, found in pool.imap(functools.partial(tried, judge), streams, AT_ONCE):
             count += 1
             if found:
                 faults += 1
@@ -218,14 +315,16 @@ def run(name, streams):
 def main(arguments):
     if len(arguments) > 1:
         sys.exit(__doc__)
-    if not os.access(PROGRAM, os.X_OK):
-        sys.exit(f"recordings.py: there is no program {PROGRAM}")
+    for program in (PROGRAM, SALVAGER):
+        if not os.access(program, os.X_OK):
+            sys.exit(f"recordings.py: there is no program {program}")
     folder = pathlib.Path(arguments[0]) if arguments else ROOT.parent / "shared" / "vectors"
     faults = 0
     if arguments or folder.is_dir():
         faults += run("cases of the program", list(vectors(folder)))
     samples = [(ROOT / "samples" / f"{name}.rec").read_bytes() for name in ("clean", "mixed", "torn")]
     faults += run("mutated recordings", mutated(samples))
+    faults += run("salvaged recordings", torn(samples), salvage_fault)
     sys.exit(1 if faults else 0)
 
 

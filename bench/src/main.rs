@@ -21,4 +21,7 @@ fn main() {
     if wanted("recording") {
         recording::run();
     }
+    if wanted("salvage") {
+        recording::run_salvage();
+    }
 }

@@ -1,9 +1,10 @@
-//! Joining a recording of 64 MiB.
+//! Joining a recording of 64 MiB, and salvaging one.
 
 use std::hint::black_box;
 
 use crate::measure::{both_made_ready, line, shown, Times};
 use crate::shapes::{packet, plain, segments};
+use orlyukan::Entry;
 
 const OCTETS: usize = 64 << 20;
 
@@ -57,6 +58,62 @@ fn join(shape: &str, recording: &[u8]) {
         shown(copied),
         against.ratio()
     );
+}
+
+/// The list of a file that is salvaged at once; a list is made ready beforehand, with room for every packet of 60 octets.
+struct Lists {
+    list: Vec<Entry>,
+    out: Vec<u8>,
+}
+
+fn salvage(shape: &str, file: &[u8], other: &str, wanted: &str, against: impl Fn(&[u8], &mut [u8]) -> u64) {
+    let mut lists = Lists { list: vec![Entry::default(); file.len() / 31 + 2], out: vec![0; file.len()] };
+    let answer = orlyukan::salvage(8, file, 0, 0, u64::MAX, &mut lists.list);
+    assert!(answer.done, "the list has room for all");
+    let ours = |l: &mut Lists| orlyukan::salvage(8, black_box(file), 0, 0, u64::MAX, &mut l.list).entries;
+    let free = lists.list.len();
+    let model =
+        |_: &mut Lists| model::salvage(8, black_box(file), 0, 0, u64::MAX, free).expect("not refused").entries.len() as u64;
+    let times = both_made_ready(&mut lists, |_| {}, ours, model);
+    line("salvage", shape, times, "");
+    let beside = |l: &mut Lists| against(black_box(file), &mut l.out);
+    let beside = both_made_ready(&mut lists, |_| {}, beside, beside).ours;
+    let ratio = Times { ours: times.ours, model: beside }.ratio();
+    println!("| salvage | {shape}: {other} over ours | {} | {} | {ratio:.2} | {wanted} |", shown(times.ours), shown(beside));
+}
+
+/// Octets of no meaning, always the same (splitmix64).
+fn noise() -> Vec<u8> {
+    let mut state = 9u64;
+    let mut next = || {
+        state = state.wrapping_add(0x9e37_79b9_7f4a_7c15);
+        let a = (state ^ state >> 30).wrapping_mul(0xbf58_476d_1ce4_e5b9);
+        let b = (a ^ a >> 27).wrapping_mul(0x94d0_49bb_1331_11eb);
+        b ^ b >> 31
+    };
+    (0..OCTETS / 8).flat_map(|_| next().to_le_bytes()).collect()
+}
+
+fn copy(file: &[u8], out: &mut [u8]) -> u64 {
+    out.copy_from_slice(file);
+    black_box(out).len() as u64
+}
+
+fn join_it(file: &[u8], out: &mut [u8]) -> u64 {
+    orlyukan::join_recording(8, file, out).written
+}
+
+pub fn run_salvage() {
+    salvage("64 MiB of noise", &noise(), "a plain copy", "0.33", copy);
+    salvage("1 MiB of marks and nothing else", &b"MP".repeat(1 << 19), "a plain copy", "", copy);
+    let whole = |size| recording(move |k| vec![packet(&plain(k), 3, 0, 0, size)]);
+    for (shape, file) in [
+        ("64 MiB, messages of eight segments of 1,022 octets, two in turn", recording(in_turn)),
+        ("64 MiB, whole packets of 1,022 octets", whole(1022)),
+        ("64 MiB, whole packets of 60 octets", whole(60)),
+    ] {
+        salvage(shape, &file, "join_recording", "1.0", join_it);
+    }
 }
 
 pub fn run() {

@@ -1,4 +1,5 @@
-"""Orlyukan for Python: reading, writing, cutting, storing and joining MAL messages in CCSDS Space Packets.
+"""Orlyukan for Python: reading, writing, cutting, storing and joining MAL messages in CCSDS Space Packets, and salvaging damaged
+recordings of them.
 
 The work is done by the proved library, a shared object: the one that the environment variable ORLYUKAN_LIB names, else the one in
 target/native of the repository in which this file stands.
@@ -31,6 +32,7 @@ __all__ = [
     "join_recording",
     "next_sequence_count",
     "read",
+    "salvage",
     "take",
     "view",
     "write",
@@ -41,6 +43,7 @@ _PARTS = 16
 _KINDS = ("", "whole", "stored", "held")
 _WHICH = ("", "packet", "joined")
 _STOPS = ("", "ended", "unmarked", "torn")
+_ENTRIES = ("skipped", "kept")
 
 # The header's numbers and texts in the order in which C takes them.
 _NUMBERS = (
@@ -315,3 +318,23 @@ def join_recording(recording, out, *, t=8, profile=0):
     'torn' that a mark, or the packet after it, is not whole."""
     n = _run("join_recording", 4, *_settings(t, profile), *_lent(recording), *_changed(out))
     return Answer(refusal=n[0], written=n[1], place=n[2], stop=_STOPS[n[3]])
+
+
+# A damaged recording.
+
+
+def salvage(t, file, begin, place, grant, free, *, profile=0):
+    """Salvages a file from a state on, 0 and 0 at first, with at most grant places tested and free entries listed: the places tested, the
+    entries ('kept', a mark and a packet that reads, or 'skipped'), the state for the next call, and whether the whole file is listed. It
+    ends too before a place if fewer than two entries are free. However often it stops, the entries of all calls together are the same, and
+    they cover the file. Refused by 40 if begin is above place, or place after the file's end."""
+    length = len(memoryview(file))
+    room = 3 * max(min(operator.index(free), length + 2), 0)  # more entries than octets are never listed
+    state = [_number(value if _fits(value) else _MOST) for value in (begin, place)]
+    numbers = (ctypes.c_uint64 * max(room, 1))()
+    lent = (numbers, ctypes.c_size_t(room))
+    n = _run("salvage", 6, *_settings(t, profile), *_lent(file), *state, _size(max(operator.index(grant), 0)), *lent)
+    entries = [
+        Answer(kind=_ENTRIES[numbers[k]], place=numbers[k + 1], length=numbers[k + 2]) for k in range(0, 3 * n[2], 3)
+    ]
+    return Answer(refusal=n[0], tested=n[1], entries=entries, begin=n[3], place=n[4], done=n[5] == 1)

@@ -1,24 +1,26 @@
-"""The Python module over the cases with their answers; its names beside those of the C header; and what Python alone can give: numbers
-of any size, one buffer lent twice."""
+"""The Python module over the cases with their answers; its names beside those of the C header; damaged recordings beside the model; and
+what Python alone can give: numbers of any size, one buffer lent twice."""
 
 import json
 import os
 import pathlib
+import random
 import re
 import sys
 import types
 import unittest
 
 sys.dont_write_bytecode = True
-sys.path.insert(0, str(pathlib.Path(__file__).resolve().parent))
+ROOT = pathlib.Path(__file__).resolve().parent.parent.parent
+sys.path[:0] = [str(pathlib.Path(__file__).resolve().parent), str(ROOT / "tests")]
+import model
 import orlyukan
 
-ROOT = pathlib.Path(__file__).resolve().parent.parent.parent
 VECTORS = pathlib.Path(os.environ.get("ORLYUKAN_VECTORS", ROOT.parent / "shared" / "vectors"))
 FIGURE_14 = bytes.fromhex("18 05 C0 00 00 14 00 00 01 00 02 00 03 01 20 06 00 07 00 00 00 00 00 00 00 09 00")
 HUGE = (-1, 2**64, 2**64 + 5, -(2**70), 2**200)
 # The change requests that have landed and have cases of their own, in the order in which they landed.
-LANDED = ("T-01", "T-04", "T-12", "T-10")
+LANDED = ("T-01", "T-04", "T-12", "T-10", "T-09")
 # The cases' names for what the calls name otherwise.
 NAMES = {"seq": "sequence_count", "c": "counter"}
 PRESENCE = "source destination priority timestamp zone session_name domain authentication".split()
@@ -63,6 +65,15 @@ def told(answer):
     if isinstance(answer, types.SimpleNamespace):
         return {name: told(value) for name, value in vars(answer).items()}
     return answer
+
+
+def begin_place(state):
+    """A state of the cases as begin and place: a stretch is open from `open` on, if that is not null."""
+    return state["place"] if state["open"] is None else state["open"], state["place"]
+
+
+def entries(answer):
+    return [[entry.kind, entry.place, entry.length] for entry in answer.entries]
 
 
 class Cases(unittest.TestCase):
@@ -165,6 +176,30 @@ class Cases(unittest.TestCase):
 
         self.each("program", run)
 
+    def test_salvage(self):
+        def run(case):
+            state = begin_place(case["state"])
+            answer = orlyukan.salvage(case["T"], octets(case["file"]), *state, case["grant"], case["free"], **profile(case))
+            self.assertEqual((answer.begin, answer.place), begin_place(case["expect"]["answer"]["state"]))
+            return {"refusal": answer.refusal, "tested": answer.tested, "entries": entries(answer), "done": answer.done}, {}
+
+        self.each("salvage", run)
+
+    def test_salvage_run(self):
+        def run(case):
+            file, state, listed, each = octets(case["file"]), (0, 0), [], []
+            for grant, free in case["calls"]:
+                answer = orlyukan.salvage(case["T"], file, *state, grant, free, **profile(case))
+                state = answer.begin, answer.place
+                opened = None if answer.begin == answer.place else answer.begin
+                part = {"tested": answer.tested, "listed": len(answer.entries), "state": {"place": answer.place, "open": opened}}
+                each.append(part | {"done": answer.done})
+                listed += entries(answer)
+            steps = sum(part["tested"] for part in each)
+            return {"refusal": 0, "entries": listed, "steps": steps, "done": each[-1]["done"], "each": each}, {}
+
+        self.each("salvage_run", run)
+
 
 class Names(unittest.TestCase):
     """The calls of the C header, and the names of what they answer."""
@@ -178,7 +213,7 @@ class Names(unittest.TestCase):
     def test_calls(self):
         calls = re.findall(r"^void orl_(\w+)\(", self.text, re.MULTILINE)
         self.assertEqual(sorted(orlyukan.__all__), sorted(calls))
-        self.assertEqual(len(calls), 13)
+        self.assertEqual(len(calls), 14)
 
     def test_answers(self):
         store, out, sender, head = bytearray(1024), bytearray(64), {"sequence_count": 7, "counter": 5}, figure_14()
@@ -194,6 +229,7 @@ class Names(unittest.TestCase):
             "join_answer": orlyukan.join(8, store, FIGURE_14, out),
             "in_order_answer": orlyukan.in_order(8, store),
             "join_recording_answer": orlyukan.join_recording(b"", out),
+            "salvage_answer": orlyukan.salvage(8, b"", 0, 0, 0, 0),
         }
         for struct, answer in answers.items():
             self.assertEqual(list(vars(answer)), self.fields(struct), struct)
@@ -309,6 +345,7 @@ class Numbers(unittest.TestCase):
             self.assertEqual(orlyukan.join(huge, bytearray(1024), FIGURE_14, bytearray(30)).refusal, 15)
             self.assertEqual(orlyukan.in_order(huge, bytearray(1024)).refusal, 15)
             self.assertEqual(orlyukan.join_recording(b"", bytearray(), t=huge).refusal, 15)
+            self.assertEqual(orlyukan.salvage(huge, b"a", 0, 0, 1, 2).refusal, 15)
             for t, p in ((huge, 64), (8, huge)):
                 self.assertEqual(orlyukan.cut_count(t, p, figure_14(), 5, self.sender).refusal, 15)
                 self.assertEqual(orlyukan.cut_packet(t, p, figure_14(), b"12345", self.sender, 0, bytearray(64)).refusal, 15)
@@ -327,6 +364,7 @@ class Numbers(unittest.TestCase):
                 orlyukan.take(8, store, out, profile=unknown),
                 orlyukan.join(8, store, FIGURE_14, out, profile=unknown),
                 orlyukan.join_recording(b"", out, profile=unknown),
+                orlyukan.salvage(8, b"a", 0, 0, 1, 2, profile=unknown),
             ):
                 self.assertEqual(answer.refusal, 15, unknown)
         domain = {"has_domain": 1, "domain": b"ab", "domain_lengths": [2]}
@@ -505,6 +543,82 @@ class Recordings(unittest.TestCase):
     def test_torn(self):
         for more in (b"M", b"MP", b"MP" + FIGURE_14[:5], b"MP" + FIGURE_14[:6], b"MP" + FIGURE_14[:-1]):
             self.stops(more, "torn")
+
+
+class Torn(unittest.TestCase):
+    """A thousand files torn by a seeded script: each call's whole answer beside the model's, and one list however often it stops."""
+
+    files = 1000
+    marked = b"MP" + FIGURE_14
+
+    def setUp(self):
+        self.chance = random.Random(9)
+
+    def packet(self):
+        """Figure 14 as it is or as a segment, with a body, after its mark."""
+        flags, body = self.chance.choice((0xC0, 0x40, 0x00, 0x80)), self.chance.randbytes(self.chance.randrange(1, 60))
+        data = FIGURE_14[6:] + (b"" if flags == 0xC0 else bytes(4)) + body
+        return b"MP" + FIGURE_14[:2] + bytes([flags, 0]) + (len(data) - 1).to_bytes(2, "big") + data
+
+    def torn(self):
+        """A few packets; then octets changed, lost and put in, marks made, and the end cut off."""
+        file = bytearray(b"".join(self.packet() for _ in range(self.chance.randrange(8))))
+        for _ in range(self.chance.randrange(6)):
+            at, long = self.chance.randrange(len(file) + 1), self.chance.randrange(30)
+            noise = self.chance.choice((b"", b"M", b"MP", b"MP\x18\x05", self.chance.randbytes(long), bytes(300)))
+            file[at : at + self.chance.choice((0, 0, 1, len(noise), long))] = noise
+        return bytes(file[: len(file) - self.chance.choice((0, 0, 0, 1, 20))])
+
+    def beside_model(self, file, state, grant, free):
+        answer = orlyukan.salvage(8, file, *state, grant, free)
+        expected = model.salvage(8, file, *state, grant, free)
+        self.assertEqual(told(answer) | {"entries": entries(answer)}, expected | {"entries": list(map(list, expected["entries"]))}, file.hex())
+        return answer
+
+    def run_through(self, file, given):
+        """Calls until one is done: their entries and the places that they tested."""
+        state, listed, tested, done = (0, 0), [], 0, False
+        while not done:
+            answer = self.beside_model(file, state, *given())
+            state, done = (answer.begin, answer.place), answer.done
+            listed += entries(answer)
+            tested += answer.tested
+        return listed, tested
+
+    def test_files(self):
+        kept = skipped = 0
+        for _ in range(self.files):
+            file = self.torn()
+            whole = self.run_through(file, lambda: (2**64 - 1, len(file) + 2))
+            self.assertEqual(b"".join(file[place : place + length] for _, place, length in whole[0]), file)
+            parts = self.run_through(file, lambda: (self.chance.randrange(90), self.chance.randrange(7)))
+            self.assertEqual(whole, parts, file.hex())
+            kept += sum(kind == "kept" for kind, _, _ in whole[0])
+            skipped += sum(kind == "skipped" for kind, _, _ in whole[0])
+        self.assertGreater(min(kept, skipped), self.files)
+
+    def test_every_stop(self):
+        """Small files: every place, every grant and every room."""
+        for file in (b"", b"a", b"MPM", self.marked, self.marked[:-1], b"a" + self.marked + b"b", self.marked * 2 + b"MP"):
+            for place in range(len(file) + 1):
+                for grant in range(0, len(file) + 2 - place):
+                    for free in range(5):
+                        self.beside_model(file, (0, place), grant, free)
+                        self.beside_model(file, (place, place), grant, free)
+            once = self.run_through(file, lambda: (len(file), len(file) + 2))
+            for grant in range(1, len(file) + 2):
+                for free in range(2, 6):
+                    self.assertEqual(once, self.run_through(file, lambda: (grant, free)), file.hex())
+
+    def test_numbers(self):
+        refused = {"refusal": 40, "tested": 0, "entries": [], "begin": 0, "place": 0, "done": False}
+        for state in ((1, 0), (0, 4), (4, 4), *((huge, 0) for huge in HUGE), *((0, huge) for huge in HUGE), *((huge, huge) for huge in HUGE)):
+            self.assertEqual(told(orlyukan.salvage(8, b"abc", *state, 5, 5)), refused, state)
+        for huge in HUGE:
+            answer = orlyukan.salvage(8, b"abc", 0, 0, huge, 5)
+            self.assertEqual(answer.tested, 0 if huge < 0 else 3)
+            answer = orlyukan.salvage(8, bytearray(b"abc"), 0, 0, 5, huge)
+            self.assertEqual(entries(answer), [] if huge < 0 else [["skipped", 0, 3]])
 
 
 if __name__ == "__main__":

@@ -441,6 +441,46 @@ static void recording(void) {
     recorded("a recording torn in a packet", "MP\x18\x05\xC0\x00\x00\x14\x00", 9, ORL_TORN);
 }
 
+/* An octet, figure 14 after its mark, another octet: listed at once, and with a stop before each entry. */
+static void salvaging(void) {
+    static const uint64_t whole[9] = {ORL_SKIPPED, 0, 1, ORL_KEPT, 1, 29, ORL_SKIPPED, 30, 1};
+    uint8_t file[31];
+    uint64_t list[13];
+    struct orl_salvage_answer a;
+    file[0] = 'a';
+    memcpy(file + 1, "MP", 2);
+    memcpy(file + 3, figure_14, 27);
+    file[30] = 'b';
+    for (size_t k = 0; k < 13; k++) list[k] = 77;
+    orl_salvage(8, ORL_VARINT, file, 31, 0, 0, 3, list, 12, &a);
+    expect("salvaged", a.refusal, 0);
+    expect("places tested", a.tested, 3);
+    expect("entries", a.entries, 3);
+    expect("begin", a.begin, 31);
+    expect("place", a.place, 31);
+    expect("done", a.done, 1);
+    expect("the list", memcmp(list, whole, sizeof whole) != 0, 0);
+    expect("the rest of the list", list[9], 77);
+    orl_salvage(8, ORL_VARINT, file, 31, 0, 0, 1, list, 12, &a);
+    expect("one place tested", a.tested, 1);
+    expect("nothing listed", a.entries, 0);
+    expect("an open stretch", a.begin, 0);
+    expect("the next place", a.place, 1);
+    expect("not done", a.done, 0);
+    orl_salvage(8, ORL_VARINT, file, 31, a.begin, a.place, 9, list, 8, &a);
+    expect("the packet tested", a.tested, 1);
+    expect("stretch and packet listed", a.entries, 2);
+    expect("a full list", a.place, 30);
+    expect("both entries", memcmp(list, whole, 6 * sizeof *whole) != 0, 0);
+    orl_salvage(8, ORL_VARINT, file, 31, 2, 1, 9, list, 12, &a);
+    expect("a stretch that begins after the place", a.refusal, 40);
+    expect("nothing tested", a.tested, 0);
+    orl_salvage(8, ORL_VARINT, file, 31, 0, 32, 9, list, 12, &a);
+    expect("a place after the end", a.refusal, 40);
+    orl_salvage(0, ORL_VARINT, file, 31, 2, 1, 9, list, 12, &a);
+    expect("T first", a.refusal, 15);
+}
+
 int main(void) {
     reading();
     refusals();
@@ -455,5 +495,6 @@ int main(void) {
     taking();
     recording();
     fixed();
+    salvaging();
     return told("calls");
 }

@@ -170,6 +170,15 @@ FIELD(orl_join_recording_answer, place, 2, 1);
 FIELD(orl_join_recording_answer, stop, 3, 1);
 WHOLE(orl_join_recording_answer, 4);
 
+/* salvagedNumbers */
+FIELD(orl_salvage_answer, refusal, 0, 1);
+FIELD(orl_salvage_answer, tested, 1, 1);
+FIELD(orl_salvage_answer, entries, 2, 1);
+FIELD(orl_salvage_answer, begin, 3, 1);
+FIELD(orl_salvage_answer, place, 4, 1);
+FIELD(orl_salvage_answer, done, 5, 1);
+WHOLE(orl_salvage_answer, 6);
+
 #undef FIELD
 #undef WHOLE
 

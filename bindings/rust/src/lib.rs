@@ -1,4 +1,5 @@
-//! Orlyukan for Rust: reading, writing, cutting, storing and joining MAL messages in CCSDS Space Packets.
+//! Orlyukan for Rust: reading, writing, cutting, storing and joining MAL messages in CCSDS Space Packets, and salvaging damaged
+//! recordings of them.
 //!
 //! The work is done by the proved library, whose promises stand beside its source. These wrappers see to what a caller of C must
 //! see to alone: pointers that are valid, lengths that are true, buffers that do not overlap. Each call answers a plain struct whose
@@ -14,12 +15,14 @@ mod codec;
 mod header;
 pub mod raw;
 mod recording;
+mod salvage;
 mod store;
 
 pub use answers::{Answer, Arrived, Cut, CutPacket, Joined, Kind, Order, Place, Reading, Refusal, Taken, Which, Written};
 pub use codec::{after_packet, after_segment, cut_count, cut_packet, next_sequence_count, read, write};
 pub use header::{Apid, Header, Next, SecondaryApid, SegmentCounter, Sender, SequenceCount, Settings, FIXED, VARINT};
 pub use recording::{join_recording, Recording, Stop};
+pub use salvage::{salvage, Entry, Salvaged};
 pub use store::{arrive, in_order, join, take, view};
 
 /// The octets of a cell of the store, and the most cells it may have.

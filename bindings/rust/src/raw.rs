@@ -21,6 +21,10 @@ pub const ORL_ENDED: u64 = 1;
 pub const ORL_UNMARKED: u64 = 2;
 pub const ORL_TORN: u64 = 3;
 
+/// The kinds of an entry.
+pub const ORL_SKIPPED: u64 = 0;
+pub const ORL_KEPT: u64 = 1;
+
 /// A sender's running numbers: `has_counter` 1 and the next segment's counter, or 0 and 0 if none is left.
 #[repr(C)]
 #[derive(Clone, Copy, Debug, Default, PartialEq, Eq)]
@@ -135,6 +139,18 @@ pub struct RawRecording {
     pub stop: u64,
 }
 
+/// The answer of [`orl_salvage`]: places tested, entries listed, the state for the next call, and whether it is done.
+#[repr(C)]
+#[derive(Clone, Copy, Debug, Default, PartialEq, Eq)]
+pub struct RawSalvaged {
+    pub refusal: u64,
+    pub tested: u64,
+    pub entries: u64,
+    pub begin: u64,
+    pub place: u64,
+    pub done: u64,
+}
+
 /// A lent slice, for the calls that take many.
 type P = *const u8;
 type M = *mut u8;
@@ -168,4 +184,6 @@ extern "C" {
     pub fn orl_in_order(t: u64, profile: u64, store: P, store_length: usize, answer: *mut RawNumber);
     pub fn orl_join_recording(t: u64, profile: u64, recording: P, recording_length: usize, out: M, out_length: usize,
         answer: *mut RawRecording);
+    pub fn orl_salvage(t: u64, profile: u64, file: P, file_length: usize, begin: u64, place: u64, grant: u64, list: *mut u64,
+        list_length: usize, answer: *mut RawSalvaged);
 }

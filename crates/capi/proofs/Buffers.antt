@@ -1,4 +1,4 @@
--- The lent buffers of each export afterwards, by their names: the answer, the output, the store. So that a law over a generated contract
+-- The lent buffers of each export afterwards, by their names: the answer, the output, the store, the list. So that a law over a generated contract
 -- says which is which.
 -- Assumes nothing: these are definitions.
 use Prim.Native.Nat.{ℕ}
@@ -20,6 +20,7 @@ use Rattle.capi.proofs.stored.orl_join.Kinds as join-kinds
 use Rattle.capi.proofs.stored.orl_view.Kinds as view-kinds
 use Rattle.capi.proofs.stored.orl_in_order.Kinds as in-order-kinds
 use Rattle.capi.proofs.stored.orl_join_recording.Kinds as recording-kinds
+use Rattle.capi.proofs.stored.orl_salvage.Kinds as salvage-kinds
 
 -- `orl_next_sequence_count`
 abbrev pub next-answer : (κs : L.Lfts 1) → AtExit (endedOf 1 next-kinds.ps next-kinds.r) κs → List ℕ
@@ -96,3 +97,10 @@ recording-output κs x = now (x .1 .1 .1 .0)
 
 abbrev pub recording-answer : (κs : L.Lfts 3) → AtExit (endedOf 3 recording-kinds.ps recording-kinds.r) κs → List ℕ
 recording-answer κs x = now (x .1 .1 .1 .1 .0)
+
+-- `orl_salvage`
+abbrev pub salvage-list : (κs : L.Lfts 3) → AtExit (endedOf 3 salvage-kinds.ps salvage-kinds.r) κs → List ℕ
+salvage-list κs x = now (x .1 .1 .1 .1 .1 .1 .0)
+
+abbrev pub salvage-answer : (κs : L.Lfts 3) → AtExit (endedOf 3 salvage-kinds.ps salvage-kinds.r) κs → List ℕ
+salvage-answer κs x = now (x .1 .1 .1 .1 .1 .1 .1 .0)

@@ -19,14 +19,15 @@ use Rattle.flat.specs.Answers.{nextNumbers, writeFits, writeNumbers, afterPacke
 use Rattle.cells.specs.Order.{cellSize, gate}
 use Rattle.flat_store.specs.Numbers.{orderNumbers}
 use Rattle.flat_store.specs.Views.{insideNumbers, viewNumbers}
-use Rattle.numbers.specs.Lists.{Numbered, ofReading, ofArrival, ofTaking, ofJoining, ofRecording, ofOrder, ofWidths, ofWriting, ofCount, ofCutting}
+use Rattle.numbers.specs.Lists.{Numbered, ofReading, ofArrival, ofTaking, ofJoining, ofRecording, ofSalvage, ofOrder, ofWidths, ofWriting, ofCount, ofCutting}
 use Rattle.format.proofs.Refusals.{picked}
 use Rattle.numbers.proofs.Among.{among}
 use Rattle.numbers.proofs.Reading.{reading}
 use Rattle.numbers.proofs.Sending.{writing, write-wide, count, count-wide, cutting, cut-wide}
 use Rattle.numbers.proofs.Store.{arrival, taking, join, order, all}
+use Rattle.numbers.proofs.Salvaging.{salvaging}
 use Rattle.capi.proofs.Buffers.{next-answer, read-answer, write-answer, after-packet-answer, after-segment-answer, cut-count-answer, cut-packet-answer}
-use Rattle.capi.proofs.Buffers.{arrive-answer, take-answer, join-answer, view-answer, in-order-answer, recording-answer}
+use Rattle.capi.proofs.Buffers.{arrive-answer, take-answer, join-answer, view-answer, in-order-answer, recording-answer, salvage-answer}
 use Rattle.capi.proofs.orl_next_sequence_count.Reads as nexts
 use Rattle.capi.proofs.orl_read.Reads as reads
 use Rattle.capi.proofs.orl_write.Reads as writes
@@ -40,6 +41,7 @@ use Rattle.capi.proofs.stored.orl_join.Reads as joins
 use Rattle.capi.proofs.stored.orl_view.Reads as views
 use Rattle.capi.proofs.stored.orl_in_order.Reads as orders
 use Rattle.capi.proofs.stored.orl_join_recording.Reads as recordings
+use Rattle.capi.proofs.stored.orl_salvage.Reads as salvages
 
 -- the refusal in an answer: its first number
 abbrev pub refusalIn : List ℕ → ℕ
@@ -142,3 +144,6 @@ in-order-numbered κs a r x k = subst (Refuses ofOrder) (sym k) (in-order _ _)
 pub join-recording-numbered :
     (κs : L.Lfts 3) (a : _) (r : _) (x : _) → recordings.Post κs a r x → Refuses ofRecording (recording-answer κs x)
 join-recording-numbered κs a r x k = subst (Refuses ofRecording) (sym (k .0)) (all _ _ _)
+
+pub salvage-numbered : (κs : L.Lfts 3) (a : _) (r : _) (x : _) → salvages.Post κs a r x → Refuses ofSalvage (salvage-answer κs x)
+salvage-numbered κs a r x k = subst (Refuses ofSalvage) (sym (k .0)) (salvaging _ _ _ _ _)

@@ -4,13 +4,14 @@
 use mathlib.Core.Path.{_≡_, sym, _∙_}
 use contract.Lifetimes as L
 use Rattle.capi.proofs.Buffers.{arrive-answer, arrive-store, take-answer, take-output, take-store, join-answer, join-output, join-store, view-answer}
-use Rattle.capi.proofs.Buffers.{in-order-answer, recording-answer, recording-output}
+use Rattle.capi.proofs.Buffers.{in-order-answer, recording-answer, recording-output, salvage-answer, salvage-list}
 use Rattle.capi.proofs.stored.orl_arrive.Reads as arrives
 use Rattle.capi.proofs.stored.orl_take.Reads as takes
 use Rattle.capi.proofs.stored.orl_join.Reads as joins
 use Rattle.capi.proofs.stored.orl_view.Reads as views
 use Rattle.capi.proofs.stored.orl_in_order.Reads as orders
 use Rattle.capi.proofs.stored.orl_join_recording.Reads as recordings
+use Rattle.capi.proofs.stored.orl_salvage.Reads as salvages
 
 -- ---- arrival
 
@@ -69,3 +70,13 @@ recording-same-answer κs a r q s t k j = k .0 ∙ sym (j .0)
 pub recording-same-output :
     (κs : L.Lfts 3) (a : _) (r q : _) (s t : _) → recordings.Post κs a r s → recordings.Post κs a q t → recording-output κs s ≡ recording-output κs t
 recording-same-output κs a r q s t k j = k .1 ∙ sym (j .1)
+
+-- ---- salvaging
+
+pub salvage-same-answer :
+    (κs : L.Lfts 3) (a : _) (r q : _) (s t : _) → salvages.Post κs a r s → salvages.Post κs a q t → salvage-answer κs s ≡ salvage-answer κs t
+salvage-same-answer κs a r q s t k j = k .0 ∙ sym (j .0)
+
+pub salvage-same-list :
+    (κs : L.Lfts 3) (a : _) (r q : _) (s t : _) → salvages.Post κs a r s → salvages.Post κs a q t → salvage-list κs s ≡ salvage-list κs t
+salvage-same-list κs a r q s t k j = k .1 ∙ sym (j .1)

@@ -1,4 +1,4 @@
-// The store's half: arrival, taking, joining, the view, the order of a store, and a whole recording.
+// The store's half: arrival, taking, joining, the view, the order of a store, a whole recording, and salvaging a damaged one.
 ghost use mathlib.Core.Path.{_≡_};
 ghost use lib.ListN.{length};
 ghost use Rattle.cells.specs.Order.{countIn, cellSize};
@@ -6,10 +6,12 @@ ghost use Rattle.arrival.specs.Arriving.{arrived, storeWith};
 ghost use Rattle.taking.specs.Taking.{took, outWith, storeLess};
 ghost use Rattle.join.specs.Joining.{joining, storeJoined, outJoined};
 ghost use Rattle.recording.specs.Ending.{recordedOf, outRecorded};
+ghost use Rattle.salvage.specs.Listing.{stop};
+ghost use Rattle.salvage.specs.Calling.{salvaged, listAfter};
 ghost use Rattle.walk.specs.Walk.{settingsOf};
 ghost use Rattle.flat_store.specs.Numbers.{arriveNumbers, takeNumbers, joinNumbers, orderNumbers};
 ghost use Rattle.flat_store.specs.Views.{viewNumbers};
-ghost use Rattle.flat_store.specs.Recordings.{recordedNumbers};
+ghost use Rattle.flat_store.specs.Recordings.{recordedNumbers, salvagedNumbers};
 
 // A packet arrives.
 #[no_mangle]
@@ -98,4 +100,23 @@ pub extern "C" fn orl_join_recording(
     ensures { λ r. ⌜ now (out .exit) ≡ outRecorded (settingsOf t profile) (now (out .entry)) (now (recording .entry)) ⌝ }
 {
     *answer = flat_store::recordings::join_recording(t, profile, recording, out);
+}
+
+// A damaged recording is salvaged.
+#[no_mangle]
+pub extern "C" fn orl_salvage(
+    t: u64,
+    profile: u64,
+    file: &[u8],
+    begin: u64,
+    place: u64,
+    grant: u64,
+    list: &mut [u64],
+    answer: &mut [u64; 6],
+)
+    ensures { λ r. ⌜ now (answer .exit) ≡ salvagedNumbers (salvaged (settingsOf t profile) (now (file .entry)) (stop begin place) grant
+        (length (now (list .entry)))) ⌝ }
+    ensures { λ r. ⌜ now (list .exit) ≡ listAfter (settingsOf t profile) (now (file .entry)) (stop begin place) grant (now (list .entry)) ⌝ }
+{
+    *answer = flat_store::recordings::salvage(t, profile, file, begin, place, grant, list);
 }

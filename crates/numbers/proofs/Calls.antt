@@ -22,10 +22,14 @@ use Rattle.join.specs.declared.Joined.{Joined}
 use Rattle.join.proofs.join.Reads as joins
 use Rattle.recording.specs.declared.Recorded.{Recorded}
 use Rattle.recording.proofs.join_all.Reads as alls
-use Rattle.numbers.specs.Lists.{Numbered, ofReading, ofArrival, ofTaking, ofJoining, ofRecording, ofWriting, ofCount, ofCutting}
+use Rattle.salvage.specs.declared.Salvaged.{Salvaged}
+use Rattle.salvage.proofs.salvage.Reads as salvages
+use Rattle.salvage.proofs.salvage_part.Reads as parts
+use Rattle.numbers.specs.Lists.{Numbered, ofReading, ofArrival, ofTaking, ofJoining, ofRecording, ofSalvage, ofWriting, ofCount, ofCutting}
 use Rattle.numbers.proofs.Reading.{reading}
 use Rattle.numbers.proofs.Sending.{writing, count, cutting}
 use Rattle.numbers.proofs.Store.{arrival, taking, join, all}
+use Rattle.numbers.proofs.Salvaging.{salvaging, salvaging-part}
 
 pub read-numbered : (κs : L.Lfts 1) (a : _) (r : _) (x : _) → reads.Post κs a r x → Numbered ofReading (r .refusal .number)
 read-numbered κs a r x k = subst (λ (h : Header). Numbered ofReading (h .refusal .number)) (sym (k .0)) (reading _ _)
@@ -53,3 +57,10 @@ join-numbered κs a r x k = subst (λ (h : Joined). Numbered ofJoining (h .refus
 
 pub join-all-numbered : (κs : L.Lfts 2) (a : _) (r : _) (x : _) → alls.Post κs a r x → Numbered ofRecording (r .refusal .number)
 join-all-numbered κs a r x k = subst (λ (h : Recorded). Numbered ofRecording (h .refusal .number)) (sym (k .0)) (all _ _ _)
+
+pub salvage-numbered : (κs : L.Lfts 2) (a : _) (r : _) (x : _) → salvages.Post κs a r x → Numbered ofSalvage (r .refusal .number)
+salvage-numbered κs a r x k = subst (λ (h : Salvaged). Numbered ofSalvage (h .refusal .number)) (sym (k .0)) (salvaging _ _ _ _ _)
+
+pub salvage-part-numbered : (κs : L.Lfts 2) (a : _) (r : _) (x : _) → parts.Post κs a r x → Numbered ofSalvage (r .refusal .number)
+salvage-part-numbered κs a r x k =
+    subst (λ (h : Salvaged). Numbered ofSalvage (h .refusal .number)) (sym (k .0)) (salvaging-part _ _ _ _ _ _ _)

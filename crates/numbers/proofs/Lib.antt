@@ -2,4 +2,5 @@ pub mod Among
 pub mod Reading
 pub mod Sending
 pub mod Store
+pub mod Salvaging
 pub mod Calls

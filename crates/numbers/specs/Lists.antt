@@ -31,6 +31,10 @@ ofWriting = 15 ∷ 22 ∷ 30 ∷ 13 ∷ 28 ∷ 23 ∷ 12 ∷ 14 ∷ 21 ∷ []
 abbrev pub ofRecording : List ℕ
 ofRecording = 15 ∷ 21 ∷ []
 
+-- salvaging: the settings, then the state
+abbrev pub ofSalvage : List ℕ
+ofSalvage = 15 ∷ 40 ∷ []
+
 -- the order of a store alone
 abbrev pub ofOrder : List ℕ
 ofOrder = 15 ∷ 16 ∷ []

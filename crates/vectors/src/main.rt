@@ -7,8 +7,8 @@
 // stand one after another, after a table, 4 octets each, of where every one begins and the last ends. All numbers have their most
 // significant octet first.
 //
-// Each case prints a line: the numbers of its answer in decimal, each with a blank after it, and of a view also the octets of its
-// part; then the store, a bar and the output, as they are after the call. Octets are in hex, two or more equal ones as `xx*n,`. Where
+// Each case prints a line: the numbers of its answer in decimal, each with a blank after it, of salvaging also those of its list, and of
+// a view the octets of its part; then the store, a bar and the output, as they are after the call. Octets are in hex, two or more equal ones as `xx*n,`. Where
 // there is no such call the line has no numbers. The run ends with the input, or at a case that is too long for the buffer.
 //
 // Module case reads a case, print writes; the others have the calls, most of them by way of `flat` and `flat_store`,
@@ -51,6 +51,8 @@ const RECORDING: u64 = 12;
 
 const TEXT: u64 = 13;
 
+const SALVAGE: u64 = 14;
+
 // How many parts a domain has at most.
 const LENGTHS: usize = 384;
 
@@ -78,6 +80,9 @@ fn run_reads(tag: u64, c: &[u8]) {
     }
     if tag == TEXT {
         texts::test(c);
+    }
+    if tag == SALVAGE {
+        recordings::salvage(c);
     }
 }
 

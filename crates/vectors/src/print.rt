@@ -10,9 +10,7 @@ const COMMA: u8 = 44;
 
 const STAR: u8 = 42;
 
-// The sizes of the two buffers.
-const ANSWER: usize = 2048;
-
+// The size of a buffer.
 const TEXT: usize = 16384;
 
 // An octet.
@@ -59,7 +57,7 @@ fn listed(text: &mut [u8], list: &[u64]) -> usize {
 
 // The numbers of an answer.
 pub fn numbers(list: &[u64]) {
-    let mut text = [0u8; ANSWER];
+    let mut text = [0u8; TEXT];
     let used = listed(&mut text, list);
     write(&text, used);
 }

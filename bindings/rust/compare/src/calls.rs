@@ -2,8 +2,8 @@
 
 use crate::told;
 use orlyukan::{
-    Arrived, Cut, CutPacket, Header, Joined, Next, Order, Reading, Recording, Refusal, SegmentCounter, Sender, SequenceCount,
-    Settings, Taken, Which, Written,
+    Arrived, Cut, CutPacket, Entry, Header, Joined, Next, Order, Reading, Recording, Refusal, Salvaged, SegmentCounter, Sender,
+    SequenceCount, Settings, Taken, Which, Written,
 };
 
 /// The values of a packet beside its header's.
@@ -39,6 +39,7 @@ pub trait Calls {
     fn join(&self, s: Settings, store: &mut [u8], packet: &[u8], out: &mut [u8]) -> Joined;
     fn view<'a>(&self, packet: &'a [u8], joined: &'a [u8], which: Which, place: u64, length: u64) -> &'a [u8];
     fn join_recording(&self, s: Settings, recording: &[u8], out: &mut [u8]) -> Recording;
+    fn salvage(&self, s: Settings, file: &[u8], begin: u64, place: u64, grant: u64, list: &mut [Entry]) -> Salvaged;
 }
 
 /// The proved library, through its wrappers.
@@ -108,6 +109,10 @@ impl Calls for Library {
 
     fn join_recording(&self, s: Settings, recording: &[u8], out: &mut [u8]) -> Recording {
         orlyukan::join_recording(s, recording, out)
+    }
+
+    fn salvage(&self, s: Settings, file: &[u8], begin: u64, place: u64, grant: u64, list: &mut [Entry]) -> Salvaged {
+        orlyukan::salvage(s, file, begin, place, grant, list)
     }
 }
 
@@ -206,5 +211,9 @@ impl Calls for Model {
                 told::recording(messages.len(), model::recording_end(recording))
             }
         }
+    }
+
+    fn salvage(&self, s: Settings, file: &[u8], begin: u64, place: u64, grant: u64, list: &mut [Entry]) -> Salvaged {
+        told::salvaged(file.len(), list, model::salvage(told::settings(s), file, begin, place, grant, list.len()))
     }
 }

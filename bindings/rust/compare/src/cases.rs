@@ -5,12 +5,12 @@ use std::{env, fs, path::PathBuf};
 use crate::calls::Numbers;
 use crate::json::{parse, Json};
 use orlyukan::{
-    Apid, Arrived, Cut, CutPacket, Header, Joined, Kind, Next, Place, Reading, SecondaryApid, SegmentCounter, Sender,
-    SequenceCount, Settings, Taken, Which, Written, VARINT,
+    raw, Apid, Arrived, Cut, CutPacket, Entry, Header, Joined, Kind, Next, Place, Reading, Salvaged, SecondaryApid,
+    SegmentCounter, Sender, SequenceCount, Settings, Taken, Which, Written, VARINT,
 };
 
 /// The change requests that have landed and have cases of their own, in the order in which they landed.
-const LANDED: [&str; 4] = ["T-01", "T-04", "T-12", "T-10"];
+const LANDED: [&str; 5] = ["T-01", "T-04", "T-12", "T-10", "T-09"];
 
 /// The cases of a call, from the latest folder that has some, or nothing, with a word, if the folder is missing.
 pub fn load(call: &str) -> Option<Vec<Json>> {
@@ -216,4 +216,30 @@ pub fn joined(json: &Json) -> Joined {
         off: json.number("off"),
         began: json.number("began"),
     }
+}
+
+/// A state of salvaging: where the open stretch begins, and the next place.
+pub fn state(json: &Json) -> (u64, u64) {
+    let place = json.number("place");
+    match json.get("open") {
+        Json::Null => (place, place),
+        open => (open.as_number(), place),
+    }
+}
+
+/// An entry: kind, place, length.
+pub fn entry(json: &Json) -> Entry {
+    let Json::List(three) = json else { panic!("no entry: {json:?}") };
+    let kind = match &three[0] {
+        Json::Text(kind) if kind == "kept" => raw::ORL_KEPT,
+        Json::Text(kind) if kind == "skipped" => raw::ORL_SKIPPED,
+        other => panic!("no kind of entry: {other:?}"),
+    };
+    Entry { kind, place: three[1].as_number(), length: three[2].as_number() }
+}
+
+/// What a call of salvaging comes to that lists so many entries.
+pub fn salvaged(json: &Json, refusal: u64, entries: u64) -> Salvaged {
+    let (begin, place) = state(json.get("state"));
+    Salvaged { refusal, tested: json.number("tested"), entries, begin, place, done: json.flag("done") }
 }

@@ -56,7 +56,8 @@ impl Owned {
     /// H by the octets of a packet that the model's old writer writes; nothing if it refuses.
     pub fn h(&self, s: Settings) -> Option<usize> {
         let mut out = vec![0; 70_000];
-        let size = model::write_old(crate::told::settings(s), &crate::told::values(&self.header()), 3, 0, 0, &[], &mut out).ok()?;
+        let size =
+            model::write_old(crate::told::settings(s), &crate::told::values(&self.header()), 3, 0, 0, &[], &mut out).ok()?;
         Some(size - 6)
     }
 }

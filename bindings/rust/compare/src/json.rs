@@ -1,8 +1,9 @@
-//! As much JSON as the cases need: objects, lists, texts without escapes, whole numbers and null.
+//! As much JSON as the cases need: objects, lists, texts without escapes, whole numbers, true, false and null.
 
 #[derive(Clone, Debug, PartialEq)]
 pub enum Json {
     Null,
+    Flag(bool),
     Number(u64),
     Text(String),
     List(Vec<Json>),
@@ -24,6 +25,11 @@ impl Json {
     pub fn number_or(&self, name: &str, other: u64) -> u64 {
         let Json::Object(pairs) = self else { panic!("no object: {self:?}") };
         pairs.iter().find(|(key, _)| key == name).map_or(other, |(_, value)| value.as_number())
+    }
+
+    pub fn flag(&self, name: &str) -> bool {
+        let Json::Flag(flag) = self.get(name) else { panic!("{name} is neither true nor false") };
+        *flag
     }
 
     pub fn text(&self, name: &str) -> &str {
@@ -95,12 +101,18 @@ impl Reader<'_> {
             b'[' => Json::List(self.many(b'[', b']', Reader::value)),
             b'"' => Json::Text(self.string()),
             b'0'..=b'9' => self.digits(),
-            _ => {
-                assert!(self.text[self.at..].starts_with(b"null"), "neither a number nor null at {}", self.at);
-                self.at += 4;
-                Json::Null
+            _ => self.word(),
+        }
+    }
+
+    fn word(&mut self) -> Json {
+        for (word, value) in [("null", Json::Null), ("true", Json::Flag(true)), ("false", Json::Flag(false))] {
+            if self.text[self.at..].starts_with(word.as_bytes()) {
+                self.at += word.len();
+                return value;
             }
         }
+        panic!("no value at {}", self.at)
     }
 
     fn many<A>(&mut self, open: u8, close: u8, mut one: impl FnMut(&mut Self) -> A) -> Vec<A> {

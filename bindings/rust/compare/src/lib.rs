@@ -10,3 +10,4 @@ pub mod recordings;
 pub mod stores;
 pub mod tally;
 mod told;
+pub mod torn;

@@ -2,8 +2,8 @@
 
 use model::Refusal;
 use orlyukan::{
-    Apid, Arrived, Cut, CutPacket, Header, Joined, Kind, Next, Order, Place, Reading, Recording, SecondaryApid, SegmentCounter,
-    Sender, SequenceCount, Settings, Stop, Taken, Which, Written,
+    Apid, Arrived, Cut, CutPacket, Entry, Header, Joined, Kind, Next, Order, Place, Reading, Recording, Salvaged,
+    SecondaryApid, SegmentCounter, Sender, SequenceCount, Settings, Stop, Taken, Which, Written,
 };
 
 pub fn settings(s: Settings) -> model::Settings {
@@ -179,4 +179,23 @@ pub fn recording(written: usize, (place, stop): (usize, model::Stop)) -> Recordi
         model::Stop::Torn => Stop::Torn,
     };
     Recording { refusal: 0, written: written as u64, place: place as u64, stop: Some(stop) }
+}
+
+/// The entries go to the front of the list; a file of so many octets is done if the next place is its end and no stretch is open.
+pub fn salvaged(octets: usize, list: &mut [Entry], answer: Result<model::Salvaged, Refusal>) -> Salvaged {
+    let s = match answer {
+        Ok(salvaged) => salvaged,
+        Err(Refusal { number, .. }) => return Salvaged { refusal: number.into(), ..Salvaged::default() },
+    };
+    for (entry, listed) in list.iter_mut().zip(&s.entries) {
+        *entry = Entry { kind: listed.kept.into(), place: listed.place as u64, length: listed.length as u64 };
+    }
+    Salvaged {
+        refusal: 0,
+        tested: s.tested,
+        entries: s.entries.len() as u64,
+        begin: s.begin as u64,
+        place: s.place as u64,
+        done: s.begin == octets && s.place == octets,
+    }
 }

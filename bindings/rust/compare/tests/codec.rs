@@ -220,9 +220,9 @@ fn withdrawn(t: u64, owned: &Owned, expected: u64) {
     for program in [&Library as &dyn Calls, &Model] {
         let (mut out, head) = (vec![0x5a; 64], owned.header());
         let told = [
-            program.write(t, &head, n, &[1], &mut out).refusal,
-            program.cut_count(t, 64, &head, 1, sender).refusal,
-            program.cut_packet(t, 64, &head, &[1], sender, 0, &mut out).refusal,
+            program.write(t.into(), &head, n, &[1], &mut out).refusal,
+            program.cut_count(t.into(), 64, &head, 1, sender).refusal,
+            program.cut_packet(t.into(), 64, &head, &[1], sender, 0, &mut out).refusal,
         ];
         assert_eq!(told, [expected; 3], "{}: T {t}, zone of {} octets, {:?}", program.name(), owned.zone.len(), owned.n);
         assert!(out.iter().all(|octet| *octet == 0x5a), "{}: octets changed on a refusal", program.name());

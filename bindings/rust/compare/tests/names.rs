@@ -34,6 +34,7 @@ fn fields() {
         ("orl_take_answer", "RawTaken"),
         ("orl_join_answer", "RawJoined"),
         ("orl_join_recording_answer", "RawRecording"),
+        ("orl_salvage_answer", "RawSalvaged"),
     ] {
         assert!(of_c(c).len() > 1 && of_c(c) == of_rust(RAW, rust), "{c}: {:?}", of_rust(RAW, rust));
     }
@@ -64,10 +65,10 @@ fn calls() {
         assert!(handed_on.split(' ').any(|word| word == wrapped), "{wrapped} is not handed on");
         count += 1;
     }
-    assert_eq!(count, 13);
+    assert_eq!(count, 14);
 }
 
-/// The profiles, what an arrival comes to, which buffer holds a body, why a recording stopped.
+/// The profiles, what an arrival comes to, which buffer holds a body, why a recording stopped, the kinds of an entry.
 #[test]
 fn numbers() {
     let defined = HEADER.lines().filter_map(|line| line.strip_prefix("#define ORL_"));
@@ -78,5 +79,5 @@ fn numbers() {
         assert!(RAW.contains(&declared), "no {declared}");
         count += 1;
     }
-    assert_eq!(count, 11);
+    assert_eq!(count, 13);
 }

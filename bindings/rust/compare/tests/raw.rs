@@ -8,7 +8,8 @@ use compare::packets;
 use compare::random::Random;
 use compare::stores;
 use orlyukan::raw::{
-    self, RawAfter, RawArrived, RawCut, RawHeader, RawJoined, RawNumber, RawRecording, RawSender, RawTaken, RawView,
+    self, RawAfter, RawArrived, RawCut, RawHeader, RawJoined, RawNumber, RawRecording, RawSalvaged, RawSender, RawTaken,
+    RawView,
 };
 use orlyukan::{Header, Joined, Next, Place, Reading, SegmentCounter, Sender, SequenceCount};
 
@@ -226,6 +227,34 @@ fn recordings() {
             unsafe { raw::orl_join_recording(8, 0, recording.as_ptr(), recording.len(), out.as_mut_ptr(), short, &mut answer) };
             assert_eq!(answer, RawRecording { refusal: 21, ..RawRecording::default() });
             assert!(out.iter().all(|octet| *octet == 0xee), "octets changed on a refusal");
+        }
+    }
+}
+
+/// A list of any number of numbers: three make an entry, those left over are no room; the answer is filled.
+#[test]
+fn lists() {
+    let (file, state) = (b"abMPcd", [(0, 0), (2, 4), (0, 6), (6, 6), (5, 4), (0, 7)]);
+    for (begin, place) in state {
+        for length in 0..12 {
+            let mut list = vec![9; length];
+            let mut answer: RawSalvaged = spoiled();
+            unsafe {
+                raw::orl_salvage(8, 0, file.as_ptr(), file.len(), begin, place, 100, list.as_mut_ptr(), length, &mut answer)
+            };
+            let (tests, closes) = (length >= 6 && place < 6, length >= 6 || (length >= 3 && place == 6));
+            let expected = match (begin <= place && place <= 6, begin < 6 && closes) {
+                (false, _) => RawSalvaged { refusal: 40, ..RawSalvaged::default() },
+                (true, true) => RawSalvaged { refusal: 0, tested: 6 - place, entries: 1, begin: 6, place: 6, done: 1 },
+                (true, false) => RawSalvaged { refusal: 0, tested: 0, entries: 0, begin, place, done: u64::from(begin == 6) },
+            };
+            assert!(tests == (expected.tested > 0) || expected.refusal == 40, "{begin} {place} {length}");
+            assert_eq!(answer, expected, "{begin} {place} {length}");
+            let mut numbers = vec![9; length];
+            if expected.entries == 1 {
+                numbers[..3].copy_from_slice(&[raw::ORL_SKIPPED, begin, 6 - begin]);
+            }
+            assert_eq!(list, numbers, "{begin} {place} {length}");
         }
     }
 }

@@ -3,6 +3,7 @@
 use compare::calls::{Calls, Library, Model};
 use compare::cases::{self, Lent};
 use compare::json::Json;
+use orlyukan::Entry;
 
 /// Runs the cases of a call, each with what is expected of it, through one program and the other.
 fn each(call: &str, run: impl Fn(&dyn Calls, &Json, &Json)) {
@@ -111,6 +112,48 @@ fn program() {
         let answer = program.join_recording(8.into(), &recording, &mut out);
         assert_eq!(answer.refusal, expect.get("answer").number("refusal"), "{}: {case:?}", program.name());
         assert_eq!(out[..answer.written as usize], expect.octets("out"), "{}: {case:?}", program.name());
+    });
+}
+
+/// What stands in a list before a call.
+const UNTOUCHED: Entry = Entry { kind: 7, place: 7, length: 7 };
+
+/// A list of so many entries with these at its front.
+fn list_of(entries: &[Json], free: u64) -> Vec<Entry> {
+    let mut list: Vec<Entry> = entries.iter().map(cases::entry).collect();
+    list.resize(free as usize, UNTOUCHED);
+    list
+}
+
+#[test]
+fn salvage() {
+    each("salvage", |program, case, expect| {
+        let (file, (begin, place)) = (case.octets("file"), cases::state(case.get("state")));
+        let mut list = list_of(&[], case.number("free"));
+        let answer = program.salvage(cases::settings(case), &file, begin, place, case.number("grant"), &mut list);
+        let said = expect.get("answer");
+        let entries = said.list("entries");
+        assert_eq!(answer, cases::salvaged(said, said.number("refusal"), entries.len() as u64), "{}: {case:?}", program.name());
+        assert_eq!(list, list_of(entries, case.number("free")), "{}: {case:?}", program.name());
+    });
+}
+
+#[test]
+fn salvage_run() {
+    each("salvage_run", |program, case, expect| {
+        let (s, file, said) = (cases::settings(case), case.octets("file"), expect.get("answer"));
+        let (mut begin, mut place, mut listed, mut steps) = (0, 0, 0, 0);
+        for (given, part) in case.list("calls").iter().zip(said.list("each")) {
+            let Json::List(given) = given else { panic!("no grant and room: {given:?}") };
+            let (grant, free, entries) = (given[0].as_number(), given[1].as_number(), part.number("listed") as usize);
+            let mut list = list_of(&[], free);
+            let answer = program.salvage(s, &file, begin, place, grant, &mut list);
+            assert_eq!(answer, cases::salvaged(part, 0, entries as u64), "{}: {case:?}", program.name());
+            let expected = list_of(&said.list("entries")[listed..listed + entries], free);
+            assert_eq!(list, expected, "{}: {case:?}", program.name());
+            (begin, place, listed, steps) = (answer.begin, answer.place, listed + entries, steps + answer.tested);
+        }
+        assert_eq!((listed, steps), (said.list("entries").len(), said.number("steps")), "{}: {case:?}", program.name());
     });
 }
 

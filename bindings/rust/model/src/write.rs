@@ -228,7 +228,7 @@ fn write_by(
 
 /// Writes one packet over the front of an output: the octets it took.
 pub fn write(
-    t: u64,
+    settings: impl Into<Settings>,
     v: &Values,
     flags: u64,
     sequence_count: u64,
@@ -236,12 +236,12 @@ pub fn write(
     body: &[u8],
     out: &mut [u8],
 ) -> Result<usize, Refusal> {
-    write_by(Writer::Today, t, v, flags, sequence_count, counter, body, out)
+    write_by(Writer::Today, settings, v, flags, sequence_count, counter, body, out)
 }
 
 /// The same by the old writer, to make packets with a zone for tests.
 pub fn write_old(
-    t: u64,
+    settings: impl Into<Settings>,
     v: &Values,
     flags: u64,
     sequence_count: u64,
@@ -249,5 +249,5 @@ pub fn write_old(
     body: &[u8],
     out: &mut [u8],
 ) -> Result<usize, Refusal> {
-    write_by(Writer::Old, t, v, flags, sequence_count, counter, body, out)
+    write_by(Writer::Old, settings, v, flags, sequence_count, counter, body, out)
 }
