@@ -7,12 +7,12 @@ use crate::shapes::{packet, plain, segments, T};
 use orlyukan::{Kind, CELL};
 
 /// The octets of a segment that just fits a cell.
-const LARGEST: usize = 1022;
+pub const LARGEST: usize = 1022;
 /// How many segments the messages in a store have.
 const LONG: usize = 16;
 
 /// A store of so many cells with these packets in its first ones.
-fn store(cells: usize, held: &[Vec<u8>]) -> Vec<u8> {
+pub fn store(cells: usize, held: &[Vec<u8>]) -> Vec<u8> {
     let mut store = vec![0; cells * CELL];
     for (cell, packet) in store.chunks_mut(CELL).zip(held) {
         cell[..2].copy_from_slice(&[0x4d, 0x53]);

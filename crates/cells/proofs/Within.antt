@@ -11,7 +11,7 @@ use lib.Seq.{drop-drop}
 use lib.Dec.{eqb}
 use Rattle.octets.specs.Octets.{Octets, octetAt, part, number, alike}
 use Rattle.octets.proofs.Has.{octets-part}
-use Rattle.octets.proofs.Lists.{bool}
+use Rattle.octets.proofs.Lists.{bool, pick-false}
 use Rattle.walk.specs.declared.Settings.{Settings}
 use Rattle.packet.specs.Reading.{readPacket}
 use Rattle.packet.specs.Key.{keyOf}
@@ -22,6 +22,7 @@ use Rattle.cells.specs.Inner.{placeIn, counterIn, bodyIn, judgedOf, told
 use Rattle.cells.specs.Chains.{keyIn}
 use Rattle.cells.proofs.Carries.{Holding, not-held, judged-one, judged-at, held-counter, kinds}
 use Rattle.cells.proofs.Mixing.{key-asked}
+use Rattle.cells.proofs.Transactions.{key-apart}
 
 -- ---- a key
 
@@ -78,6 +79,20 @@ module _ (s : Settings) (r z k : List ℕ) (first steps : ℕ) (o : Octets r) wh
     where
       held-it : Holding s (length z) r → false ≡ withinIn suc k first steps here
       held-it h = let w : _≡_ {A = ℕ} 0x4d 0 = ap (λ (x : List ℕ). octetAt x 0) (sym (h .row)) ∙ sym e ∙ t in absurd (omega arith)
+
+  pub within-apart :
+      {x : List ℕ} {m n : ℕ} → m ≡ number 8 k 14 → x ≡ p → n ≡ number 8 x 18 → (m ≡ n → ⊥) → false ≡ withinIn suc k first steps here
+  within-apart {x} em ex en h = unless-held other
+    where
+      other : Holding s (length z) r → false ≡ withinIn suc k first steps here
+      other there =
+          let a : Asked s p (readPacket s p .body .at) =
+          record { octets = octets-part r 2 (number 2 r 6 + 7) o; accepted = there .accepted; segment = there .segment; body = refl } in
+          let e = key-apart k p (readPacket s p .body .at) em (en ∙ ap (λ (w : List ℕ). number 8 w 18) ex) h in
+          sym
+          (told there
+          ∙ ap (both (reaches suc steps first (counterIn p))) (ap (alike k) (sym (key-asked s p (readPacket s p .body .at) a)) ∙ sym e)
+          ∙ pick-false (reaches suc steps first (counterIn p)))
 
   module _ {x : List ℕ} {n : ℕ} (ex : x ≡ p) (en : n ≡ counterIn x) where
     counter-is : n ≡ counterIn p

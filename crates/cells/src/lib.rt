@@ -66,8 +66,10 @@ const PRESENCE_AT: usize = OPTIONAL_AT - 1;
 
 const OPTIONAL_AT: usize = packet::PRIMARY + packet::FIXED;
 
-// Where the transaction id of a packet stands.
+// Where the transaction id stands in a packet, and in a key. In a full store it tells most keys apart, so it is compared first.
 const TRANSACTION_PLACE: usize = 18;
+
+const TRANSACTION_IN_KEY: usize = IDENTIFICATION + TRANSACTION_PLACE - SECONDARY_AT;
 
 // The octets of cell i, as far as they are there.
 pub fn row(store: &[u8], z: usize, i: usize) -> &[u8]
@@ -114,6 +116,9 @@ pub fn counter_in(p: &[u8]) -> SegmentCounter
 pub fn same_key(p: &[u8], body_at: usize, q: &[u8], q_body_at: usize) -> bool
     ensures { λ r. ⌜ r ≡ spansAlike (now (p .entry)) «body_at» (now (q .entry)) «q_body_at» ⌝ }
 {
+    if octets::be64(p, TRANSACTION_PLACE) != octets::be64(q, TRANSACTION_PLACE) {
+        return false;
+    }
     let c = counter_place(p);
     let d = counter_place(q);
     let long = octets::both(c == d, body_at == q_body_at);
@@ -314,6 +319,9 @@ pub fn carries_at(
 fn is_key(k: &[u8], p: &[u8], body_at: usize) -> bool
     ensures { λ r. ⌜ r ≡ alike (now (k .entry)) (keyIn (now (p .entry)) «body_at») ⌝ }
 {
+    if octets::be64(k, TRANSACTION_IN_KEY) != octets::be64(p, TRANSACTION_PLACE) {
+        return false;
+    }
     let c = counter_place(p);
     let ids = span(p, 0, IDENTIFICATION);
     let fore = span(p, SECONDARY_AT, c - SECONDARY_AT);
@@ -338,7 +346,8 @@ fn is_reached(first: SegmentCounter, steps: u32, c: SegmentCounter) -> bool
     c.0 - first.0 <= steps
 }
 
-// Whether a cell holds a segment with this key, its counter the first or one of so many steps after it. The cheap tests come first.
+// Whether a cell holds a segment with this key, its counter the first or one of so many steps after it. The cheap tests come first: the
+// row is judged only if counter and transaction id agree.
 pub fn is_within(
     s: Settings,
     row: &[u8],
@@ -355,6 +364,9 @@ pub fn is_within(
     }
     let p = packet_in(row);
     if !is_reached(first, steps, counter_in(p)) {
+        return false;
+    }
+    if octets::be64(k, TRANSACTION_IN_KEY) != octets::be64(p, TRANSACTION_PLACE) {
         return false;
     }
     let t = judge(s, row, zero);

@@ -1,12 +1,22 @@
--- `cells::same_key` meets its contract: its tests are the definition's.
+-- `cells::same_key` meets its contract: with different transaction ids the keys differ; else its tests are the definition's.
 -- Assumes nothing.
 use borrow.Author.Needs.{needs}
 use denote.Ref.{now}
 use native.Mathlib.Omega.{arith}
 use Rattle.cells.proofs.Held.{place-least}
+use Rattle.cells.proofs.Transactions.{spans-apart}
 use Rattle.cells.proofs.same_key.Statement.{statement}
 use Rattle.cells.proofs.same_key.Tie as tie
 use Rattle.cells.specs.Inner.{spansAlike}
+
+be64-requires : tie.Need-be64-requires
+be64-requires c κs = search needs
+
+be64-requires-2 : tie.Need-be64-requires-2
+be64-requires-2 c κs = search needs
+
+returns : tie.Need-returns
+returns c = spans-apart _ _ _ _ (c .before .before .be64 .ensures) (c .before .be642 .ensures) (c .if1 .taken)
 
 counter-place-requires : tie.Need-counter-place-requires
 counter-place-requires c κs = search needs
@@ -33,8 +43,8 @@ sub-span c =
       arith,
       g .before .counter-place .ensures,
       g .counter-place2 .ensures,
-      place-least (now (g .before .before .before .before .args .p)),
-      place-least (now (g .before .before .before .before .args .q)),
+      place-least (now (g .before .before .before .before .before .before .before .args .p)),
+      place-least (now (g .before .before .before .before .before .before .before .args .q)),
     )
 
 span-requires-3 : tie.Need-span-requires-3
@@ -47,8 +57,8 @@ sub-span-2 c =
       arith,
       g .before .counter-place .ensures,
       g .counter-place2 .ensures,
-      place-least (now (g .before .before .before .before .args .p)),
-      place-least (now (g .before .before .before .before .args .q)),
+      place-least (now (g .before .before .before .before .before .before .before .args .p)),
+      place-least (now (g .before .before .before .before .before .before .before .args .q)),
     )
 
 span-requires-4 : tie.Need-span-requires-4
@@ -64,8 +74,8 @@ add-span c =
       arith,
       g .before .counter-place .ensures,
       g .counter-place2 .ensures,
-      place-least (now (g .before .before .before .before .args .p)),
-      place-least (now (g .before .before .before .before .args .q)),
+      place-least (now (g .before .before .before .before .before .before .before .args .p)),
+      place-least (now (g .before .before .before .before .before .before .before .args .q)),
     )
 
 add-less : tie.Need-add-less
@@ -75,8 +85,8 @@ add-less c =
       arith,
       g .before .counter-place .ensures,
       g .counter-place2 .ensures,
-      place-least (now (g .before .before .before .before .args .p)),
-      place-least (now (g .before .before .before .before .args .q)),
+      place-least (now (g .before .before .before .before .before .before .before .args .p)),
+      place-least (now (g .before .before .before .before .before .before .before .args .q)),
     )
 
 less-requires : tie.Need-less-requires
@@ -92,8 +102,8 @@ add-span-2 c =
       arith,
       g .before .counter-place .ensures,
       g .counter-place2 .ensures,
-      place-least (now (g .before .before .before .before .args .p)),
-      place-least (now (g .before .before .before .before .args .q)),
+      place-least (now (g .before .before .before .before .before .before .before .args .p)),
+      place-least (now (g .before .before .before .before .before .before .before .args .q)),
     )
 
 add-less-2 : tie.Need-add-less-2
@@ -103,8 +113,8 @@ add-less-2 c =
       arith,
       g .before .counter-place .ensures,
       g .counter-place2 .ensures,
-      place-least (now (g .before .before .before .before .args .p)),
-      place-least (now (g .before .before .before .before .args .q)),
+      place-least (now (g .before .before .before .before .before .before .before .args .p)),
+      place-least (now (g .before .before .before .before .before .before .before .args .q)),
     )
 
 less-requires-2 : tie.Need-less-requires-2
@@ -125,9 +135,9 @@ both-requires-3 c κs = search needs
 both-requires-4 : tie.Need-both-requires-4
 both-requires-4 c κs = search needs
 
-returns : tie.Need-returns
+returns-2 : tie.Need-returns-2
 unfolding spansAlike
-returns c =
+returns-2 c =
     let g = c .before .before .before .before .before .before .before .before in
     let h = g .before .before .before .before in
     let k = c .before .before .before in
@@ -155,6 +165,9 @@ pub same-key-spec : {M : Type 1} → statement M
 same-key-spec =
     tie.close
     (tie.spec
+    be64-requires
+    be64-requires-2
+    returns
     counter-place-requires
     counter-place-requires-2
     both-requires
@@ -178,4 +191,4 @@ same-key-spec =
     both-requires-2
     both-requires-3
     both-requires-4
-    returns)
+    returns-2)
