@@ -32,7 +32,7 @@ pub window-within :
     (s : Settings) (Z : ℕ) (st buf : List ℕ) (e : Bool) (from till : ℕ) {d : Done} → d ≡ doneOf (stepped s Z st (take (till - from) (drop from buf)) e) →
     (d .used ≤ till - from) × (d .written ≤ 6 + room)
 window-within s Z st buf e from till h =
-    let k = step-within s Z st (take (till - from) (drop from buf)) e h in
+    let k = step-within s Z st _ e h in
     (omega (arith, k .0, length-take (till - from) (drop from buf)), k .1)
 
 -- all that a step over the octets in hand leaves
@@ -50,8 +50,8 @@ pub step-after :
 step-after s Z st buf e from till h k g c =
     let w = window-within s Z st buf e from till h in
     record {
-      order = next-gate s Z st (take (till - from) (drop from buf)) e k g;
-      cells = next-count s Z st (take (till - from) (drop from buf)) e k c;
+      order = next-gate s Z st _ e k g;
+      cells = next-count s Z st _ e k c;
       used-few = w .0;
       written-few = w .1;
     }
@@ -67,7 +67,8 @@ pub record Going (s : Settings) (zero st₀ buf₀ out₀ st buf out : List ℕ)
   pub output-long : length out ≡ length out₀
 
 pub going-next :
-    {s : Settings} {zero st₀ buf₀ out₀ st buf out st′ buf′ out′ : List ℕ} {from till at from′ till′ at′ : ℕ} → Going s zero st₀ buf₀ out₀ st buf out from till at →
+    {s : Settings} {zero st₀ buf₀ out₀ st buf out st′ buf′ out′ : List ℕ} {from till at from′ till′ at′ : ℕ} → Going s zero st₀ buf₀ out₀ st buf out from till
+    at →
     gate s (length zero) st′ ≡ 0 → cellCount ≡ countIn (length zero) st′ → from′ ≤ till′ → till′ ≤ length buf →
     at′ + (6 + room) ≤ length out → length st′ ≡ length st → length buf′ ≡ length buf → length out′ ≡ length out →
     Going s zero st₀ buf₀ out₀ st′ buf′ out′ from′ till′ at′

@@ -46,14 +46,6 @@ pub const NUMBERS: usize = 63;
 // The place of a step that is no packet.
 const NOWHERE: usize = 0;
 
-// A sum, or the largest number.
-fn sum(a: u64, b: u64) -> u64 {
-    if b <= u64::MAX - a {
-        return a + b;
-    }
-    u64::MAX
-}
-
 // The number at a place; 0 if there is none.
 pub fn at(counts: &[u64; COUNTS], k: usize) -> u64 {
     if k < COUNTS {
@@ -65,7 +57,7 @@ pub fn at(counts: &[u64; COUNTS], k: usize) -> u64 {
 // Adds to the number at a place.
 pub fn add(counts: &mut [u64; COUNTS], k: usize, n: u64) {
     if k < COUNTS {
-        counts[k] = sum(counts[k], n);
+        counts[k] = files::sum(counts[k], n);
     }
 }
 

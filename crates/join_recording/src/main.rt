@@ -10,9 +10,9 @@
 // not named for Varints. If they are refused, nothing is read and no report is made.
 //
 // Proved here: the program is safe and ends, and each step meets what it asks: the settings are in range, and the store stays in order
-// from the first step to the last. Module files reads and writes, counts has the numbers of the findings, say tells them.
+// from the first step to the last. Module output writes, counts has the numbers of the findings, say tells them.
 mod counts;
-mod files;
+mod output;
 mod say;
 
 ghost use mathlib.Core.Path.{_≡_};
@@ -30,6 +30,15 @@ use recording::STORE;
 use steps::SPACE;
 use steps::What;
 use walk::Settings;
+
+// The program's arguments: the recording, the file for its findings, T, and the profile.
+const RECORDING: usize = 1;
+
+const REPORT: usize = 2;
+
+const TIMESTAMP: usize = 3;
+
+const PROFILE: usize = 4;
 
 // The window: more than a mark and the longest packet.
 const WINDOW: usize = 196608;
@@ -63,22 +72,18 @@ fn in_hand(from: usize, till: usize, at: usize, ends: bool, stop: u8) -> Hand
 
 // Writes what is gathered. 0, or why it stops.
 fn flush(x: &[u8], counts: &mut [u64; COUNTS]) -> u8 {
-    if files::put(x, counts) {
+    if output::put(x, counts) {
         return 0;
     }
     say::NOT_WRITTEN
 }
 
-// Counts the octets read, and tells a failure.
+// Counts the octets read. 0, or why it stops.
 fn took(got: isize, n: usize, counts: &mut [u64; COUNTS]) -> u8 {
-    let before = counts::at(counts, counts::READ);
-    if got < 0 {
-        say::failed(b"reading failed at octet ", before);
-        return say::NOT_READ;
+    if files::took(got, n, counts, counts::READ) {
+        return 0;
     }
-    counts::add(counts, counts::READ, n as u64);
-    say::progress(before, counts::at(counts, counts::READ));
-    0
+    say::NOT_READ
 }
 
 // More octets after those in hand. The recording ends if none come.
@@ -89,7 +94,7 @@ fn refill(fd: i32, buf: &mut [u8], from: usize, till: usize, counts: &mut [u64; 
     ensures { λ r. ⌜ r .till ≤ length (now (buf .entry)) ⌝ }
     ensures { λ r. ⌜ r .at ≡ 0 ⌝ }
 {
-    steps::front(buf, from, till);
+    files::front(buf, from, till);
     let had = till - from;
     let whole = buf.len();
     let space = &mut buf[had..whole];
@@ -246,7 +251,7 @@ fn run(
 
 // Closes standard output. Why the run stopped.
 fn closed(stop: u8, counts: &[u64; COUNTS]) -> u8 {
-    if files::close(counts) {
+    if output::close(counts) {
         return stop;
     }
     say::NOT_WRITTEN
@@ -258,7 +263,7 @@ fn end(s: Settings, store: &[u8], counts: &mut [u64; COUNTS], stop: u8) {
     counts::add(counts, counts::SEGMENTS, left.segments as u64);
     counts::add(counts, counts::KEYS, left.keys as u64);
     let because = closed(stop, counts);
-    let to = files::report();
+    let to = report_made();
     if to >= 0 {
         say::findings(to, s, counts, store, because);
     }
@@ -277,14 +282,45 @@ fn join(s: Settings, fd: i32)
     end(s, &store, &mut counts, stop);
 }
 
+// A number, as large as a setting may be written.
+fn bounded(n: u64) -> u64
+    ensures { λ r. ⌜ r ≤ 1000000 ⌝ }
+{
+    if n < 1000000 {
+        return n;
+    }
+    1000000
+}
+
+// The settings, as the third and the fourth argument name them. Whether they are in range is not tested here.
+fn settings() -> Settings {
+    let usual = recording::usual();
+    let t = files::setting(TIMESTAMP, bounded(usual.t as u64));
+    let profile = files::setting(PROFILE, bounded(usual.profile));
+    Settings {
+        t: t as usize,
+        profile: profile,
+    }
+}
+
+fn opened() -> i32 {
+    let mut name = io::buffer();
+    files::input(RECORDING, &mut name)
+}
+
+fn report_made() -> i32 {
+    let mut name = io::buffer();
+    files::report(REPORT, &mut name)
+}
+
 fn main() {
-    let s = files::settings();
+    let s = settings();
     let w = walk::begin(s);
     if w.refused != 0 {
         say::not_joined(w.refused);
         return;
     }
-    let fd = files::input();
+    let fd = opened();
     if fd >= 0 {
         join(s, fd);
     }

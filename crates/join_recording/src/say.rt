@@ -13,24 +13,13 @@
 ghost use Prim.Native.Nat.{_≤_};
 ghost use lib.ListN.{length};
 use crate::counts;
-use crate::files;
 use counts::COUNTS;
+use files::ERROR;
 use recording::CELLS;
 use tally::Told;
 use walk::Settings;
 
-const ERROR: i32 = 2;
-
-const TERMINAL: i32 = 1;
-
-// Progress is shown once in so many octets.
-const STRIDE: u64 = 16777216;
-
-const MEBI: u64 = 1048576;
-
 const NEWLINE: u8 = 10;
-
-const RETURN: u8 = 13;
 
 // Why a run stops.
 pub const ENDED: u8 = 1;
@@ -43,59 +32,15 @@ pub const NOT_READ: u8 = 4;
 
 pub const NOT_WRITTEN: u8 = 5;
 
-fn text(to: i32, x: &[u8]) {
-    files::write(to, x);
-}
-
-fn number(to: i32, n: u64) {
-    let mut digits = [0u8; 20];
-    let k = io::decimal(n, &mut digits);
-    text(to, &digits[..k]);
-}
-
 // A space and a number.
 fn next(to: i32, n: u64) {
-    text(to, b" ");
-    number(to, n);
-}
-
-fn newline(to: i32) {
-    text(to, &[NEWLINE]);
-}
-
-// ---- progress
-
-// The cursor goes back to the beginning of the line, so that what is said next stands there.
-fn show(read: u64) {
-    number(ERROR, read / MEBI);
-    text(ERROR, b" MiB read");
-    text(ERROR, &[RETURN]);
-}
-
-// Shows progress at a terminal, if the octets read have passed the next stride.
-pub fn progress(before: u64, after: u64) {
-    if before / STRIDE == after / STRIDE {
-        return;
-    }
-    if libc::isatty(ERROR) == TERMINAL {
-        show(after);
-    }
-}
-
-// ---- failures
-
-// Words, a number, then why the last call failed.
-pub fn failed(x: &[u8], n: u64) {
-    text(ERROR, x);
-    number(ERROR, n);
-    os::fail(b"");
+    files::tell(to, b" ", n);
 }
 
 // The settings are refused by this number.
 pub fn not_joined(k: u8) {
-    text(ERROR, b"the settings are refused with ");
-    number(ERROR, k as u64);
-    newline(ERROR);
+    files::tell(ERROR, b"the settings are refused with ", k as u64);
+    files::write(ERROR, b"\n");
 }
 
 // ---- the names of the numbers
@@ -142,7 +87,7 @@ fn begins(table: &[u8], k: usize) -> usize
 fn entry(to: i32, table: &[u8], k: usize) {
     let from = begins(table, k);
     let end = line_end(table, from);
-    text(to, &table[from..end]);
+    files::write(to, &table[from..end]);
 }
 
 // In the order of their places.
@@ -171,7 +116,7 @@ used
 fn told(to: i32, k: usize, n: u64) {
     label(to, k);
     next(to, n);
-    newline(to);
+    files::write(to, b"\n");
 }
 
 fn numbers(to: i32, counts: &[u64; COUNTS]) {
@@ -187,10 +132,10 @@ fn refused(to: i32, k: usize, n: u64) {
     if n == 0 {
         return;
     }
-    text(to, b"refusal");
+    files::write(to, b"refusal");
     next(to, k as u64);
     next(to, n);
-    newline(to);
+    files::write(to, b"\n");
 }
 
 fn refusals(to: i32, counts: &[u64; COUNTS]) {
@@ -208,10 +153,10 @@ fn began(to: i32, counts: &[u64; COUNTS]) {
     if n == 0 {
         return;
     }
-    text(to, b"began");
+    files::write(to, b"began");
     next(to, k as u64);
     next(to, n);
-    newline(to);
+    files::write(to, b"\n");
 }
 
 // The line of a cell that is held.
@@ -219,7 +164,7 @@ fn segment(to: i32, t: Told) {
     if !t.held {
         return;
     }
-    text(to, b"segment");
+    files::write(to, b"segment");
     next(to, t.key as u64);
     next(to, t.packet_type as u64);
     next(to, t.apid as u64);
@@ -227,7 +172,7 @@ fn segment(to: i32, t: Told) {
     next(to, t.transaction);
     next(to, t.flags as u64);
     next(to, t.counter as u64);
-    newline(to);
+    files::write(to, b"\n");
 }
 
 fn segments(to: i32, s: Settings, store: &[u8]) {
@@ -244,9 +189,9 @@ pub fn findings(to: i32, s: Settings, counts: &[u64; COUNTS], store: &[u8], stop
     refusals(to, counts);
     began(to, counts);
     segments(to, s, store);
-    text(to, b"stop");
+    files::write(to, b"stop");
     next(to, stop as u64);
-    newline(to);
-    text(to, b"done");
-    newline(to);
+    files::write(to, b"\n");
+    files::write(to, b"done");
+    files::write(to, b"\n");
 }

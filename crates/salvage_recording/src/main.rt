@@ -10,10 +10,9 @@
 // reader tells why it went. A program has no exit status, so at the end its findings go to the new file REPORT, or to standard error if
 // none is named.
 //
-// Proved here: the program is safe and ends. Module files reads and writes, counts has the numbers of the findings, say tells them. What is
-// written of an entry is crate `entries`.
+// Proved here: the program is safe and ends. Module counts has the numbers of the findings, say tells them. What is written of an entry is
+// crate `entries`.
 mod counts;
-mod files;
 mod say;
 
 ghost use mathlib.Core.Path.{_≡_};
@@ -21,11 +20,26 @@ ghost use Prim.Native.Nat.{_*_, _≤_};
 ghost use lib.ListN.{length};
 use counts::COUNTS;
 use entries::LINE;
-use files::Sinks;
 use salvage::ENTRY;
 use salvage::KEPT;
 use salvage::Salvaged;
 use walk::Settings;
+
+// The program's arguments: T and the profile; the descriptors of the list, of the kept packets and of a pipe that takes these too; the
+// recording, and the file for the findings.
+const TIMESTAMP: usize = 1;
+
+const PROFILE: usize = 2;
+
+const LIST: usize = 3;
+
+const OUTPUT: usize = 4;
+
+const PIPE: usize = 5;
+
+const RECORDING: usize = 6;
+
+const REPORT: usize = 7;
 
 // The window: more than a mark and the longest packet.
 const WINDOW: usize = 524288;
@@ -39,6 +53,13 @@ const NUMBERS: usize = 3072;
 const LINES: usize = 32768;
 
 const PACKETS: usize = 131072;
+
+// Where things go: descriptors, 0 for nowhere.
+struct Sinks {
+    list: i32,
+    output: i32,
+    pipe: i32,
+}
 
 // The octets in hand, from a place of the window up to another; the place in the recording of the first, which is tested next, and where the
 // open stretch begins; whether the recording ends with those in hand; why it stops, 0 if it goes on.
@@ -97,7 +118,7 @@ fn flush_list(fd: i32, x: &[u8], counts: &mut [u64; COUNTS]) -> u8 {
     if n == x.len() {
         return 0;
     }
-    say::failed(
+    files::failed(
         b"writing the list failed after octet ",
         counts::at(counts, counts::LISTED),
     );
@@ -114,7 +135,7 @@ fn flush_output(fd: i32, x: &[u8], counts: &mut [u64; COUNTS]) -> u8 {
     if n == x.len() {
         return 0;
     }
-    say::failed(
+    files::failed(
         b"writing failed after octet ",
         counts::at(counts, counts::WRITTEN),
     );
@@ -330,29 +351,12 @@ fn head(fd: i32, counts: &mut [u64; COUNTS]) -> u8 {
 
 // ---- what is read
 
-// The octets of a buffer from a place up to another go to its front; the rest stays.
-fn front(buf: &mut [u8], from: usize, till: usize)
-    requires { ⌜ from ≤ till ⌝ }
-    requires { ⌜ till ≤ length (now buf) ⌝ }
-{
-    let n = till - from;
-    let mut i: usize = 0;
-    while i < n {
-        buf[i] = buf[from + i];
-        i += 1;
-    }
-}
-
-// Counts the octets read, and tells a failure.
+// Counts the octets read. 0, or why it stops.
 fn took(got: isize, n: usize, counts: &mut [u64; COUNTS]) -> u8 {
-    let before = counts::at(counts, counts::READ);
-    if got < 0 {
-        say::failed(b"reading failed at octet ", before);
-        return say::NOT_READ;
+    if files::took(got, n, counts, counts::READ) {
+        return 0;
     }
-    counts::add(counts, counts::READ, n as u64);
-    say::progress(before, counts::at(counts, counts::READ));
-    0
+    say::NOT_READ
 }
 
 // More octets after those in hand. The recording ends if none come.
@@ -370,7 +374,7 @@ fn refill(
     ensures { λ r. ⌜ r .from ≤ r .till ⌝ }
     ensures { λ r. ⌜ r .till ≤ length (now (buf .entry)) ⌝ }
 {
-    front(buf, from, till);
+    files::front(buf, from, till);
     let had = till - from;
     let whole = buf.len();
     let space = &mut buf[had..whole];
@@ -495,7 +499,7 @@ fn close_list(to: Sinks, counts: &[u64; COUNTS], stop: u8) -> u8 {
     if close(to.list) {
         return stop;
     }
-    say::failed(
+    files::failed(
         b"writing the list failed after octet ",
         counts::at(counts, counts::LISTED),
     );
@@ -506,7 +510,7 @@ fn close_output(to: Sinks, counts: &[u64; COUNTS], stop: u8) -> u8 {
     if close(to.output) {
         return stop;
     }
-    say::failed(
+    files::failed(
         b"writing failed after octet ",
         counts::at(counts, counts::WRITTEN),
     );
@@ -517,16 +521,39 @@ fn close_output(to: Sinks, counts: &[u64; COUNTS], stop: u8) -> u8 {
 fn end(to: Sinks, counts: &[u64; COUNTS], stop: u8) {
     close(to.pipe);
     let because = close_output(to, counts, close_list(to, counts, stop));
-    let report = files::report();
+    let report = report_made();
     if report >= 0 {
         say::findings(report, counts, because);
     }
 }
 
+// ---- the arguments
+
+// T and the profile as they are given; the call tests them.
+fn settings() -> Settings {
+    let t = files::setting(TIMESTAMP, 0);
+    let profile = files::setting(PROFILE, 0);
+    Settings {
+        t: t as usize,
+        profile: profile,
+    }
+}
+
+fn told_sinks() -> Sinks {
+    let list = files::setting(LIST, 0) as i32;
+    let output = files::setting(OUTPUT, 0) as i32;
+    let pipe = files::setting(PIPE, 0) as i32;
+    Sinks {
+        list: list,
+        output: output,
+        pipe: pipe,
+    }
+}
+
 // Salvages the recording that is open.
 fn salvage_from(fd: i32) {
-    let s = files::settings();
-    let to = files::told_sinks();
+    let s = settings();
+    let to = told_sinks();
     let mut buf = [0u8; WINDOW];
     let mut counts = [0u64; COUNTS];
     let stop = head(to.list, &mut counts);
@@ -538,8 +565,18 @@ fn salvage_from(fd: i32) {
     end(to, &counts, because);
 }
 
+fn opened() -> i32 {
+    let mut name = io::buffer();
+    files::input(RECORDING, &mut name)
+}
+
+fn report_made() -> i32 {
+    let mut name = io::buffer();
+    files::report(REPORT, &mut name)
+}
+
 fn main() {
-    let fd = files::input();
+    let fd = opened();
     if fd >= 0 {
         salvage_from(fd);
     }

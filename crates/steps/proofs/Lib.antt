@@ -6,4 +6,3 @@ pub mod Steps
 pub mod Spare
 pub mod Kept
 mod Calls
-mod Moving

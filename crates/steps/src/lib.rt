@@ -286,20 +286,6 @@ pub fn step(
     }
 }
 
-// The octets of a buffer from a place up to another go to its front; the rest stays.
-pub fn front(buf: &mut [u8], from: usize, till: usize)
-    requires { ⌜ from ≤ till ⌝ }
-    requires { ⌜ till ≤ length (now buf) ⌝ }
-    ensures { λ r. ⌜ now (buf .exit) ≡ sets (now (buf .entry)) 0 (part (now (buf .entry)) from (till - from)) ⌝ }
-{
-    let n = till - from;
-    let mut i: usize = 0;
-    while i < n {
-        buf[i] = buf[from + i];
-        i += 1;
-    }
-}
-
 // A step with the rest of a recording in hand; what it writes goes to the output from a place on, through a spare buffer.
 fn step_spare(
     s: Settings,

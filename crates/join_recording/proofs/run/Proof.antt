@@ -77,7 +77,8 @@ loop-again c =
     let g = c .before .before .before .before .before .before .before .before in
     let e = g .turn .ensures in
     let k = g .turn .kept in
-    going-next (g .before .before .before .before .before .before .loop .inv) (e .0) (e .1 .0) (e .1 .1 .0) (e .1 .1 .1 .0) (e .1 .1 .1 .1) (k .1 .1 .0) (k .1 .1 .1 .1 .0) (k .1 .1 .1 .1 .1 .1 .1 .1 .0)
+    going-next (g .before .before .before .before .before .before .loop .inv) (e .0) (e .1 .0) (e .1 .1 .0) (e .1 .1 .1 .0) (e .1 .1 .1 .1) (k .1 .1 .0)
+    (k .1 .1 .1 .1 .0) (k .1 .1 .1 .1 .1 .1 .1 .1 .0)
 
 same-length-4 : tie.Need-same-length-4 Inv-loop μ-loop
 same-length-4 c = c .before .loop .inv .store-long

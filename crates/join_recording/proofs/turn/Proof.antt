@@ -36,7 +36,9 @@ part-wait-end c = search needs
 
 wait-requires : tie.Need-wait-requires
 wait-requires c κs =
-    let p = c .before .before .before .before .before .before .before .before .before .before .before .before .before .before .before .before .before .before .before .pre in
+    let p =
+    c .before .before .before .before .before .before .before .before .before .before .before .before .before .before .before .before .before .before
+    .before .pre in
     (p .1 .1 .1 .1 .0, p .1 .1 .1 .1 .1)
 
 same-length : tie.Need-same-length
@@ -53,7 +55,7 @@ returns c =
     let b = c .before .before .before .before .before .before .before .before .before .before .before .before .before in
     let a = b .before .before .before .before .before .before .before .before .before in
     let h = b .step-there .ensures in
-    let k = step-after (a .args .s) (length (now (a .args .zero))) (now (a .args .store)) (now (a .args .buf)) (a .args .ends) (a .args .from) (a .args .till)
+    let k = step-after _ _ _ (now (a .args .buf)) (a .args .ends) (a .args .from) (a .args .till)
     (h .0) (h .1 .0) (a .pre .1 .0) (a .pre .1 .1 .0) in
     let w = c .before .before .wait .ensures in
     (k .order, (k .cells, (w .0, (w .1 .0, omega (arith, w .1 .1, a .pre .1 .1 .1 .0)))))
@@ -78,7 +80,7 @@ returns-2 c =
     let b = c .before .before .before .before .before .before .before .before in
     let a = b .before .before .before .before .before .before .before .before .before in
     let h = b .step-there .ensures in
-    let k = step-after (a .args .s) (length (now (a .args .zero))) (now (a .args .store)) (now (a .args .buf)) (a .args .ends) (a .args .from) (a .args .till)
+    let k = step-after _ _ _ (now (a .args .buf)) (a .args .ends) (a .args .from) (a .args .till)
     (h .0) (h .1 .0) (a .pre .1 .0) (a .pre .1 .1 .0) in
     let w = c .in-hand .ensures in (
       k .order,
@@ -99,7 +101,7 @@ add-gather c =
     let b = c .before .before .before .before .before .before .before .before in
     let a = b .before .before .before .before .before .before .before .before .before in
     let h = b .step-there .ensures in
-    let k = step-after (a .args .s) (length (now (a .args .zero))) (now (a .args .store)) (now (a .args .buf)) (a .args .ends) (a .args .from) (a .args .till)
+    let k = step-after _ _ _ _ _ _ (a .args .till)
     (h .0) (h .1 .0) (a .pre .1 .0) (a .pre .1 .1 .0) in
     omega (arith, k .used-few, a .pre .1 .1 .1 .1 .0, a .pre .1 .1 .1 .1 .1)
 
@@ -108,7 +110,7 @@ add-gather-2 c =
     let b = c .before .before .before .before .before .before .before .before in
     let a = b .before .before .before .before .before .before .before .before .before in
     let h = b .step-there .ensures in
-    let k = step-after (a .args .s) (length (now (a .args .zero))) (now (a .args .store)) (now (a .args .buf)) (a .args .ends) (a .args .from) (a .args .till)
+    let k = step-after _ _ _ (now (a .args .buf)) (a .args .ends) (a .args .from) (a .args .till)
     (h .0) (h .1 .0) (a .pre .1 .0) (a .pre .1 .1 .0) in
     omega (arith, k .written-few, a .pre .1 .1 .1 .0, a .good .1 .1 .1 .1 .1 .1 .1 .1 .0 .0)
 
@@ -117,7 +119,7 @@ gather-requires c κs =
     let b = c .before .before .before .before .before .before .before .before .before .before in
     let a = b .before .before .before .before .before .before .before .before .before in
     let h = b .step-there .ensures in
-    let k = step-after (a .args .s) (length (now (a .args .zero))) (now (a .args .store)) (now (a .args .buf)) (a .args .ends) (a .args .from) (a .args .till)
+    let k = step-after _ _ _ (now (a .args .buf)) (a .args .ends) (a .args .from) (a .args .till)
     (h .0) (h .1 .0) (a .pre .1 .0) (a .pre .1 .1 .0) in
     let l = b .step-there .kept .1 .1 .1 .1 .1 .1 .0 in
     (omega (arith, l, k .written-few, a .pre .1 .1 .1 .0), omega (arith, l, a .pre .1 .1 .1 .0))
@@ -136,7 +138,7 @@ returns-3 c =
     let b = c .before .before .before .before .before .before .before .before .before .before .before in
     let a = b .before .before .before .before .before .before .before .before .before in
     let h = b .step-there .ensures in
-    let k = step-after (a .args .s) (length (now (a .args .zero))) (now (a .args .store)) (now (a .args .buf)) (a .args .ends) (a .args .from) (a .args .till)
+    let k = step-after _ _ _ _ _ _ (a .args .till)
     (h .0) (h .1 .0) (a .pre .1 .0) (a .pre .1 .1 .0) in
     let l = b .step-there .kept .1 .1 .1 .1 .1 .1 .0 in
     let w = c .gather .ensures in (

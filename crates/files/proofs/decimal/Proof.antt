@@ -1,16 +1,19 @@
--- `salvage_recording::files::number_in` meets its contract. The invariant: the number is not above the most.
+-- `files::decimal` meets its contract. The measure is the number of octets that are left.
 -- Assumes nothing.
 use Prim.Native.Nat.{_-_, _≤_}
 use lib.ListN.{length}
 use borrow.Author.Needs.{needs}
-use Rattle.salvage_recording.proofs.files.number_in.Statement.{statement}
-use Rattle.salvage_recording.proofs.files.number_in.Tie as tie
+use Rattle.files.proofs.decimal.Statement.{statement}
+use Rattle.files.proofs.decimal.Tie as tie
 
 abbrev Inv-loop : tie.InvT-loop
-Inv-loop word n₀ i₀ n i = n ≤ 1000000
+Inv-loop word n₀ i₀ n i = (n ≤ 1000000) × (i ≤ length word)
 
 abbrev μ-loop : tie.MeasureT-loop
 μ-loop word n₀ i₀ n i = length word - i
+
+returns : tie.Need-returns Inv-loop μ-loop
+returns c = search needs
 
 loop-holds : tie.Need-loop-holds Inv-loop μ-loop
 loop-holds c = search needs
@@ -30,8 +33,8 @@ loop-less c = search needs
 loop-again : tie.Need-loop-again Inv-loop μ-loop
 loop-again c = search needs
 
-returns : tie.Need-returns Inv-loop μ-loop
-returns c = search needs
+returns-2 : tie.Need-returns-2 Inv-loop μ-loop
+returns-2 c = search needs
 
-pub number-in-spec : {M : Type 1} → statement M
-number-in-spec = tie.close (tie.spec Inv-loop μ-loop loop-holds shared-slice-read-with-digit with-digit-requires add-i loop-less loop-again returns)
+pub decimal-spec : {M : Type 1} → statement M
+decimal-spec = tie.close (tie.spec Inv-loop μ-loop returns loop-holds shared-slice-read-with-digit with-digit-requires add-i loop-less loop-again returns-2)

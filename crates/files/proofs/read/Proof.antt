@@ -1,10 +1,10 @@
--- `salvage_recording::files::read` is safe and ends. The measure is the number of tries that are left.
+-- `files::read` is safe and ends. The measure is the number of tries that are left.
 -- Assumes nothing.
 use mathlib.Core.Path.{_≡_}
 use lib.ListN.{length}
 use borrow.Author.Needs.{needs}
-use Rattle.salvage_recording.proofs.files.read.Statement.{statement}
-use Rattle.salvage_recording.proofs.files.read.Tie as tie
+use Rattle.files.proofs.read.Statement.{statement}
+use Rattle.files.proofs.read.Tie as tie
 
 abbrev Inv-loop : tie.InvT-loop
 Inv-loop fd x₀ tries₀ x tries = length x ≡ length x₀
@@ -43,4 +43,6 @@ returns-2 : tie.Need-returns-2 Inv-loop μ-loop
 returns-2 c = search needs
 
 pub read-spec : {M : Type 1} → statement M
-read-spec = tie.close (tie.spec Inv-loop μ-loop loop-holds read-requires interrupted-requires same-length returns sub-tries loop-less loop-again same-length-2 returns-2)
+read-spec =
+    tie.close (tie.spec Inv-loop μ-loop loop-holds read-requires interrupted-requires same-length returns sub-tries loop-less loop-again same-length-2
+    returns-2)

@@ -1,9 +1,9 @@
--- `salvage_recording::files::write_some` meets its contract: a write takes at most what there is. The measure is the number of tries that
+-- `files::write_some` meets its contract: a write takes at most what there is. The measure is the number of tries that
 -- are left.
 -- Assumes nothing.
 use borrow.Author.Needs.{needs}
-use Rattle.salvage_recording.proofs.files.write_some.Statement.{statement}
-use Rattle.salvage_recording.proofs.files.write_some.Tie as tie
+use Rattle.files.proofs.write_some.Statement.{statement}
+use Rattle.files.proofs.write_some.Tie as tie
 
 abbrev Inv-loop : tie.InvT-loop
 Inv-loop fd x tries₀ tries = Unit {0}
@@ -39,4 +39,5 @@ returns-2 : tie.Need-returns-2 Inv-loop μ-loop
 returns-2 c = search needs
 
 pub write-some-spec : {M : Type 1} → statement M
-write-some-spec = tie.close (tie.spec Inv-loop μ-loop loop-holds write-requires interrupted-requires count-requires returns sub-tries loop-less loop-again returns-2)
+write-some-spec =
+    tie.close (tie.spec Inv-loop μ-loop loop-holds write-requires interrupted-requires count-requires returns sub-tries loop-less loop-again returns-2)

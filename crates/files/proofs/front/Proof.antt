@@ -1,15 +1,14 @@
--- `salvage_recording::front` is safe and ends. The measure is what is left to be moved.
+-- `files::front` meets its contract. The loop's invariant: so many octets have gone to the front.
 -- Assumes nothing.
-use Prim.Native.Nat.{_+_, _-_, _≤_}
-use mathlib.Core.Path.{_≡_, refl}
+use Prim.Native.Nat.{_-_}
 use native.Mathlib.Omega.{arith}
-use lib.ListN.{length}
+use Rattle.files.proofs.Moving.{Moving, moving-first, moving-turn, moving-done}
 use borrow.Author.Needs.{needs}
-use Rattle.salvage_recording.proofs.front.Statement.{statement}
-use Rattle.salvage_recording.proofs.front.Tie as tie
+use Rattle.files.proofs.front.Statement.{statement}
+use Rattle.files.proofs.front.Tie as tie
 
 abbrev Inv-loop : tie.InvT-loop
-Inv-loop buf₀ from till n i₀ buf i = (length buf ≡ length buf₀) × ((i ≤ n) × (from + n ≤ length buf₀))
+Inv-loop buf₀ from till n i₀ buf i = Moving buf₀ from n buf i
 
 abbrev μ-loop : tie.MeasureT-loop
 μ-loop buf₀ from till n i₀ buf i = n - i
@@ -18,7 +17,7 @@ sub-n : tie.Need-sub-n Inv-loop μ-loop
 sub-n c = search needs
 
 loop-holds : tie.Need-loop-holds Inv-loop μ-loop
-loop-holds c = (refl, (omega arith, omega (arith, c .pre .0, c .pre .1)))
+loop-holds c = moving-first _ _ _ (omega (arith, c .pre .0, c .pre .1))
 
 add-buf : tie.Need-add-buf Inv-loop μ-loop
 add-buf c = search needs
@@ -36,27 +35,14 @@ loop-less : tie.Need-loop-less Inv-loop μ-loop
 loop-less c = search needs
 
 loop-again : tie.Need-loop-again Inv-loop μ-loop
-loop-again c = search needs
+loop-again c = moving-turn (c .before .before .loop .inv) (c .before .loop-test .taken)
 
 same-length : tie.Need-same-length Inv-loop μ-loop
-same-length c = c .before .loop .inv .0
+same-length c = c .before .loop .inv .long
 
 returns : tie.Need-returns Inv-loop μ-loop
-returns c = search needs
+returns c = moving-done (c .before .loop .inv) (c .loop-test .left)
 
 pub front-spec : {M : Type 1} → statement M
 front-spec =
-    tie.close
-    (tie.spec
-    Inv-loop
-    μ-loop
-    sub-n
-    loop-holds
-    add-buf
-    slice-read-buf
-    slice-write-buf
-    add-i
-    loop-less
-    loop-again
-    same-length
-    returns)
+    tie.close (tie.spec Inv-loop μ-loop sub-n loop-holds add-buf slice-read-buf slice-write-buf add-i loop-less loop-again same-length returns)

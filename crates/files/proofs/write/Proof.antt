@@ -1,12 +1,12 @@
--- `join_recording::files::write` is safe and ends. The measure is what is left to be written.
+-- `files::write` is safe and ends. The measure is what is left to be written.
 -- Assumes nothing.
 use Prim.Native.Nat.{_-_, _≤_}
 use native.Mathlib.Omega.{arith}
 use denote.Ref.{now}
 use lib.ListN.{length, drop, length-take, length-drop}
 use borrow.Author.Needs.{needs}
-use Rattle.join_recording.proofs.files.write.Statement.{statement}
-use Rattle.join_recording.proofs.files.write.Tie as tie
+use Rattle.files.proofs.write.Statement.{statement}
+use Rattle.files.proofs.write.Tie as tie
 
 abbrev Inv-loop : tie.InvT-loop
 Inv-loop fd x done₀ whole done = done ≤ length x
@@ -57,4 +57,6 @@ returns-2 : tie.Need-returns-2 Inv-loop μ-loop
 returns-2 c = search needs
 
 pub write-spec : {M : Type 1} → statement M
-write-spec = tie.close (tie.spec Inv-loop μ-loop loop-holds sub-write-some part-write-some-start part-write-some-end write-some-requires returns add-done loop-less loop-again returns-2)
+write-spec =
+    tie.close (tie.spec Inv-loop μ-loop loop-holds sub-write-some part-write-some-start part-write-some-end write-some-requires returns add-done loop-less
+    loop-again returns-2)
