@@ -13,7 +13,7 @@ use Rattle.octets.proofs.Has.{Has, has-self, has-first, has-second}
 use Rattle.octets.proofs.Numbers.{wide-length, number-back}
 use Rattle.octets.proofs.Lists.{bool}
 use Rattle.walk.specs.declared.Settings.{Settings}
-use Rattle.walk.specs.Walk.{Reading}
+use Rattle.walk.specs.Walk.{Reading, headerBound}
 use Rattle.fields.specs.Fields.{opt}
 use Rattle.packet.specs.declared.Header.{Header}
 use Rattle.packet.specs.Format.{Values, presence, identification, fixedOctets, secondaryOctets, dataOctets, octetsOf, flagsWhole, counterWidth}
@@ -52,7 +52,7 @@ transaction-has s v =
     (wide-length 1 _) (wide-length 2 _) (wide-length 2 _))
     (has-first (wide 8 (v .head .transaction)) (wide 1 (presence (v .head))) k)
 
-no-counter : (p : List ℕ) (b : Bool) (w : Reading) → b ≡ false → opt b 0 (wideField counterWidth p) w .value ≡ 0
+no-counter : (p : List ℕ) (b : Bool) (w : Reading) → b ≡ false → opt b 0 (wideField counterWidth headerBound p) w .value ≡ 0
 no-counter p true w e = let z : _≡_ {A = ℕ} 0 1 = cc in absurd (omega arith)
 no-counter p false w e = refl
 

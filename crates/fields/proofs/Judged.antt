@@ -15,6 +15,7 @@ use Rattle.utf8.specs.Test.{both, ended, accepts, isText, allSingle}
 use Rattle.utf8.proofs.Laws.{is-text}
 use Rattle.utf8.proofs.Single.{single-text, single-take, single-drop}
 use Rattle.walk.specs.declared.Settings.{Settings}
+use Rattle.walk.specs.declared.Bound.{Bound}
 use Rattle.walk.specs.declared.Walk.{Walk}
 use Rattle.walk.specs.Walk.{Reading, refused, going, check}
 use Rattle.walk.specs.Inner.{asWalk}
@@ -34,34 +35,34 @@ past-text p at n h =
     let l : length p ≤ at = omega arith in
     sym (ap isText (ap (take n) (drop-of-length-le p l) ∙ take-nil n))
 
-module _ (s : Settings) (p : List ℕ) (w : Reading) {t : Text} (e : t ≡ asText (blob s p w)) where
+module _ (s : Settings) (b : Bound) (p : List ℕ) (w : Reading) {t : Text} (e : t ≡ asText (blob s b p w)) where
   -- nothing is tested after a refusal
-  pub text-refused : (t .walk .refused ≡ 0 → ⊥) → t ≡ asText (text s p w)
+  pub text-refused : (t .walk .refused ≡ 0 → ⊥) → t ≡ asText (text s b p w)
   unfolding text
   text-refused h =
-      let g : going (blob s p w .walk) ≡ false = ap (λ (x : Text). eqb (x .walk .refused) 0) (sym e) ∙ ne-eqb (t .walk .refused) 0 h in
-      e ∙ ap (λ (x : Reading). asText (record { walk = x; value = blob s p w .value })) (sym (check-refused _ 28 (blob s p w .walk) g))
+      let g : going (blob s b p w .walk) ≡ false = ap (λ (x : Text). eqb (x .walk .refused) 0) (sym e) ∙ ne-eqb (t .walk .refused) 0 h in
+      e ∙ ap (λ (x : Reading). asText (record { walk = x; value = blob s b p w .value })) (sym (check-refused _ 28 (blob s b p w .walk) g))
 
   -- the content is tested
   module _ {ok : Bool} (o : ok ≡ isText (stretch p (t .place .at) (t .place .length))) where
-    tests : (b : Bool) → ok ≡ b → isText (contentAt p (blob s p w .value)) ≡ b
-    tests b h = ap (λ (x : Text). isText (stretch p (x .place .at) (x .place .length))) (sym e) ∙ sym o ∙ h
+    tests : (x : Bool) → ok ≡ x → isText (contentAt p (blob s b p w .value)) ≡ x
+    tests x h = ap (λ (x : Text). isText (stretch p (x .place .at) (x .place .length))) (sym e) ∙ sym o ∙ h
 
-    pub text-held : ok ≡ true → t ≡ asText (text s p w)
+    pub text-held : ok ≡ true → t ≡ asText (text s b p w)
     unfolding text
     text-held h =
-        e ∙ ap (λ (x : Reading). asText (record { walk = x; value = blob s p w .value })) (sym (check-ok _ 28 (blob s p w .walk) (tests true h)))
+        e ∙ ap (λ (x : Reading). asText (record { walk = x; value = blob s b p w .value })) (sym (check-ok _ 28 (blob s b p w .walk) (tests true h)))
 
     pub text-fails :
         ok ≡ false → t .walk .refused ≡ 0 → {v : Walk} → v ≡ asWalk (refused (t .walk .at) 28) →
-        record { walk = v; place = t .place } ≡ asText (text s p w)
+        record { walk = v; place = t .place } ≡ asText (text s b p w)
     unfolding text
     text-fails h z {v} c =
-        let g : going (blob s p w .walk) ≡ true = ap (λ (x : Text). eqb (x .walk .refused) 0) (sym e) ∙ eq-eqb (t .walk .refused) 0 z in
-        let f = check-fails (isText (contentAt p (blob s p w .value))) 28 (blob s p w .walk) g (tests false h) in
+        let g : going (blob s b p w .walk) ≡ true = ap (λ (x : Text). eqb (x .walk .refused) 0) (sym e) ∙ eq-eqb (t .walk .refused) 0 z in
+        let f = check-fails (isText (contentAt p (blob s b p w .value))) 28 (blob s b p w .walk) g (tests false h) in
         ap (λ (x : Walk). record { walk = x; place = t .place }) c
         ∙ ap (λ (x : Text). record { walk = asWalk (refused (x .walk .at) 28); place = x .place }) e
-        ∙ ap (λ (x : Reading). asText (record { walk = x; value = blob s p w .value })) (sym f)
+        ∙ ap (λ (x : Reading). asText (record { walk = x; value = blob s b p w .value })) (sym f)
 
 -- ---- the parts of a domain
 

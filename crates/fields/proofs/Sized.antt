@@ -10,7 +10,7 @@ use Rattle.octets.specs.Octets.{roomOf}
 use Rattle.octets.proofs.Has.{part-length}
 use Rattle.walk.specs.declared.Settings.{Settings}
 use Rattle.fields.specs.Form.{uintegerOctets, blobOctets, textOctets, partOctets, joined, domainOctets, split}
-use Rattle.fields.specs.Inner.{capped}
+use Rattle.fields.specs.Inner.{cappedTo}
 use Rattle.fields.proofs.Written.{length-split, split-more}
 
 pub text-long : (s : Settings) (x : List ℕ) → length (textOctets s x) ≡ length (uintegerOctets s (length x)) + length x
@@ -26,23 +26,23 @@ unfolding partOctets
 part-long s x = omega (arith, length-append (1 ∷ []) (textOctets s x), text-long s x)
 
 -- a sum of sizes, each told up to the limit
-pub cap-right : (a b : ℕ) → capped (a + capped b) ≡ capped (a + b)
-cap-right a b = omega arith
+pub cap-right : (top a b : ℕ) → cappedTo top (a + cappedTo top b) ≡ cappedTo top (a + b)
+cap-right top a b = omega arith
 
-pub cap-both : (a b : ℕ) → capped (capped a + capped b) ≡ capped (a + b)
-cap-both a b = omega arith
+pub cap-both : (top a b : ℕ) → cappedTo top (cappedTo top a + cappedTo top b) ≡ cappedTo top (a + b)
+cap-both top a b = omega arith
 
 -- what k parts take, up to `from` of the text, and what is left
-pub record Sizing (s : Settings) (x ns : List ℕ) (size from k : ℕ) : Type 0 where
+pub record Sizing (top : ℕ) (s : Settings) (x ns : List ℕ) (size from k : ℕ) : Type 0 where
   pub inside : from ≤ length x
   pub most : k ≤ length ns
   pub done : ℕ
-  pub told : size ≡ capped done
+  pub told : size ≡ cappedTo top done
   pub all : length (domainOctets s (split ns x)) ≡ done + length (joined (partOctets s) (split (drop k ns) (drop from x)))
 
-pub sizing-first : (s : Settings) (x ns : List ℕ) {n size : ℕ} → n ≡ length (uintegerOctets s (length ns)) → size ≡ capped (0 + n) → Sizing s x ns size 0 0
+pub sizing-first : (top : ℕ) (s : Settings) (x ns : List ℕ) {n size : ℕ} → n ≡ length (uintegerOctets s (length ns)) → size ≡ cappedTo top (0 + n) → Sizing top s x ns size 0 0
 unfolding domainOctets
-sizing-first s x ns {n} {size} e h =
+sizing-first top s x ns {n} {size} e h =
     record {
       inside = omega arith;
       most = omega arith;
@@ -57,17 +57,17 @@ sizing-first s x ns {n} {size} e h =
 more : (d c : ℕ) {a b : ℕ} → a ≡ b → d + (a + c) ≡ d + b + c
 more d c e = omega arith
 
-module _ {s : Settings} {x ns : List ℕ} {size from k : ℕ} (p : Sizing s x ns size from k) where
+module _ {top : ℕ} {s : Settings} {x ns : List ℕ} {size from k : ℕ} (p : Sizing top s x ns size from k) where
   told-more :
-      (u : ℕ) {t o size′ : ℕ} → t ≡ capped u → o ≡ capped (1 + t) → size′ ≡ capped (size + o) → size′ ≡ capped (p .done + (1 + u))
+      (u : ℕ) {t o size′ : ℕ} → t ≡ cappedTo top u → o ≡ cappedTo top (1 + t) → size′ ≡ cappedTo top (size + o) → size′ ≡ cappedTo top (p .done + (1 + u))
   told-more u {t} {o} {size′} et eo es =
-      let a : o ≡ capped (1 + u) = eo ∙ ap (λ (j : ℕ). capped (1 + j)) et ∙ cap-right 1 u in
-      es ∙ ap₂ (λ (i j : ℕ). capped (i + j)) (p .told) a ∙ cap-both (p .done) (1 + u)
+      let a : o ≡ cappedTo top (1 + u) = eo ∙ ap (λ (j : ℕ). cappedTo top (1 + j)) et ∙ cap-right top 1 u in
+      es ∙ ap₂ (λ (i j : ℕ). cappedTo top (i + j)) (p .told) a ∙ cap-both top (p .done) (1 + u)
 
   pub sizing-turn :
       k < length ns → {end t o size′ : ℕ} → end ≡ from + roomOf (length x) from (getD ns k 0) →
-      t ≡ capped (length (uintegerOctets s (end - from)) + (end - from)) → o ≡ capped (1 + t) → size′ ≡ capped (size + o) →
-      Sizing s x ns size′ end (k + 1)
+      t ≡ cappedTo top (length (uintegerOctets s (end - from)) + (end - from)) → o ≡ cappedTo top (1 + t) → size′ ≡ cappedTo top (size + o) →
+      Sizing top s x ns size′ end (k + 1)
   unfolding joined
   sizing-turn h {end} {t} {o} {size′} e et eo es =
       let i : end ≤ length x = omega (arith, p .inside) in
@@ -90,7 +90,7 @@ module _ {s : Settings} {x ns : List ℕ} {size from k : ℕ} (p : Sizing s x ns
         all = rw (add-one k) (a ∙ more (p .done) _ w);
       }
 
-  pub sizing-done : length ns ≤ k → size ≡ capped (length (domainOctets s (split ns x)))
+  pub sizing-done : length ns ≤ k → size ≡ cappedTo top (length (domainOctets s (split ns x)))
   unfolding split joined
   sizing-done h =
       let z : length (joined (partOctets s) (split (drop k ns) (drop from x))) ≡ 0 =

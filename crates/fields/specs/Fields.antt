@@ -10,6 +10,7 @@ use lib.Dec.{leb, eqb}
 use Rattle.octets.specs.Octets.{pick, octetAt, part as stretch}
 use Rattle.utf8.specs.Test.{isText}
 use Rattle.walk.specs.declared.Settings.{Settings}
+use Rattle.walk.specs.declared.Bound.{Bound}
 use Rattle.walk.specs.Walk.{Reading, Step, octets, check, fieldFrom, uinteger}
 use Rattle.fields.specs.declared.Place.{Place}
 
@@ -25,15 +26,15 @@ abbrev pub opt : {A : Type 0} → Bool → A → (Reading → Step A) → Readin
 opt there none step w = pick there (step w) (record { walk = w; value = none })
 
 -- n octets, as they are: the timestamp
-unfoldable pub block : ℕ → List ℕ → Reading → Step Place
-block n p w = record { walk = octets p n w; value = place (w .at) n }
+unfoldable pub block : ℕ → Bound → List ℕ → Reading → Step Place
+block n b p w = record { walk = octets b p n w; value = place (w .at) n }
 
 -- a length and as many octets of any value, one field: the authentication id
-unfoldable pub blob : Settings → List ℕ → Reading → Step Place
-blob s p w =
+unfoldable pub blob : Settings → Bound → List ℕ → Reading → Step Place
+blob s b p w =
     record {
-      walk = fieldFrom w (octets p (uinteger s p w .value) (uinteger s p w .walk));
-      value = place (uinteger s p w .walk .at) (uinteger s p w .value);
+      walk = fieldFrom w (octets b p (uinteger s b p w .value) (uinteger s b p w .walk));
+      value = place (uinteger s b p w .walk .at) (uinteger s b p w .value);
     }
 
 -- the octets at a place
@@ -41,15 +42,15 @@ abbrev pub contentAt : List ℕ → Place → List ℕ
 contentAt p a = stretch p (a .at) (a .length)
 
 -- a text: zone, session name, domain part. The same, and its content, once it is there, is tested for 28
-unfoldable pub text : Settings → List ℕ → Reading → Step Place
-text s p w = record { walk = check (isText (contentAt p (blob s p w .value))) 28 (blob s p w .walk); value = blob s p w .value }
+unfoldable pub text : Settings → Bound → List ℕ → Reading → Step Place
+text s b p w = record { walk = check (isText (contentAt p (blob s b p w .value))) 28 (blob s b p w .walk); value = blob s b p w .value }
 
 -- a domain part, one field: an octet of 1, else 11, and a text
-unfoldable pub markedText : Settings → List ℕ → Reading → Step Place
-markedText s p w = text s p (check (eqb (octetAt p (w .at)) 1) 11 (octets p 1 w))
+unfoldable pub markedText : Settings → Bound → List ℕ → Reading → Step Place
+markedText s b p w = text s b p (check (eqb (octetAt p (w .at)) 1) 11 (octets b p 1 w))
 
-unfoldable pub part : Settings → List ℕ → Reading → Step Place
-part s p w = record { walk = fieldFrom w (markedText s p w .walk); value = markedText s p w .value }
+unfoldable pub part : Settings → Bound → List ℕ → Reading → Step Place
+part s b p w = record { walk = fieldFrom w (markedText s b p w .walk); value = markedText s b p w .value }
 
 -- SPEC N-5: at most sixteen parts; each has a place of its own
 abbrev pub partsMost : ℕ
@@ -64,21 +65,21 @@ abbrev pub noParts : ℕ → Parts
 noParts n = record { count = n; places = replicate 16 nowhere }
 
 -- one part more, as part number k
-unfoldable pub partAt : Settings → List ℕ → ℕ → Step Parts → Step Parts
-partAt s p k d =
+unfoldable pub partAt : Settings → Bound → List ℕ → ℕ → Step Parts → Step Parts
+partAt s b p k d =
     record {
-      walk = part s p (d .walk) .walk;
-      value = record { count = d .value .count; places = set (d .value .places) k (part s p (d .walk) .value) };
+      walk = part s b p (d .walk) .walk;
+      value = record { count = d .value .count; places = set (d .value .places) k (part s b p (d .walk) .value) };
     }
 
 -- the first n parts
-unfoldable pub partsTo : Settings → List ℕ → ℕ → Step Parts → Step Parts
-partsTo s p zero d = d
-partsTo s p (suc k) d = partAt s p k (partsTo s p k d)
+unfoldable pub partsTo : Settings → Bound → List ℕ → ℕ → Step Parts → Step Parts
+partsTo s b p zero d = d
+partsTo s b p (suc k) d = partAt s b p k (partsTo s b p k d)
 
 -- a count, above sixteen refused by 13, and as many parts
-unfoldable pub domain : Settings → List ℕ → Reading → Step Parts
-domain s p w =
-    pick (leb (uinteger s p w .value) partsMost)
-    (partsTo s p (uinteger s p w .value) (record { walk = uinteger s p w .walk; value = noParts (uinteger s p w .value) }))
-    (record { walk = check false 13 (uinteger s p w .walk); value = noParts 0 })
+unfoldable pub domain : Settings → Bound → List ℕ → Reading → Step Parts
+domain s b p w =
+    pick (leb (uinteger s b p w .value) partsMost)
+    (partsTo s b p (uinteger s b p w .value) (record { walk = uinteger s b p w .walk; value = noParts (uinteger s b p w .value) }))
+    (record { walk = check false 13 (uinteger s b p w .walk); value = noParts 0 })

@@ -41,9 +41,13 @@ partsPieces s (t ∷ ts) = partPieces s t ++ partsPieces s ts
 unfoldable pub domainPieces : Settings → List (List ℕ) → List (List ℕ)
 domainPieces s ts = uintegerOctets s (length ts) ∷ partsPieces s ts
 
--- a size as the code tells it: one above the largest packet stands for all that are larger
+-- a size as the code tells it: up to a largest one, which stands for all that are larger
+abbrev pub cappedTo : ℕ → ℕ → ℕ
+cappedTo most n = min most n
+
+-- for packets, one above the largest packet
 abbrev pub sizeMost : ℕ
 sizeMost = 65543
 
 abbrev pub capped : ℕ → ℕ
-capped n = min sizeMost n
+capped n = cappedTo sizeMost n

@@ -20,8 +20,9 @@ ghost use Rattle.walk.specs.Inner.{ofWalk, asUInteger};
 ghost use Rattle.walk.specs.Walk.{uinteger};
 ghost use Rattle.fields.specs.Fields.{nowhere, opt, block, blob, text, part, noParts, partsTo, domain};
 ghost use Rattle.fields.specs.Form.{uintegerOctets, domainOctets, split, allText};
-ghost use Rattle.fields.specs.Inner.{asText, asDomain, ofDomain, blobPieces, textPieces, partPieces, partsPieces, domainPieces, capped};
+ghost use Rattle.fields.specs.Inner.{asText, asDomain, ofDomain, blobPieces, textPieces, partPieces, partsPieces, domainPieces, cappedTo, capped};
 use varint::Wrote;
+use walk::Bound;
 use walk::PROFILE_FIXED;
 use walk::REFUSED_DOMAIN_PART;
 use walk::REFUSED_MANY_PARTS;
@@ -55,23 +56,23 @@ pub struct Domain {
 }
 
 // A number if it is there, else 0.
-pub fn uinteger_if(there: bool, s: Settings, p: &[u8], w: Walk) -> UInteger
-    ensures { λ r. ⌜ r ≡ asUInteger (opt there 0 (uinteger s (now (p .entry))) (ofWalk w)) ⌝ }
+pub fn uinteger_if(there: bool, s: Settings, b: Bound, p: &[u8], w: Walk) -> UInteger
+    ensures { λ r. ⌜ r ≡ asUInteger (opt there 0 (uinteger s b (now (p .entry))) (ofWalk w)) ⌝ }
 {
     if there {
-        return walk::read_uinteger(s, p, w);
+        return walk::read_uinteger(s, b, p, w);
     }
     UInteger { walk: w, value: 0 }
 }
 
 // n octets if they are there.
-pub fn block_if(there: bool, n: usize, p: &[u8], w: Walk) -> Text
-    ensures { λ r. ⌜ r ≡ asText (opt there nowhere (block n (now (p .entry))) (ofWalk w)) ⌝ }
+pub fn block_if(there: bool, n: usize, b: Bound, p: &[u8], w: Walk) -> Text
+    ensures { λ r. ⌜ r ≡ asText (opt there nowhere (block n b (now (p .entry))) (ofWalk w)) ⌝ }
 {
     if there {
-        let end = w.octets(p, n);
+        let end = w.octets(b, p, n);
         let place = Place {
-            at: w.at as usize,
+            at: w.at,
             length: n,
         };
         return Text {
@@ -86,15 +87,15 @@ pub fn block_if(there: bool, n: usize, p: &[u8], w: Walk) -> Text
     }
 }
 
-pub fn read_blob(s: Settings, p: &[u8], w: Walk) -> Text
-    ensures { λ r. ⌜ r ≡ asText (blob s (now (p .entry)) (ofWalk w)) ⌝ }
+pub fn read_blob(s: Settings, b: Bound, p: &[u8], w: Walk) -> Text
+    ensures { λ r. ⌜ r ≡ asText (blob s b (now (p .entry)) (ofWalk w)) ⌝ }
 {
-    let n = walk::read_uinteger(s, p, w);
+    let n = walk::read_uinteger(s, b, p, w);
     let v = n.walk;
     let length = n.value as usize;
-    let end = v.octets(p, length).field_from(w);
+    let end = v.octets(b, p, length).field_from(w);
     let place = Place {
-        at: v.at as usize,
+        at: v.at,
         length: length,
     };
     Text {
@@ -115,10 +116,10 @@ fn is_text_at(p: &[u8], at: usize, n: usize) -> bool
 }
 
 // A text: the same, tested for 28. If it was refused there is nothing to test.
-pub fn read_text(s: Settings, p: &[u8], w: Walk) -> Text
-    ensures { λ r. ⌜ r ≡ asText (text s (now (p .entry)) (ofWalk w)) ⌝ }
+pub fn read_text(s: Settings, b: Bound, p: &[u8], w: Walk) -> Text
+    ensures { λ r. ⌜ r ≡ asText (text s b (now (p .entry)) (ofWalk w)) ⌝ }
 {
-    let t = read_blob(s, p, w);
+    let t = read_blob(s, b, p, w);
     let end = t.walk;
     let place = t.place;
     if end.refused != 0 {
@@ -135,11 +136,11 @@ pub fn read_text(s: Settings, p: &[u8], w: Walk) -> Text
 }
 
 // An authentication id if it is there.
-pub fn blob_if(there: bool, s: Settings, p: &[u8], w: Walk) -> Text
-    ensures { λ r. ⌜ r ≡ asText (opt there nowhere (blob s (now (p .entry))) (ofWalk w)) ⌝ }
+pub fn blob_if(there: bool, s: Settings, b: Bound, p: &[u8], w: Walk) -> Text
+    ensures { λ r. ⌜ r ≡ asText (opt there nowhere (blob s b (now (p .entry))) (ofWalk w)) ⌝ }
 {
     if there {
-        return read_blob(s, p, w);
+        return read_blob(s, b, p, w);
     }
     let place = Place { at: 0, length: 0 };
     Text {
@@ -149,11 +150,11 @@ pub fn blob_if(there: bool, s: Settings, p: &[u8], w: Walk) -> Text
 }
 
 // A text if it is there.
-pub fn text_if(there: bool, s: Settings, p: &[u8], w: Walk) -> Text
-    ensures { λ r. ⌜ r ≡ asText (opt there nowhere (text s (now (p .entry))) (ofWalk w)) ⌝ }
+pub fn text_if(there: bool, s: Settings, b: Bound, p: &[u8], w: Walk) -> Text
+    ensures { λ r. ⌜ r ≡ asText (opt there nowhere (text s b (now (p .entry))) (ofWalk w)) ⌝ }
 {
     if there {
-        return read_text(s, p, w);
+        return read_text(s, b, p, w);
     }
     let place = Place { at: 0, length: 0 };
     Text {
@@ -163,11 +164,16 @@ pub fn text_if(there: bool, s: Settings, p: &[u8], w: Walk) -> Text
 }
 
 // A domain part: an octet of 1, else 11, and a text.
-fn read_part(s: Settings, p: &[u8], w: Walk) -> Text
-    ensures { λ r. ⌜ r ≡ asText (part s (now (p .entry)) (ofWalk w)) ⌝ }
+fn read_part(s: Settings, b: Bound, p: &[u8], w: Walk) -> Text
+    ensures { λ r. ⌜ r ≡ asText (part s b (now (p .entry)) (ofWalk w)) ⌝ }
 {
-    let b = octets::octet(p, w.at as usize);
-    let t = read_text(s, p, w.octets(p, 1).check(b == 1, REFUSED_DOMAIN_PART));
+    let mark = octets::octet(p, w.at);
+    let t = read_text(
+        s,
+        b,
+        p,
+        w.octets(b, p, 1).check(mark == 1, REFUSED_DOMAIN_PART),
+    );
     let v = t.walk;
     let place = t.place;
     let end = v.field_from(w);
@@ -178,16 +184,16 @@ fn read_part(s: Settings, p: &[u8], w: Walk) -> Text
 }
 
 // The first n parts: there are sixteen places. They stay where they are, and only the walk goes from part to part.
-fn parts_to(s: Settings, p: &[u8], n: usize, d: Domain) -> Domain
+fn parts_to(s: Settings, b: Bound, p: &[u8], n: usize, d: Domain) -> Domain
     requires { ⌜ n ≤ 16 ⌝ }
-    ensures { λ r. ⌜ r ≡ asDomain (partsTo s (now (p .entry)) n (ofDomain d)) ⌝ }
+    ensures { λ r. ⌜ r ≡ asDomain (partsTo s b (now (p .entry)) n (ofDomain d)) ⌝ }
 {
     let count = d.count;
     let mut parts = d.parts;
     let mut w = d.walk;
     let mut k = 0;
     while k < n {
-        let t = read_part(s, p, w);
+        let t = read_part(s, b, p, w);
         let place = t.place;
         let end = t.walk;
         parts[k] = place;
@@ -215,24 +221,24 @@ fn no_parts(w: Walk, count: usize) -> Domain
 }
 
 // A count, above sixteen refused by 13, and as many parts.
-pub fn read_domain(s: Settings, p: &[u8], w: Walk) -> Domain
-    ensures { λ r. ⌜ r ≡ asDomain (domain s (now (p .entry)) (ofWalk w)) ⌝ }
+pub fn read_domain(s: Settings, b: Bound, p: &[u8], w: Walk) -> Domain
+    ensures { λ r. ⌜ r ≡ asDomain (domain s b (now (p .entry)) (ofWalk w)) ⌝ }
 {
-    let n = walk::read_uinteger(s, p, w);
+    let n = walk::read_uinteger(s, b, p, w);
     let v = n.walk;
     let count = n.value as usize;
     if count <= PARTS {
-        return parts_to(s, p, count, no_parts(v, count));
+        return parts_to(s, b, p, count, no_parts(v, count));
     }
     no_parts(v.check(false, REFUSED_MANY_PARTS), 0)
 }
 
 // A domain if it is there.
-pub fn domain_if(there: bool, s: Settings, p: &[u8], w: Walk) -> Domain
-    ensures { λ r. ⌜ r ≡ asDomain (opt there (noParts 0) (domain s (now (p .entry))) (ofWalk w)) ⌝ }
+pub fn domain_if(there: bool, s: Settings, b: Bound, p: &[u8], w: Walk) -> Domain
+    ensures { λ r. ⌜ r ≡ asDomain (opt there (noParts 0) (domain s b (now (p .entry))) (ofWalk w)) ⌝ }
 {
     if there {
-        return read_domain(s, p, w);
+        return read_domain(s, b, p, w);
     }
     no_parts(w, 0)
 }
@@ -302,18 +308,25 @@ pub fn put_domain(s: Settings, out: &mut [u8], at: usize, x: &[u8], lengths: &[u
     put_parts(s, out, start, x, lengths)
 }
 
-// ---- sizes: exact up to 65,542, and 65,543 for all that are larger, so that no sum overflows
+// ---- sizes: exact below a largest one, which stands for all that are larger, so that no sum overflows; for packets it is 65,543
+
+// A sum, told up to a largest size.
+pub fn plus_to(most: usize, a: usize, b: usize) -> usize
+    ensures { λ r. ⌜ r ≡ cappedTo most (a + b) ⌝ }
+{
+    if most <= a {
+        return most;
+    }
+    if most - a <= b {
+        return most;
+    }
+    a + b
+}
 
 pub fn plus(a: usize, b: usize) -> usize
     ensures { λ r. ⌜ r ≡ capped (a + b) ⌝ }
 {
-    if SIZE_MOST <= a {
-        return SIZE_MOST;
-    }
-    if SIZE_MOST - a <= b {
-        return SIZE_MOST;
-    }
-    a + b
+    plus_to(SIZE_MOST, a, b)
 }
 
 pub fn uinteger_size(s: Settings, n: u64) -> usize
@@ -325,26 +338,43 @@ pub fn uinteger_size(s: Settings, n: u64) -> usize
     varint::size(n)
 }
 
-// The size of a text of n octets with its length.
+// The size of a text of n octets with its length, told up to a largest size.
+pub fn text_size_to(most: usize, s: Settings, n: usize) -> usize
+    ensures { λ r. ⌜ r ≡ cappedTo most (length (uintegerOctets s n) + n) ⌝ }
+{
+    plus_to(most, uinteger_size(s, n as u64), n)
+}
+
 pub fn text_size(s: Settings, n: usize) -> usize
     ensures { λ r. ⌜ r ≡ capped (length (uintegerOctets s n) + n) ⌝ }
 {
-    plus(uinteger_size(s, n as u64), n)
+    text_size_to(SIZE_MOST, s, n)
+}
+
+// The size of a domain, likewise.
+pub fn domain_size_to(most: usize, s: Settings, x: &[u8], lengths: &[u64]) -> usize
+    ensures { λ r. ⌜ r ≡ cappedTo most (length (domainOctets s (split (now (lengths .entry)) (now (x .entry))))) ⌝ }
+{
+    let mut size = plus_to(most, 0, uinteger_size(s, lengths.len() as u64));
+    let mut from: usize = 0;
+    let mut k: usize = 0;
+    while k < lengths.len() {
+        let end = octets::within(x.len(), from, lengths[k] as usize);
+        size = plus_to(
+            most,
+            size,
+            plus_to(most, 1, text_size_to(most, s, end - from)),
+        );
+        from = end;
+        k += 1;
+    }
+    size
 }
 
 pub fn domain_size(s: Settings, x: &[u8], lengths: &[u64]) -> usize
     ensures { λ r. ⌜ r ≡ capped (length (domainOctets s (split (now (lengths .entry)) (now (x .entry))))) ⌝ }
 {
-    let mut size = plus(0, uinteger_size(s, lengths.len() as u64));
-    let mut from: usize = 0;
-    let mut k: usize = 0;
-    while k < lengths.len() {
-        let end = octets::within(x.len(), from, lengths[k] as usize);
-        size = plus(size, plus(1, text_size(s, end - from)));
-        from = end;
-        k += 1;
-    }
-    size
+    domain_size_to(SIZE_MOST, s, x, lengths)
 }
 
 // ---- what is text

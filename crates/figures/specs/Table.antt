@@ -9,7 +9,7 @@ use lib.ListN.{length}
 use lib.Dec.{eqb}
 use Rattle.octets.specs.Octets.{pick, number as numberAt}
 use Rattle.varint.specs.Varint.{write}
-use Rattle.walk.specs.Walk.{Step, goes, uinteger}
+use Rattle.walk.specs.Walk.{Step, goes, headerBound, uinteger}
 use Rattle.packet.specs.declared.Header.{Header}
 use Rattle.packet.specs.Reading.{readPacket}
 use Rattle.write.specs.Writing.{writeOutput}
@@ -46,7 +46,7 @@ varintOf n = pick (eqb (n .walk .refused) 0) (is (n .value)) (gives (n .walk .re
 
 -- a Varint read as a field of a header
 abbrev pub varint : List ℕ → Said
-varint l = varintOf (uinteger settings l (goes 0))
+varint l = varintOf (uinteger settings headerBound l (goes 0))
 
 -- ---- cutting
 

@@ -11,7 +11,7 @@ use Rattle.octets.specs.Octets.{pick, Octets, wide}
 use Rattle.octets.proofs.Has.{Has, has-self, has-first, has-inside}
 use Rattle.octets.proofs.Numbers.{number-top}
 use Rattle.walk.specs.declared.Settings.{Settings}
-use Rattle.walk.specs.Walk.{Reading, going}
+use Rattle.walk.specs.Walk.{Reading, going, headerBound}
 use Rattle.fields.specs.Fields.{nowhere, opt, block}
 use Rattle.packet.specs.declared.Header.{Header}
 use Rattle.packet.specs.Format.{Values, segment, identification, frontOctets, counterOctets, headerOctets, secondaryOctets, dataOctets, octetsOf, InRange}
@@ -33,7 +33,7 @@ module _ (s : Settings) (p : List ℕ) where
   first-has w =
       has-first (identification (told s p .head)) _ (subst (λ (q : List ℕ). Has q 0 (octetsOf s (told s p))) w (has-self (octetsOf s (told s p))))
 
-  stamp-long : (b : Bool) (w : Reading) → b ≡ true → opt b nowhere (block (s .t) p) w .value .length ≡ s .t
+  stamp-long : (b : Bool) (w : Reading) → b ≡ true → opt b nowhere (block (s .t) headerBound p) w .value .length ≡ s .t
   unfolding block
   stamp-long true w e = refl
   stamp-long false w e = let z : _≡_ {A = ℕ} 0 1 = cc in absurd (omega arith)

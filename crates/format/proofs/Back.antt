@@ -11,12 +11,13 @@ use lib.Dec.{eqb}
 use Rattle.octets.specs.Octets.{Octets}
 use Rattle.octets.proofs.Has.{Has, has-first, has-second, part-has}
 use Rattle.walk.specs.declared.Settings.{Settings}
-use Rattle.walk.specs.Walk.{Reading, goes, headerEnd}
+use Rattle.walk.specs.Walk.{Reading, goes, headerBound}
 use Rattle.packet.specs.Format.{Values, segment, secondaryOctets, dataOctets, octetsOf, InRange}
 use Rattle.packet.specs.Reading.{segmented, startAt, textsAt, ended, acceptedHeader, readPacket}
 use Rattle.packet.proofs.Whole.{accepts}
 use Rattle.format.specs.Accepted.{fixedSize}
 use Rattle.format.specs.Told.{valuesOf}
+use Rattle.format.proofs.Field.{Room}
 use Rattle.format.proofs.Secondary.{secondaryF}
 use Rattle.format.proofs.Pairs.{pairOf, pair-form, pair-fit, same-values}
 use Rattle.format.proofs.Start.{start-back, body-back}
@@ -53,28 +54,29 @@ module _
   both = data-back s p v r o h l
 
   field-back :
-      (secondaryF s p (segment (v .flags)) .step (goes 6) ≡ goes (6 + length (secondaryOctets s v)))
-      × (secondaryF s p (segment (v .flags)) .value (goes 6) ≡ pairOf v)
+      (secondaryF s headerBound p (segment (v .flags)) .step (goes 6) ≡ goes (6 + length (secondaryOctets s v)))
+      × (secondaryF s headerBound p (segment (v .flags)) .value (goes 6) ≡ pairOf v)
   field-back =
-      let e = pair-form s p v in
-      let a : Has p 6 (secondaryF s p (segment (v .flags)) .form (pairOf v)) = rw (← e) (has-first (secondaryOctets s v) (v .body) both) in
-      let m : 6 + length (secondaryF s p (segment (v .flags)) .form (pairOf v)) ≤ headerEnd = rw (← e) (omega (arith, r .header)) in
-      let b = secondaryF s p (segment (v .flags)) .back 6 (pairOf v) (pair-fit s p v (r .head) (r .counter)) a m in
+      let e = pair-form s headerBound p v in
+      let a : Has p 6 (secondaryF s headerBound p (segment (v .flags)) .form (pairOf v)) = rw (← e) (has-first (secondaryOctets s v) (v .body) both) in
+      let m : Room headerBound 6 (secondaryF s headerBound p (segment (v .flags)) .form (pairOf v)) =
+      rw (← e) (omega (arith, r .header), omega (arith, r .header)) in
+      let b = secondaryF s headerBound p (segment (v .flags)) .back 6 (pairOf v) (pair-fit s headerBound p v (r .head) (r .counter)) a m in
       (b .0 ∙ ap (λ (x : List ℕ). goes (6 + length x)) (sym e), b .1)
 
   -- by the packet's own flags, at the reading's own start
   field-told :
-      (secondaryF s p (segmented p) .step (startAt s p) ≡ goes (6 + length (secondaryOctets s v)))
-      × (secondaryF s p (segmented p) .value (startAt s p) ≡ pairOf v)
+      (secondaryF s headerBound p (segmented p) .step (startAt s p) ≡ goes (6 + length (secondaryOctets s v)))
+      × (secondaryF s headerBound p (segmented p) .value (startAt s p) ≡ pairOf v)
   field-told =
       subst
       (λ (w : Reading).
-      (secondaryF s p (segmented p) .step w ≡ goes (6 + length (secondaryOctets s v)))
-      × (secondaryF s p (segmented p) .value w ≡ pairOf v))
+      (secondaryF s headerBound p (segmented p) .step w ≡ goes (6 + length (secondaryOctets s v)))
+      × (secondaryF s headerBound p (segmented p) .value w ≡ pairOf v))
       (sym start)
       (subst
       (λ (q : Bool).
-      (secondaryF s p q .step (goes 6) ≡ goes (6 + length (secondaryOctets s v))) × (secondaryF s p q .value (goes 6) ≡ pairOf v))
+      (secondaryF s headerBound p q .step (goes 6) ≡ goes (6 + length (secondaryOctets s v))) × (secondaryF s headerBound p q .value (goes 6) ≡ pairOf v))
       segment-back
       field-back)
 

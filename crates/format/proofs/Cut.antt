@@ -15,10 +15,11 @@ use borrow.Author.Tests.{lt-ltb, le-ltb}
 use Rattle.octets.specs.Octets.{pick}
 use Rattle.octets.proofs.Lists.{below-or}
 use Rattle.octets.proofs.Has.{Has, has-first, has-second}
-use Rattle.walk.specs.Walk.{Reading, goes, refused, going, headerEnd}
+use Rattle.walk.specs.declared.Bound.{Bound}
+use Rattle.walk.specs.Walk.{Reading, goes, refused, going}
 use Rattle.fields.specs.Form.{joined}
 use Rattle.packet.specs.Began.{began}
-use Rattle.format.proofs.Field.{Field}
+use Rattle.format.proofs.Field.{Room, room-first, room-second, Field}
 
 -- ---- lists of fields
 
@@ -68,7 +69,7 @@ began-second (f ∷ a) b k l =
     ∙ ap (λ (n : ℕ). n + began b (k - length f - length (all a))) (sym (length-append f (all a)))
     ∙ ap (λ (n : ℕ). length (f ++ all a) + began b n) m)
 
-module _ (p : List ℕ) where
+module _ (bound : Bound) (p : List ℕ) where
   -- p ends inside the octets l at place i: it has the first of them, and not all
   pub record Ends (i : ℕ) (l : List ℕ) : Type 0 where
     pub from : i ≤ length p
@@ -111,10 +112,10 @@ module _ (p : List ℕ) where
     pub stays : (w : Reading) → going w ≡ false → step w ≡ w
     pub octets : (x : A) → all (fields x) ≡ form x
     pub ends :
-        (i : ℕ) (x : A) → Fit x → i + length (form x) ≤ headerEnd → Ends i (form x) →
+        (i : ℕ) (x : A) → Fit x → Room bound i (form x) → Ends i (form x) →
         step (goes i) ≡ refused (i + began (fields x) (length p - i)) 6
 
-  abbrev pub Cut : {A : Type 0} → Field p A → (A → List (List ℕ)) → Type 0
+  abbrev pub Cut : {A : Type 0} → Field bound p A → (A → List (List ℕ)) → Type 0
   Cut F fields = Cuts (F .step) (F .form) (F .Fit) fields
 
   pub one-octets : (f : List ℕ) → all (f ∷ []) ≡ f
@@ -141,13 +142,10 @@ module _ (p : List ℕ) where
 
   -- ---- a field, and one that its value decides
 
-  module _ {A B : Type 0} (F : Field p A) {f : A → List (List ℕ)} {next : A → Reading → Reading} {form : A → B → List ℕ} {Fit : A → B → Type 0}
+  module _ {A B : Type 0} (F : Field bound p A) {f : A → List (List ℕ)} {next : A → Reading → Reading} {form : A → B → List ℕ} {Fit : A → B → Type 0}
       {g : A → B → List (List ℕ)} (c : Cut F f) (d : (x : A) → Cuts (next x) (form x) (Fit x) (g x)) where
     module _ (i : ℕ) (x : A × B) (t : F .Fit (x .0) × Fit (x .0) (x .1))
-        (l : i + length (F .form (x .0) ++ form (x .0) (x .1)) ≤ headerEnd) (e : Ends i (F .form (x .0) ++ form (x .0) (x .1))) where
-      long : i + (length (F .form (x .0)) + length (form (x .0) (x .1))) ≤ headerEnd
-      long = simp length-append at l
-
+        (l : Room bound i (F .form (x .0) ++ form (x .0) (x .1))) (e : Ends i (F .form (x .0) ++ form (x .0) (x .1))) where
       size : length (all (f (x .0))) ≡ length (F .form (x .0))
       size = ap length (c .octets (x .0))
 
@@ -155,8 +153,7 @@ module _ (p : List ℕ) where
           length p - i < length (F .form (x .0)) →
           next (F .value (goes i)) (F .step (goes i)) ≡ refused (i + began (f (x .0) ++ g (x .0) (x .1)) (length p - i)) 6
       in-first h =
-          let m = long in
-          let r = c .ends i (x .0) (t .0) (omega arith) (ends-first (F .form (x .0)) (form (x .0) (x .1)) e h) in
+          let r = c .ends i (x .0) (t .0) (room-first bound i (F .form (x .0)) (form (x .0) (x .1)) l) (ends-first (F .form (x .0)) (form (x .0) (x .1)) e h) in
           let k : length p - i < length (all (f (x .0))) = omega (arith, size) in
           ap (next (F .value (goes i))) r
           ∙ d (F .value (goes i)) .stays _ refl
@@ -166,10 +163,13 @@ module _ (p : List ℕ) where
           length (F .form (x .0)) ≤ length p - i →
           next (F .value (goes i)) (F .step (goes i)) ≡ refused (i + began (f (x .0) ++ g (x .0) (x .1)) (length p - i)) 6
       in-second h =
-          let m = long in
           let q = e .from in
-          let a = F .back i (x .0) (t .0) (first-has (F .form (x .0)) (form (x .0) (x .1)) e h) (omega arith) in
-          let r = d (x .0) .ends (i + length (F .form (x .0))) (x .1) (t .1) (omega arith) (ends-second (F .form (x .0)) (form (x .0) (x .1)) e h) in
+          let a =
+          F .back i (x .0) (t .0) (first-has (F .form (x .0)) (form (x .0) (x .1)) e h)
+          (room-first bound i (F .form (x .0)) (form (x .0) (x .1)) l) in
+          let r =
+          d (x .0) .ends (i + length (F .form (x .0))) (x .1) (t .1) (room-second bound i (F .form (x .0)) (form (x .0) (x .1)) l)
+          (ends-second (F .form (x .0)) (form (x .0) (x .1)) e h) in
           let k : length (all (f (x .0))) ≤ length p - i = omega (arith, size) in
           let n : length p - i - length (all (f (x .0))) ≡ length p - (i + length (F .form (x .0))) = omega (arith, size) in
           let u : i + length (F .form (x .0)) + began (g (x .0) (x .1)) (length p - (i + length (F .form (x .0))))

@@ -13,7 +13,7 @@ use Rattle.octets.specs.Octets.{pick, Octets, wide, number, octetAt}
 use Rattle.octets.proofs.Has.{Has, has-self, has-first, has-second, octets-append, octets-take}
 use Rattle.octets.proofs.Numbers.{wide-length, wide-octets, number-back}
 use Rattle.walk.specs.declared.Settings.{Settings}
-use Rattle.walk.specs.Walk.{Reading, goes, refused, headerEnd, check}
+use Rattle.walk.specs.Walk.{Reading, goes, refused, check, headerBound}
 use Rattle.walk.proofs.Steps.{check-refused}
 use Rattle.packet.specs.declared.Header.{Header}
 use Rattle.packet.specs.Format.{Values, segment, identification, secondaryOctets, dataOctets, octetsOf, InRange}
@@ -29,7 +29,7 @@ use Rattle.format.proofs.CutFields.{header-ends, fields-octets}
 
 -- the fields one after another are the secondary header
 pub fields-whole : (s : Settings) (v : Values) → all (secondaryFields s v) ≡ secondaryOctets s v
-fields-whole s v = fields-octets s (octetsOf s v) v ∙ sym (pair-form s (octetsOf s v) v)
+fields-whole s v = fields-octets s headerBound (octetsOf s v) v ∙ sym (pair-form s headerBound (octetsOf s v) v)
 
 module _ (s : Settings) (v : Values) (r : InRange s v) (m : ℕ) (some : 1 ≤ m) (inside : m < length (secondaryOctets s v)) where
   abbrev first : ℕ
@@ -110,7 +110,7 @@ module _ (s : Settings) (v : Values) (r : InRange s v) (m : ℕ) (some : 1 ≤ m
   abbrev place : ℕ
   place = began (secondaryFields s v) m
 
-  ends : Ends q 6 (secondaryOctets s v)
+  ends : Ends headerBound q 6 (secondaryOctets s v)
   ends =
       let n = long in
       let k : length q - 6 ≡ m = omega arith in
@@ -120,20 +120,20 @@ module _ (s : Settings) (v : Values) (r : InRange s v) (m : ℕ) (some : 1 ≤ m
         has = subst (λ (j : ℕ). Has q 6 (take j (secondaryOctets s v))) (sym k) has6;
       }
 
-  step : secondaryF s q (segment (v .flags)) .step (goes 6) ≡ refused (6 + place) 6
+  step : secondaryF s headerBound q (segment (v .flags)) .step (goes 6) ≡ refused (6 + place) 6
   step =
-      let e = pair-form s q v in
+      let e = pair-form s headerBound q v in
       let n = long in
       let k : length q - 6 ≡ m = omega arith in
-      header-ends s q v 6 (pair-fit s q v (r .head) (r .counter)) (rw (← e) (omega (arith, r .header)))
-      (subst (λ (l : List ℕ). Ends q 6 l) e ends)
+      header-ends s headerBound q v 6 (pair-fit s headerBound q v (r .head) (r .counter)) (rw (← e) (omega (arith, r .header), omega (arith, r .header)))
+      (subst (λ (l : List ℕ). Ends headerBound q 6 l) e ends)
       ∙ ap (λ (j : ℕ). refused (6 + began (secondaryFields s v) j) 6) k
 
   texts : textsAt s q .walk ≡ refused (6 + place) 6
   texts =
       sym (told-step s q)
-      ∙ ap (secondaryF s q (segmented q) .step) start
-      ∙ ap (λ (b : Bool). secondaryF s q b .step (goes 6)) (sym flag)
+      ∙ ap (secondaryF s headerBound q (segmented q) .step) start
+      ∙ ap (λ (b : Bool). secondaryF s headerBound q b .step (goes 6)) (sym flag)
       ∙ step
 
   end : ended s q ≡ refused (6 + place) 6

@@ -2,7 +2,7 @@
 -- its laws. `back`: what is written reads back. `plain`: what is written is octets. `only`: what is accepted was written, and fits.
 -- `order`: its contents stand in order inside what was read. Here the record, one field after another, one that may be absent, the same field told by equal steps.
 -- Assumes nothing.
-use Prim.Native.Nat.{ℕ, _+_, _≤_}
+use Prim.Native.Nat.{ℕ, _+_, _≤_, _<_}
 use mathlib.Core.Path.{_≡_, refl, ap, sym, _∙_}
 use mathlib.Core.List.{List, [], _∷_, _++_}
 use mathlib.Core.Bool.{Bool, true, false}
@@ -12,7 +12,8 @@ use lib.ListN.{length, length-append}
 use borrow.Author.Tests.{eqb-true}
 use Rattle.octets.specs.Octets.{pick, Octets}
 use Rattle.octets.proofs.Has.{Has, has-first, has-second, has-both, has-nil, has-inside, octets-nil, octets-append}
-use Rattle.walk.specs.Walk.{Reading, goes, going, headerEnd}
+use Rattle.walk.specs.declared.Bound.{Bound}
+use Rattle.walk.specs.Walk.{Reading, goes, going}
 use Rattle.fields.specs.declared.Place.{Place}
 use Rattle.packet.specs.Format.{Opt}
 use Rattle.format.specs.Told.{InOrder}
@@ -39,16 +40,30 @@ unfolding InOrder
 order-both lo mid hi [] y o q = order-lower mid lo hi y o q
 order-both lo mid hi (a ∷ x) y o q = (o .0, order-both (a .at + a .length) mid hi x y (o .1) q)
 
-module _ (p : List ℕ) where
-  -- where a reading goes on, it stands inside the packet and the header's limit
+-- octets at a place that end within the bound, and are few enough for a length of 32 bits
+abbrev pub Room : Bound → ℕ → List ℕ → Type 0
+Room b i l = (i + length l ≤ b .end) × (length l < 4294967296)
+
+pub room-first : (b : Bound) (i : ℕ) (x y : List ℕ) → Room b i (x ++ y) → Room b i x
+room-first b i x y r =
+    let e = length-append x y in
+    (omega (arith, r .0), omega (arith, r .1))
+
+pub room-second : (b : Bound) (i : ℕ) (x y : List ℕ) → Room b i (x ++ y) → Room b (i + length x) y
+room-second b i x y r =
+    let e = length-append x y in
+    (omega (arith, r .0), omega (arith, r .1))
+
+module _ (bound : Bound) (p : List ℕ) where
+  -- where a reading goes on, it stands inside the octets and the bound
   abbrev pub Sound : Reading → Type 0
-  Sound w = going w ≡ true → (w .at ≤ length p) × (w .at ≤ headerEnd)
+  Sound w = going w ≡ true → (w .at ≤ length p) × (w .at ≤ bound .end)
 
   -- a step from w to v over the octets l
   pub record Took (w v : Reading) (l : List ℕ) : Type 0 where
     pub went : going w ≡ true
     pub has : Has p (w .at) l
-    pub limit : w .at + length l ≤ headerEnd
+    pub limit : w .at + length l ≤ bound .end
     pub ended : v ≡ goes (w .at + length l)
 
   pub record Field (A : Type 0) : Type 1 where
@@ -58,9 +73,9 @@ module _ (p : List ℕ) where
     pub Fit : A → Type 0
     pub spots : Reading → List Place
     pub back :
-        (i : ℕ) (x : A) → Fit x → Has p i (form x) → i + length (form x) ≤ headerEnd →
+        (i : ℕ) (x : A) → Fit x → Has p i (form x) → Room bound i (form x) →
         (step (goes i) ≡ goes (i + length (form x))) × (value (goes i) ≡ x)
-    pub plain : (x : A) → Fit x → length (form x) ≤ headerEnd → Octets (form x)
+    pub plain : (x : A) → Fit x → length (form x) < 4294967296 → Octets (form x)
     pub only : Octets p → (w : Reading) → Sound w → going (step w) ≡ true → Took w (step w) (form (value w)) × Fit (value w)
     pub order : Octets p → (w : Reading) → Sound w → going (step w) ≡ true → InOrder (w .at) (spots w) (step w .at)
 
@@ -91,19 +106,20 @@ module _ (p : List ℕ) where
   module _ {A B : Type 0} (F : Field A) (G : A → Field B) where
     pub then-back :
         (i : ℕ) (x : A × B) → F .Fit (x .0) × G (x .0) .Fit (x .1) → Has p i (F .form (x .0) ++ G (x .0) .form (x .1)) →
-        i + length (F .form (x .0) ++ G (x .0) .form (x .1)) ≤ headerEnd →
+        Room bound i (F .form (x .0) ++ G (x .0) .form (x .1)) →
         (G (F .value (goes i)) .step (F .step (goes i)) ≡ goes (i + length (F .form (x .0) ++ G (x .0) .form (x .1))))
         × (_≡_ {A = A × B} (F .value (goes i), G (F .value (goes i)) .value (F .step (goes i))) x)
     then-back i x f h l =
-        let e = simp length-append at l in
-        let a = F .back i (x .0) (f .0) (has-first (F .form (x .0)) (G (x .0) .form (x .1)) h) (omega arith) in
+        let a =
+        F .back i (x .0) (f .0) (has-first (F .form (x .0)) (G (x .0) .form (x .1)) h)
+        (room-first bound i (F .form (x .0)) (G (x .0) .form (x .1)) l) in
         let b =
         G (x .0) .back (i + length (F .form (x .0))) (x .1) (f .1) (has-second (F .form (x .0)) (G (x .0) .form (x .1)) h)
-        (omega arith) in
+        (room-second bound i (F .form (x .0)) (G (x .0) .form (x .1)) l) in
         (simp (a .0, a .1, b .0, length-append, add-assoc), simp (a .0, a .1, b .1))
 
     pub then-plain :
-        (x : A × B) → F .Fit (x .0) × G (x .0) .Fit (x .1) → length (F .form (x .0) ++ G (x .0) .form (x .1)) ≤ headerEnd →
+        (x : A × B) → F .Fit (x .0) × G (x .0) .Fit (x .1) → length (F .form (x .0) ++ G (x .0) .form (x .1)) < 4294967296 →
         Octets (F .form (x .0) ++ G (x .0) .form (x .1))
     then-plain x f l =
         let e = simp length-append at l in
@@ -159,13 +175,13 @@ module _ (p : List ℕ) where
   module _ {A : Type 0} where
     pub opt-back :
         (b : Bool) (a : A) (F : Field A) (i : ℕ) (x : A) → Opt b (F .Fit) a x → Has p i (pick b (F .form x) []) →
-        i + length (pick b (F .form x) []) ≤ headerEnd →
+        Room bound i (pick b (F .form x) []) →
         (pick b (F .step (goes i)) (goes i) ≡ goes (i + length (pick b (F .form x) []))) × (pick b (F .value (goes i)) a ≡ x)
     opt-back true a F i x f h l = F .back i x f h l
     opt-back false a F i x f h l = (ap goes (sym (add-zero i)), sym f)
 
     pub opt-plain :
-        (b : Bool) (a : A) (F : Field A) (x : A) → Opt b (F .Fit) a x → length (pick b (F .form x) []) ≤ headerEnd →
+        (b : Bool) (a : A) (F : Field A) (x : A) → Opt b (F .Fit) a x → length (pick b (F .form x) []) < 4294967296 →
         Octets (pick b (F .form x) [])
     opt-plain true a F x f l = F .plain x f l
     opt-plain false a F x f l = octets-nil

@@ -8,6 +8,7 @@ use native.Mathlib.Omega.{arith}
 use lib.Dec.{ltb}
 use borrow.Author.Tests.{ltb-true, lt-ltb}
 use Rattle.octets.specs.Octets.{wide}
+use Rattle.walk.specs.declared.Bound.{Bound}
 use Rattle.packet.specs.declared.Present.{Present}
 use Rattle.packet.specs.FixedPart.{flagsOf}
 use Rattle.format.proofs.Field.{Field, seq}
@@ -49,10 +50,10 @@ unpack-pack x f =
 abbrev pub Fixed : Type 0
 Fixed = ℕ × (ℕ × (ℕ × (ℕ × (ℕ × (Packed × (ℕ × (ℕ × Present)))))))
 
-module _ (p : List ℕ) where
+module _ (bound : Bound) (p : List ℕ) where
   -- 7, then 8
-  abbrev pub firstOctet : Field p ℕ
-  firstOctet = tested p (λ x. ltb (x % 32) 22) 7 (tested p (λ x. ltb x 32) 6 (octetF p))
+  abbrev pub firstOctet : Field bound p ℕ
+  firstOctet = tested bound p (λ x. ltb (x % 32) 22) 7 (tested bound p (λ x. ltb x 32) 6 (octetF bound p))
 
   pub first-undo : (x : ℕ) → firstOctet .Fit x → x % 32 ≡ x
   first-undo x f = omega (arith, ltb-true x 32 (f .0 .1))
@@ -63,19 +64,19 @@ module _ (p : List ℕ) where
   pub sdu-top : (x : ℕ) → firstOctet .Fit x × (x % 32 ≡ x) → x ≤ 21
   sdu-top x f = omega (arith, ltb-true (x % 32) 22 (f .0 .1), f .1)
 
-  abbrev pub sduF : Field p ℕ
+  abbrev pub sduF : Field bound p ℕ
   sduF =
-      formed p (via p firstOctet (λ x. x % 32) (λ x. x) first-undo) (wide 1) (λ x. x ≤ 21) (λ x. refl) (λ x f l. sdu-fit x f) sdu-top
+      formed bound p (via bound p firstOctet (λ x. x % 32) (λ x. x) first-undo) (wide 1) (λ x. x ≤ 21) (λ x. refl) (λ x f l. sdu-fit x f) sdu-top
 
   -- 9 is tested before the second octet
-  abbrev pub highOctet : Field p ℕ
-  highOctet = tested p (λ x. ltb (x / 8 % 4) 3) 8 (octetF p)
+  abbrev pub highOctet : Field bound p ℕ
+  highOctet = tested bound p (λ x. ltb (x / 8 % 4) 3) 8 (octetF bound p)
 
-  abbrev pub twoOctets : Field p (ℕ × ℕ)
-  twoOctets = whole p (seq p highOctet (octetF p))
+  abbrev pub twoOctets : Field bound p (ℕ × ℕ)
+  twoOctets = whole bound p (seq bound p highOctet (octetF bound p))
 
-  abbrev pub packedVia : Field p Packed
-  packedVia = via p twoOctets unpack pack (λ a f. pack-unpack (a .0) (a .1) (f .0 .0) (f .1))
+  abbrev pub packedVia : Field bound p Packed
+  packedVia = via bound p twoOctets unpack pack (λ a f. pack-unpack (a .0) (a .1) (f .0 .0) (f .1))
 
   pub packed-form : (x : Packed) → wide 2 (word x) ≡ packedVia .form x
   unfolding wide
@@ -103,19 +104,19 @@ module _ (p : List ℕ) where
           v / 256 / 8 % 4 < 3 → (e < 2) × ((q < 4) × ((k ≤ 2) × (z < 2048)))
       tops v e q k z ea eq ek ez t s = (omega arith, (omega arith, (omega arith, omega arith)))
 
-  abbrev pub packedF : Field p Packed
-  packedF = formed p packedVia (λ x. wide 2 (word x)) PackedFit packed-form (λ x f l. packed-fit x f) packed-tops
+  abbrev pub packedF : Field bound p Packed
+  packedF = formed bound p packedVia (λ x. wide 2 (word x)) PackedFit packed-form (λ x f l. packed-fit x f) packed-tops
 
   -- any flags
-  abbrev pub presentF : Field p Present
+  abbrev pub presentF : Field bound p Present
   presentF =
-      formed p (via p (octetF p) flagsOf flagOctet octet-flags) (λ x. wide 1 (flagOctet x)) (λ x. Unit {0}) (λ x. refl)
+      formed bound p (via bound p (octetF bound p) flagsOf flagOctet octet-flags) (λ x. wide 1 (flagOctet x)) (λ x. Unit {0}) (λ x. refl)
       (λ x f l. (flag-top x, flags-octet x)) (λ x f. tt)
 
-  abbrev pub fixedF : Field p Fixed
+  abbrev pub fixedF : Field bound p Fixed
   fixedF =
-      seq p sduF
-      (seq p (wideF p 2)
-      (seq p (wideF p 2)
-      (seq p (wideF p 2)
-      (seq p (octetF p) (seq p packedF (seq p (wideF p 2) (seq p (wideF p 8) presentF)))))))
+      seq bound p sduF
+      (seq bound p (wideF bound p 2)
+      (seq bound p (wideF bound p 2)
+      (seq bound p (wideF bound p 2)
+      (seq bound p (octetF bound p) (seq bound p packedF (seq bound p (wideF bound p 2) (seq bound p (wideF bound p 8) presentF)))))))

@@ -1,6 +1,6 @@
 -- The primary header around the data field: its three words and its values, both ways; and what is written is octets.
 -- Assumes nothing.
-use Prim.Native.Nat.{ℕ, _+_, _-_, _*_, _/_, _%_, _≤_}
+use Prim.Native.Nat.{ℕ, _+_, _-_, _*_, _/_, _%_, _≤_, _<_}
 use mathlib.Core.Path.{_≡_, refl, _∙_}
 use mathlib.Core.List.{List, [], _++_}
 use native.Mathlib.Omega.{arith}
@@ -9,7 +9,7 @@ use Rattle.octets.specs.Octets.{Octets, octetAt, number, wide}
 use Rattle.octets.proofs.Has.{Has, has-first, has-second, has-both, has-all, octets-append}
 use Rattle.octets.proofs.Numbers.{wide-length, wide-octets, number-back, number-has}
 use Rattle.walk.specs.declared.Settings.{Settings}
-use Rattle.walk.specs.Walk.{headerEnd}
+use Rattle.walk.specs.Walk.{headerBound}
 use Rattle.packet.specs.Format.{Head, Values, segment, identification, fixedOctets, secondaryOctets, dataOctets, octetsOf, InRange}
 use Rattle.format.specs.Accepted.{fixedSize}
 use Rattle.format.proofs.Secondary.{secondaryF}
@@ -70,9 +70,9 @@ module _ (s : Settings) (p : List ℕ) (v : Values) (o : Octets p) (d : Opens s 
 
 pub secondary-plain : (s : Settings) (v : Values) → InRange s v → Octets (secondaryOctets s v)
 secondary-plain s v r =
-    let e = pair-form s [] v in
-    let m : length (secondaryF s [] (segment (v .flags)) .form (pairOf v)) ≤ headerEnd = rw (← e) (omega (arith, r .header)) in
-    rw e (secondaryF s [] (segment (v .flags)) .plain (pairOf v) (pair-fit s [] v (r .head) (r .counter)) m)
+    let e = pair-form s headerBound [] v in
+    let m : length (secondaryF s headerBound [] (segment (v .flags)) .form (pairOf v)) < 4294967296 = rw (← e) (omega (arith, r .header)) in
+    rw e (secondaryF s headerBound [] (segment (v .flags)) .plain (pairOf v) (pair-fit s headerBound [] v (r .head) (r .counter)) m)
 
 wide-before : (x : ℕ) (l : List ℕ) → Octets l → Octets (wide 2 x ++ l)
 wide-before x l o = octets-append (wide 2 x) l (wide-octets 2 x) o

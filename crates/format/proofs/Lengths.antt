@@ -80,7 +80,7 @@ module _ (s : Settings) (p : List ℕ) where
       let k = others ⊥ ⊥ s in
       let f = other ⊥ ⊥ 15 (λ e. omega (arith, e)) (λ e. omega (arith, e)) in
       let o = other ⊥ ⊥ 1 (λ e. omega (arith, e)) (λ e. omega (arith, e)) in
-      let c = check-ok s (Lengthy ⊥ ⊥) k in
+      let c = check-ok (Lengthy ⊥ ⊥) in
       fields-keep s (Lengthy ⊥ ⊥) k p (rw (few-start l) (c false 1 _ o (c _ 15 _ f (c _ 15 _ f (c _ 15 (goes 6) f (k .none))))))
 
   -- ---- what they tell

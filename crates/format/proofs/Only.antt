@@ -11,7 +11,7 @@ use Rattle.octets.specs.Octets.{Octets, part}
 use Rattle.octets.proofs.Has.{Has, has-inside, has-both, has-part, part-length, octets-part}
 use Rattle.octets.proofs.Numbers.{number-top}
 use Rattle.walk.specs.declared.Settings.{Settings}
-use Rattle.walk.specs.Walk.{Reading, goes, going, headerEnd}
+use Rattle.walk.specs.Walk.{Reading, goes, going, headerEnd, headerBound}
 use Rattle.packet.specs.Format.{Values, segment, secondaryOctets, dataOctets, octetsOf, InRange}
 use Rattle.packet.specs.FixedPart.{afterSdu, afterArea, afterService, afterOperation, afterVersion, afterSession, afterSecondary, afterQualifier, afterTransaction, afterPresence, fixedOf, presentOf}
 use Rattle.packet.specs.Reading.{segmented, primaryOf, idsOf, textsOf, startAt, textsAt, ended, acceptedHeader}
@@ -23,7 +23,7 @@ use Rattle.format.proofs.Start.{Opens, start-only, body-only}
 use Rattle.format.proofs.Frame.{Front, written}
 
 -- what is left of a slice
-rest-has :
+pub rest-has :
     (p : List ℕ) (i n : ℕ) → i ≡ n → n ≤ length p →
     Has p n (part p i (length p - i)) × (n + length (part p i (length p - i)) ≡ length p)
 rest-has p i n e l =
@@ -35,12 +35,12 @@ module _ (s : Settings) (p : List ℕ) where
   abbrev pub told : Values
   told = valuesOf p (acceptedHeader s p)
 
-  pub told-pair : secondaryF s p (segmented p) .value (startAt s p) ≡ pairOf told
+  pub told-pair : secondaryF s headerBound p (segmented p) .value (startAt s p) ≡ pairOf told
   unfolding valuesOf headOf acceptedHeader primaryOf fixedOf presentOf idsOf textsOf afterSdu afterArea afterService afterOperation afterVersion
       afterSession afterSecondary afterQualifier afterTransaction afterPresence
   told-pair = refl
 
-  pub told-step : secondaryF s p (segmented p) .step (startAt s p) ≡ textsAt s p .walk
+  pub told-step : secondaryF s headerBound p (segmented p) .step (startAt s p) ≡ textsAt s p .walk
   unfolding fixedOf presentOf idsOf textsOf afterSdu afterArea afterService afterOperation afterVersion afterSession afterSecondary afterQualifier afterTransaction afterPresence
   told-step = refl
 
@@ -52,19 +52,19 @@ module _ (s : Settings) (p : List ℕ) where
   unfolding valuesOf headOf acceptedHeader primaryOf
   told-segment = refl
 
-  told-form : secondaryOctets s told ≡ secondaryF s p (segmented p) .form (secondaryF s p (segmented p) .value (startAt s p))
+  told-form : secondaryOctets s told ≡ secondaryF s headerBound p (segmented p) .form (secondaryF s headerBound p (segmented p) .value (startAt s p))
   unfolding valuesOf headOf acceptedHeader primaryOf fixedOf presentOf idsOf textsOf afterSdu afterArea afterService afterOperation afterVersion
       afterSession afterSecondary afterQualifier afterTransaction afterPresence
-  told-form = pair-form s p told
+  told-form = pair-form s headerBound p told
 
   told-fit :
-      secondaryF s p (segmented p) .Fit (secondaryF s p (segmented p) .value (startAt s p)) →
-      secondaryF s p (segment (told .flags)) .Fit (pairOf told)
+      secondaryF s headerBound p (segmented p) .Fit (secondaryF s headerBound p (segmented p) .value (startAt s p)) →
+      secondaryF s headerBound p (segment (told .flags)) .Fit (pairOf told)
   unfolding valuesOf headOf acceptedHeader primaryOf fixedOf presentOf idsOf textsOf afterSdu afterArea afterService afterOperation afterVersion
       afterSession afterSecondary afterQualifier afterTransaction afterPresence
   told-fit f = f
 
-  pub start-sound : Sound p (startAt s p)
+  pub start-sound : Sound headerBound p (startAt s p)
   start-sound e = let d = start-only s p e in rw (d .0) (d .1 .six, omega arith)
 
   -- what an accepted packet gives
@@ -73,24 +73,24 @@ module _ (s : Settings) (p : List ℕ) where
     pub has : Has p 6 (secondaryOctets s told)
     pub limit : 6 + length (secondaryOctets s told) ≤ headerEnd
     pub ends : ended s p .at ≡ 6 + length (secondaryOctets s told)
-    pub fit : secondaryF s p (segment (told .flags)) .Fit (pairOf told)
+    pub fit : secondaryF s headerBound p (segment (told .flags)) .Fit (pairOf told)
     pub some : segmented p ≡ true → ended s p .at < length p
 
   told-took :
       Octets p → going (textsAt s p .walk) ≡ true →
-      Took p (startAt s p) (textsAt s p .walk) (secondaryOctets s told) × secondaryF s p (segment (told .flags)) .Fit (pairOf told)
+      Took headerBound p (startAt s p) (textsAt s p .walk) (secondaryOctets s told) × secondaryF s headerBound p (segment (told .flags)) .Fit (pairOf told)
   unfolding valuesOf headOf acceptedHeader primaryOf fixedOf presentOf idsOf textsOf afterSdu afterArea afterService afterOperation afterVersion
       afterSession afterSecondary afterQualifier afterTransaction afterPresence
   told-took o g =
-      let c = secondaryF s p (segmented p) .only o (startAt s p) start-sound g in
-      (subst (λ (l : List ℕ). Took p (startAt s p) (textsAt s p .walk) l) (sym told-form) (c .0), told-fit (c .1))
+      let c = secondaryF s headerBound p (segmented p) .only o (startAt s p) start-sound g in
+      (subst (λ (l : List ℕ). Took headerBound p (startAt s p) (textsAt s p .walk) l) (sym told-form) (c .0), told-fit (c .1))
 
   took-good :
-      {w : Reading} (l : List ℕ) → startAt s p ≡ goes 6 → Took p (startAt s p) w l →
+      {w : Reading} (l : List ℕ) → startAt s p ≡ goes 6 → Took headerBound p (startAt s p) w l →
       Has p 6 l × ((6 + length l ≤ headerEnd) × (w .at ≡ 6 + length l))
   took-good l e t =
       let x : startAt s p .at ≡ 6 = ap (λ (w : Reading). w .at) e in
-      (rw x at (t .has), (rw x at (t .limit), took-at p l t ∙ ap (λ (i : ℕ). i + length l) x))
+      (rw x at (t .has), (rw x at (t .limit), took-at headerBound p l t ∙ ap (λ (i : ℕ). i + length l) x))
 
   pub good : Octets p → going (ended s p) ≡ true → Good
   good o g =
@@ -136,10 +136,10 @@ module _ (s : Settings) (p : List ℕ) where
       let b = told-body k in
       record {
         settings = d .settings;
-        head = fit-head s p told (k .fit) (omega (arith, f .packet-type)) (omega (arith, f .apid, d .idle));
+        head = fit-head s headerBound p told (k .fit) (omega (arith, f .packet-type)) (omega (arith, f .apid, d .idle));
         flags = omega (arith, f .flags, o 2);
         sequence-count = omega (arith, f .sequence-count);
-        counter = fit-counter s p told (k .fit);
+        counter = fit-counter s headerBound p told (k .fit);
         body = told-octets o;
         packet = rw (told-written o k) (omega (arith, d .long, number-top 2 p 4 o));
         header = omega (arith, k .limit);

@@ -9,7 +9,7 @@ use lib.ListN.{length, getD, take, length-replicate}
 use lib.Seq.{getD-take, length-take-le}
 use Rattle.octets.specs.Octets.{pick, Octets, wide}
 use Rattle.walk.specs.declared.Settings.{Settings}
-use Rattle.walk.specs.Walk.{Reading, going}
+use Rattle.walk.specs.Walk.{Reading, going, headerBound}
 use Rattle.fields.specs.declared.Place.{Place}
 use Rattle.fields.specs.Fields.{nowhere, opt, noParts, domain, partsMost}
 use Rattle.packet.specs.declared.Header.{Header}
@@ -121,7 +121,7 @@ module _ (h : Header) (o : InOrder optionalPlace (spotsOf h) (h .body .at)) wher
 
 -- ---- an accepted packet
 
-fixed-form : (p : List ℕ) (x : Fixed) → length (fixedF p .form x) ≡ fixedSize
+fixed-form : (p : List ℕ) (x : Fixed) → length (fixedF headerBound p .form x) ≡ fixedSize
 unfolding wide
 fixed-form p x = refl
 
@@ -129,15 +129,15 @@ module _ (s : Settings) (p : List ℕ) where
   pub texts-order : Octets p → going (textsAt s p .walk) ≡ true → InOrder optionalPlace (spotsOf (acceptedHeader s p)) (textsAt s p .walk .at)
   unfolding spotsOf acceptedHeader fixedOf presentOf idsOf textsOf afterSdu afterArea afterService afterOperation afterVersion afterSession afterSecondary afterQualifier afterTransaction afterPresence
   texts-order o g =
-      let z : Sound p (fixedF p .step (startAt s p)) =
-      λ e. took-sound p _ (fixedF p .only o (startAt s p) (start-sound s p) e .0) e in
-      let b = optionalsF s p (hasAt s p) (segmented p) .only o (fixedF p .step (startAt s p)) z g in
-      let c = fixedF p .only o (startAt s p) (start-sound s p) (b .0 .went) .0 in
+      let z : Sound headerBound p (fixedF headerBound p .step (startAt s p)) =
+      λ e. took-sound headerBound p _ (fixedF headerBound p .only o (startAt s p) (start-sound s p) e .0) e in
+      let b = optionalsF s headerBound p (hasAt s p) (segmented p) .only o (fixedF headerBound p .step (startAt s p)) z g in
+      let c = fixedF headerBound p .only o (startAt s p) (start-sound s p) (b .0 .went) .0 in
       let x : startAt s p .at ≡ 6 = ap (λ (w : Reading). w .at) (start-only s p (c .went) .0) in
-      let n = fixed-form p (fixedF p .value (startAt s p)) in
-      let y : fixedF p .step (startAt s p) .at ≡ optionalPlace = took-at p _ c ∙ omega arith in
+      let n = fixed-form p (fixedF headerBound p .value (startAt s p)) in
+      let y : fixedF headerBound p .step (startAt s p) .at ≡ optionalPlace = took-at headerBound p _ c ∙ omega arith in
       subst (λ (i : ℕ). InOrder i (spotsOf (acceptedHeader s p)) (textsAt s p .walk .at)) y
-      (optionalsF s p (hasAt s p) (segmented p) .order o (fixedF p .step (startAt s p)) z g)
+      (optionalsF s headerBound p (hasAt s p) (segmented p) .order o (fixedF headerBound p .step (startAt s p)) z g)
 
   -- the domain's places
   pub record Places (there : Bool) (count : ℕ) (places : List Place) : Type 0 where
@@ -147,11 +147,11 @@ module _ (s : Settings) (p : List ℕ) where
 
   places-of :
       (b : Bool) (w : Reading) →
-      Places b (opt b (noParts 0) (domain s p) w .value .count) (opt b (noParts 0) (domain s p) w .value .places)
+      Places b (opt b (noParts 0) (domain s headerBound p) w .value .count) (opt b (noParts 0) (domain s headerBound p) w .value .places)
   places-of true w =
       record {
-        most = domain-count s p w;
-        all = domain-all s p w;
+        most = domain-count s headerBound p w;
+        all = domain-all s headerBound p w;
         none = λ e. let z : _≡_ {A = ℕ} 0 1 = cc in absurd (omega arith);
       }
   places-of false w = record { most = omega arith; all = length-replicate 16 nowhere; none = λ e. refl }

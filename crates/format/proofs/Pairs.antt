@@ -5,6 +5,7 @@ use mathlib.Core.Path.{_≡_, ap}
 use mathlib.Core.List.{List, _++_, append-assoc}
 use Rattle.octets.specs.Octets.{wide}
 use Rattle.walk.specs.declared.Settings.{Settings}
+use Rattle.walk.specs.declared.Bound.{Bound}
 use Rattle.packet.specs.declared.Present.{Present}
 use Rattle.packet.specs.Format.{Head, Values, segment, Opt, when, presence, fixedOctets, frontOctets, counterOctets, backOctets, secondaryOctets, HeadInRange}
 use Rattle.format.proofs.FixedPart.{Fixed}
@@ -48,8 +49,8 @@ optionalPair h c =
 abbrev pub pairOf : Values → Fixed × Optional
 pairOf v = (fixedPair (v .head), optionalPair (v .head) (v .counter))
 
-module _ (s : Settings) (p : List ℕ) (v : Values) where
-  pub pair-form : secondaryOctets s v ≡ secondaryF s p (segment (v .flags)) .form (pairOf v)
+module _ (s : Settings) (bound : Bound) (p : List ℕ) (v : Values) where
+  pub pair-form : secondaryOctets s v ≡ secondaryF s bound p (segment (v .flags)) .form (pairOf v)
   unfolding secondaryOctets fixedOctets frontOctets counterOctets backOctets presence
   pair-form =
       ap (λ (l : List ℕ). fixedOctets (v .head) ++ l)
@@ -58,7 +59,7 @@ module _ (s : Settings) (p : List ℕ) (v : Values) where
 
   pub pair-fit :
       HeadInRange s (v .head) → Opt (segment (v .flags)) (λ x. x < 4294967296) 0 (v .counter) →
-      secondaryF s p (segment (v .flags)) .Fit (pairOf v)
+      secondaryF s bound p (segment (v .flags)) .Fit (pairOf v)
   pair-fit h c = (
     (
       h .sdu,
@@ -79,7 +80,7 @@ module _ (s : Settings) (p : List ℕ) (v : Values) where
     (h .source, (h .destination, (c, (h .priority, (h .timestamp, (h .zone, (h .session-name, (h .domain, h .authentication)))))))),
   )
 
-  module _ (f : secondaryF s p (segment (v .flags)) .Fit (pairOf v)) where
+  module _ (f : secondaryF s bound p (segment (v .flags)) .Fit (pairOf v)) where
     pub fit-counter : Opt (segment (v .flags)) (λ x. x < 4294967296) 0 (v .counter)
     fit-counter = f .1 .1 .1 .0
 

@@ -2,14 +2,15 @@
 -- Assumes nothing.
 use Prim.Native.Nat.{ℕ, _-_}
 use mathlib.Core.Path.{_≡_, refl, ap, ap₂, sym, _∙_}
-use mathlib.Core.Bool.{true}
+use mathlib.Core.Bool.{Bool, true}
 use mathlib.Core.List.{List}
 use lib.ListN.{length}
 use borrow.Author.Tests.{eq-eqb, ne-eqb}
 use Rattle.walk.specs.declared.Settings.{Settings}
 use Rattle.walk.specs.declared.Walk.{Walk}
+use Rattle.walk.specs.declared.Bound.{Bound}
 use Rattle.walk.specs.declared.Refusal.{Refusal}
-use Rattle.walk.specs.Walk.{Reading, Step, noRefusal, going, begun}
+use Rattle.walk.specs.Walk.{Reading, Step, noRefusal, going, headerBound, begun}
 use Rattle.walk.specs.Inner.{asWalk, ofWalk}
 use Rattle.fields.specs.Fields.{place}
 use Rattle.packet.specs.declared.Primary.{Primary}
@@ -19,8 +20,9 @@ use Rattle.packet.specs.declared.Ids.{Ids}
 use Rattle.packet.specs.declared.IdsStep.{IdsStep}
 use Rattle.packet.specs.declared.Texts.{Texts}
 use Rattle.packet.specs.declared.TextsStep.{TextsStep}
-use Rattle.packet.specs.FixedPart.{fixedOf, fixedEnd, presentOf}
-use Rattle.packet.specs.Reading.{primaryTests, primaryOf, idsOf, textsOf, bodyTest, startAt, hasAt, idsAt, textsAt, ended, counterSize, refusalOf, refusedHeader, acceptedHeader, readPacket}
+use Rattle.packet.specs.FixedPart.{fixedOf, fixedEnd}
+use Rattle.packet.specs.Reading.{primaryTests, primaryOf, segmented, idsOf, textsOf, bodyTest, startAt, hasAt, idsAt, textsAt, ended, counterSize}
+use Rattle.packet.specs.Reading.{refusalOf, refusedHeader, acceptedHeader, readPacket}
 use Rattle.packet.specs.Inner.{fixedStep, asIds, asTexts}
 
 abbrev ofIds : IdsStep → Step Ids
@@ -52,33 +54,45 @@ module _
     {i : IdsStep}
     {t : TextsStep}
     {w : Walk}
+    {bound : Bound}
+    {q : Bool}
+    (eb : bound ≡ headerBound)
     (e0 : b ≡ asWalk (begun s))
     (e1 : start ≡ asWalk (primaryTests p (ofWalk b)))
-    (e2 : f ≡ fixedStep p (ofWalk start))
-    (e3 : i ≡ asIds (idsOf s (f .has) p (ofWalk (f .walk))))
-    (e4 : t ≡ asTexts (textsOf s (f .has) p (ofWalk (i .walk))))
+    (e2 : f ≡ fixedStep bound p (ofWalk start))
+    (eq : q ≡ segmented p)
+    (e3 : i ≡ asIds (idsOf s bound q (f .has) p (ofWalk (f .walk))))
+    (e4 : t ≡ asTexts (textsOf s bound (f .has) p (ofWalk (i .walk))))
     (e5 : w ≡ asWalk (bodyTest p (ofWalk (t .walk)))) where
   start-is : startAt s p ≡ ofWalk start
   start-is = ap (primaryTests p) (ap ofWalk (sym e0)) ∙ ap ofWalk (sym e1)
 
-  fixed-is : fixedOf p (startAt s p) ≡ f .fixed
+  step-is : fixedStep headerBound p (startAt s p) ≡ f
+  step-is = ap₂ (λ (z : Bound) (x : Reading). fixedStep z p x) (sym eb) start-is ∙ sym e2
+
+  fixed-is : fixedOf headerBound p (startAt s p) ≡ f .fixed
   unfolding fixedStep
-  fixed-is = ap (fixedOf p) start-is ∙ ap (λ (x : FixedStep). x .fixed) (sym e2)
+  fixed-is = ap (λ (x : FixedStep). x .fixed) step-is
 
   has-is : hasAt s p ≡ f .has
   unfolding fixedStep
-  has-is = ap (presentOf p) start-is ∙ ap (λ (x : FixedStep). x .has) (sym e2)
+  has-is = ap (λ (x : FixedStep). x .has) step-is
 
-  end-is : fixedEnd p (startAt s p) ≡ ofWalk (f .walk)
+  end-is : fixedEnd headerBound p (startAt s p) ≡ ofWalk (f .walk)
   unfolding fixedStep
-  end-is = ap (fixedEnd p) start-is ∙ ap (λ (x : FixedStep). ofWalk (x .walk)) (sym e2)
+  end-is = ap (λ (x : FixedStep). ofWalk (x .walk)) step-is
 
   ids-is : idsAt s p ≡ ofIds i
-  ids-is = ap₂ (λ (h : Present) (v : Reading). idsOf s h p v) has-is end-is ∙ ap ofIds (sym e3)
+  ids-is =
+      ap₂ (λ (h : Present) (v : Reading). idsOf s headerBound (segmented p) h p v) has-is end-is
+      ∙ ap₂ (λ (z : Bound) (x : Bool). idsOf s z x (f .has) p (ofWalk (f .walk))) (sym eb) (sym eq)
+      ∙ ap ofIds (sym e3)
 
   texts-is : textsAt s p ≡ ofTexts t
   texts-is =
-      ap₂ (λ (h : Present) (v : Reading). textsOf s h p v) has-is (ap (λ (x : Step Ids). x .walk) ids-is) ∙ ap ofTexts (sym e4)
+      ap₂ (λ (h : Present) (v : Reading). textsOf s headerBound h p v) has-is (ap (λ (x : Step Ids). x .walk) ids-is)
+      ∙ ap (λ (z : Bound). textsOf s z (f .has) p (ofWalk (i .walk))) (sym eb)
+      ∙ ap ofTexts (sym e4)
 
   ended-is : ended s p ≡ ofWalk w
   ended-is = ap (bodyTest p) (ap (λ (x : Step Texts). x .walk) texts-is) ∙ ap ofWalk (sym e5)

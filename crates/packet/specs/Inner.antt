@@ -4,6 +4,7 @@ use Prim.Native.Nat.{ℕ, _+_, _*_, _/_, _%_}
 use mathlib.Core.List.{List}
 use lib.Dec.{leb}
 use Rattle.octets.specs.Octets.{pick, octetAt, number}
+use Rattle.walk.specs.declared.Bound.{Bound}
 use Rattle.walk.specs.Walk.{Reading, Step}
 use Rattle.walk.specs.Inner.{asWalk}
 use Rattle.packet.specs.declared.Names.{Names}
@@ -21,31 +22,31 @@ use Rattle.packet.specs.FixedPart.{afterSdu, afterArea, afterService, af
 use Rattle.packet.specs.FixedPart.{afterQualifier, fixedEnd, fixedOf, presentOf}
 
 -- the first half of the fixed part
-unfoldable pub namesOf : List ℕ → Reading → Names
-namesOf p w =
+unfoldable pub namesOf : Bound → List ℕ → Reading → Names
+namesOf b p w =
     record {
-      walk = asWalk (afterVersion p w);
+      walk = asWalk (afterVersion b p w);
       sdu = octetAt p (w .at) % 32;
-      area = number 2 p (afterSdu p w .at);
-      service = number 2 p (afterArea p w .at);
-      operation = number 2 p (afterService p w .at);
-      version = octetAt p (afterOperation p w .at);
+      area = number 2 p (afterSdu b p w .at);
+      service = number 2 p (afterArea b p w .at);
+      operation = number 2 p (afterService b p w .at);
+      version = octetAt p (afterOperation b p w .at);
     }
 
 -- what follows it, up to the qualifier
-unfoldable pub routingOf : List ℕ → Reading → Routing
-routingOf p w =
+unfoldable pub routingOf : Bound → List ℕ → Reading → Routing
+routingOf b p w =
     record {
-      walk = asWalk (afterQualifier p w);
+      walk = asWalk (afterQualifier b p w);
       error = octetAt p (w .at) / 128;
       qos = octetAt p (w .at) / 32 % 4;
       session = octetAt p (w .at) / 8 % 4;
-      «secondary_apid» = record { 0 = octetAt p (w .at) % 8 * 256 + octetAt p (afterSession p w .at) };
-      qualifier = number 2 p (afterSecondary p w .at);
+      «secondary_apid» = record { 0 = octetAt p (w .at) % 8 * 256 + octetAt p (afterSession b p w .at) };
+      qualifier = number 2 p (afterSecondary b p w .at);
     }
 
-unfoldable pub fixedStep : List ℕ → Reading → FixedStep
-fixedStep p w = record { walk = asWalk (fixedEnd p w); fixed = fixedOf p w; has = presentOf p w }
+unfoldable pub fixedStep : Bound → List ℕ → Reading → FixedStep
+fixedStep b p w = record { walk = asWalk (fixedEnd b p w); fixed = fixedOf b p w; has = presentOf b p w }
 
 abbrev pub asOctet : Step ℕ → Octet
 asOctet x = record { walk = asWalk (x .walk); value = x .value }

@@ -9,7 +9,8 @@ use lib.Dec.{ltb, leb, eqb}
 use Rattle.octets.specs.Octets.{pick, octetAt, number}
 use Rattle.walk.specs.declared.Settings.{Settings}
 use Rattle.walk.specs.declared.Refusal.{Refusal}
-use Rattle.walk.specs.Walk.{Reading, Step, noRefusal, going, check, begun, uinteger}
+use Rattle.walk.specs.declared.Bound.{Bound}
+use Rattle.walk.specs.Walk.{Reading, Step, noRefusal, going, headerBound, check, begun, uinteger}
 use Rattle.fields.specs.Fields.{place, nowhere, opt, block, blob, text, domain, noParts}
 use Rattle.packet.specs.declared.Primary.{Primary}
 use Rattle.packet.specs.declared.Fixed.{Fixed}
@@ -49,32 +50,32 @@ segmented p = not (eqb (octetAt p 2 / 64) flagsWhole)
 
 -- ---- the optional fields
 
--- source id, destination id, segment counter, priority
-unfoldable pub idsOf : Settings → Present → List ℕ → Reading → Step Ids
-idsOf s has p w =
-    let a = opt (has .source) 0 (octetField p) w in
-    let b = opt (has .destination) 0 (octetField p) (a .walk) in
-    let c = opt (segmented p) 0 (wideField counterWidth p) (b .walk) in
-    let d = opt (has .priority) 0 (uinteger s p) (c .walk) in
+-- source id, destination id, segment counter if there is one, priority
+unfoldable pub idsOf : Settings → Bound → Bool → Present → List ℕ → Reading → Step Ids
+idsOf s b segment has p w =
+    let a = opt (has .source) 0 (octetField b p) w in
+    let x = opt (has .destination) 0 (octetField b p) (a .walk) in
+    let c = opt segment 0 (wideField counterWidth b p) (x .walk) in
+    let d = opt (has .priority) 0 (uinteger s b p) (c .walk) in
     record {
       walk = d .walk;
-      value = record { source = a .value; destination = b .value; counter = record { 0 = c .value }; priority = d .value };
+      value = record { source = a .value; destination = x .value; counter = record { 0 = c .value }; priority = d .value };
     }
 
 -- timestamp, network zone, session name, domain, authentication id
-unfoldable pub textsOf : Settings → Present → List ℕ → Reading → Step Texts
-textsOf s has p w =
-    let a = opt (has .timestamp) nowhere (block (s .t) p) w in
-    let b = opt (has .zone) nowhere (text s p) (a .walk) in
-    let c = opt (has .«session_name») nowhere (text s p) (b .walk) in
-    let d = opt (has .domain) (noParts 0) (domain s p) (c .walk) in
-    let e = opt (has .authentication) nowhere (blob s p) (d .walk) in
+unfoldable pub textsOf : Settings → Bound → Present → List ℕ → Reading → Step Texts
+textsOf s b has p w =
+    let a = opt (has .timestamp) nowhere (block (s .t) b p) w in
+    let x = opt (has .zone) nowhere (text s b p) (a .walk) in
+    let c = opt (has .«session_name») nowhere (text s b p) (x .walk) in
+    let d = opt (has .domain) (noParts 0) (domain s b p) (c .walk) in
+    let e = opt (has .authentication) nowhere (blob s b p) (d .walk) in
     record {
       walk = e .walk;
       value =
           record {
             timestamp = a .value;
-            zone = b .value;
+            zone = x .value;
             «session_name» = c .value;
             count = d .value .count;
             parts = d .value .places;
@@ -93,13 +94,13 @@ abbrev pub startAt : Settings → List ℕ → Reading
 startAt s p = primaryTests p (begun s)
 
 abbrev pub hasAt : Settings → List ℕ → Present
-hasAt s p = presentOf p (startAt s p)
+hasAt s p = presentOf headerBound p (startAt s p)
 
 abbrev pub idsAt : Settings → List ℕ → Step Ids
-idsAt s p = idsOf s (hasAt s p) p (fixedEnd p (startAt s p))
+idsAt s p = idsOf s headerBound (segmented p) (hasAt s p) p (fixedEnd headerBound p (startAt s p))
 
 abbrev pub textsAt : Settings → List ℕ → Step Texts
-textsAt s p = textsOf s (hasAt s p) p (idsAt s p .walk)
+textsAt s p = textsOf s headerBound (hasAt s p) p (idsAt s p .walk)
 
 abbrev pub ended : Settings → List ℕ → Reading
 ended s p = bodyTest p (textsAt s p .walk)
@@ -176,7 +177,7 @@ acceptedHeader s p =
     record {
       refusal = noRefusal;
       primary = primaryOf p;
-      fixed = fixedOf p (startAt s p);
+      fixed = fixedOf headerBound p (startAt s p);
       has = hasAt s p;
       ids = idsAt s p .value;
       texts = textsAt s p .value;

@@ -25,6 +25,7 @@ ghost use Rattle.packet.specs.Reading.{primaryTests, primaryOf, idsOf, t
 ghost use Rattle.packet.specs.Reading.{refusalOf, refusedHeader, noFixed, readPacket};
 ghost use Rattle.packet.specs.Inner.{heldCount, namesOf, routingOf, fixedStep, asOctet, asWord, asCounter, asIds, asTexts};
 use fields::Place;
+use walk::Bound;
 use walk::REFUSED_BINDING;
 use walk::REFUSED_EMPTY_SEGMENT;
 use walk::REFUSED_FEW_OCTETS;
@@ -185,9 +186,9 @@ struct IdsStep {
     ids: Ids,
 }
 
-struct TextsStep {
-    walk: Walk,
-    texts: Texts,
+pub struct TextsStep {
+    pub walk: Walk,
+    pub texts: Texts,
 }
 
 // A count above the largest stands for the largest: 0 follows either.
@@ -249,11 +250,11 @@ fn read_primary(p: &[u8]) -> Primary
 }
 
 // An octet at the walk's place.
-fn read_octet(p: &[u8], w: Walk) -> Octet
-    ensures { λ r. ⌜ r ≡ asOctet (octetField (now (p .entry)) (ofWalk w)) ⌝ }
+fn read_octet(b: Bound, p: &[u8], w: Walk) -> Octet
+    ensures { λ r. ⌜ r ≡ asOctet (octetField b (now (p .entry)) (ofWalk w)) ⌝ }
 {
-    let x = octets::octet(p, w.at as usize);
-    let end = w.octets(p, 1);
+    let x = octets::octet(p, w.at);
+    let end = w.octets(b, p, 1);
     Octet {
         walk: end,
         value: x,
@@ -261,11 +262,11 @@ fn read_octet(p: &[u8], w: Walk) -> Octet
 }
 
 // A number of two octets at the walk's place.
-fn read_word(p: &[u8], w: Walk) -> Word
-    ensures { λ r. ⌜ r ≡ asWord (wideField 2 (now (p .entry)) (ofWalk w)) ⌝ }
+fn read_word(b: Bound, p: &[u8], w: Walk) -> Word
+    ensures { λ r. ⌜ r ≡ asWord (wideField 2 b (now (p .entry)) (ofWalk w)) ⌝ }
 {
-    let x = octets::be16(p, w.at as usize);
-    let end = w.octets(p, 2);
+    let x = octets::be16(p, w.at);
+    let end = w.octets(b, p, 2);
     Word {
         walk: end,
         value: x,
@@ -273,10 +274,10 @@ fn read_word(p: &[u8], w: Walk) -> Word
 }
 
 // Binding version (7) and SDU type (8).
-fn read_sdu(p: &[u8], w: Walk) -> Octet
-    ensures { λ r. ⌜ r ≡ asOctet (sduField (now (p .entry)) (ofWalk w)) ⌝ }
+fn read_sdu(b: Bound, p: &[u8], w: Walk) -> Octet
+    ensures { λ r. ⌜ r ≡ asOctet (sduField b (now (p .entry)) (ofWalk w)) ⌝ }
 {
-    let a = read_octet(p, w);
+    let a = read_octet(b, p, w);
     let aw = a.walk;
     let first = a.value;
     let end = aw.check(first < 32, REFUSED_BINDING)
@@ -288,23 +289,23 @@ fn read_sdu(p: &[u8], w: Walk) -> Octet
 }
 
 // SDU type, area, service, operation, area version.
-fn read_names(p: &[u8], w: Walk) -> Names
-    ensures { λ r. ⌜ r ≡ namesOf (now (p .entry)) (ofWalk w) ⌝ }
+fn read_names(b: Bound, p: &[u8], w: Walk) -> Names
+    ensures { λ r. ⌜ r ≡ namesOf b (now (p .entry)) (ofWalk w) ⌝ }
 {
-    let a = read_sdu(p, w);
+    let a = read_sdu(b, p, w);
     let aw = a.walk;
-    let b = read_word(p, aw);
-    let bw = b.walk;
-    let c = read_word(p, bw);
+    let x = read_word(b, p, aw);
+    let xw = x.walk;
+    let c = read_word(b, p, xw);
     let cw = c.walk;
-    let d = read_word(p, cw);
+    let d = read_word(b, p, cw);
     let dw = d.walk;
-    let e = read_octet(p, dw);
+    let e = read_octet(b, p, dw);
     let ew = e.walk;
     Names {
         walk: ew,
         sdu: a.value,
-        area: b.value,
+        area: x.value,
         service: c.value,
         operation: d.value,
         version: e.value,
@@ -312,17 +313,17 @@ fn read_names(p: &[u8], w: Walk) -> Names
 }
 
 // Error, QoS level, session (9), secondary APID, qualifier.
-fn read_routing(p: &[u8], w: Walk) -> Routing
-    ensures { λ r. ⌜ r ≡ routingOf (now (p .entry)) (ofWalk w) ⌝ }
+fn read_routing(b: Bound, p: &[u8], w: Walk) -> Routing
+    ensures { λ r. ⌜ r ≡ routingOf b (now (p .entry)) (ofWalk w) ⌝ }
 {
-    let a = read_octet(p, w);
+    let a = read_octet(b, p, w);
     let aw = a.walk;
     let high = a.value;
-    let b = read_octet(p, aw.check(high / 8 % 4 < 3, REFUSED_SESSION));
-    let bw = b.walk.field_from(w);
-    let c = read_word(p, bw);
+    let x = read_octet(b, p, aw.check(high / 8 % 4 < 3, REFUSED_SESSION));
+    let xw = x.walk.field_from(w);
+    let c = read_word(b, p, xw);
     let cw = c.walk;
-    let secondary_apid = SecondaryApid((high % 8) as u16 * 256 + b.value as u16);
+    let secondary_apid = SecondaryApid((high % 8) as u16 * 256 + x.value as u16);
     Routing {
         walk: cw,
         error: high / 128,
@@ -333,7 +334,7 @@ fn read_routing(p: &[u8], w: Walk) -> Routing
     }
 }
 
-fn flags_of(f: u8) -> Present
+pub fn flags_of(f: u8) -> Present
     ensures { λ r. ⌜ r ≡ flagsOf f ⌝ }
 {
     Present {
@@ -349,17 +350,17 @@ fn flags_of(f: u8) -> Present
 }
 
 // The whole fixed part.
-fn read_fixed(p: &[u8], w: Walk) -> FixedStep
-    ensures { λ r. ⌜ r ≡ fixedStep (now (p .entry)) (ofWalk w) ⌝ }
+fn read_fixed(b: Bound, p: &[u8], w: Walk) -> FixedStep
+    ensures { λ r. ⌜ r ≡ fixedStep b (now (p .entry)) (ofWalk w) ⌝ }
 {
-    let n = read_names(p, w);
+    let n = read_names(b, p, w);
     let nw = n.walk;
-    let r = read_routing(p, nw);
+    let r = read_routing(b, p, nw);
     let rw = r.walk;
-    let transaction = octets::be64(p, rw.at as usize);
-    let t = rw.octets(p, 8);
-    let has = flags_of(octets::octet(p, t.at as usize));
-    let end = t.octets(p, 1);
+    let transaction = octets::be64(p, rw.at);
+    let t = rw.octets(b, p, 8);
+    let has = flags_of(octets::octet(p, t.at));
+    let end = t.octets(b, p, 1);
     let secondary_apid = r.secondary_apid;
     let fixed = Fixed {
         sdu: n.sdu,
@@ -382,21 +383,21 @@ fn read_fixed(p: &[u8], w: Walk) -> FixedStep
 }
 
 // An octet if it is there, else 0.
-fn octet_if(there: bool, p: &[u8], w: Walk) -> Octet
-    ensures { λ r. ⌜ r ≡ asOctet (opt there 0 (octetField (now (p .entry))) (ofWalk w)) ⌝ }
+fn octet_if(there: bool, b: Bound, p: &[u8], w: Walk) -> Octet
+    ensures { λ r. ⌜ r ≡ asOctet (opt there 0 (octetField b (now (p .entry))) (ofWalk w)) ⌝ }
 {
     if there {
-        return read_octet(p, w);
+        return read_octet(b, p, w);
     }
     Octet { walk: w, value: 0 }
 }
 
 // A segment counter if it is there, else 0.
-fn counter_if(there: bool, p: &[u8], w: Walk) -> Counter
-    ensures { λ r. ⌜ r ≡ asCounter (opt there 0 (wideField 4 (now (p .entry))) (ofWalk w)) ⌝ }
+fn counter_if(there: bool, b: Bound, p: &[u8], w: Walk) -> Counter
+    ensures { λ r. ⌜ r ≡ asCounter (opt there 0 (wideField 4 b (now (p .entry))) (ofWalk w)) ⌝ }
 {
     if there {
-        let n = walk::read_four(p, w);
+        let n = walk::read_four(b, p, w);
         let v = n.walk;
         let x = SegmentCounter(n.value);
         return Counter { walk: v, value: x };
@@ -413,21 +414,21 @@ fn segmented(p: &[u8]) -> bool
 }
 
 // Source id, destination id, segment counter, priority.
-fn read_ids(s: Settings, has: Present, p: &[u8], w: Walk) -> IdsStep
-    ensures { λ r. ⌜ r ≡ asIds (idsOf s has (now (p .entry)) (ofWalk w)) ⌝ }
+fn read_ids(s: Settings, b: Bound, segment: bool, has: Present, p: &[u8], w: Walk) -> IdsStep
+    ensures { λ r. ⌜ r ≡ asIds (idsOf s b segment has (now (p .entry)) (ofWalk w)) ⌝ }
 {
-    let a = octet_if(has.source, p, w);
+    let a = octet_if(has.source, b, p, w);
     let aw = a.walk;
-    let b = octet_if(has.destination, p, aw);
-    let bw = b.walk;
-    let c = counter_if(segmented(p), p, bw);
+    let x = octet_if(has.destination, b, p, aw);
+    let xw = x.walk;
+    let c = counter_if(segment, b, p, xw);
     let cw = c.walk;
-    let d = fields::uinteger_if(has.priority, s, p, cw);
+    let d = fields::uinteger_if(has.priority, s, b, p, cw);
     let dw = d.walk;
     let counter = c.value;
     let ids = Ids {
         source: a.value,
-        destination: b.value,
+        destination: x.value,
         counter: counter,
         priority: d.value,
     };
@@ -435,21 +436,21 @@ fn read_ids(s: Settings, has: Present, p: &[u8], w: Walk) -> IdsStep
 }
 
 // Timestamp, network zone, session name, domain, authentication id.
-fn read_texts(s: Settings, has: Present, p: &[u8], w: Walk) -> TextsStep
-    ensures { λ r. ⌜ r ≡ asTexts (textsOf s has (now (p .entry)) (ofWalk w)) ⌝ }
+pub fn read_texts(s: Settings, b: Bound, has: Present, p: &[u8], w: Walk) -> TextsStep
+    ensures { λ r. ⌜ r ≡ asTexts (textsOf s b has (now (p .entry)) (ofWalk w)) ⌝ }
 {
-    let a = fields::block_if(has.timestamp, s.t, p, w);
+    let a = fields::block_if(has.timestamp, s.t, b, p, w);
     let aw = a.walk;
-    let b = fields::text_if(has.zone, s, p, aw);
-    let bw = b.walk;
-    let c = fields::text_if(has.session_name, s, p, bw);
+    let x = fields::text_if(has.zone, s, b, p, aw);
+    let xw = x.walk;
+    let c = fields::text_if(has.session_name, s, b, p, xw);
     let cw = c.walk;
-    let d = fields::domain_if(has.domain, s, p, cw);
+    let d = fields::domain_if(has.domain, s, b, p, cw);
     let dw = d.walk;
-    let e = fields::blob_if(has.authentication, s, p, dw);
+    let e = fields::blob_if(has.authentication, s, b, p, dw);
     let ew = e.walk;
     let timestamp = a.place;
-    let zone = b.place;
+    let zone = x.place;
     let session_name = c.place;
     let parts = d.parts;
     let authentication = e.place;
@@ -472,7 +473,7 @@ fn body_walk(p: &[u8], w: Walk) -> Walk
     ensures { λ r. ⌜ r ≡ asWalk (bodyTest (now (p .entry)) (ofWalk w)) ⌝ }
 {
     if segmented(p) {
-        return w.check((w.at as usize) < p.len(), REFUSED_EMPTY_SEGMENT);
+        return w.check(w.at < p.len(), REFUSED_EMPTY_SEGMENT);
     }
     w
 }
@@ -510,7 +511,7 @@ fn refusal_of(p: &[u8], w: Walk) -> Refusal
         return walk::telling(n, octets::less(p.len(), want), 0);
     }
     if n == REFUSED_HEADER_ENDS {
-        return walk::telling(n, 0, octets::less(w.at as usize, 6));
+        return walk::telling(n, 0, octets::less(w.at, 6));
     }
     walk::numbered(n)
 }
@@ -571,20 +572,21 @@ pub fn read(s: Settings, p: &[u8]) -> Header
     ensures answer { λ r. ⌜ r ≡ readPacket s (now (p .entry)) ⌝ }
     ensures octets { λ r. ⌜ Octets (now (p .entry)) ⌝ }
 {
+    let b = walk::header_bound();
     let start = primary_walk(p, walk::begin(s));
-    let f = read_fixed(p, start);
+    let f = read_fixed(b, p, start);
     let has = f.has;
     let fw = f.walk;
-    let i = read_ids(s, has, p, fw);
+    let i = read_ids(s, b, segmented(p), has, p, fw);
     let iw = i.walk;
-    let t = read_texts(s, has, p, iw);
+    let t = read_texts(s, b, has, p, iw);
     let tw = t.walk;
     let w = body_walk(p, tw);
     if w.refused != 0 {
         return refused_header(refusal_of(p, w));
     }
     let refusal = walk::numbered(0);
-    let end = w.at as usize;
+    let end = w.at;
     let primary = read_primary(p);
     let fixed = f.fixed;
     let ids = i.ids;

@@ -18,26 +18,27 @@ use Rattle.varint.specs.declared.Found.{Found}
 use Rattle.varint.specs.Answer.{found}
 use Rattle.varint.proofs.Told.{got, told}
 use Rattle.varint.proofs.Laws.{within, only-written}
-use Rattle.walk.specs.Walk.{Reading, goes, refused, going, headerEnd, octets, check, fieldFrom, varintStep, varintField}
+use Rattle.walk.specs.declared.Bound.{Bound}
+use Rattle.walk.specs.Walk.{Reading, goes, refused, going, past, octets, check, fieldFrom, varintStep, varintField}
 
 -- ---- by cases
 
-module _ (p : List ℕ) (n : ℕ) (w : Reading) where
-  pub octets-refused : going w ≡ false → octets p n w ≡ w
+module _ (b : Bound) (p : List ℕ) (n : ℕ) (w : Reading) where
+  pub octets-refused : going w ≡ false → octets b p n w ≡ w
   unfolding octets
   octets-refused h = simp h
 
-  pub octets-past : going w ≡ true → headerEnd < w .at + n → octets p n w ≡ refused (w .at) 12
+  pub octets-past : going w ≡ true → b .end < w .at + n → octets b p n w ≡ refused (w .at) (past b)
   unfolding octets
-  octets-past h l = simp (h, lt-leb (w .at + n) headerEnd l)
+  octets-past h l = simp (h, lt-leb (w .at + n) (b .end) l)
 
-  pub octets-ends : going w ≡ true → w .at + n ≤ headerEnd → length p < w .at + n → octets p n w ≡ refused (w .at) 6
+  pub octets-ends : going w ≡ true → w .at + n ≤ b .end → length p < w .at + n → octets b p n w ≡ refused (w .at) 6
   unfolding octets
-  octets-ends h l e = simp (h, le-leb (w .at + n) headerEnd l, lt-leb (w .at + n) (length p) e)
+  octets-ends h l e = simp (h, le-leb (w .at + n) (b .end) l, lt-leb (w .at + n) (length p) e)
 
-  pub octets-goes : going w ≡ true → w .at + n ≤ headerEnd → w .at + n ≤ length p → octets p n w ≡ goes (w .at + n)
+  pub octets-goes : going w ≡ true → w .at + n ≤ b .end → w .at + n ≤ length p → octets b p n w ≡ goes (w .at + n)
   unfolding octets
-  octets-goes h l e = simp (h, le-leb (w .at + n) headerEnd l, le-leb (w .at + n) (length p) e)
+  octets-goes h l e = simp (h, le-leb (w .at + n) (b .end) l, le-leb (w .at + n) (length p) e)
 
 module _ (ok : Bool) (k : ℕ) (w : Reading) where
   pub check-refused : going w ≡ false → check ok k w ≡ w
@@ -56,38 +57,44 @@ module _ (ok : Bool) (k : ℕ) (w : Reading) where
   unfolding check
   check-fails h f = simp (h, f)
 
-module _ (p : List ℕ) (w : Reading) where
-  pub number-refused : going w ≡ false → varintField p w ≡ record { walk = w; value = 0 }
+module _ (b : Bound) (p : List ℕ) (w : Reading) where
+  pub number-refused : going w ≡ false → varintField b p w ≡ record { walk = w; value = 0 }
   unfolding varintField
   number-refused h = simp h
 
-  pub number-found : going w ≡ true → {g : Got} → readAt 32 (take headerEnd p) (w .at) ≡ g → varintField p w ≡ varintStep p (w .at) g
+  pub number-found : going w ≡ true → {g : Got} → readAt 32 (take (b .end) p) (w .at) ≡ g → varintField b p w ≡ varintStep b p (w .at) g
   unfolding varintField
   number-found h e = simp (h, e)
 
 -- ---- what a step that goes on tells
 
-pub record There (p : List ℕ) (n : ℕ) (w : Reading) : Type 0 where
+pub record There (b : Bound) (p : List ℕ) (n : ℕ) (w : Reading) : Type 0 where
   pub went : going w ≡ true
-  pub limit : w .at + n ≤ headerEnd
+  pub limit : w .at + n ≤ b .end
   pub inside : w .at + n ≤ length p
-  pub ended : octets p n w ≡ goes (w .at + n)
+  pub ended : octets b p n w ≡ goes (w .at + n)
+
+-- a reading refused past a bound does not go on
+pub past-stops : (at : ℕ) (b : Bool) → going (refused at (pick b 12 6)) ≡ true → ⊥
+past-stops at true h = let z : _≡_ {A = ℕ} 0 1 = cc in omega arith
+past-stops at false h = let z : _≡_ {A = ℕ} 0 1 = cc in omega arith
 
 passed :
-    (g l e : Bool) (w : Reading) (m : ℕ) → going w ≡ g →
-    going (pick g (pick l (pick e (goes m) (refused (w .at) 6)) (refused (w .at) 12)) w) ≡ true → (g ≡ true) × (l ≡ true) × (e ≡ true)
-passed true true true w m q h = (refl, refl, refl)
-passed true true false w m q h = let z : _≡_ {A = ℕ} 0 1 = cc in absurd (omega arith)
-passed true false e w m q h = let z : _≡_ {A = ℕ} 0 1 = cc in absurd (omega arith)
-passed false l e w m q h = let z : _≡_ {A = ℕ} 0 1 = cc in absurd (omega arith)
+    (g l e k : Bool) (w : Reading) (m : ℕ) → going w ≡ g →
+    going (pick g (pick l (pick e (goes m) (refused (w .at) 6)) (refused (w .at) (pick k 12 6))) w) ≡ true →
+    (g ≡ true) × (l ≡ true) × (e ≡ true)
+passed true true true k w m q h = (refl, refl, refl)
+passed true true false k w m q h = let z : _≡_ {A = ℕ} 0 1 = cc in absurd (omega arith)
+passed true false e k w m q h = absurd (past-stops (w .at) k h)
+passed false l e k w m q h = let z : _≡_ {A = ℕ} 0 1 = cc in absurd (omega arith)
 
-pub octets-there : (p : List ℕ) (n : ℕ) (w : Reading) → going (octets p n w) ≡ true → There p n w
+pub octets-there : (b : Bound) (p : List ℕ) (n : ℕ) (w : Reading) → going (octets b p n w) ≡ true → There b p n w
 unfolding octets
-octets-there p n w h =
-    let a = passed (going w) (leb (w .at + n) headerEnd) (leb (w .at + n) (length p)) w (w .at + n) refl h in
-    let l = leb-true (w .at + n) headerEnd (a .1) in
+octets-there b p n w h =
+    let a = passed (going w) (leb (w .at + n) (b .end)) (leb (w .at + n) (length p)) (b .limit) w (w .at + n) refl h in
+    let l = leb-true (w .at + n) (b .end) (a .1) in
     let e = leb-true (w .at + n) (length p) (a .2) in
-    record { went = a .0; limit = l; inside = e; ended = octets-goes p n w (a .0) l e }
+    record { went = a .0; limit = l; inside = e; ended = octets-goes b p n w (a .0) l e }
 
 pub record Checked (ok : Bool) (k : ℕ) (w : Reading) : Type 0 where
   pub went : going w ≡ true
@@ -131,39 +138,39 @@ module _ (w r : Reading) where
 
 -- ---- a number
 
--- the place after a number and its value are small
-pub record Small (v next : ℕ) : Type 0 where
+-- the value of a number is small, and the place after it within the bound
+pub record Small (top v next : ℕ) : Type 0 where
   pub value-top : v < 4294967296
-  pub next-top : next ≤ headerEnd
+  pub next-top : next ≤ top
 
 pub number-small :
-    (p : List ℕ) (at v next : ℕ) → Octets p → readAt 32 (take headerEnd p) at ≡ value v next → Small v next
-number-small p at v next o e =
-    let q = octets-take headerEnd p o in
-    let r = only-written 32 (take headerEnd p) at v next q e in
+    (top : ℕ) (p : List ℕ) (at v next : ℕ) → Octets p → readAt 32 (take top p) at ≡ value v next → Small top v next
+number-small top p at v next o e =
+    let q = octets-take top p o in
+    let r = only-written 32 (take top p) at v next q e in
     record {
-      value-top = omega (arith, within 32 (take headerEnd p) at v next q e);
-      next-top = omega (arith, r .next-is, has-inside (write v) (r .has), length-take headerEnd p);
+      value-top = omega (arith, within 32 (take top p) at v next q e);
+      next-top = omega (arith, r .next-is, has-inside (write v) (r .has), length-take top p);
     }
 
--- the octets up to the limit
-limited : (p : List ℕ) (n : ℕ) → n ≡ min headerEnd (length p) → take (n - 0) (drop 0 p) ≡ take headerEnd p
-limited p n e = ⊎-elim short long (below-or (length p) headerEnd)
+-- the octets up to the bound
+limited : (top : ℕ) (p : List ℕ) (n : ℕ) → n ≡ min top (length p) → take (n - 0) (drop 0 p) ≡ take top p
+limited top p n e = ⊎-elim short long (below-or (length p) top)
   where
-    short : length p < headerEnd → take (n - 0) (drop 0 p) ≡ take headerEnd p
+    short : length p < top → take (n - 0) (drop 0 p) ≡ take top p
     short h =
         let k : length p ≤ n - 0 = omega arith in
-        let l : length p ≤ headerEnd = omega arith in
-        take-all (n - 0) p k ∙ sym (take-all headerEnd p l)
+        let l : length p ≤ top = omega arith in
+        take-all (n - 0) p k ∙ sym (take-all top p l)
 
-    long : headerEnd ≤ length p → take (n - 0) (drop 0 p) ≡ take headerEnd p
-    long h = let k : n - 0 ≡ headerEnd = omega arith in ap (λ (j : ℕ). take j p) k
+    long : top ≤ length p → take (n - 0) (drop 0 p) ≡ take top p
+    long h = let k : n - 0 ≡ top = omega arith in ap (λ (j : ℕ). take j p) k
 
--- from the answer of the Varint's reader, over the octets up to the limit, to the definition
-module _ (p : List ℕ) (w : Reading) {end : ℕ} {r q : Found}
-    (e : end ≡ min headerEnd (length p)) (h : r ≡ found (readAt 32 (take (end - 0) (drop 0 p)) (w .at))) (d : r ≡ q) where
-  pub number-got : readAt 32 (take headerEnd p) (w .at) ≡ got q
-  number-got = rw (limited p end e) at (told (readAt 32 (take (end - 0) (drop 0 p)) (w .at)) h d)
+-- from the answer of the Varint's reader, over the octets up to the bound, to the definition
+module _ (b : Bound) (p : List ℕ) (w : Reading) {end : ℕ} {r q : Found}
+    (e : end ≡ min (b .end) (length p)) (h : r ≡ found (readAt 32 (take (end - 0) (drop 0 p)) (w .at))) (d : r ≡ q) where
+  pub number-got : readAt 32 (take (b .end) p) (w .at) ≡ got q
+  number-got = rw (limited (b .end) p end e) at (told (readAt 32 (take (end - 0) (drop 0 p)) (w .at)) h d)
 
-  pub number-told : w .refused ≡ 0 → varintField p w ≡ varintStep p (w .at) (got q)
-  number-told g = number-found p w (eq-eqb (w .refused) 0 g) number-got
+  pub number-told : w .refused ≡ 0 → varintField b p w ≡ varintStep b p (w .at) (got q)
+  number-told g = number-found b p w (eq-eqb (w .refused) 0 g) number-got

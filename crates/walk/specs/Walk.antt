@@ -1,9 +1,10 @@
 -- A reading: where it stands, or by which number it was refused. All refusals of reading are made by `octets`, `uinteger` and `check`.
--- SPEC R-2 to R-5, R-12, V-4: first 12, then 6, then the value, octet by octet; a content whose length is known is tested as a whole.
+-- SPEC R-2 to R-5, R-12, V-4: first past the bound, which is 12 for a packet, then 6, then the value, octet by octet; a content whose length
+-- is known is tested as a whole.
 -- Assumes nothing: these are definitions.
 use Prim.Native.Nat.{ℕ, _+_}
 use mathlib.Core.List.{List}
-use mathlib.Core.Bool.{Bool}
+use mathlib.Core.Bool.{Bool, true}
 use lib.ListN.{length, take}
 use lib.Dec.{leb, eqb}
 use Rattle.octets.specs.Octets.{pick, number}
@@ -11,6 +12,7 @@ use Rattle.varint.specs.Varint.{Got, value, ends, bad, readAt}
 use Rattle.walk.specs.declared.Settings.{Settings}
 use Rattle.walk.specs.declared.Refusal.{Refusal}
 use Rattle.walk.specs.declared.Tested.{Tested}
+use Rattle.walk.specs.declared.Bound.{Bound}
 use Rattle.walk.specs.Profile.{fixedProfile, byProfile, uintegerSize}
 
 -- the settings for any numbers given as T and as the profile; whether they are in range is tested on the numbers as they are given
@@ -68,11 +70,19 @@ timestampLeast = 1
 abbrev pub timestampMost : ℕ
 timestampMost = 16
 
--- n octets at the place: past the header's limit 12, past the packet's end 6
-unfoldable pub octets : List ℕ → ℕ → Reading → Reading
-octets p n w =
+-- so a packet's fields are bound by the header's limit
+abbrev pub headerBound : Bound
+headerBound = record { end = headerEnd; limit = true }
+
+-- to go past a bound is 12 if it is the header's limit, else 6
+abbrev pub past : Bound → ℕ
+past b = pick (b .limit) 12 6
+
+-- n octets at the place: past the bound, then past the end 6
+unfoldable pub octets : Bound → List ℕ → ℕ → Reading → Reading
+octets b p n w =
     pick (going w)
-    (pick (leb (w .at + n) headerEnd) (pick (leb (w .at + n) (length p)) (goes (w .at + n)) (refused (w .at) 6)) (refused (w .at) 12))
+    (pick (leb (w .at + n) (b .end)) (pick (leb (w .at + n) (length p)) (goes (w .at + n)) (refused (w .at) 6)) (refused (w .at) (past b)))
     w
 
 -- a test on what was read: if it fails, the refusal k
@@ -83,23 +93,27 @@ check ok k w = pick (going w) (pick ok w (refused (w .at) k)) w
 unfoldable pub fieldFrom : Reading → Reading → Reading
 fieldFrom w r = pick (going r) r (refused (w .at) (r .refused))
 
--- what a Varint's reading from a place on means here. Where its octets end, the header's limit comes first: 12, else 6
-unfoldable pub varintStep : List ℕ → ℕ → Got → Step ℕ
-varintStep p at (value v next) = record { walk = goes next; value = v }
-varintStep p at ends = record { walk = refused at (pick (leb headerEnd (length p)) 12 6); value = 0 }
-varintStep p at bad = record { walk = refused at 10; value = 0 }
+-- where octets end inside a number, the bound comes first if it is reached, else 6
+abbrev pub endedBy : Bound → List ℕ → ℕ
+endedBy b p = pick (leb (b .end) (length p)) (past b) 6
 
--- a Varint of at most 32 bits, among the octets up to the header's limit
-unfoldable pub varintField : List ℕ → Reading → Step ℕ
-varintField p w = pick (going w) (varintStep p (w .at) (readAt 32 (take headerEnd p) (w .at))) (record { walk = w; value = 0 })
+-- what a Varint's reading from a place on means here
+unfoldable pub varintStep : Bound → List ℕ → ℕ → Got → Step ℕ
+varintStep b p at (value v next) = record { walk = goes next; value = v }
+varintStep b p at ends = record { walk = refused at (endedBy b p); value = 0 }
+varintStep b p at bad = record { walk = refused at 10; value = 0 }
+
+-- a Varint of at most 32 bits, among the octets up to the bound
+unfoldable pub varintField : Bound → List ℕ → Reading → Step ℕ
+varintField b p w = pick (going w) (varintStep b p (w .at) (readAt 32 (take (b .end) p) (w .at))) (record { walk = w; value = 0 })
 
 -- a number of n octets, tested as a whole
-unfoldable pub wideField : ℕ → List ℕ → Reading → Step ℕ
-wideField n p w = record { walk = octets p n w; value = number n p (w .at) }
+unfoldable pub wideField : ℕ → Bound → List ℕ → Reading → Step ℕ
+wideField n b p w = record { walk = octets b p n w; value = number n p (w .at) }
 
 -- an unsigned number of at most 32 bits, under the settings
-unfoldable pub uinteger : Settings → List ℕ → Reading → Step ℕ
-uinteger s p w = byProfile s varintField (wideField uintegerSize) p w
+unfoldable pub uinteger : Settings → Bound → List ℕ → Reading → Step ℕ
+uinteger s b p w = byProfile s (varintField b) (wideField uintegerSize b) p w
 
 -- where reading begins: 15 for T and the profile, and then the secondary header after the six octets of the primary one
 unfoldable pub begun : Settings → Reading

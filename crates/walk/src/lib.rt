@@ -1,18 +1,17 @@
 // A reading's place and refusal, and the steps that make every refusal of reading.
 //
 // A `Walk` goes by value through every step; a refused one passes through unchanged, so the code above is straight-line. Two
-// steps test octets (`octets` and `read_uinteger`: 12, then 6, then 10), one tests a value (`check`). `Settings` is what both sides
-// agreed on. Lengths, counts and the priority are read by `read_uinteger`, and nothing else asks how they are written: each is a Varint, or
-// under the first pods' profile four octets.
+// steps test octets (`octets` and `read_uinteger`: first what would go past the bound, then 6, then 10), one tests a value (`check`). A
+// `Bound` is where the fields end at the latest: a packet's header has a limit, and past it is 12. `Settings` is what both sides agreed on.
+// Lengths, counts and the priority are read by `read_uinteger`, and nothing else asks how they are written: each is a Varint, or under the
+// first pods' profile four octets.
 ghost use mathlib.Core.Path.{_≡_};
 ghost use Prim.Native.Nat.{min};
-ghost use lib.Dec.{leb};
-ghost use Rattle.octets.specs.Octets.{pick};
 ghost use lib.ListN.{length};
 ghost use Rattle.walk.specs.Walk.{goes as goesAt, refused as refusedBy, octets as octetsOf, check as checkOf, uinteger, begun};
 ghost use Rattle.walk.specs.Walk.{varintField, wideField};
 ghost use Rattle.walk.specs.Profile.{uintegerSize};
-ghost use Rattle.walk.specs.Walk.{unless as unlessOf, refusal as refusalOf, headerEnd, fieldFrom};
+ghost use Rattle.walk.specs.Walk.{unless as unlessOf, refusal as refusalOf, headerBound, past as pastOf, endedBy, fieldFrom};
 ghost use Rattle.walk.specs.Inner.{asWalk, ofWalk, asUInteger};
 use varint::Found;
 
@@ -141,9 +140,15 @@ pub struct Tested {
     pub number: u8,
 }
 
+// Where fields end at the latest, and whether that is the limit of a packet's header (12), else it is the end of what is read (6).
+pub struct Bound {
+    pub end: usize,
+    pub limit: bool,
+}
+
 // A reading: the next place; or the number of its refusal, and where it was refused: if octets were missing, where their field began.
 pub struct Walk {
-    pub at: u16,
+    pub at: usize,
     pub refused: u8,
 }
 
@@ -184,38 +189,61 @@ pub fn unless(r: Tested, ok: bool, k: u8) -> Tested
     Tested { number: k }
 }
 
-pub fn goes(at: u16) -> Walk
+pub fn goes(at: usize) -> Walk
     ensures { λ r. ⌜ r ≡ asWalk (goesAt at) ⌝ }
 {
     Walk { at: at, refused: 0 }
 }
 
 // The one place where a reading is refused.
-pub fn refused(at: u16, k: u8) -> Walk
+pub fn refused(at: usize, k: u8) -> Walk
     ensures { λ r. ⌜ r ≡ asWalk (refusedBy at k) ⌝ }
 {
     Walk { at: at, refused: k }
 }
 
-impl Walk {
-    // n octets at the place, refused by 12 or 6.
-    pub fn octets(self, p: &[u8], n: usize) -> Walk
-        ensures { λ r. ⌜ r ≡ asWalk (octetsOf (now (p .entry)) n (ofWalk self)) ⌝ }
+// The bound of a packet's secondary header.
+pub fn header_bound() -> Bound
+    ensures { λ r. ⌜ r ≡ headerBound ⌝ }
+{
+    Bound {
+        end: HEADER_END,
+        limit: true,
+    }
+}
+
+impl Bound {
+    // Which refusal it is to go past it.
+    pub fn past(self) -> u8
+        ensures { λ r. ⌜ r ≡ pastOf self ⌝ }
     {
-        let at = self.at as usize;
+        if self.limit {
+            return REFUSED_HEADER_LONG;
+        }
+        REFUSED_HEADER_ENDS
+    }
+}
+
+impl Walk {
+    // n octets at the place, refused past the bound, or by 6.
+    pub fn octets(self, b: Bound, p: &[u8], n: usize) -> Walk
+        ensures { λ r. ⌜ r ≡ asWalk (octetsOf b (now (p .entry)) n (ofWalk self)) ⌝ }
+    {
+        let at = self.at;
+        let past = b.past();
         if self.refused != 0 {
             return self;
         }
-        if HEADER_END < at {
-            return refused(self.at, REFUSED_HEADER_LONG);
+        if b.end < at {
+            return refused(at, past);
         }
-        if HEADER_END - at < n {
-            return refused(self.at, REFUSED_HEADER_LONG);
+        if b.end - at < n {
+            return refused(at, past);
         }
         if p.len() < at + n {
-            return refused(self.at, REFUSED_HEADER_ENDS);
+            return refused(at, REFUSED_HEADER_ENDS);
         }
-        goes((at + n) as u16)
+        goes(at + n)
     }
 
     // Refused by k unless the test holds.
@@ -242,40 +270,40 @@ impl Walk {
     }
 }
 
-// The octets up to the header's limit.
-fn before_limit(p: &[u8]) -> usize
-    ensures limit { λ r. ⌜ r ≡ min headerEnd (length (now (p .entry))) ⌝ }
+// The octets up to the bound.
+fn before_bound(b: Bound, p: &[u8]) -> usize
+    ensures limit { λ r. ⌜ r ≡ min (b .end) (length (now (p .entry))) ⌝ }
 {
-    if p.len() < HEADER_END {
+    if p.len() < b.end {
         return p.len();
     }
-    HEADER_END
+    b.end
 }
 
-// Which refusal an end inside a number is: 12 at the header's limit, else 6.
-fn end_refusal(p: &[u8]) -> u8
-    ensures { λ r. ⌜ r ≡ pick (leb headerEnd (length (now (p .entry)))) 12 6 ⌝ }
+// Which refusal an end inside a number is: the bound's if it is reached, else 6.
+fn end_refusal(b: Bound, p: &[u8]) -> u8
+    ensures { λ r. ⌜ r ≡ endedBy b (now (p .entry)) ⌝ }
 {
-    if HEADER_END <= p.len() {
-        return REFUSED_HEADER_LONG;
+    if b.end <= p.len() {
+        return b.past();
     }
     REFUSED_HEADER_ENDS
 }
 
-// A Varint of at most 32 bits at the place, refused by 12, 6 or 10.
-fn read_varint(p: &[u8], w: Walk) -> UInteger
-    ensures { λ r. ⌜ r ≡ asUInteger (varintField (now (p .entry)) (ofWalk w)) ⌝ }
+// A Varint of at most 32 bits at the place, refused past the bound, by 6 or 10.
+fn read_varint(b: Bound, p: &[u8], w: Walk) -> UInteger
+    ensures { λ r. ⌜ r ≡ asUInteger (varintField b (now (p .entry)) (ofWalk w)) ⌝ }
 {
     if w.refused != 0 {
         return UInteger { walk: w, value: 0 };
     }
-    let at = w.at as usize;
-    let end = before_limit(p);
-    let ended = end_refusal(p);
+    let at = w.at;
+    let end = before_bound(b, p);
+    let ended = end_refusal(b, p);
     let head = &p[0..end];
     match varint::read32(head, at) {
         Found::Value(v, next) => {
-            let walk = goes(next as u16);
+            let walk = goes(next);
             UInteger {
                 walk: walk,
                 value: v as u32,
@@ -298,12 +326,12 @@ fn read_varint(p: &[u8], w: Walk) -> UInteger
     }
 }
 
-// Four octets as a number at the place, refused by 12 or 6 as a whole.
-pub fn read_four(p: &[u8], w: Walk) -> UInteger
-    ensures { λ r. ⌜ r ≡ asUInteger (wideField uintegerSize (now (p .entry)) (ofWalk w)) ⌝ }
+// Four octets as a number at the place, refused past the bound or by 6 as a whole.
+pub fn read_four(b: Bound, p: &[u8], w: Walk) -> UInteger
+    ensures { λ r. ⌜ r ≡ asUInteger (wideField uintegerSize b (now (p .entry)) (ofWalk w)) ⌝ }
 {
-    let walk = w.octets(p, UINTEGER);
-    let value = octets::be32(p, w.at as usize);
+    let walk = w.octets(b, p, UINTEGER);
+    let value = octets::be32(p, w.at);
     UInteger {
         walk: walk,
         value: value,
@@ -311,13 +339,13 @@ pub fn read_four(p: &[u8], w: Walk) -> UInteger
 }
 
 // An unsigned number of at most 32 bits at the place, as the profile has it.
-pub fn read_uinteger(s: Settings, p: &[u8], w: Walk) -> UInteger
-    ensures { λ r. ⌜ r ≡ asUInteger (uinteger s (now (p .entry)) (ofWalk w)) ⌝ }
+pub fn read_uinteger(s: Settings, b: Bound, p: &[u8], w: Walk) -> UInteger
+    ensures { λ r. ⌜ r ≡ asUInteger (uinteger s b (now (p .entry)) (ofWalk w)) ⌝ }
 {
     if s.profile == PROFILE_FIXED {
-        return read_four(p, w);
+        return read_four(b, p, w);
     }
-    read_varint(p, w)
+    read_varint(b, p, w)
 }
 
 // Where reading begins, refused by 15.

@@ -28,16 +28,16 @@ routing-word a b c d =
 
 -- ---- the fields with a length
 
-if-together : (b : Bool) (xs : List (List ℕ)) → together (when b xs) ≡ when b (together xs)
+pub if-together : (b : Bool) (xs : List (List ℕ)) → together (when b xs) ≡ when b (together xs)
 unfolding together
 if-together true xs = refl
 if-together false xs = refl
 
-blob-together : (s : Settings) (x : List ℕ) → together (blobPieces s x) ≡ blobOctets s x
+pub blob-together : (s : Settings) (x : List ℕ) → together (blobPieces s x) ≡ blobOctets s x
 unfolding blobPieces blobOctets together
 blob-together s x = simp append-nil
 
-text-together : (s : Settings) (x : List ℕ) → together (textPieces s x) ≡ textOctets s x
+pub text-together : (s : Settings) (x : List ℕ) → together (textPieces s x) ≡ textOctets s x
 unfolding textPieces textOctets
 text-together s x = blob-together s x
 
@@ -51,7 +51,7 @@ parts-together s [] = refl
 parts-together s (t ∷ ts) =
     together-append (partPieces s t) (partsPieces s ts) ∙ ap₂ _++_ (part-together s t) (parts-together s ts)
 
-domain-together : (s : Settings) (ts : List (List ℕ)) → together (domainPieces s ts) ≡ domainOctets s ts
+pub domain-together : (s : Settings) (ts : List (List ℕ)) → together (domainPieces s ts) ≡ domainOctets s ts
 unfolding domainPieces domainOctets together
 domain-together s ts = ap (λ (y : List ℕ). uintegerOctets s (length ts) ++ y) (parts-together s ts)
 
@@ -76,7 +76,7 @@ module _ (s : Settings) (v : HeaderValues) (o : PacketValues) (t : Lent) where
   front-together body = simp (together-append, if-together, one-together, append-assoc)
 
   back-together :
-      together (middlePieces s v (t .timestamp) (t .zone))
+      together (middlePieces s (v .has) (v .priority) (t .timestamp) (t .zone))
       ++ together (endPieces s (v .has) (t .session-name) (t .domain) (t .lengths) (t .authentication))
       ≡ backOctets s (headOf v t)
   unfolding middlePieces endPieces backOctets headOf
@@ -100,7 +100,7 @@ module _ (s : Settings) (v : HeaderValues) (o : PacketValues) (t : Lent) where
       (fixedOctets (headOf v t))
       (frontOctets (headOf v t))
       (counterOctets (packetOf (headOf v t) o body))
-      (together (middlePieces s v (t .timestamp) (t .zone)))
+      (together (middlePieces s (v .has) (v .priority) (t .timestamp) (t .zone)))
       (together (endPieces s (v .has) (t .session-name) (t .domain) (t .lengths) (t .authentication)))
       (backOctets s (headOf v t))
       body

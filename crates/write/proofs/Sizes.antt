@@ -10,7 +10,7 @@ use Rattle.octets.specs.Octets.{pick}
 use Rattle.octets.proofs.Numbers.{wide-length}
 use Rattle.walk.specs.declared.Settings.{Settings}
 use Rattle.fields.specs.Form.{uintegerOctets, domainOctets, split}
-use Rattle.fields.specs.Inner.{capped}
+use Rattle.fields.specs.Inner.{capped, sizeMost}
 use Rattle.fields.proofs.Sized.{text-long, blob-long, cap-right, cap-both}
 use Rattle.packet.specs.Format.{Head, when, fixedOctets, frontOctets, backOctets, headerOctets}
 use Rattle.format.proofs.Stretches.{front-long}
@@ -32,7 +32,7 @@ unfolding fixedOctets
 fixed-length h = simp (length-append, wide-length)
 
 cap-three : (a b c : ℕ) → capped (capped a + capped (capped b + capped c)) ≡ capped (a + (b + c))
-cap-three a b c = ap (λ (n : ℕ). capped (capped a + n)) (cap-both b c) ∙ cap-both a (b + c)
+cap-three a b c = ap (λ (n : ℕ). capped (capped a + n)) (cap-both sizeMost b c) ∙ cap-both sizeMost a (b + c)
 
 -- priority, timestamp and zone; session name, domain and authentication id
 abbrev middleLength : Settings → Head → ℕ
@@ -74,8 +74,8 @@ unfolding middleSize headOf
 middle-size s v t =
     ap (λ (n : ℕ). capped (pick (v .has .priority) (length (uintegerOctets s (v .priority))) 0 + capped (pick (v .has .timestamp) (length (t .timestamp)) 0 + n)))
     (cap-pick (v .has .zone) (length (uintegerOctets s (length (t .zone))) + length (t .zone)))
-    ∙ ap (λ (n : ℕ). capped (pick (v .has .priority) (length (uintegerOctets s (v .priority))) 0 + n)) (cap-right _ _)
-    ∙ cap-right _ _
+    ∙ ap (λ (n : ℕ). capped (pick (v .has .priority) (length (uintegerOctets s (v .priority))) 0 + n)) (cap-right sizeMost _ _)
+    ∙ cap-right sizeMost _ _
 
 end-size :
     (s : Settings) (v : HeaderValues) (t : Lent) →
@@ -96,6 +96,6 @@ pub header-size :
 unfolding headOf
 header-size s v t {f} {m} {e} {x} {r} ef em ee ex er =
     let a : x ≡ capped (middleLength s (headOf v t) + endLength s (headOf v t)) =
-    ex ∙ ap₂ (λ (i j : ℕ). capped (i + j)) (em ∙ middle-size s v t) (ee ∙ end-size s v t) ∙ cap-both _ _ in
-    er ∙ ap (λ (i : ℕ). capped (21 + f + i)) a ∙ cap-right (21 + f) _
+    ex ∙ ap₂ (λ (i j : ℕ). capped (i + j)) (em ∙ middle-size s v t) (ee ∙ end-size s v t) ∙ cap-both sizeMost _ _ in
+    er ∙ ap (λ (i : ℕ). capped (21 + f + i)) a ∙ cap-right sizeMost (21 + f) _
     ∙ ap capped (ap (λ (i : ℕ). 21 + i + (middleLength s (headOf v t) + endLength s (headOf v t))) ef ∙ sym (header-length s (headOf v t)))

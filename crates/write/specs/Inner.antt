@@ -61,10 +61,10 @@ frontPieces v o =
     when (v .has .source) (wide 1 (v .source) ∷ [])
     ++ (when (v .has .destination) (wide 1 (v .destination) ∷ []) ++ when (segment (o .flags)) (wide counterWidth (o .counter .0) ∷ []))
 
-unfoldable pub middlePieces : Settings → HeaderValues → List ℕ → List ℕ → List (List ℕ)
-middlePieces s v timestamp zone =
-    when (v .has .priority) (uintegerOctets s (v .priority) ∷ [])
-    ++ (when (v .has .timestamp) (timestamp ∷ []) ++ when (v .has .zone) (textPieces s zone))
+unfoldable pub middlePieces : Settings → Present → ℕ → List ℕ → List ℕ → List (List ℕ)
+middlePieces s has priority timestamp zone =
+    when (has .priority) (uintegerOctets s priority ∷ [])
+    ++ (when (has .timestamp) (timestamp ∷ []) ++ when (has .zone) (textPieces s zone))
 
 unfoldable pub endPieces : Settings → Present → List ℕ → List ℕ → List ℕ → List ℕ → List (List ℕ)
 endPieces s has name domain lengths authentication =
@@ -78,7 +78,7 @@ packetPieces s v o t n body =
     ++ (namePieces v
     ++ (routingPieces v
     ++ (frontPieces v o
-    ++ (middlePieces s v (t .timestamp) (t .zone)
+    ++ (middlePieces s (v .has) (v .priority) (t .timestamp) (t .zone)
     ++ (endPieces s (v .has) (t .session-name) (t .domain) (t .lengths) (t .authentication) ++ (body ∷ []))))))
 
 -- ---- sizes, told up to the limit

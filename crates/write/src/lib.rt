@@ -129,7 +129,7 @@ pub fn test_settings(s: Settings, r: Tested) -> Tested
     walk::unless(b, s.profile <= walk::PROFILE_FIXED, REFUSED_SETTINGS)
 }
 
-fn number_fits(there: bool, x: u64, most: u64) -> bool
+pub fn number_fits(there: bool, x: u64, most: u64) -> bool
     ensures { λ r. ⌜ r ≡ numberFits there x most ⌝ }
 {
     if there {
@@ -147,7 +147,7 @@ fn text_fits(there: bool, n: usize) -> bool
     n == 0
 }
 
-fn exact_fits(there: bool, n: usize, want: usize) -> bool
+pub fn exact_fits(there: bool, n: usize, want: usize) -> bool
     ensures { λ r. ⌜ r ≡ exactFits there n want ⌝ }
 {
     if there {
@@ -172,7 +172,7 @@ fn adds_up(lengths: &[u64], n: usize) -> bool
     left == 0
 }
 
-fn lengths_fit(there: bool, lengths: &[u64], n: usize) -> bool
+pub fn lengths_fit(there: bool, lengths: &[u64], n: usize) -> bool
     ensures { λ r. ⌜ r ≡ lengthsFit there (now (lengths .entry)) n ⌝ }
 {
     if there {
@@ -323,7 +323,7 @@ pub fn test_utf8(zone: &[u8], name: &[u8], domain: &[u8], lengths: &[u64], r: Te
 // ---- sizes
 
 // A size if it is there, else 0.
-fn size_if(there: bool, n: usize) -> usize
+pub fn size_if(there: bool, n: usize) -> usize
     ensures { λ r. ⌜ r ≡ pick there n 0 ⌝ }
 {
     if there {
@@ -412,7 +412,7 @@ fn put_names(out: &mut [u8], at: usize, v: HeaderValues) -> usize
     octets::lay_number(out, d, 1, v.version as u64)
 }
 
-fn present_octet(has: Present) -> u64
+pub fn present_octet(has: Present) -> u64
     ensures { λ r. ⌜ r ≡ presentOctet has ⌝ }
 {
     128 * octets::bit_of(has.source)
@@ -483,7 +483,7 @@ fn block_if(there: bool, out: &mut [u8], at: usize, x: &[u8]) -> usize
     at
 }
 
-fn text_if(there: bool, s: Settings, out: &mut [u8], at: usize, x: &[u8]) -> usize
+pub fn text_if(there: bool, s: Settings, out: &mut [u8], at: usize, x: &[u8]) -> usize
     ensures { λ r. ⌜ Lays (laid (now (out .entry)) at) (when there (textPieces s (now (x .entry)))) (now (out .exit)) r ⌝ }
 {
     if there {
@@ -509,7 +509,8 @@ fn domain_if(
     x: &[u8],
     lengths: &[u64],
 ) -> usize
-    ensures { λ r. ⌜ Lays (laid (now (out .entry)) at) (when there (domainPieces s (split (now (lengths .entry)) (now (x .entry))))) (now (out .exit)) r ⌝ }
+    ensures { λ r. ⌜ Lays (laid (now (out .entry)) at) (when there (domainPieces s (split (now (lengths .entry)) (now (x .entry)))))
+        (now (out .exit)) r ⌝ }
 {
     if there {
         return fields::put_domain(s, out, at, x, lengths);
@@ -518,24 +519,24 @@ fn domain_if(
 }
 
 // Priority, timestamp, zone.
-fn put_middle(
+pub fn put_middle(
     s: Settings,
     out: &mut [u8],
     at: usize,
-    v: HeaderValues,
+    has: Present,
+    priority: u64,
     time: &[u8],
     zone: &[u8],
 ) -> usize
-    ensures { λ r. ⌜ Lays (laid (now (out .entry)) at) (middlePieces s v (now (time .entry)) (now (zone .entry))) (now (out .exit)) r ⌝ }
+    ensures { λ r. ⌜ Lays (laid (now (out .entry)) at) (middlePieces s has priority (now (time .entry)) (now (zone .entry))) (now (out .exit)) r ⌝ }
 {
-    let has = v.has;
-    let a = uinteger_if(has.priority, s, out, at, v.priority);
+    let a = uinteger_if(has.priority, s, out, at, priority);
     let b = block_if(has.timestamp, out, a, time);
     text_if(has.zone, s, out, b, zone)
 }
 
 // Session name, domain, authentication id.
-fn put_end(
+pub fn put_end(
     s: Settings,
     out: &mut [u8],
     at: usize,
@@ -577,7 +578,7 @@ pub fn put_packet(
     let b = put_names(out, a, v);
     let c = put_routing(out, b, v);
     let d = put_front(out, c, v, o);
-    let e = put_middle(s, out, d, v, time, zone);
+    let e = put_middle(s, out, d, has, v.priority, time, zone);
     let f = put_end(s, out, e, has, name, domain, lengths, id);
     octets::lay(out, f, body)
 }

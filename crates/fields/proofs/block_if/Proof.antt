@@ -8,15 +8,12 @@ use Rattle.fields.specs.Fields.{block}
 octets-requires : tie.Need-octets-requires
 octets-requires c κs = search needs
 
-cast-t9 : tie.Need-cast-t9
-cast-t9 c = search needs
-
 returns : tie.Need-returns
 unfolding block
-returns c = simp (c .before .before .if1 .taken, c .before .octets .ensures)
+returns c = simp (c .before .if1 .taken, c .octets .ensures)
 
 returns-2 : tie.Need-returns-2
 returns-2 c = simp (c .if1 .left)
 
 pub block-if-spec : {M : Type 1} → statement M
-block-if-spec = tie.close (tie.spec octets-requires cast-t9 returns returns-2)
+block-if-spec = tie.close (tie.spec octets-requires returns returns-2)

@@ -9,6 +9,7 @@ use mathlib.Core.Path.{_≡_, refl, ap, _∙_}
 use native.Mathlib.Nat.{le-antisymm}
 use native.Mathlib.Numerals.{add-one}
 use Rattle.walk.specs.declared.Settings.{Settings}
+use Rattle.walk.specs.declared.Bound.{Bound}
 use Rattle.walk.specs.declared.Walk.{Walk}
 use Rattle.walk.specs.Walk.{Step}
 use Rattle.walk.specs.Inner.{ofWalk}
@@ -25,20 +26,20 @@ domain-of w count parts = record { walk = w; count = count; parts = parts }
 
 -- one part more
 turn :
-    (s : Settings) (p : List ℕ) (k : ℕ) {D : Step Parts} {w : Walk} {count : ℕ} {parts : List Place} {t : Text} →
-    domain-of w count parts ≡ asDomain D → t ≡ asText (part s p (ofWalk w)) →
-    domain-of (t .walk) count (set parts k (t .place)) ≡ asDomain (partAt s p k D)
+    (s : Settings) (b : Bound) (p : List ℕ) (k : ℕ) {D : Step Parts} {w : Walk} {count : ℕ} {parts : List Place} {t : Text} →
+    domain-of w count parts ≡ asDomain D → t ≡ asText (part s b p (ofWalk w)) →
+    domain-of (t .walk) count (set parts k (t .place)) ≡ asDomain (partAt s b p k D)
 unfolding partAt
-turn s p k {D} {w} {count} {parts} e et =
+turn s b p k {D} {w} {count} {parts} e et =
     ap (λ (u : Text). domain-of (u .walk) count (set parts k (u .place))) et
-    ∙ ap (λ (x : Domain). asDomain (partAt s p k (ofDomain x))) e
+    ∙ ap (λ (x : Domain). asDomain (partAt s b p k (ofDomain x))) e
 
 abbrev Inv-loop : tie.InvT-loop
-Inv-loop s p n count parts₀ w₀ k₀ parts w k =
-    (k ≤ n) × (domain-of w count parts ≡ asDomain (partsTo s p k (ofDomain (domain-of w₀ count parts₀))))
+Inv-loop s b p n count parts₀ w₀ k₀ parts w k =
+    (k ≤ n) × (domain-of w count parts ≡ asDomain (partsTo s b p k (ofDomain (domain-of w₀ count parts₀))))
 
 abbrev μ-loop : tie.MeasureT-loop
-μ-loop s p n count parts₀ w₀ k₀ parts w k = n - k
+μ-loop s b p n count parts₀ w₀ k₀ parts w k = n - k
 
 loop-holds : tie.Need-loop-holds Inv-loop μ-loop
 unfolding partsTo
@@ -64,7 +65,7 @@ unfolding partsTo
 loop-again c =
     let l = c .before .before .before .before in
     let g = l .before .before .before .before .args in
-    (search needs, rw add-one (turn (g .s) (now (g .p)) (l .loop .k) (l .loop .inv .1) (c .before .before .read-part .ensures)))
+    (search needs, rw add-one (turn (g .s) (g .b) (now (g .p)) (l .loop .k) (l .loop .inv .1) (c .before .before .read-part .ensures)))
 
 returns : tie.Need-returns Inv-loop μ-loop
 returns c = cc (le-antisymm (c .before .loop .inv .0) (c .loop-test .left))

@@ -17,15 +17,12 @@ octets-requires c κs = search needs
 field-from-requires : tie.Need-field-from-requires
 field-from-requires c κs = search needs
 
-cast-t10 : tie.Need-cast-t10
-cast-t10 c = search needs
-
 returns : tie.Need-returns
 unfolding blob
 returns c =
-    let g = c .before .before in
-    simp (c .before .field-from .ensures, g .octets .ensures, g .before .before .before .read-uinteger .ensures)
+    let g = c .before in
+    simp (c .field-from .ensures, g .octets .ensures, g .before .before .before .read-uinteger .ensures)
 
 pub read-blob-spec : {M : Type 1} → statement M
 read-blob-spec =
-    tie.close (tie.spec read-uinteger-requires cast-length octets-requires field-from-requires cast-t10 returns)
+    tie.close (tie.spec read-uinteger-requires cast-length octets-requires field-from-requires returns)

@@ -19,7 +19,7 @@ parts-to-requires c κs = search needs
 
 returns : tie.Need-returns
 returns c =
-    let d = domain-parts _ _ _ (c .before .before .before .before .before .read-uinteger .ensures) (c .before .before .if1 .taken) in
+    let d = domain-parts _ _ _ _ (c .before .before .before .before .before .read-uinteger .ensures) (c .before .before .if1 .taken) in
     simp (c .parts-to .ensures, c .before .no-parts .ensures, d)
 
 check-requires : tie.Need-check-requires
@@ -30,7 +30,7 @@ no-parts-requires-2 c κs = search needs
 
 returns-2 : tie.Need-returns-2
 returns-2 c =
-    let d = domain-many _ _ _ (c .before .before .before .before .before .read-uinteger .ensures) (c .before .before .if1 .left) in
+    let d = domain-many _ _ _ _ (c .before .before .before .before .before .read-uinteger .ensures) (c .before .before .if1 .left) in
     simp (c .no-parts2 .ensures, c .before .check .ensures, d)
 
 pub read-domain-spec : {M : Type 1} → statement M

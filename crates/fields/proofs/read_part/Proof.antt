@@ -5,9 +5,6 @@ use Rattle.fields.proofs.read_part.Statement.{statement}
 use Rattle.fields.proofs.read_part.Tie as tie
 use Rattle.fields.specs.Fields.{markedText, part}
 
-cast-octet : tie.Need-cast-octet
-cast-octet c = search needs
-
 octet-requires : tie.Need-octet-requires
 octet-requires c κs = search needs
 
@@ -32,4 +29,4 @@ returns c =
 pub read-part-spec : {M : Type 1} → statement M
 read-part-spec =
     tie.close
-    (tie.spec cast-octet octet-requires octets-requires check-requires read-text-requires field-from-requires returns)
+    (tie.spec octet-requires octets-requires check-requires read-text-requires field-from-requires returns)

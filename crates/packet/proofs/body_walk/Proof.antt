@@ -9,9 +9,6 @@ use Rattle.packet.specs.Reading.{bodyTest}
 segmented-requires : tie.Need-segmented-requires
 segmented-requires c κs = search needs
 
-cast-check : tie.Need-cast-check
-cast-check c = search needs
-
 check-requires : tie.Need-check-requires
 check-requires c κs = search needs
 
@@ -25,4 +22,4 @@ returns-2 c = simp (sym (c .before .segmented .ensures) ∙ c .if1 .left)
 
 pub body-walk-spec : {M : Type 1} → statement M
 body-walk-spec =
-    tie.close (tie.spec segmented-requires cast-check check-requires returns returns-2)
+    tie.close (tie.spec segmented-requires check-requires returns returns-2)

@@ -6,6 +6,9 @@ use Rattle.packet.proofs.Whole.{refused-whole, accepted-whole}
 use Rattle.packet.proofs.read.Statement.{statement}
 use Rattle.packet.proofs.read.Tie as tie
 
+header-bound-requires : tie.Need-header-bound-requires
+header-bound-requires c κs = search needs
+
 begin-requires : tie.Need-begin-requires
 begin-requires c κs = search needs
 
@@ -14,6 +17,9 @@ primary-walk-requires c κs = search needs
 
 read-fixed-requires : tie.Need-read-fixed-requires
 read-fixed-requires c κs = search needs
+
+segmented-requires : tie.Need-segmented-requires
+segmented-requires c κs = search needs
 
 read-ids-requires : tie.Need-read-ids-requires
 read-ids-requires c κs = search needs
@@ -33,19 +39,16 @@ refused-header-requires c κs = search needs
 returns : tie.Need-returns
 returns c =
     let h = c .before .before .before .before in
-    let g = h .before .before .before .before .before .before .before in (
+    let g = h .before .before .before .before .before .before .before .before in (
       c .refused-header .ensures
-          ∙ refused-whole _ _ (g .before .before .begin .ensures) (g .before .primary-walk .ensures) (g .read-fixed .ensures)
-          (h .before .before .before .before .read-ids .ensures) (h .before .before .read-texts .ensures) (h .body-walk .ensures)
+          ∙ refused-whole _ _ (g .before .before .before .header-bound .ensures) (g .before .before .begin .ensures) (g .before .primary-walk .ensures) (g .read-fixed .ensures)
+          (h .before .before .before .before .before .segmented .ensures) (h .before .before .before .before .read-ids .ensures) (h .before .before .read-texts .ensures) (h .body-walk .ensures)
           (c .before .before .if1 .taken) (c .before .refusal-of .ensures),
-      λ i. g .before .before .before .shared-slice-known .given i .fits,
+      λ i. g .before .before .before .before .shared-slice-known .given i .fits,
     )
 
 numbered-requires : tie.Need-numbered-requires
 numbered-requires c κs = search needs
-
-cast-end : tie.Need-cast-end
-cast-end c = search needs
 
 read-primary-requires : tie.Need-read-primary-requires
 read-primary-requires c κs = search needs
@@ -64,23 +67,26 @@ less-requires-3 c κs = search needs
 
 returns-2 : tie.Need-returns-2
 returns-2 c =
-    let g = c .before .before .before .before .before .before .before .before .before .before .before .before in
-    let h = g .before .before .before .before .before .before .before in
+    let g = c .before .before .before .before .before .before .before .before .before .before .before in
+    let h = g .before .before .before .before .before .before .before .before in
     let k = c .before .before .before .before .before .before .before in (
-      accepted-whole _ _ (h .before .before .begin .ensures) (h .before .primary-walk .ensures) (h .read-fixed .ensures)
-          (g .before .before .before .before .read-ids .ensures) (g .before .before .read-texts .ensures) (g .body-walk .ensures) (k .before .before .before .if1 .left)
-          (k .before .before .numbered .ensures) (k .read-primary .ensures) (simp (c .before .less2 .ensures, c .before .before .before .less .ensures, c .before .before .counter-size .ensures))
+      accepted-whole _ _ (h .before .before .before .header-bound .ensures) (h .before .before .begin .ensures) (h .before .primary-walk .ensures) (h .read-fixed .ensures)
+          (g .before .before .before .before .before .segmented .ensures) (g .before .before .before .before .read-ids .ensures)
+          (g .before .before .read-texts .ensures) (g .body-walk .ensures) (k .before .before .if1 .left)
+          (k .before .numbered .ensures) (k .read-primary .ensures) (simp (c .before .less2 .ensures, c .before .before .before .less .ensures, c .before .before .counter-size .ensures))
           (c .less3 .ensures),
-      λ i. h .before .before .before .shared-slice-known .given i .fits,
+      λ i. h .before .before .before .before .shared-slice-known .given i .fits,
     )
 
 pub read-spec : {M : Type 1} → statement M
 read-spec =
     tie.close
     (tie.spec
+    header-bound-requires
     begin-requires
     primary-walk-requires
     read-fixed-requires
+    segmented-requires
     read-ids-requires
     read-texts-requires
     body-walk-requires
@@ -88,7 +94,6 @@ read-spec =
     refused-header-requires
     returns
     numbered-requires
-    cast-end
     read-primary-requires
     less-requires
     counter-size-requires

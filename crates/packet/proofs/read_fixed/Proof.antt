@@ -12,17 +12,11 @@ read-names-requires c κs = search needs
 read-routing-requires : tie.Need-read-routing-requires
 read-routing-requires c κs = search needs
 
-cast-be64 : tie.Need-cast-be64
-cast-be64 c = search needs
-
 be64-requires : tie.Need-be64-requires
 be64-requires c κs = search needs
 
 octets-requires : tie.Need-octets-requires
 octets-requires c κs = search needs
-
-cast-octet : tie.Need-cast-octet
-cast-octet c = search needs
 
 octet-requires : tie.Need-octet-requires
 octet-requires c κs = search needs
@@ -36,15 +30,15 @@ octets-requires-2 c κs = search needs
 returns : tie.Need-returns
 unfolding fixedStep fixedOf presentOf namesOf routingOf afterPresence afterTransaction
 returns c =
-    let g = c .before .before .before .before .before in
+    let g = c .before .before .before .before in
     simp (
       c .before .octets2 .ensures,
       c .before .before .flags-of .ensures,
       c .before .before .before .octet .ensures,
       g .octets .ensures,
       g .before .be64 .ensures,
-      g .before .before .before .before .read-routing .ensures,
-      g .before .before .before .before .before .before .read-names .ensures,
+      g .before .before .before .read-routing .ensures,
+      g .before .before .before .before .before .read-names .ensures,
     )
 
 pub read-fixed-spec : {M : Type 1} → statement M
@@ -53,10 +47,8 @@ read-fixed-spec =
     (tie.spec
     read-names-requires
     read-routing-requires
-    cast-be64
     be64-requires
     octets-requires
-    cast-octet
     octet-requires
     flags-of-requires
     octets-requires-2

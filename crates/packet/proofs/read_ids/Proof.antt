@@ -11,9 +11,6 @@ octet-if-requires c κs = search needs
 octet-if-requires-2 : tie.Need-octet-if-requires-2
 octet-if-requires-2 c κs = search needs
 
-segmented-requires : tie.Need-segmented-requires
-segmented-requires c κs = search needs
-
 counter-if-requires : tie.Need-counter-if-requires
 counter-if-requires c κs = search needs
 
@@ -27,9 +24,8 @@ returns c =
     simp (
       c .before .before .uinteger-if .ensures,
       g .counter-if .ensures,
-      g .before .segmented .ensures,
-      g .before .before .before .octet-if2 .ensures,
-      g .before .before .before .before .before .octet-if .ensures,
+      g .before .before .octet-if2 .ensures,
+      g .before .before .before .before .octet-if .ensures,
     )
 
 pub read-ids-spec : {M : Type 1} → statement M
@@ -38,7 +34,6 @@ read-ids-spec =
     (tie.spec
     octet-if-requires
     octet-if-requires-2
-    segmented-requires
     counter-if-requires
     uinteger-if-requires
     returns)

@@ -5,9 +5,6 @@ use Rattle.packet.proofs.read_octet.Statement.{statement}
 use Rattle.packet.proofs.read_octet.Tie as tie
 use Rattle.packet.specs.FixedPart.{octetField}
 
-cast-octet : tie.Need-cast-octet
-cast-octet c = search needs
-
 octet-requires : tie.Need-octet-requires
 octet-requires c κs = search needs
 
@@ -19,4 +16,4 @@ unfolding octetField
 returns c = simp (c .octets .ensures, c .before .octet .ensures)
 
 pub read-octet-spec : {M : Type 1} → statement M
-read-octet-spec = tie.close (tie.spec cast-octet octet-requires octets-requires returns)
+read-octet-spec = tie.close (tie.spec octet-requires octets-requires returns)

@@ -21,17 +21,17 @@ field-from-requires c κs = search needs
 read-word-requires : tie.Need-read-word-requires
 read-word-requires c κs = search needs
 
-cast-t15 : tie.Need-cast-t15
-cast-t15 c = search needs
+cast-t16 : tie.Need-cast-t16
+cast-t16 c = search needs
 
-mul-t16 : tie.Need-mul-t16
-mul-t16 c = search needs
+mul-t17 : tie.Need-mul-t17
+mul-t17 c = search needs
 
-cast-t17 : tie.Need-cast-t17
-cast-t17 c = search needs
+cast-t18 : tie.Need-cast-t18
+cast-t18 c = search needs
 
-add-t18 : tie.Need-add-t18
-add-t18 c = search needs
+add-t19 : tie.Need-add-t19
+add-t19 c = search needs
 
 returns : tie.Need-returns
 unfolding routingOf octetField wideField afterQualifier afterSecondary afterSession
@@ -54,8 +54,8 @@ read-routing-spec =
     read-octet-requires-2
     field-from-requires
     read-word-requires
-    cast-t15
-    mul-t16
-    cast-t17
-    add-t18
+    cast-t16
+    mul-t17
+    cast-t18
+    add-t19
     returns)

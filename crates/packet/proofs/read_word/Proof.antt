@@ -5,9 +5,6 @@ use Rattle.packet.proofs.read_word.Statement.{statement}
 use Rattle.packet.proofs.read_word.Tie as tie
 use Rattle.packet.specs.FixedPart.{wideField}
 
-cast-be16 : tie.Need-cast-be16
-cast-be16 c = search needs
-
 be16-requires : tie.Need-be16-requires
 be16-requires c κs = search needs
 
@@ -19,4 +16,4 @@ unfolding wideField
 returns c = simp (c .octets .ensures, c .before .be16 .ensures)
 
 pub read-word-spec : {M : Type 1} → statement M
-read-word-spec = tie.close (tie.spec cast-be16 be16-requires octets-requires returns)
+read-word-spec = tie.close (tie.spec be16-requires octets-requires returns)

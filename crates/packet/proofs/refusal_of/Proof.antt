@@ -40,9 +40,6 @@ returns-2 c =
     let g = c .before .before in
     simp (c .telling2 .ensures, c .before .less2 .ensures, g .before .before .be16 .ensures, g .if2 .taken)
 
-cast-less : tie.Need-cast-less
-cast-less c = search needs
-
 less-requires-3 : tie.Need-less-requires-3
 less-requires-3 c κs = search needs
 
@@ -50,7 +47,7 @@ telling-requires-3 : tie.Need-telling-requires-3
 telling-requires-3 c κs = search needs
 
 returns-3 : tie.Need-returns-3
-returns-3 c = ends-told _ _ (c .before .before .before .if3 .taken) (c .before .less3 .ensures) (c .telling3 .ensures)
+returns-3 c = ends-told _ _ (c .before .before .if3 .taken) (c .before .less3 .ensures) (c .telling3 .ensures)
 
 numbered-requires : tie.Need-numbered-requires
 numbered-requires c κs = search needs
@@ -74,7 +71,6 @@ refusal-of-spec =
     less-requires-2
     telling-requires-2
     returns-2
-    cast-less
     less-requires-3
     telling-requires-3
     returns-3

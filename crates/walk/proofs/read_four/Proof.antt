@@ -8,9 +8,6 @@ use Rattle.walk.specs.Walk.{wideField}
 octets-requires : tie.Need-octets-requires
 octets-requires c κs = search needs
 
-cast-be32 : tie.Need-cast-be32
-cast-be32 c = search needs
-
 be32-requires : tie.Need-be32-requires
 be32-requires c κs = search needs
 
@@ -19,4 +16,4 @@ unfolding wideField
 returns c = cc
 
 pub read-four-spec : {M : Type 1} → statement M
-read-four-spec = tie.close (tie.spec octets-requires cast-be32 be32-requires returns)
+read-four-spec = tie.close (tie.spec octets-requires be32-requires returns)

@@ -13,13 +13,10 @@ use Rattle.walk.specs.Inner.{ofWalk, asUInteger}
 use Rattle.walk.specs.Walk.{varintStep}
 
 returns : tie.Need-returns
-returns c = ap asUInteger (sym (number-refused _ _ (ne-eqb _ _ (c .if1 .taken))))
+returns c = ap asUInteger (sym (number-refused _ _ _ (ne-eqb _ _ (c .if1 .taken))))
 
-cast-at : tie.Need-cast-at
-cast-at c = search needs
-
-before-limit-requires : tie.Need-before-limit-requires
-before-limit-requires c κs = search needs
+before-bound-requires : tie.Need-before-bound-requires
+before-bound-requires c κs = search needs
 
 end-refusal-requires : tie.Need-end-refusal-requires
 end-refusal-requires c κs = search needs
@@ -39,23 +36,17 @@ read32-requires c κs = search needs
 enum-known-v : tie.Need-enum-known-v
 enum-known-v c = search needs
 
-cast-goes : tie.Need-cast-goes
-cast-goes c =
-    let call = c .before .before .before in
-    let entry = call .before .before .before .before .before .before .before .before in
-    let g = number-got (now (entry .args .p)) (ofWalk (entry .args .w)) (call .before .before .before .before-limit .ensures) (call .read32 .ensures) (c .before .v .given .1) in
-    omega (arith, number-small (now (entry .args .p)) (entry .args .w .at) _ _ (λ i. call .before .before .before .before .before .before .before .shared-slice-known .given i .fits) g .next-top)
-
 goes-requires : tie.Need-goes-requires
 goes-requires c κs = search needs
 
 cast-t19 : tie.Need-cast-t19
 cast-t19 c =
     let call = c .before .before .before .before in
-    let entry = call .before .before .before .before .before .before .before .before in
-    let g = number-got (now (entry .args .p)) (ofWalk (entry .args .w)) (call .before .before .before .before-limit .ensures)
+    let entry = call .before .before .before .before .before .before .before in
+    let g = number-got (entry .args .b) (now (entry .args .p)) (ofWalk (entry .args .w)) (call .before .before .before .before-bound .ensures)
     (call .read32 .ensures) (c .before .before .v .given .1) in
-    omega (arith, number-small (now (entry .args .p)) (entry .args .w .at) _ _ (λ i. call .before .before .before .before .before .before .before .shared-slice-known .given i .fits) g .value-top)
+    let known = call .before .before .before .before .before .before .shared-slice-known in
+    omega (arith, number-small (entry .args .b .end) (now (entry .args .p)) (entry .args .w .at) _ _ (λ i. known .given i .fits) g .value-top)
 
 enum-told : tie.Need-enum-told
 enum-told c = search needs
@@ -73,27 +64,27 @@ returns-2 : tie.Need-returns-2
 unfolding varintStep
 returns-2 c =
     let call = c .before .before .before .before in
-    let entry = call .before .before .before .before .before .before .before .before in
-    let t = number-told (now (entry .args .p)) (ofWalk (entry .args .w)) (call .before .before .before .before-limit .ensures)
-    (call .read32 .ensures) (c .before .before .v .given .1) (call .before .before .before .before .before .if1 .left) in
+    let entry = call .before .before .before .before .before .before .before in
+    let t = number-told (entry .args .b) (now (entry .args .p)) (ofWalk (entry .args .w)) (call .before .before .before .before-bound .ensures)
+    (call .read32 .ensures) (c .before .before .v .given .1) (call .before .before .before .before .if1 .left) in
     simp (c .goes .ensures, t)
 
 returns-3 : tie.Need-returns-3
 unfolding varintStep
 returns-3 c =
     let call = c .before .before .before in
-    let entry = call .before .before .before .before .before .before .before .before in
-    let t = number-told (now (entry .args .p)) (ofWalk (entry .args .w)) (call .before .before .before .before-limit .ensures)
-    (call .read32 .ensures) (c .before .enum-told .given .1) (call .before .before .before .before .before .if1 .left) in
+    let entry = call .before .before .before .before .before .before .before in
+    let t = number-told (entry .args .b) (now (entry .args .p)) (ofWalk (entry .args .w)) (call .before .before .before .before-bound .ensures)
+    (call .read32 .ensures) (c .before .enum-told .given .1) (call .before .before .before .before .if1 .left) in
     simp (c .refused .ensures, call .before .before .end-refusal .ensures, t)
 
 returns-4 : tie.Need-returns-4
 unfolding varintStep
 returns-4 c =
     let call = c .before .before .before in
-    let entry = call .before .before .before .before .before .before .before .before in
-    let t = number-told (now (entry .args .p)) (ofWalk (entry .args .w)) (call .before .before .before .before-limit .ensures)
-    (call .read32 .ensures) (c .before .enum-told2 .given .1) (call .before .before .before .before .before .if1 .left) in
+    let entry = call .before .before .before .before .before .before .before in
+    let t = number-told (entry .args .b) (now (entry .args .p)) (ofWalk (entry .args .w)) (call .before .before .before .before-bound .ensures)
+    (call .read32 .ensures) (c .before .enum-told2 .given .1) (call .before .before .before .before .if1 .left) in
     simp (c .refused2 .ensures, t)
 
 pub read-varint-spec : {M : Type 1} → statement M
@@ -101,15 +92,13 @@ read-varint-spec =
     tie.close
     (tie.spec
     returns
-    cast-at
-    before-limit-requires
+    before-bound-requires
     end-refusal-requires
     sub-head
     part-head-start
     part-head-end
     read32-requires
     enum-known-v
-    cast-goes
     goes-requires
     cast-t19
     enum-told
