@@ -25,11 +25,17 @@ use Rattle.recording.proofs.join_all.Reads as alls
 use Rattle.salvage.specs.declared.Salvaged.{Salvaged}
 use Rattle.salvage.proofs.salvage.Reads as salvages
 use Rattle.salvage.proofs.salvage_part.Reads as parts
+use Rattle.pdu.specs.declared.Header.{Header as PduHeader}
+use Rattle.pdu.specs.declared.Written.{Written as PduWritten}
+use Rattle.pdu.proofs.read.Reads as pdu-reads
+use Rattle.pdu.proofs.write.Reads as pdu-writes
 use Rattle.numbers.specs.Lists.{Numbered, ofReading, ofArrival, ofTaking, ofJoining, ofRecording, ofSalvage, ofWriting, ofCount, ofCutting}
+use Rattle.numbers.specs.Lists.{ofPduReading, ofPduWriting}
 use Rattle.numbers.proofs.Reading.{reading}
 use Rattle.numbers.proofs.Sending.{writing, count, cutting}
 use Rattle.numbers.proofs.Store.{arrival, taking, join, all}
 use Rattle.numbers.proofs.Salvaging.{salvaging, salvaging-part}
+use Rattle.numbers.proofs.Pdus.{pdu-reading, pdu-writing}
 
 pub read-numbered : (κs : L.Lfts 1) (a : _) (r : _) (x : _) → reads.Post κs a r x → Numbered ofReading (r .refusal .number)
 read-numbered κs a r x k = subst (λ (h : Header). Numbered ofReading (h .refusal .number)) (sym (k .0)) (reading _ _)
@@ -64,3 +70,10 @@ salvage-numbered κs a r x k = subst (λ (h : Salvaged). Numbered ofSalvage (h .
 pub salvage-part-numbered : (κs : L.Lfts 2) (a : _) (r : _) (x : _) → parts.Post κs a r x → Numbered ofSalvage (r .refusal .number)
 salvage-part-numbered κs a r x k =
     subst (λ (h : Salvaged). Numbered ofSalvage (h .refusal .number)) (sym (k .0)) (salvaging-part _ _ _ _ _ _ _)
+
+pub pdu-read-numbered : (κs : L.Lfts 1) (a : _) (r : _) (x : _) → pdu-reads.Post κs a r x → Numbered ofPduReading (r .refusal .number)
+pdu-read-numbered κs a r x k = subst (λ (h : PduHeader). Numbered ofPduReading (h .refusal .number)) (sym (k .0)) (pdu-reading _)
+
+pub pdu-write-numbered : (κs : L.Lfts 10) (a : _) (r : _) (x : _) → pdu-writes.Post κs a r x → Numbered ofPduWriting (r .refusal .number)
+pdu-write-numbered κs a r x k =
+    subst (λ (h : PduWritten). Numbered ofPduWriting (h .refusal .number)) (sym (k .0)) (pdu-writing _ _ _ _ _ _)

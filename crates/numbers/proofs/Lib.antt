@@ -3,4 +3,5 @@ pub mod Reading
 pub mod Sending
 pub mod Store
 pub mod Salvaging
+pub mod Pdus
 pub mod Calls

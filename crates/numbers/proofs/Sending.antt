@@ -3,12 +3,11 @@
 use Prim.Native.Nat.{ℕ}
 use mathlib.Core.Path.{_≡_, refl}
 use mathlib.Core.Bool.{Bool, true, false}
-use mathlib.Core.List.{List, [], _∷_, List·Memᴰ}
+use mathlib.Core.List.{List, _∷_, List·Memᴰ}
 use lib.ListN.{length}
-use lib.Dec.{eqb}
 use Rattle.walk.specs.declared.Settings.{Settings}
 use Rattle.walk.specs.declared.Tested.{Tested}
-use Rattle.walk.specs.Walk.{noneFailed, failed, unless}
+use Rattle.walk.specs.Walk.{noneFailed, unless}
 use Rattle.sender.specs.declared.Sender.{Sender}
 use Rattle.write.specs.declared.HeaderValues.{HeaderValues}
 use Rattle.write.specs.declared.PacketValues.{PacketValues}
@@ -16,7 +15,7 @@ use Rattle.write.specs.Given.{Lent, headerChecks, packetChecks, unlessAll}
 use Rattle.write.specs.Writing.{settingsTest, zoneTest, partsTest, textTest, sizeTests, valueRefusal, writeRefusal}
 use Rattle.cut.specs.Cutting.{limitTest, valueTests, messageTests, countRefusal, packetRefusal}
 use Rattle.numbers.specs.Lists.{Numbered, ofWriting, ofCount, ofCutting}
-use Rattle.format.proofs.Refusals.{picked}
+use Rattle.pdu.proofs.Refusals.{unless-has, all-has}
 use Rattle.numbers.proofs.Among.{has, among, among-all}
 
 module _ (l : List ℕ) where
@@ -24,13 +23,10 @@ module _ (l : List ℕ) where
   Ok r = List·Memᴰ (r .number) l
 
   unless-ok : (b : Bool) (k : ℕ) (r : Tested) → has l k ≡ true → Ok r → Ok (unless b k r)
-  unfolding unless
-  unless-ok b k r e h = picked Ok (eqb (r .number) 0) _ r (picked Ok b r (failed k) h (among l k e)) h
+  unless-ok b k r e h = unless-has (λ (n : ℕ). List·Memᴰ n l) b k r (among l k e) h
 
   all-ok : (bs : List Bool) (k : ℕ) (r : Tested) → has l k ≡ true → Ok r → Ok (unlessAll bs k r)
-  unfolding unlessAll
-  all-ok [] k r e h = h
-  all-ok (b ∷ bs) k r e h = all-ok bs k (unless b k r) e (unless-ok b k r e h)
+  all-ok bs k r e h = all-has (λ (n : ℕ). List·Memᴰ n l) bs k r (among l k e) h
 
   settings-ok : (s : Settings) (r : Tested) → has l 15 ≡ true → Ok r → Ok (settingsTest s r)
   unfolding settingsTest

@@ -49,3 +49,11 @@ ofCount = 15 ∷ 22 ∷ 30 ∷ 13 ∷ 28 ∷ 23 ∷ 12 ∷ 24 ∷ 25 ∷ []
 
 abbrev pub ofCutting : List ℕ
 ofCutting = ofCount ++ (26 ∷ 21 ∷ [])
+
+-- reading a PDU; after 27 the fields come from left to right
+abbrev pub ofPduReading : List ℕ
+ofPduReading = 1 ∷ 7 ∷ 8 ∷ 5 ∷ 27 ∷ 6 ∷ 10 ∷ 11 ∷ 13 ∷ 28 ∷ []
+
+-- and writing one
+abbrev pub ofPduWriting : List ℕ
+ofPduWriting = 22 ∷ 13 ∷ 28 ∷ 23 ∷ 21 ∷ []

@@ -1,0 +1,13 @@
+pub mod Whole
+pub mod Variable
+pub mod FixedPart
+pub mod Only
+pub mod Back
+pub mod TwoWay
+pub mod Pieces
+pub mod Answers
+pub mod Fits
+pub mod Exactly
+pub mod Arguments
+pub mod Calls
+pub mod Refusals
