@@ -54,6 +54,21 @@ fn read(shape: &str, packet: &[u8]) {
     line("read", shape, times, "1.0");
 }
 
+/// A plain copy of the same octets beside reading them: what a call costs that looks at nothing.
+fn copy(shape: &str, packet: &[u8]) {
+    let mut out = vec![0; packet.len()];
+    let mut copied = || {
+        black_box(&mut out).copy_from_slice(black_box(packet));
+        0
+    };
+    let mut reading = || {
+        black_box(sum(&orlyukan::read(black_box(T), black_box(packet))));
+        0
+    };
+    let times = both(&mut reading, &mut copied);
+    line("read, over a copy", shape, times, "-");
+}
+
 fn write(shape: &str, header: &Header, flags: u64, counter: u64, octets: usize) {
     let made = packet(header, flags, 3, counter, octets);
     let place = orlyukan::read(T, &made).body.place as usize;
@@ -135,8 +150,11 @@ fn repeated(characters: &str, octets: usize) -> Vec<u8> {
 }
 
 pub fn run() {
-    read("60 octets, plain", &packet(&plain(9), 3, 3, 0, 60));
-    read("1,000 octets, every optional field but a zone, sixteen parts", &packet(&full(), 1, 3, 77, 1000));
+    let (small, large) = (packet(&plain(9), 3, 3, 0, 60), packet(&full(), 1, 3, 77, 1000));
+    read("60 octets, plain", &small);
+    read("1,000 octets, every optional field but a zone, sixteen parts", &large);
+    copy("60 octets: a plain copy of them in place of the model", &small);
+    copy("1,000 octets: a plain copy of them in place of the model", &large);
     write("60 octets, plain", &plain(9), 3, 0, 60);
     write("1,000 octets, every optional field but a zone, sixteen parts", &full(), 1, 77, 1000);
     cut();

@@ -1,5 +1,7 @@
 //! Reading, writing and cutting.
 
+use std::mem::MaybeUninit;
+
 use crate::answers::{Cut, CutPacket, Reading, Refusal, Written};
 use crate::header::{Header, SegmentCounter, Sender, SequenceCount, Settings};
 use crate::raw::{self, RawAfter, RawCut, RawNumber, RawSender};
@@ -29,11 +31,13 @@ pub fn next_sequence_count(sequence_count: SequenceCount) -> Result<SequenceCoun
 /// assert_eq!(read(Settings { t: 8, profile: 2 }, &packet).refusal, 15);
 /// ```
 pub fn read(settings: impl Into<Settings>, packet: &[u8]) -> Reading {
-    let mut answer = Reading::default();
+    let mut answer = MaybeUninit::<Reading>::uninit();
     let s = settings.into();
-    // SAFETY: a slice's pointer is valid for its length; the answer is ours alone.
-    unsafe { raw::orl_read(s.t, s.profile, packet.as_ptr(), packet.len(), &mut answer) };
-    answer
+    // SAFETY: a slice's pointer is valid for its length; the answer is ours alone, and the call fills all of its numbers.
+    unsafe {
+        raw::orl_read(s.t, s.profile, packet.as_ptr(), packet.len(), answer.as_mut_ptr());
+        answer.assume_init()
+    }
 }
 
 /// Writes one packet over the front of `out`: its own sequence flags, sequence count and segment counter beside the header's values.

@@ -26,7 +26,7 @@ pub extern "C" fn orl_next_sequence_count(sequence_count: u64, answer: &mut [u64
 pub extern "C" fn orl_read(t: u64, profile: u64, packet: &[u8], answer: &mut [u64; 75])
     ensures { λ r. ⌜ now (answer .exit) ≡ readNumbers (readPacket (settingsOf t profile) (now (packet .entry))) ⌝ }
 {
-    *answer = flat::read(t, profile, packet);
+    filling::read_into(t, profile, packet, answer);
 }
 
 // Writing one packet.

@@ -36,6 +36,96 @@ fn read_long() {
     }
 }
 
+/// The fixed part of figure 14, with sequence flags and presence flags of its own.
+fn fixed(flags: u8, presence: u8) -> Vec<u8> {
+    let mut packet = vec![0x18, 5, flags, 0, 0, 0, 0, 0, 1, 0, 2, 0, 3, 1, 0x20, 6, 0, 7, 0, 0, 0, 0, 0, 0, 0, 9];
+    packet.push(presence);
+    packet
+}
+
+/// A length or a count below 16,384, as the profile has it.
+fn uinteger(s: Settings, n: usize) -> Vec<u8> {
+    match (s.profile, n) {
+        (1, _) => u32::to_be_bytes(n as u32).to_vec(),
+        (_, 0..=0x7f) => vec![n as u8],
+        _ => vec![n as u8 | 0x80, (n >> 7) as u8],
+    }
+}
+
+/// A packet with just the fields that the presence flags name, and a body of three octets.
+fn fields(s: Settings, flags: u8, presence: u8) -> Vec<u8> {
+    let mut packet = fixed(flags, presence);
+    let text = |octets: &[u8]| [uinteger(s, octets.len()), octets.to_vec()].concat();
+    let domain = [uinteger(s, 2), vec![1], text(b"x"), vec![1], text("\u{20ac}".as_bytes())].concat();
+    let all = [
+        vec![17],
+        vec![34],
+        uinteger(s, 300),
+        vec![0x80; 8],
+        text(b"ab"),
+        text("n\u{e9}".as_bytes()),
+        domain,
+        text(&[0xff; 2]),
+    ];
+    for (k, field) in all.iter().enumerate() {
+        if k == 2 && flags != 0xc0 {
+            packet.extend([0, 0, 0, 77]);
+        }
+        if presence & (0x80 >> k) != 0 {
+            packet.extend(field);
+        }
+    }
+    packet.extend([1, 2, 3]);
+    packet
+}
+
+fn same_reading(s: Settings, packet: &mut [u8]) {
+    packets::set_length(packet);
+    assert_eq!(Library.read(s, packet), Model.read(s, packet), "{s:?}, {packet:02x?}");
+}
+
+/// Every set of fields, cut at every length: what is read at once and what goes the long way.
+#[test]
+fn read_cut_anywhere() {
+    for profile in 0..=1 {
+        let s = Settings { t: 8, profile };
+        for (flags, presence) in (0..=255).flat_map(|presence| [(0x40, presence), (0xc0, presence)]) {
+            let packet = fields(s, flags, presence);
+            (0..=packet.len()).for_each(|length| same_reading(s, &mut packet[..length].to_vec()));
+        }
+    }
+}
+
+/// A text that ends about the header's limit, about a block of octets that are tested at once, and with an octet that is no text.
+#[test]
+fn read_texts_about_the_limit() {
+    for profile in 0..=1 {
+        let s = Settings { t: 8, profile };
+        for n in (1..=4).chain(29..=36).chain(61..=66).chain(126..=130).chain(222..=238) {
+            for presence in [0x04, 0x08, 0x02] {
+                let mut packet = fixed(0xc0, presence);
+                if presence == 0x02 {
+                    packet.extend([uinteger(s, 1), vec![1]].concat());
+                }
+                packet.extend(uinteger(s, n));
+                let begin = packet.len();
+                packet.extend(vec![b'a'; n]);
+                for body in [0, 1, 40] {
+                    let mut whole = [packet.clone(), vec![b'b'; body]].concat();
+                    same_reading(s, &mut whole);
+                    for place in [begin, begin + n / 2, begin + n - 1] {
+                        let mut spoilt = whole.clone();
+                        spoilt[place] = 0xff;
+                        same_reading(s, &mut spoilt);
+                    }
+                    whole.truncate(whole.len() - 1);
+                    same_reading(s, &mut whole);
+                }
+            }
+        }
+    }
+}
+
 /// A header, mostly in range and without a zone.
 fn header(r: &mut Random, s: Settings) -> Owned {
     let mut header = headers::fitting(r, s);

@@ -59,13 +59,19 @@ impl Reading {
 /// The data field after the fixed part, walked from left to right.
 struct Walk<'a> {
     packet: &'a [u8],
+    /// Where the header ends at the latest: its limit, or the packet's end.
+    limit: usize,
     at: usize,
     /// Where the field at hand began.
     began: usize,
     /// Whether a UInteger has four octets.
     is_fixed: bool,
+    /// All from the first text up to here is ASCII, and so is each text in it.
+    ascii_end: usize,
 }
 
+/// How many octets are tested at once for ASCII.
+const BLOCK: usize = 32;
 /// The place after the last octet that a secondary header may have.
 const LIMIT: usize = PRIMARY + HEADER_LIMIT;
 
@@ -81,34 +87,57 @@ impl Walk<'_> {
         Refusal { number: 6, off: 0, began: (self.began - PRIMARY) as u16 }
     }
 
+    /// No octet, or not all of a content: past the header's limit is 12, else the packet ends.
+    #[cold]
+    fn missing(&self, end: usize) -> Refusal {
+        if end > LIMIT {
+            refusal(12)
+        } else {
+            self.ends()
+        }
+    }
+
     /// A content of a known length, tested whole for 12 and then whole for 6: its place.
+    #[inline(always)]
     fn content(&mut self, length: usize) -> Result<Span, Refusal> {
         let (place, end) = (self.at, self.at + length);
-        hold(end <= LIMIT, 12)?;
-        if end > self.packet.len() {
-            return Err(self.ends());
+        if end > self.limit {
+            return Err(self.missing(end));
         }
         self.at = end;
         Ok(Span { place: place as u32, length: length as u32 })
     }
 
+    #[inline(always)]
     fn octet(&mut self) -> Result<u8, Refusal> {
-        hold(self.at < LIMIT, 12)?;
-        let octet = *self.packet.get(self.at).ok_or_else(|| self.ends())?;
+        if self.at >= self.limit {
+            return Err(self.missing(self.at + 1));
+        }
+        let octet = self.packet[self.at];
         self.at += 1;
         Ok(octet)
     }
 
-    fn counter(&mut self) -> Result<u32, Refusal> {
-        let mut value = 0;
-        for _ in 0..4 {
-            value = value << 8 | u32::from(self.octet()?);
-        }
-        Ok(value)
+    /// Four octets as a number: one content, as the counter and a UInteger of the first pods have it.
+    #[inline(always)]
+    fn four(&mut self) -> Result<u32, Refusal> {
+        let place = self.content(4)?.place as usize;
+        let octets: &[u8; 4] = self.packet[place..].first_chunk().expect("they are there");
+        Ok(u32::from_be_bytes(*octets))
     }
 
+    /// Most Varints have one octet.
+    #[inline(always)]
     fn varint(&mut self) -> Result<u32, Refusal> {
         let first = self.octet()?;
+        if first < 0x80 {
+            return Ok(u32::from(first));
+        }
+        self.long_varint(first)
+    }
+
+    #[inline(never)]
+    fn long_varint(&mut self, first: u8) -> Result<u32, Refusal> {
         let (mut value, mut ends) = varint_step(0, 0, first)?;
         let mut k = 1;
         while !ends {
@@ -119,26 +148,40 @@ impl Walk<'_> {
     }
 
     /// A priority, a length or a count. Four octets are one content.
+    #[inline(always)]
     fn uinteger(&mut self) -> Result<u32, Refusal> {
-        if !self.is_fixed {
-            return self.varint();
+        if self.is_fixed {
+            self.four()
+        } else {
+            self.varint()
         }
-        let place = self.content(4)?.place as usize;
-        let octets: &[u8; 4] = self.packet[place..].first_chunk().expect("they are there");
-        Ok(u32::from_be_bytes(*octets))
     }
 
     /// A length and that many octets of any value.
+    #[inline(always)]
     fn blob(&mut self) -> Result<Span, Refusal> {
         let length = self.uinteger()?;
         self.content(length as usize)
     }
 
     /// The same, and they must be text.
+    #[inline(always)]
     fn text(&mut self) -> Result<Span, Refusal> {
         let span = self.blob()?;
-        hold(is_text(&self.packet[span.place as usize..self.at]), 28)?;
+        hold(self.at <= self.ascii_end || self.is_text(span), 28)?;
         Ok(span)
+    }
+
+    #[inline(never)]
+    fn is_text(&self, span: Span) -> bool {
+        is_text(&self.packet[span.place as usize..self.at])
+    }
+
+    /// Looks ahead for ASCII, a block at a time: texts are short, and to test each by itself costs more.
+    fn look_ahead(&mut self) {
+        let blocks = self.packet[self.at..self.limit].chunks_exact(BLOCK);
+        self.ascii_end =
+            self.at + BLOCK * blocks.take_while(|block| block.iter().fold(0, |all, octet| all | octet) < 0x80).count();
     }
 
     /// A count of parts, then each with its presence octet: as many fields, and one more.
@@ -230,13 +273,16 @@ fn read_optional(t: usize, walk: &mut Walk, r: &mut Reading) -> Result<(), Refus
         r.destination = walk.field().octet()?;
     }
     if r.flags != UNSEGMENTED {
-        r.counter = walk.field().counter()?;
+        r.counter = walk.field().four()?;
     }
     if r.has(2) {
         r.priority = walk.field().uinteger()?;
     }
     if r.has(3) {
         r.timestamp = walk.field().content(t)?.place;
+    }
+    if r.presence & 0x0e != 0 {
+        walk.look_ahead();
     }
     if r.has(4) {
         r.zone = walk.field().text()?;
@@ -259,7 +305,8 @@ pub fn read(settings: impl Into<Settings>, packet: &[u8]) -> Result<Reading, Ref
     let mut r = Reading::default();
     read_primary(packet, &mut r)?;
     read_fixed(&packet[PRIMARY..], &mut r)?;
-    let mut walk = Walk { packet, at: PRIMARY + 21, began: PRIMARY + 21, is_fixed };
+    let (at, limit) = (PRIMARY + 21, packet.len().min(LIMIT));
+    let mut walk = Walk { packet, limit, at, began: at, is_fixed, ascii_end: 0 };
     read_optional(t, &mut walk, &mut r)?;
     let counted = if r.flags == UNSEGMENTED { 0 } else { 4 };
     hold(counted == 0 || walk.at < packet.len(), 14)?;

@@ -94,7 +94,7 @@ impl Settings {
     }
 }
 
-/// Whether octets are well-formed text.
+/// Whether octets are well-formed text. Most text is ASCII.
 pub(crate) fn is_text(octets: &[u8]) -> bool {
-    std::str::from_utf8(octets).is_ok()
+    octets.is_ascii() || std::str::from_utf8(octets).is_ok()
 }

@@ -1,0 +1,3 @@
+pub mod FixedPart
+pub mod Header
+pub mod Plain
