@@ -158,8 +158,7 @@ static void cutting(struct rest in) {
     uint8_t *held[5];
     uint64_t t = number(&in, 1), profile = t >> 6, p = number(&in, 2);
     t &= 63;
-    struct orl_sender sender = {number(&in, 2), number(&in, 1) & 1, 0};
-    if (sender.has_counter) sender.counter = number(&in, 4);
+    struct orl_sender sender = {number(&in, 2), number(&in, 4)};
     any_message(&in, &m, held);
     m.length[0] = m.header.has_timestamp == 1 && m.length[0] > t ? t : m.length[0];
     size_t length = in.left;

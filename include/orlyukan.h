@@ -57,15 +57,15 @@
  *       timestamp that is not of T octets, a text above 65,535 octets, lengths of domain parts that do not add up to the domain
  *   23  orl_write: a packet above 65,542 octets; orl_cut_count and orl_cut_packet: a body above 1,048,576
  *   24  cutting is needed, and with this P a packet has no room for one octet of body
- *   25  the segment counters that are left do not suffice
  *   26  there is no packet with this number
  *   27  the slice is longer than the packet's length field says: off octets are left over
  *   28  a network zone, session name or domain part that is not well-formed UTF-8
+ *   29  the message would have more than 4,096 segments
  *   30  a network zone to write or to cut: it is withdrawn
  *   40  orl_salvage: a state that can not be one: begin above place, or place after the file's end
  *
  * If several apply, the answer is the one that comes first: reading 15, 1 to 4, 5 or 27, then as the header is read from left to
- * right, 14; writing 15, 22, 30, 13, 28, 23, 12, 14, 21; cutting 15, 22, 30, 13, 28, 23, 12, 24, 25, 26, 21; arrival 15, 16, those
+ * right, 14; writing 15, 22, 30, 13, 28, 23, 12, 14, 21; cutting 15, 22, 30, 13, 28, 23, 12, 24, 29, 26, 21; arrival 15, 16, those
  * of reading, 17, 18, 19; taking 15, 16, 20, 21.
  *
  * What 5, 27 and 6 tell, in the answers of reading, arrival and joining
@@ -100,14 +100,12 @@ struct orl_place {
 };
 
 /*
- * A sender's running numbers: the sequence count of the next packet, and the counter of the next segment. has_counter is 1 if
- * one is left; if none is, has_counter and counter are 0. A sequence_count above 65,535, a has_counter above 1, a counter above
- * 4,294,967,295, or a counter other than 0 beside has_counter 0 is refused by 22; cutting refuses a sequence_count above 16,383
- * likewise.
+ * A sender's running numbers: the sequence count of the next packet, and the counter of the next segment. After 16,383 and after
+ * 4,294,967,295 comes 0. A sequence_count above 65,535 or a counter above 4,294,967,295 is refused by 22; cutting refuses a
+ * sequence_count above 16,383 likewise.
  */
 struct orl_sender {
     uint64_t sequence_count;
-    uint64_t has_counter;
     uint64_t counter;
 };
 
@@ -239,7 +237,7 @@ struct orl_after_answer {
 /* A sender after one unsegmented packet: its sequence count moves on, its counter stays. */
 void orl_after_packet(const struct orl_sender *sender, struct orl_after_answer *answer);
 
-/* A sender after one segment: both move on. None is left once 4,294,967,295 has been used, and it stays so. */
+/* A sender after one segment: both move on. */
 void orl_after_segment(const struct orl_sender *sender, struct orl_after_answer *answer);
 
 struct orl_cut_count_answer {

@@ -26,7 +26,7 @@ import model
 
 CRATE = pathlib.Path(__file__).resolve().parent.parent / "crates" / "vectors"
 # The change requests that have landed and have cases of their own, in the order in which they landed.
-LANDED = ("T-01", "T-04", "T-12", "T-10", "T-09")
+LANDED = ("T-01", "T-04", "T-12", "T-10", "T-09", "T-08")
 MOST_IN_PAIR = 255
 FIGURE_14 = bytes.fromhex("18 05 C0 00 00 14 00 00 01 00 02 00 03 01 20 06 00 07 00 00 00 00 00 00 00 09 00")
 
@@ -134,9 +134,8 @@ TEXTS = "timestamp zone session_name domain authentication".split()
 
 
 def sender(numbers):
-    """A sender's numbers: sequence count, whether a counter is left, and the counter."""
-    counter = numbers["counter"]
-    return [numbers["seq"], 0, 0] if counter is None else [numbers["seq"], 1, counter]
+    """A sender's numbers: sequence count and counter."""
+    return [numbers["seq"], numbers["counter"]]
 
 
 def header(row):
@@ -541,11 +540,12 @@ def withdrawn_rows():
     for changed, refusal in ZONES + [(ZONE | changed, refusal) for changed, refusal in own]:
         row = write_row(changed, refusal)
         yield CALLS["write"], row | {"expect": row["expect"] | {"out": row["out"]}}
-    start, last, none = ({"seq": 5, "counter": counter} for counter in (7, (1 << 32) - 1, None))
+    start, last = ({"seq": 5, "counter": counter} for counter in (7, (1 << 32) - 1))
     rows = [cut_row(changed, start, 32, refusal) for changed, refusal in ZONES]
     rows += [cut_row(ZONE, {"seq": 16384, "counter": 7}, 32, 22), cut_row(ZONE, {"seq": 5, "counter": 1 << 32}, 32, 22)]
     rows += [cut_row(ZONE, start, most, refusal) for most, refusal in ((26, 15), (65543, 15), (27, 30), (65542, 30))]
-    rows += [cut_row(ZONE, sender, 64, 30) | {"body": "01*38", "body_length": 38} for sender in (start, last, none)]
+    rows += [cut_row(ZONE, sender, 64, 30) | {"body": "01*38", "body_length": 38} for sender in (start, last)]
+    rows += [cut_row(ZONE, start, 34, 30) | {"body": "01*4097", "body_length": 4097}]
     rows += [cut_row(ZONE, start, 64, 30) | {"body": "01*1048577", "body_length": 1048577}, cut_row(ZONE, start, 64, 30) | {"i": 9}]
     for row in rows:
         yield CALLS["count"], row
@@ -564,7 +564,7 @@ def varint_figures():
 
 
 def cutting_figures():
-    """Figures 7 to 12: figure 14's header, H 21; the count of packets and the sender behind them, its sequence count wrapping."""
+    """Figures 7 to 12, and the most segments: figure 14's header, H 21; the count of packets and the sender behind them, its numbers wrapping."""
     for most, body, start, refusal, count in (
         (64, 37, 0, 0, 1),
         (64, 38, 0, 0, 2),
@@ -573,12 +573,14 @@ def cutting_figures():
         (31, 4, 0, 0, 1),
         (31, 5, 0, 24, 0),
         (64, 38, 4294967294, 0, 2),
-        (64, 38, 4294967295, 25, 0),
+        (64, 38, 4294967295, 0, 2),
+        (32, 4096, 4294967295, 0, 4096),
+        (32, 4097, 0, 29, 0),
     ):
         before = after = {"seq": 16383, "counter": start}
         if refusal == 0:
             last = start + count if count > 1 else start
-            after = {"seq": (16383 + count) % 16384, "counter": last if last < 1 << 32 else None}
+            after = {"seq": (16383 + count) % 16384, "counter": last % (1 << 32)}
         row = {"T": 8, "P": most, "header": HEADER_14, "body_length": body, "body": f"5a*{body}"}
         told = {"refusal": refusal, "count": count, "sender": after}
         yield CALLS["count"], row | {"sender": before, "expect": {"answer": told}}

@@ -303,7 +303,7 @@ class Joining:
         """The segments of the message that a first begins, if all are there."""
         run = [first]
         while run[-1].flags != LAST:
-            after = self.find(first.key, run[-1].counter + 1)
+            after = self.find(first.key, (run[-1].counter + 1) % (1 << 32))
             if after is None or after.flags == FIRST:
                 return None
             run.append(after)

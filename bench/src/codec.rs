@@ -4,7 +4,7 @@ use std::hint::black_box;
 
 use crate::measure::{both, line};
 use crate::shapes::{full, packet, plain, values, T};
-use orlyukan::{Header, Next, Reading, SegmentCounter, Sender, SequenceCount};
+use orlyukan::{Header, Reading, SegmentCounter, Sender, SequenceCount};
 
 /// Takes in every field of an answer.
 fn sum(r: &Reading) -> u64 {
@@ -96,13 +96,12 @@ fn cut() {
     let (header, body, p) = (plain(9), vec![0x5a; 1_048_576], 1022);
     let lent = values(&header);
     let (mut ours, mut theirs) = (vec![0; 1022], vec![0; 1022]);
-    let given = Sender { sequence_count: SequenceCount(5), counter: Next::At(SegmentCounter(7)) };
-    let model_given = model::Sender { sequence_count: 5, counter: Some(7) };
+    let given = Sender { sequence_count: SequenceCount(5), counter: SegmentCounter(7) };
+    let model_given = model::Sender { sequence_count: 5, counter: 7 };
     let times = both(
         &mut || {
             let counted = orlyukan::cut_count(T, p, black_box(&header), body.len() as u64, given);
-            let Next::At(SegmentCounter(next)) = counted.sender.counter else { return 0 };
-            let mut total = counted.refusal + counted.count + counted.sender.sequence_count.0 + next;
+            let mut total = counted.refusal + counted.count + counted.sender.sequence_count.0 + counted.sender.counter.0;
             for i in 0..counted.count {
                 let made = orlyukan::cut_packet(T, p, black_box(&header), black_box(&body), given, i, black_box(&mut ours));
                 total += made.refusal + made.length + made.sender.sequence_count.0;
@@ -111,7 +110,7 @@ fn cut() {
         },
         &mut || {
             let Ok((count, after)) = model::count(T, p, black_box(&lent), body.len() as u64, model_given) else { return 0 };
-            let mut total = count + after.sequence_count + after.counter.unwrap_or(0);
+            let mut total = count + after.sequence_count + after.counter;
             for i in 0..count {
                 let made = model::packet(T, p, black_box(&lent), black_box(&body), model_given, i, black_box(&mut theirs));
                 total += made.map_or_else(|refusal| refusal.number as u64, |length| length as u64) + model_given.sequence_count;
@@ -127,8 +126,8 @@ fn cut() {
 fn text(shape: &str, session_name: &[u8]) {
     let header = Header { has_session_name: 1, session_name, ..plain(9) };
     let lent = values(&header);
-    let given = Sender { sequence_count: SequenceCount(5), counter: Next::At(SegmentCounter(7)) };
-    let model_given = model::Sender { sequence_count: 5, counter: Some(7) };
+    let given = Sender { sequence_count: SequenceCount(5), counter: SegmentCounter(7) };
+    let model_given = model::Sender { sequence_count: 5, counter: 7 };
     let times = both(&mut || orlyukan::cut_count(T, 1022, black_box(&header), 100, given).refusal, &mut || {
         model::count(T, 1022, black_box(&lent), 100, model_given).map_or_else(|refusal| u64::from(refusal.number), |_| 0)
     });

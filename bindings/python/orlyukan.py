@@ -9,9 +9,8 @@ sender's two, which stay, and what a refusal of reading tells: `off`, beside 5 t
 are left over, and `began`, beside 6 the place in the secondary header where the unfinished field began. `profile` says how lengths,
 counts and priorities are written: 0 as Varints, 1 as four octets each; any other is refused by 15, as a `t` out of range is. `store`
 and `out` are bytearrays, changed in place and by success alone (but see `join`). A header is an object or a dict; a sender is one of
-`sequence_count` and `counter`, and a counter of None says that none is left. Octets are bytes or a bytearray. Numbers may be of any
-size: one that is negative or too wide is refused and never cut off. A call that lends a bytearray must be over before another thread
-touches it.
+`sequence_count` and `counter`. Octets are bytes or a bytearray. Numbers may be of any size: one that is negative or too wide is
+refused and never cut off. A call that lends a bytearray must be over before another thread touches it.
 """
 
 import ctypes
@@ -157,20 +156,19 @@ def _header(header, others):
 
 
 def _sender(sender):
-    """Sequence count, whether a counter is left, the counter."""
-    counter = _get(sender, "counter")
-    return [_get(sender, "sequence_count"), int(counter is not None), 0 if counter is None else counter]
+    """Sequence count and counter."""
+    return [_get(sender, "sequence_count"), _get(sender, "counter")]
 
 
 def _lent_sender(given):
-    """Those three as C takes them. If one is outside 64 bits, the sequence count is out of range in its place: 22 either way."""
-    return ctypes.byref((ctypes.c_uint64 * 3)(*(given if all(map(_fits, given)) else [_MOST, 0, 0])))
+    """Those two as C takes them. If one is outside 64 bits, the sequence count is out of range in its place: 22 either way."""
+    return ctypes.byref((ctypes.c_uint64 * 2)(*(given if all(map(_fits, given)) else [_MOST, 0])))
 
 
 def _told_sender(refusal, moved, given):
     """The sender that a call answers. On a refusal its numbers stay as they were given, whatever they are."""
-    sequence_count, has_counter, counter = given if refusal else moved
-    return Answer(sequence_count=sequence_count, counter=counter if has_counter else None)
+    sequence_count, counter = given if refusal else moved
+    return Answer(sequence_count=sequence_count, counter=counter)
 
 
 def _run(name, count, *words):
@@ -195,7 +193,7 @@ def next_sequence_count(sequence_count):
 
 def _after(name, sender):
     given = _sender(sender)
-    n = _run(name, 4, _lent_sender(given))
+    n = _run(name, 3, _lent_sender(given))
     return Answer(refusal=n[0], sender=_told_sender(n[0], n[1:], given))
 
 
@@ -205,7 +203,7 @@ def after_packet(sender):
 
 
 def after_segment(sender):
-    """The sender after one segment: both numbers move on. No counter is left once 4,294,967,295 has been used."""
+    """The sender after one segment: both numbers move on; 0 follows 4,294,967,295."""
     return _after("after_segment", sender)
 
 
@@ -249,7 +247,7 @@ def _cut(name, what, settings, p, header, sender, others, words):
     """One of the cutting calls."""
     given = _sender(sender)
     fields = _header(header, [*given, *others])
-    n = _run(name, 5, *settings, _setting(p), *fields, *words(_lent_sender(given)))
+    n = _run(name, 4, *settings, _setting(p), *fields, *words(_lent_sender(given)))
     return Answer(refusal=n[0], **{what: n[1]}, sender=_told_sender(n[0], n[2:], given))
 
 

@@ -20,7 +20,7 @@ VECTORS = pathlib.Path(os.environ.get("ORLYUKAN_VECTORS", ROOT.parent / "shared"
 FIGURE_14 = bytes.fromhex("18 05 C0 00 00 14 00 00 01 00 02 00 03 01 20 06 00 07 00 00 00 00 00 00 00 09 00")
 HUGE = (-1, 2**64, 2**64 + 5, -(2**70), 2**200)
 # The change requests that have landed and have cases of their own, in the order in which they landed.
-LANDED = ("T-01", "T-04", "T-12", "T-10", "T-09")
+LANDED = ("T-01", "T-04", "T-12", "T-10", "T-09", "T-08")
 # The cases' names for what the calls name otherwise.
 NAMES = {"seq": "sequence_count", "c": "counter"}
 PRESENCE = "source destination priority timestamp zone session_name domain authentication".split()
@@ -234,8 +234,7 @@ class Names(unittest.TestCase):
         for struct, answer in answers.items():
             self.assertEqual(list(vars(answer)), self.fields(struct), struct)
         self.assertEqual(list(vars(answers["read_answer"].body)), self.fields("place"))
-        self.assertEqual(["sequence_count", "has_counter", "counter"], self.fields("sender"))
-        self.assertEqual(list(vars(answers["after_answer"].sender)), ["sequence_count", "counter"])
+        self.assertEqual(list(vars(answers["after_answer"].sender)), self.fields("sender"))
         self.assertEqual(orlyukan._NUMBERS, self.fields("header"))
 
     def test_every_field(self):
@@ -316,12 +315,12 @@ class Numbers(unittest.TestCase):
             self.assertEqual(told(orlyukan.next_sequence_count(huge)), {"refusal": 22, "sequence_count": 0}, huge)
 
     def test_after(self):
-        none, last = None, 4294967295
+        last = 4294967295
         moves = (
             ((7, 300), (8, 300), (8, 301)),
-            ((16383, last), (0, last), (0, none)),
+            ((16383, last), (0, last), (0, 0)),
             ((65535, 0), (0, 0), (0, 1)),
-            ((7, none), (8, none), (8, none)),
+            ((7, last - 1), (8, last - 1), (8, last)),
         )
         for given, packet, segment in moves:
             sender = dict(zip(("sequence_count", "counter"), given))
@@ -329,7 +328,7 @@ class Numbers(unittest.TestCase):
                 for lent in (sender, types.SimpleNamespace(**sender), orlyukan.Answer(**sender)):
                     expected = dict(zip(("sequence_count", "counter"), moved))
                     self.assertEqual(told(call(lent)), {"refusal": 0, "sender": expected}, given)
-        too_wide = [(number, counter) for number in (65536, *HUGE) for counter in (0, none)]
+        too_wide = [(number, 0) for number in (65536, *HUGE)]
         too_wide += [(7, number) for number in (last + 1, *HUGE)]
         for given in too_wide:
             sender = dict(zip(("sequence_count", "counter"), given))
@@ -390,7 +389,7 @@ class Numbers(unittest.TestCase):
         for huge in HUGE:
             for own in ((huge, 0, 0), (3, huge, 0), (1, 0, huge)):
                 self.assertEqual(orlyukan.write(8, figure_14(), *own, b"1", bytearray(64)).refusal, 22)
-            for sender in ((huge, 0), (0, huge), (huge, None)):
+            for sender in ((huge, 0), (0, huge), (huge, huge)):
                 sender = dict(zip(("sequence_count", "counter"), sender))
                 answer = orlyukan.cut_count(8, 64, figure_14(), 5, sender)
                 self.assertEqual(told(answer), {"refusal": 22, "count": 0, "sender": sender})
@@ -408,15 +407,25 @@ class Numbers(unittest.TestCase):
             self.assertEqual(orlyukan.view(b"abc", b"", "packet", 1, huge), b"")
         self.assertEqual(orlyukan.view(b"abc", b"", "packet", 1, 2), b"bc")
 
-    def test_none_left(self):
+    def test_round_the_end(self):
         out = bytearray(64)
-        given = {"sequence_count": 16383, "counter": None}
+        given = {"sequence_count": 16383, "counter": 4294967295}
         for sender in (given, types.SimpleNamespace(**given)):
-            answer = orlyukan.cut_count(8, 64, figure_14(), 37, sender)
-            self.assertEqual(told(answer), {"refusal": 0, "count": 1, "sender": {"sequence_count": 0, "counter": None}})
-            self.assertEqual(orlyukan.cut_packet(8, 64, figure_14(), bytes(38), sender, 0, out).refusal, 25)
-        last = orlyukan.cut_count(8, 64, figure_14(), 38, {"sequence_count": 0, "counter": 4294967294})
-        self.assertEqual((last.refusal, last.count, last.sender.counter), (0, 2, None))
+            answer = orlyukan.cut_count(8, 64, figure_14(), 38, sender)
+            self.assertEqual(told(answer), {"refusal": 0, "count": 2, "sender": {"sequence_count": 1, "counter": 1}})
+            for i, counter in ((0, 4294967295), (1, 0)):
+                length = orlyukan.cut_packet(8, 64, figure_14(), bytes(38), sender, i, out).length
+                self.assertEqual(orlyukan.read(8, bytes(out[:length])).counter, counter)
+
+    def test_many_segments(self):
+        out = bytearray(b"\xee" * 64)
+        sender = {"sequence_count": 7, "counter": 4294967295}
+        most = orlyukan.cut_count(8, 32, figure_14(), 4096, sender)
+        self.assertEqual(told(most), {"refusal": 0, "count": 4096, "sender": {"sequence_count": 4103, "counter": 4095}})
+        self.assertEqual(told(orlyukan.cut_count(8, 32, figure_14(), 4097, sender)), {"refusal": 29, "count": 0, "sender": sender})
+        answer = orlyukan.cut_packet(8, 32, figure_14(), bytes(4097), sender, 0, out)
+        self.assertEqual(told(answer), {"refusal": 29, "length": 0, "sender": sender})
+        self.assertEqual(out, b"\xee" * 64)
 
 
 class Told(unittest.TestCase):

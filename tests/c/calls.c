@@ -164,7 +164,7 @@ static void withdrawn(const char *what, uint64_t t, uint64_t apid, uint64_t has_
     static uint8_t octets[65536];
     static const uint64_t lengths[17] = {1, 1, 1, 1, 1, 1, 1, 1, 1, 1, 1, 1, 1, 1, 1, 1, 1};
     struct orl_header h = header_14();
-    struct orl_sender s = sender(7, 1, 300);
+    struct orl_sender s = sender(7, 300);
     struct orl_write_answer w;
     struct orl_cut_count_answer c;
     struct orl_cut_packet_answer p;
@@ -220,27 +220,27 @@ static void numbers(void) {
     next_count(65535, 0, 0);
     next_count(65536, 22, 0);
     next_count(UINT64_MAX, 22, 0);
-    after(sender(7, 1, 300), 0, sender(8, 1, 300), sender(8, 1, 301));
-    after(sender(16383, 1, 4294967295u), 0, sender(0, 1, 4294967295u), sender(0, 0, 0));
-    after(sender(7, 0, 0), 0, sender(8, 0, 0), sender(8, 0, 0));
-    after(sender(7, 0, 300), 22, sender(7, 0, 300), sender(7, 0, 300));
-    after(sender(65536, 1, 300), 22, sender(65536, 1, 300), sender(65536, 1, 300));
+    after(sender(7, 300), 0, sender(8, 300), sender(8, 301));
+    after(sender(16383, 4294967295u), 0, sender(0, 4294967295u), sender(0, 0));
+    after(sender(7, 4294967296u), 22, sender(7, 4294967296u), sender(7, 4294967296u));
+    after(sender(65536, 300), 22, sender(65536, 300), sender(65536, 300));
 }
 
 /* Figures 7 to 12: the count at P for a body of so many octets, from a counter. */
 static void count(const char *what, uint64_t p, uint64_t body, uint64_t counter, uint64_t refusal, uint64_t packets) {
     struct orl_header h = header_14();
-    struct orl_sender s = sender(7, 1, counter);
+    struct orl_sender s = sender(7, counter);
     struct orl_cut_count_answer a;
     orl_cut_count(8, ORL_VARINT, p, &h, none, 0, none, 0, none, 0, none, 0, no_lengths, 0, none, 0, body, &s, &a);
     expect(what, a.refusal, refusal);
     expect(what, a.count, packets);
     expect(what, a.sender.sequence_count, refusal != 0 ? 7 : 7 + packets);
+    expect(what, a.sender.counter, refusal != 0 || packets == 1 ? counter : (counter + packets) % 4294967296u);
 }
 
 static uint64_t packet(uint64_t i, uint8_t *out, size_t room, size_t *length) {
     struct orl_header h = header_14();
-    struct orl_sender s = sender(7, 1, 5);
+    struct orl_sender s = sender(7, 5);
     struct orl_cut_packet_answer a;
     uint8_t body[38];
     memset(body, 0x42, sizeof body);
@@ -260,7 +260,9 @@ static void cutting(void) {
     count("figure 11, 4", 31, 4, 5, 0, 1);
     count("figure 11, 5", 31, 5, 5, 24, 0);
     count("figure 12, passes", 64, 38, 4294967294u, 0, 2);
-    count("figure 12, refused", 64, 38, 4294967295u, 25, 0);
+    count("figure 12, round the end", 64, 38, 4294967295u, 0, 2);
+    count("4,096 segments", 32, 4096, 4294967295u, 0, 4096);
+    count("4,097 segments", 32, 4097, 5, 29, 0);
     count("P 26", 26, 1, 5, 15, 0);
     count("counter 4,294,967,296", 64, 37, 4294967296u, 22, 0);
     expect("packet 0", packet(0, out, 64, &length), 0);
@@ -416,7 +418,7 @@ static void fixed(void) {
         struct orl_join_recording_answer m;
         struct orl_cut_count_answer c;
         struct orl_cut_packet_answer p;
-        struct orl_sender s = sender(7, 1, 5);
+        struct orl_sender s = sender(7, 5);
         orl_read(8, profile, figure_14, 27, &r);
         orl_write(8, profile, &h, none, 0, none, 0, none, 0, octets, 2, &two, 1, none, 0, 3, 0, 0, none, 0, out, sizeof out, &w);
         orl_cut_count(8, profile, 64, &h, none, 0, none, 0, none, 0, octets, 2, &two, 1, none, 0, 4, &s, &c);

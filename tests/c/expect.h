@@ -24,17 +24,15 @@ static void expect_octets(const char *what, const uint8_t *got, const uint8_t *w
     expect(what, memcmp(got, want, n) != 0, 0);
 }
 
-static struct orl_sender sender(uint64_t sequence_count, uint64_t has_counter, uint64_t counter) {
+static struct orl_sender sender(uint64_t sequence_count, uint64_t counter) {
     struct orl_sender s;
     s.sequence_count = sequence_count;
-    s.has_counter = has_counter;
     s.counter = counter;
     return s;
 }
 
 static void expect_sender(const char *what, struct orl_sender got, struct orl_sender want) {
     expect(what, got.sequence_count, want.sequence_count);
-    expect(what, got.has_counter, want.has_counter);
     expect(what, got.counter, want.counter);
 }
 

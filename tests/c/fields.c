@@ -176,7 +176,7 @@ static void writing(void) {
 /* Packet i of the message, cut, but by hand if it has a zone: read, and put into a store. */
 static void cutting(unsigned i, int zoned, uint8_t *store, size_t store_length) {
     struct orl_header h = every_header(zoned);
-    struct orl_sender s = sender(COUNT, 1, COUNTER);
+    struct orl_sender s = sender(COUNT, COUNTER);
     struct orl_cut_packet_answer a;
     struct orl_read_answer r;
     struct orl_arrive_answer v;
@@ -202,14 +202,14 @@ static void message(int zoned) {
     static uint8_t store[4096];
     const size_t header = zoned ? HEADER : HEADER - ZONE;
     struct orl_header h = every_header(zoned);
-    struct orl_sender s = sender(COUNT, 1, COUNTER);
+    struct orl_sender s = sender(COUNT, COUNTER);
     struct orl_cut_count_answer c;
     struct orl_take_answer t;
     uint8_t out[2 + HEADER + BODY], first[P];
     orl_cut_count(T, ORL_VARINT, zoned ? P : P - ZONE, &h, TEXTS(zoned), BODY, &s, &c);
     expect("cut", c.refusal, zoned ? 30 : 0);
     expect("count", c.count, zoned ? 0 : 3);
-    expect_sender("the sender after it", c.sender, zoned ? s : sender(COUNT + 3, 1, COUNTER + 3));
+    expect_sender("the sender after it", c.sender, zoned ? s : sender(COUNT + 3, COUNTER + 3));
     for (unsigned i = 0; i < 3; i++) {
         cutting(i, zoned, store, sizeof store);
     }

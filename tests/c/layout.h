@@ -26,9 +26,8 @@ WHOLE(orl_place, 2);
 
 /* senderOf, senderNumbers */
 FIELD(orl_sender, sequence_count, 0, 1);
-FIELD(orl_sender, has_counter, 1, 1);
-FIELD(orl_sender, counter, 2, 1);
-WHOLE(orl_sender, 3);
+FIELD(orl_sender, counter, 1, 1);
+WHOLE(orl_sender, 2);
 
 /* headerOf, presentOf */
 FIELD(orl_header, packet_type, 0, 1);
@@ -111,20 +110,20 @@ WHOLE(orl_write_answer, 2);
 
 /* afterPacketNumbers, afterSegmentNumbers */
 FIELD(orl_after_answer, refusal, 0, 1);
-FIELD(orl_after_answer, sender, 1, 3);
-WHOLE(orl_after_answer, 4);
+FIELD(orl_after_answer, sender, 1, 2);
+WHOLE(orl_after_answer, 3);
 
 /* countedNumbers */
 FIELD(orl_cut_count_answer, refusal, 0, 1);
 FIELD(orl_cut_count_answer, count, 1, 1);
-FIELD(orl_cut_count_answer, sender, 2, 3);
-WHOLE(orl_cut_count_answer, 5);
+FIELD(orl_cut_count_answer, sender, 2, 2);
+WHOLE(orl_cut_count_answer, 4);
 
 /* cutNumbers */
 FIELD(orl_cut_packet_answer, refusal, 0, 1);
 FIELD(orl_cut_packet_answer, length, 1, 1);
-FIELD(orl_cut_packet_answer, sender, 2, 3);
-WHOLE(orl_cut_packet_answer, 5);
+FIELD(orl_cut_packet_answer, sender, 2, 2);
+WHOLE(orl_cut_packet_answer, 4);
 
 /* arriveNumbers */
 FIELD(orl_arrive_answer, refusal, 0, 1);

@@ -35,49 +35,37 @@ pub struct SecondaryApid(pub u64);
 #[derive(Clone, Copy, Debug, Default, PartialEq, Eq)]
 pub struct SequenceCount(pub u64);
 
-/// A segment's counter, which does not.
+/// A segment's counter, which goes round too, at 32 bits.
 #[repr(transparent)]
 #[derive(Clone, Copy, Debug, Default, PartialEq, Eq)]
 pub struct SegmentCounter(pub u64);
 
-/// The counter of a sender's next segment.
-#[derive(Clone, Copy, Debug, PartialEq, Eq)]
-pub enum Next {
-    At(SegmentCounter),
-    NoneLeft,
-}
-
 /// A sender's two running numbers: the sequence count of its next packet and the counter of its next segment.
 ///
 /// ```
-/// use orlyukan::{Next, SegmentCounter, Sender, SequenceCount};
-/// let sender = Sender { sequence_count: SequenceCount(7), counter: Next::At(SegmentCounter(300)) };
+/// use orlyukan::{SegmentCounter, Sender, SequenceCount};
+/// let sender = Sender { sequence_count: SequenceCount(7), counter: SegmentCounter(300) };
 /// ```
 ///
 /// ```compile_fail
-/// use orlyukan::{Next, SegmentCounter, Sender, SequenceCount};
-/// let sender = Sender { sequence_count: SegmentCounter(300), counter: Next::At(SequenceCount(7)) };
+/// use orlyukan::{SegmentCounter, Sender, SequenceCount};
+/// let sender = Sender { sequence_count: SegmentCounter(300), counter: SequenceCount(7) };
 /// ```
 #[derive(Clone, Copy, Debug, PartialEq, Eq)]
 pub struct Sender {
     pub sequence_count: SequenceCount,
-    pub counter: Next,
+    pub counter: SegmentCounter,
 }
 
 impl From<Sender> for RawSender {
     fn from(sender: Sender) -> Self {
-        let sequence_count = sender.sequence_count.0;
-        match sender.counter {
-            Next::At(SegmentCounter(counter)) => RawSender { sequence_count, has_counter: 1, counter },
-            Next::NoneLeft => RawSender { sequence_count, has_counter: 0, counter: 0 },
-        }
+        RawSender { sequence_count: sender.sequence_count.0, counter: sender.counter.0 }
     }
 }
 
 impl From<RawSender> for Sender {
     fn from(raw: RawSender) -> Self {
-        let counter = if raw.has_counter == 0 { Next::NoneLeft } else { Next::At(SegmentCounter(raw.counter)) };
-        Sender { sequence_count: SequenceCount(raw.sequence_count), counter }
+        Sender { sequence_count: SequenceCount(raw.sequence_count), counter: SegmentCounter(raw.counter) }
     }
 }
 

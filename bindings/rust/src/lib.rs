@@ -20,7 +20,7 @@ mod store;
 
 pub use answers::{Answer, Arrived, Cut, CutPacket, Joined, Kind, Order, Place, Reading, Refusal, Taken, Which, Written};
 pub use codec::{after_packet, after_segment, cut_count, cut_packet, next_sequence_count, read, write};
-pub use header::{Apid, Header, Next, SecondaryApid, SegmentCounter, Sender, SequenceCount, Settings, FIXED, VARINT};
+pub use header::{Apid, Header, SecondaryApid, SegmentCounter, Sender, SequenceCount, Settings, FIXED, VARINT};
 pub use recording::{join_recording, Recording, Stop};
 pub use salvage::{salvage, Entry, Salvaged};
 pub use store::{arrive, in_order, join, take, view};

@@ -25,12 +25,11 @@ pub const ORL_TORN: u64 = 3;
 pub const ORL_SKIPPED: u64 = 0;
 pub const ORL_KEPT: u64 = 1;
 
-/// A sender's running numbers: `has_counter` 1 and the next segment's counter, or 0 and 0 if none is left.
+/// A sender's running numbers.
 #[repr(C)]
 #[derive(Clone, Copy, Debug, Default, PartialEq, Eq)]
 pub struct RawSender {
     pub sequence_count: u64,
-    pub has_counter: u64,
     pub counter: u64,
 }
 

@@ -73,7 +73,7 @@ pub extern "C" fn orl_write(
 
 // The sender's numbers after an unsegmented packet.
 #[no_mangle]
-pub extern "C" fn orl_after_packet(sender: &[u64; 3], answer: &mut [u64; 4])
+pub extern "C" fn orl_after_packet(sender: &[u64; 2], answer: &mut [u64; 3])
     ensures { λ r. ⌜ now (answer .exit) ≡ afterPacketNumbers (now (sender .entry)) ⌝ }
 {
     *answer = flat::after_packet(sender);
@@ -81,7 +81,7 @@ pub extern "C" fn orl_after_packet(sender: &[u64; 3], answer: &mut [u64; 4])
 
 // The sender's numbers after a segment.
 #[no_mangle]
-pub extern "C" fn orl_after_segment(sender: &[u64; 3], answer: &mut [u64; 4])
+pub extern "C" fn orl_after_segment(sender: &[u64; 2], answer: &mut [u64; 3])
     ensures { λ r. ⌜ now (answer .exit) ≡ afterSegmentNumbers (now (sender .entry)) ⌝ }
 {
     *answer = flat::after_segment(sender);
@@ -101,8 +101,8 @@ pub extern "C" fn orl_cut_count(
     lengths: &[u64],
     authentication: &[u8],
     body: u64,
-    sender: &[u64; 3],
-    answer: &mut [u64; 5],
+    sender: &[u64; 2],
+    answer: &mut [u64; 4],
 )
     ensures { λ r. ⌜ now (answer .exit) ≡ countNumbers (settingsOf t profile) p (now (header .entry))
         (lent (now (timestamp .entry)) (now (zone .entry)) (now (name .entry)) (now (domain .entry)) (now (lengths .entry))
@@ -138,10 +138,10 @@ pub extern "C" fn orl_cut_packet(
     lengths: &[u64],
     authentication: &[u8],
     body: &[u8],
-    sender: &[u64; 3],
+    sender: &[u64; 2],
     i: u64,
     out: &mut [u8],
-    answer: &mut [u64; 5],
+    answer: &mut [u64; 4],
 )
     ensures { λ r. ⌜ (let x = lent (now (timestamp .entry)) (now (zone .entry)) (now (name .entry)) (now (domain .entry)) (now (lengths .entry))
         (now (authentication .entry)) in let s = settingsOf t profile in

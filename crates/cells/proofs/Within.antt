@@ -1,6 +1,6 @@
 -- Octets that are a segment's key, and a cell that holds a segment of a key and of a range of counters, as the code tests them.
 -- Assumes nothing.
-use Prim.Native.Nat.{ℕ, suc, _+_, _-_}
+use Prim.Native.Nat.{ℕ, _+_, _-_}
 use mathlib.Core.Path.{_≡_, refl, ap, ap₂, sym, _∙_}
 use mathlib.Core.Logic.{⊎-elim}
 use mathlib.Core.Bool.{Bool, true, false}
@@ -15,6 +15,7 @@ use Rattle.octets.proofs.Lists.{bool, pick-false}
 use Rattle.walk.specs.declared.Settings.{Settings}
 use Rattle.packet.specs.Reading.{readPacket}
 use Rattle.packet.specs.Key.{keyOf}
+use Rattle.packet.specs.Numbers.{nextCounter}
 use Rattle.cells.specs.declared.Judged.{Judged}
 use Rattle.cells.specs.Segments.{segOf, both}
 use Rattle.cells.specs.Rows.{Cell, packetIn, cellOf, bySegment}
@@ -65,53 +66,53 @@ module _ (s : Settings) (r z k : List ℕ) (first steps : ℕ) (o : Octets r) wh
   p = packetIn r
 
   -- it holds a segment, or is none
-  unless-held : (Holding s (length z) r → false ≡ withinIn suc k first steps here) → false ≡ withinIn suc k first steps here
-  unless-held h = ⊎-elim h (λ e. sym (ap (bySegment false (within suc k first steps)) e)) (kinds s (length z) r)
+  unless-held : (Holding s (length z) r → false ≡ withinIn nextCounter k first steps here) → false ≡ withinIn nextCounter k first steps here
+  unless-held h = ⊎-elim h (λ e. sym (ap (bySegment false (within nextCounter k first steps)) e)) (kinds s (length z) r)
 
-  told : Holding s (length z) r → withinIn suc k first steps here ≡ both (reaches suc steps first (counterIn p)) (alike k (keyOf p (readPacket s p)))
+  told : Holding s (length z) r → withinIn nextCounter k first steps here ≡ both (reaches nextCounter steps first (counterIn p)) (alike k (keyOf p (readPacket s p)))
   unfolding segOf
   told there =
-      ap (withinIn suc k first steps) (there .cell)
-      ∙ ap (λ (n : ℕ). both (reaches suc steps first n) (alike k (keyOf p (readPacket s p)))) (sym (held-counter s (length z) r o there))
+      ap (withinIn nextCounter k first steps) (there .cell)
+      ∙ ap (λ (n : ℕ). both (reaches nextCounter steps first n) (alike k (keyOf p (readPacket s p)))) (sym (held-counter s (length z) r o there))
 
-  pub within-free : {b : ℕ} → b ≡ octetAt r 0 → b ≡ 0 → false ≡ withinIn suc k first steps here
+  pub within-free : {b : ℕ} → b ≡ octetAt r 0 → b ≡ 0 → false ≡ withinIn nextCounter k first steps here
   within-free {b} e t = unless-held held-it
     where
-      held-it : Holding s (length z) r → false ≡ withinIn suc k first steps here
+      held-it : Holding s (length z) r → false ≡ withinIn nextCounter k first steps here
       held-it h = let w : _≡_ {A = ℕ} 0x4d 0 = ap (λ (x : List ℕ). octetAt x 0) (sym (h .row)) ∙ sym e ∙ t in absurd (omega arith)
 
   pub within-apart :
-      {x : List ℕ} {m n : ℕ} → m ≡ number 8 k 14 → x ≡ p → n ≡ number 8 x 18 → (m ≡ n → ⊥) → false ≡ withinIn suc k first steps here
+      {x : List ℕ} {m n : ℕ} → m ≡ number 8 k 14 → x ≡ p → n ≡ number 8 x 18 → (m ≡ n → ⊥) → false ≡ withinIn nextCounter k first steps here
   within-apart {x} em ex en h = unless-held other
     where
-      other : Holding s (length z) r → false ≡ withinIn suc k first steps here
+      other : Holding s (length z) r → false ≡ withinIn nextCounter k first steps here
       other there =
           let a : Asked s p (readPacket s p .body .at) =
           record { octets = octets-part r 2 (number 2 r 6 + 7) o; accepted = there .accepted; segment = there .segment; body = refl } in
           let e = key-apart k p (readPacket s p .body .at) em (en ∙ ap (λ (w : List ℕ). number 8 w 18) ex) h in
           sym
           (told there
-          ∙ ap (both (reaches suc steps first (counterIn p))) (ap (alike k) (sym (key-asked s p (readPacket s p .body .at) a)) ∙ sym e)
-          ∙ pick-false (reaches suc steps first (counterIn p)))
+          ∙ ap (both (reaches nextCounter steps first (counterIn p))) (ap (alike k) (sym (key-asked s p (readPacket s p .body .at) a)) ∙ sym e)
+          ∙ pick-false (reaches nextCounter steps first (counterIn p)))
 
   module _ {x : List ℕ} {n : ℕ} (ex : x ≡ p) (en : n ≡ counterIn x) where
     counter-is : n ≡ counterIn p
     counter-is = en ∙ ap counterIn ex
 
-    by-counter : {a : Bool} → a ≡ reaches suc steps first n → Holding s (length z) r → withinIn suc k first steps here ≡ both a (alike k (keyOf p (readPacket s p)))
+    by-counter : {a : Bool} → a ≡ reaches nextCounter steps first n → Holding s (length z) r → withinIn nextCounter k first steps here ≡ both a (alike k (keyOf p (readPacket s p)))
     by-counter e there =
         told there
         ∙ ap (λ (w : Bool). both w (alike k (keyOf p (readPacket s p))))
-        (ap (λ (m : ℕ). reaches suc steps first m) (sym counter-is) ∙ sym e)
+        (ap (λ (m : ℕ). reaches nextCounter steps first m) (sym counter-is) ∙ sym e)
 
-    pub within-out : {a : Bool} → a ≡ reaches suc steps first n → a ≡ false → false ≡ withinIn suc k first steps here
+    pub within-out : {a : Bool} → a ≡ reaches nextCounter steps first n → a ≡ false → false ≡ withinIn nextCounter k first steps here
     within-out e h = unless-held (λ there. sym (by-counter (sym h ∙ e) there))
 
     module _ {t : Judged} (et : t ≡ judgedOf (bodyIn s r) here) where
-      pub within-not : toldHeld (t .content) ≡ false → false ≡ withinIn suc k first steps here
+      pub within-not : toldHeld (t .content) ≡ false → false ≡ withinIn nextCounter k first steps here
       within-not h = unless-held (λ there. absurd (not-held (judged-at s (length z) r et there .0) h))
 
-      pub within-same : {a b : Bool} → toldHeld (t .content) ≡ true → a ≡ reaches suc steps first n → a ≡ true → b ≡ alike k (keyIn x (t .at)) → b ≡ withinIn suc k first steps here
+      pub within-same : {a b : Bool} → toldHeld (t .content) ≡ true → a ≡ reaches nextCounter steps first n → a ≡ true → b ≡ alike k (keyIn x (t .at)) → b ≡ withinIn nextCounter k first steps here
       within-same one ea in-it eb =
           let there = judged-one s (length z) r et one in
           let a : Asked s p (t .at) =

@@ -1,23 +1,19 @@
 -- Messages in the store: what it holds under a key and a counter, and which complete message is picked.
--- SPEC S-8 to S-10: under one key a first, a last with a higher counter, and a continuation at every counter in between; of several
--- such messages the one whose first has the lowest cell.
--- `next` is the counter that follows one, and `span` the most steps from a first to its last: one more, and 4,294,967,295.
+-- SPEC S-8 to S-10: under one key a first, a last some steps on, and a continuation at every counter in between; of several such messages
+-- the one whose first has the lowest cell.
+-- `next` is the counter that follows one, and `span` the most steps from a first to its last: `nextCounter`, and `stepsMost`.
 -- Assumes nothing: these are definitions.
 use Prim.Native.Nat.{ℕ, zero, suc, _+_}
 use mathlib.Core.Bool.{Bool, true, false}
 use mathlib.Core.List.{List, [], _∷_, _++_}
 use mathlib.Core.Option.{Option, none, some, Option·map}
 use lib.Dec.{eqb}
-use Rattle.octets.specs.Octets.{pick, most32}
+use Rattle.octets.specs.Octets.{pick}
 use Rattle.walk.specs.declared.Settings.{Settings}
 use Rattle.packet.specs.Format.{flagsFirst, flagsLast}
 use Rattle.cells.specs.Segments.{Seg, carries}
 use Rattle.cells.specs.Rows.{Cell, segmentIn, bySegment}
 use Rattle.cells.specs.Order.{cellAt}
-
--- the highest counter, and so the most steps from a first to its last
-abbrev pub top : ℕ
-top = most32
 
 -- n of a row of things, from number i on
 unfoldable pub listed : {A : Type 0} → (ℕ → A) → ℕ → ℕ → List A

@@ -11,7 +11,7 @@ pub mod messages;
 pub mod opening;
 
 ghost use mathlib.Core.Path.{_≡_};
-ghost use Prim.Native.Nat.{suc, _+_, _*_, _/_, _≤_, _<_};
+ghost use Prim.Native.Nat.{_+_, _*_, _/_, _≤_, _<_};
 ghost use lib.ListN.{length, getD, drop, set};
 ghost use lib.Seq.{sets};
 ghost use mathlib.Core.List.{_∷_};
@@ -24,6 +24,7 @@ ghost use Rattle.cells.specs.Inner.{withinIn, Asked, bodyAt, bodiesTo, B
 ghost use mathlib.Core.Bool.{true};
 ghost use Rattle.packet.specs.Reading.{readPacket};
 ghost use Rattle.packet.specs.Key.{keyOf};
+ghost use Rattle.packet.specs.Numbers.{nextCounter};
 ghost use Rattle.cells.specs.Order.{cellsMost, lowest, lengthFits, sound, cellAt, carriesIn, newTo, newAt, distinct, inOrder, countIn, foundIn, cellSize};
 ghost use Rattle.cells.specs.Chains.{mixIn, mixed, chainIn, bucketOf, keyIn, chainsAll, bucketAt, Chained};
 use packet::SegmentCounter;
@@ -336,12 +337,12 @@ fn is_key(k: &[u8], p: &[u8], body_at: usize) -> bool
     octets::both(first, octets::both(second, third))
 }
 
-// Whether a counter is the first or one of so many steps after it.
+// Whether a counter is the first or one of so many steps after it, round the end too.
 fn is_reached(first: SegmentCounter, steps: u32, c: SegmentCounter) -> bool
-    ensures { λ r. ⌜ r ≡ reaches suc steps (first .0) (c .0) ⌝ }
+    ensures { λ r. ⌜ r ≡ reaches nextCounter steps (first .0) (c .0) ⌝ }
 {
     if c.0 < first.0 {
-        return false;
+        return u32::MAX - first.0 + c.0 < steps;
     }
     c.0 - first.0 <= steps
 }
@@ -357,7 +358,7 @@ pub fn is_within(
     steps: u32,
 ) -> bool
     requires { ⌜ now zero ≡ zeroRow (length (now zero)) ⌝ }
-    ensures { λ r. ⌜ r ≡ withinIn suc (now (k .entry)) (first .0) steps (cellOf s (length (now (zero .entry))) (now (row .entry))) ⌝ }
+    ensures { λ r. ⌜ r ≡ withinIn nextCounter (now (k .entry)) (first .0) steps (cellOf s (length (now (zero .entry))) (now (row .entry))) ⌝ }
 {
     if octets::octet(row, 0) == 0 {
         return false;

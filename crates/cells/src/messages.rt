@@ -1,12 +1,8 @@
-// What arrival and taking both stand on: messages in the store by definition, with their laws, the segment in its cell, and the step
-// from a segment counter to the one that follows it.
+// What arrival and taking both stand on: messages in the store by definition, with their laws, and the segment in its cell.
 ghost use mathlib.Core.Path.{_≡_};
-ghost use Prim.Native.Nat.{suc, _+_, _<_};
 ghost use Rattle.packet.specs.Reading.{readPacket};
 ghost use Rattle.cells.specs.Rows.{packetIn};
-ghost use Rattle.cells.specs.Messages.{top};
 ghost use Rattle.cells.specs.Pieces.{pieceOf};
-use packet::SegmentCounter;
 use walk::Settings;
 
 // A segment in its cell: its flags, and where its body stands in its packet.
@@ -29,19 +25,4 @@ pub fn piece_in(s: Settings, row: &[u8]) -> Piece
         at: body.at,
         length: body.length,
     }
-}
-
-// The counter that follows one: every run goes by this step. None follows the highest.
-pub fn next(c: SegmentCounter) -> SegmentCounter
-    requires { ⌜ c .0 < top ⌝ }
-    ensures { λ r. ⌜ r .0 ≡ suc (c .0) ⌝ }
-{
-    SegmentCounter(c.0 + 1)
-}
-
-// How many counters follow one. The highest is the largest number of its type.
-pub fn further(c: SegmentCounter) -> u32
-    ensures { λ r. ⌜ r + c .0 ≡ top ⌝ }
-{
-    u32::MAX - c.0
 }

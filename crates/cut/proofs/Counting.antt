@@ -1,4 +1,4 @@
--- Rounding up, counters, flags and how a message is sent: the code's forms are the definitions.
+-- Rounding up, flags, counters and how a message is sent: the code's forms are the definitions.
 -- Assumes nothing.
 use Prim.Native.Nat.{ℕ, suc, _+_, _-_, _/_, _≤_, _<_}
 use mathlib.Core.Path.{_≡_, ap, sym, _∙_}
@@ -6,18 +6,16 @@ use mathlib.Core.Logic.{⊎-elim}
 use mathlib.Core.Bool.{Bool, true, false}
 use native.Mathlib.Omega.{arith}
 use native.Mathlib.Nat.{div-zero, div-eq-of-lt, add-div-right}
-use lib.Dec.{leb, eqb}
+use lib.Dec.{eqb}
 use borrow.Author.Tests.{le-leb, lt-leb, eq-eqb, ne-eqb}
-use Rattle.octets.specs.Octets.{pick, most32}
+use Rattle.octets.specs.Octets.{pick}
 use Rattle.octets.proofs.Lists.{below-or}
 use Rattle.packet.specs.declared.SegmentCounter.{SegmentCounter}
 use Rattle.sender.specs.declared.Sender.{Sender}
-use Rattle.sender.specs.declared.Next.{Next}
-use Rattle.sender.specs.declared.Next.the-variants.{At, NoneLeft}
 use Rattle.sender.specs.declared.Sent.{Sent}
 use Rattle.sender.specs.declared.Sent.the-variants.{Whole, Segments}
-use Rattle.sender.specs.Sending.{counterNumber, counterAfter, afterPacket, afterSegments, afterMessage}
-use Rattle.cut.specs.Cutting.{countersFit, rounded}
+use Rattle.sender.specs.Sending.{counterAfter, afterPacket, afterSegments, afterMessage}
+use Rattle.cut.specs.Cutting.{counterAt, rounded}
 
 -- ---- rounding up
 
@@ -36,18 +34,6 @@ rounded-some B C b h =
     let e : B - 1 + C ≡ B + (C - 1) = omega arith in
     sym (add-div-right (B - 1) p) ∙ ap (λ (n : ℕ). n / C) e
 
--- ---- by the case that a match has found
-
-module _ {n : Next} {c : SegmentCounter} (e : n ≡ At c) where
-  pub fit-at : (k w : ℕ) → w ≡ c .0 → c .0 ≤ most32 → leb k (4294967296 - w) ≡ countersFit n k
-  unfolding countersFit
-  fit-at k w h t =
-      rw e
-      (⊎-elim
-      (λ l. lt-leb k (4294967296 - w) (omega arith) ∙ sym (lt-leb (c .0 + k) (suc most32) l))
-      (λ l. le-leb k (4294967296 - w) (omega arith) ∙ sym (le-leb (c .0 + k) (suc most32) l))
-      (below-or (suc most32) (c .0 + k)))
-
 -- ---- the sequence flags
 
 pub last-flag : (i n : ℕ) → i < n → n - i ≡ 1 → eqb (suc i) n ≡ true
@@ -59,15 +45,11 @@ between-flag i n h e = ne-eqb (suc i) n (λ z. e (omega arith))
 pub past-flag : (i n : ℕ) → n ≤ i → eqb (suc i) n ≡ false
 past-flag i n h = ne-eqb (suc i) n (λ z. omega arith)
 
--- ---- the counter, by the case that a match has found
+-- ---- the counter
 
-pub counter-is : {m : Next} {c : SegmentCounter} (n : Next) (i : ℕ) → m ≡ counterAfter i n → m ≡ At c → c .0 ≡ counterNumber (counterAfter i n)
-unfolding counterNumber
-counter-is n i e f = ap counterNumber (sym f ∙ e)
-
-pub counter-none : {m : Next} (n : Next) (i : ℕ) → m ≡ counterAfter i n → m ≡ NoneLeft → 0 ≡ counterNumber (counterAfter i n)
-unfolding counterNumber
-counter-none n i e f = ap counterNumber (sym f ∙ e)
+pub counter-is : {m : SegmentCounter} (c : SegmentCounter) (i : ℕ) → m ≡ counterAfter i c → m .0 ≡ counterAt c i
+unfolding counterAt
+counter-is c i e = ap (λ (x : SegmentCounter). x .0) e
 
 -- ---- how a message is sent
 

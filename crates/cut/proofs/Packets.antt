@@ -9,7 +9,7 @@ use lib.ListN.{length, take, drop, length-take}
 use lib.Seq.{take-all}
 use lib.Dec.{leb, ltb, eqb}
 use borrow.Author.Tests.{leb-true, ltb-true, le-leb, eq-eqb, ne-eqb}
-use Rattle.octets.specs.Octets.{pick, part, most32}
+use Rattle.octets.specs.Octets.{pick, part}
 use Rattle.octets.specs.Laying.{laid, Lays}
 use Rattle.walk.specs.declared.Settings.{Settings}
 use Rattle.walk.specs.declared.Tested.{Tested}
@@ -19,11 +19,6 @@ use Rattle.octets.proofs.Places.{part-at}
 use Rattle.packet.specs.Format.{Values, segment, octetsOf}
 use Rattle.packet.specs.Numbers.{countAt}
 use Rattle.sender.specs.declared.Sender.{Sender}
-use Rattle.sender.specs.declared.Next.{Next}
-use Rattle.sender.specs.declared.Next.the-variants.{At, NoneLeft}
-use Rattle.sender.proofs.Stepping.{steps-suc}
-use Rattle.sender.specs.Sending.{counterNumber}
-use Rattle.sender.proofs.Moving.{after-fits}
 use Rattle.write.specs.declared.HeaderValues.{HeaderValues}
 use Rattle.write.specs.declared.PacketValues.{PacketValues}
 use Rattle.write.specs.Given.{Lent, headOf, packetOf}
@@ -32,7 +27,7 @@ use Rattle.write.specs.Inner.{packetPieces}
 use Rattle.write.proofs.Tests.{unless-fine}
 use Rattle.write.proofs.Answers.{unless-same, size-is, packet-laid, packet-length, secondary-length, packet-least}
 use Rattle.cut.specs.declared.Plan.{Plan}
-use Rattle.cut.specs.Cutting.{countersFit, counterAt, single, chunk, packets, headerLength, countRefusal, flagsAt, bodyAt, packetAt, givenAt, packetRefusal, packetAnswer, packetOutput}
+use Rattle.cut.specs.Cutting.{counterAt, single, chunk, packets, headerLength, countRefusal, flagsAt, bodyAt, packetAt, givenAt, packetRefusal, packetAnswer, packetOutput}
 use Rattle.cut.specs.Inner.{planOf, counterOf, fromOf, toOf, valuesOf}
 use Rattle.cut.proofs.Plans.{before, planned, refusal-same}
 
@@ -56,16 +51,6 @@ body-part true C i body {from} {to} ef et =
 body-part false C i body ef et = part-at body (i * C) C ef et
 
 -- ---- the numbers of the packet
-
-counter-same : (one : Bool) (n : Next) (i k : ℕ) → i < k → pick one true (countersFit n k) ≡ true → counterOf one n i ≡ pick one 0 (counterAt n i)
-unfolding counterNumber counterAt countersFit
-counter-same true (At c) i k h g = refl
-counter-same false (At c) i k h g =
-    let a = leb-true (c .0 + k) (suc most32) g in
-    let b : c .0 + i ≤ most32 = omega arith in
-    ap counterNumber (after-fits i c b) ∙ sym (steps-suc i (c .0))
-counter-same true NoneLeft i k h g = refl
-counter-same false NoneLeft i k h g = let z : _≡_ {A = ℕ} 0 1 = cc in absurd (omega arith)
 
 -- how long it is: at most P
 pub counter-flag : (P H B i : ℕ) → _≡_ {A = ℕ} (pick (segment (flagsAt P H B i)) 4 0) (pick (single P H B) 0 4)
@@ -107,7 +92,7 @@ packet-most s P v t body d i g =
 -- ---- the code's packet
 
 module _ (old : Bool) (s : Settings) (P : ℕ) (v : HeaderValues) (t : Lent) (body : List ℕ) (d : Sender) (i : ℕ) {h : ℕ} {r : Tested} {q : Plan} {o : PacketValues} {from to : ℕ}
-    (er : r ≡ before old s P v t d) (eh : h ≡ capped (headerLength s v t)) (eq : q ≡ planOf P h (length body) d r)
+    (er : r ≡ before old s P v t d) (eh : h ≡ capped (headerLength s v t)) (eq : q ≡ planOf P h (length body) r)
     (eo : o ≡ valuesOf (q .single) (q .count) d i) (ef : from ≡ fromOf (q .single) (q .chunk) i (length body)) (et : to ≡ toOf (q .single) from (q .chunk) (length body)) where
   abbrev piece : List ℕ
   piece = take (to - from) (drop from body)
@@ -124,11 +109,8 @@ module _ (old : Bool) (s : Settings) (P : ℕ) (v : HeaderValues) (t : Lent) (bo
       let f : o .flags ≡ flagsAt P H (length body) i =
       ap (λ (x : PacketValues). x .flags) eo ∙ ap₂ (λ (b : Bool) (n : ℕ). pick b 3 (pick (eqb i 0) 1 (pick (eqb (suc i) n) 2 0))) one (k .count-is) in
       let c : o .«sequence_count» .0 ≡ countAt (d .«sequence_count» .0) i = ap (λ (x : PacketValues). x .«sequence_count» .0) eo in
-      let m : i < packets P H (length body) = omega (arith, k .count-is) in
-      let n : o .counter .0 ≡ pick (single P H (length body)) 0 (counterAt (d .next) i) =
-      ap (λ (x : PacketValues). x .counter .0) eo
-      ∙ ap (λ (b : Bool). counterOf b (d .next) i) one
-      ∙ counter-same (single P H (length body)) (d .next) i (packets P H (length body)) m (k .cuts-well .counters) in
+      let n : o .counter .0 ≡ pick (single P H (length body)) 0 (counterAt (d .counter) i) =
+      ap (λ (x : PacketValues). x .counter .0) eo ∙ ap (λ (b : Bool). counterOf b (d .counter) i) one in
       let b : piece ≡ pick (single P H (length body)) body (part body (i * chunk P H) (chunk P H)) =
       body-part (q .single) (q .chunk) i body ef et
       ∙ ap₂ (λ (x : Bool) (y : ℕ). pick x body (part body (i * y) y)) one (k .chunk-is) in

@@ -5,7 +5,7 @@
 -- Assumes nothing: these are definitions.
 use Prim.Native.Nat.{ℕ, suc, _+_, _-_, _*_, _/_}
 use mathlib.Core.List.{List, _++_}
-use mathlib.Core.Bool.{Bool, true, false}
+use mathlib.Core.Bool.{Bool, true}
 use lib.ListN.{length, drop}
 use lib.Dec.{ltb, leb, eqb}
 use Rattle.octets.specs.Octets.{pick, part, most32}
@@ -14,10 +14,9 @@ use Rattle.walk.specs.declared.Tested.{Tested}
 use Rattle.walk.specs.Walk.{refusal, noneFailed, unless}
 use Rattle.packet.specs.Format.{Head, Values, primarySize, counterWidth, flagsBetween, flagsFirst, flagsLast, flagsWhole, headerOctets, octetsOf}
 use Rattle.packet.specs.Format.{packetMost, headerMost}
-use Rattle.packet.specs.Numbers.{countMost, countAt}
+use Rattle.packet.specs.declared.SegmentCounter.{SegmentCounter}
+use Rattle.packet.specs.Numbers.{countMost, countAt, nextCounter, segmentsMost}
 use Rattle.sender.specs.declared.Sender.{Sender}
-use Rattle.sender.specs.declared.Next.{Next}
-use Rattle.sender.specs.declared.Next.the-variants.{At, NoneLeft}
 use Rattle.sender.specs.Sending.{afterPacket, afterSegments, stepsOf}
 use Rattle.write.specs.declared.HeaderValues.{HeaderValues}
 use Rattle.write.specs.Given.{Lent, headOf, headerChecks, unlessAll}
@@ -52,15 +51,9 @@ packets P H B = pick (single P H B) 1 (rounded B (chunk P H))
 
 -- ---- the sender's numbers along a message
 
--- whether n segments have a counter each
-unfoldable pub countersFit : Next → ℕ → Bool
-countersFit (At c) n = leb (c .0 + n) (suc most32)
-countersFit NoneLeft n = false
-
--- the counter of segment number i, if they fit: i steps from the sender's
-unfoldable pub counterAt : Next → ℕ → ℕ
-counterAt (At c) i = stepsOf suc i (c .0)
-counterAt NoneLeft i = 0
+-- the counter of segment number i: i steps from the sender's
+unfoldable pub counterAt : SegmentCounter → ℕ → ℕ
+counterAt c i = stepsOf nextCounter i (c .0)
 
 -- ---- the refusals
 
@@ -68,18 +61,19 @@ counterAt NoneLeft i = 0
 unfoldable pub limitTest : Settings → ℕ → Tested → Tested
 limitTest s P r = unless (leb P packetMost) 15 (unless (leb limitLeast P) 15 (settingsTest s r))
 
--- 22: the header's checks, and the sender's sequence count (its counter always fits its type)
+-- 22: the header's checks, and the sender's two numbers (of which the counter always fits: its type has no others)
 unfoldable pub valueTests : Settings → HeaderValues → Lent → Sender → Tested → Tested
-valueTests s v t d r = unless (leb (d .«sequence_count» .0) countMost) 22 (unlessAll (headerChecks s v t) 22 r)
+valueTests s v t d r =
+    unless (leb (d .counter .0) most32) 22 (unless (leb (d .«sequence_count» .0) countMost) 22 (unlessAll (headerChecks s v t) 22 r))
 
 -- 15, 22, 30, 13, 28: the tests on the values alone
 abbrev pub valueRefusal : Bool → Settings → ℕ → HeaderValues → Lent → Sender → Tested
 valueRefusal old s P v t d = textTest t (partsTest t (zoneTest old v (valueTests s v t d (limitTest s P noneFailed))))
 
--- 23: the body; 12: the header; 24: C below 1; 25: the counters
-unfoldable pub messageTests : ℕ → ℕ → ℕ → Sender → Tested → Tested
-messageTests P H B d r =
-    unless (pick (single P H B) true (countersFit (d .next) (packets P H B))) 25
+-- 23: the body; 12: the header; 24: C below 1; 29: more segments than a message may have
+unfoldable pub messageTests : ℕ → ℕ → ℕ → Tested → Tested
+messageTests P H B r =
+    unless (pick (single P H B) true (leb (packets P H B) segmentsMost)) 29
     (unless (pick (single P H B) true (leb 1 (chunk P H))) 24
     (unless (leb (pick (single P H B) H (H + counterWidth)) headerMost) 12 (unless (leb B bodyMost) 23 r)))
 
@@ -87,9 +81,9 @@ messageTests P H B d r =
 abbrev pub headerLength : Settings → HeaderValues → Lent → ℕ
 headerLength s v t = length (headerOctets s (headOf v t))
 
--- 15, 22, 30, 13, 28, 23, 12, 24, 25
+-- 15, 22, 30, 13, 28, 23, 12, 24, 29
 unfoldable pub countRefusal : Bool → Settings → ℕ → HeaderValues → Lent → ℕ → Sender → Tested
-countRefusal old s P v t B d = messageTests P (headerLength s v t) B d (valueRefusal old s P v t d)
+countRefusal old s P v t B d = messageTests P (headerLength s v t) B (valueRefusal old s P v t d)
 
 -- ---- the count and the numbers moved on
 
@@ -122,7 +116,7 @@ packetAt P H h body d i =
       head = h;
       flags = flagsAt P H (length body) i;
       sequence-count = countAt (d .«sequence_count» .0) i;
-      counter = pick (single P H (length body)) 0 (counterAt (d .next) i);
+      counter = pick (single P H (length body)) 0 (counterAt (d .counter) i);
       body = bodyAt P H body i;
     }
 

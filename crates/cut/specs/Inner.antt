@@ -8,13 +8,12 @@ use Rattle.walk.specs.declared.Tested.{Tested}
 use Rattle.walk.specs.Walk.{unless}
 use Rattle.fields.specs.Inner.{capped}
 use Rattle.packet.specs.Format.{primarySize, counterWidth, flagsBetween, flagsFirst, flagsLast, flagsWhole, headerMost}
-use Rattle.packet.specs.Numbers.{sequenceCountAt}
+use Rattle.packet.specs.declared.SegmentCounter.{SegmentCounter}
+use Rattle.packet.specs.Numbers.{sequenceCountAt, segmentsMost}
 use Rattle.sender.specs.declared.Sender.{Sender}
-use Rattle.sender.specs.declared.Next.{Next}
-use Rattle.sender.specs.Sending.{counterNumber, counterAfter}
 use Rattle.write.specs.declared.PacketValues.{PacketValues}
 use Rattle.cut.specs.declared.Plan.{Plan}
-use Rattle.cut.specs.Cutting.{countersFit, bodyMost, chunk, rounded}
+use Rattle.cut.specs.Cutting.{counterAt, bodyMost, chunk, rounded}
 
 abbrev pub singleOf : ℕ → ℕ → ℕ → Bool
 singleOf P h B = leb (capped (primarySize + h + B)) P
@@ -22,24 +21,24 @@ singleOf P h B = leb (capped (primarySize + h + B)) P
 abbrev pub packetsOf : Bool → ℕ → ℕ → ℕ
 packetsOf one B C = pick one 1 (rounded B C)
 
-unfoldable pub planRefusal : Bool → ℕ → ℕ → ℕ → Sender → Tested → Tested
-planRefusal one h B C d r =
-    unless (pick one true (countersFit (d .next) (packetsOf one B C))) 25
+unfoldable pub planRefusal : Bool → ℕ → ℕ → ℕ → Tested → Tested
+planRefusal one h B C r =
+    unless (pick one true (leb (packetsOf one B C) segmentsMost)) 29
     (unless (pick one true (leb 1 C)) 24
     (unless (leb (pick one h (capped (h + counterWidth))) headerMost) 12 (unless (leb B bodyMost) 23 r)))
 
-unfoldable pub planOf : ℕ → ℕ → ℕ → Sender → Tested → Plan
-planOf P h B d r =
+unfoldable pub planOf : ℕ → ℕ → ℕ → Tested → Plan
+planOf P h B r =
     record {
-      tested = planRefusal (singleOf P h B) h B (chunk P h) d r;
+      tested = planRefusal (singleOf P h B) h B (chunk P h) r;
       single = singleOf P h B;
       chunk = chunk P h;
       count = packetsOf (singleOf P h B) B (chunk P h);
     }
 
--- the counter of segment i if it fits, else 0
-abbrev pub counterOf : Bool → Next → ℕ → ℕ
-counterOf one n i = pick one 0 (counterNumber (counterAfter i n))
+-- the counter of segment i, 0 if there are none
+abbrev pub counterOf : Bool → SegmentCounter → ℕ → ℕ
+counterOf one c i = pick one 0 (counterAt c i)
 
 -- where the part of packet i begins
 abbrev pub fromOf : Bool → ℕ → ℕ → ℕ → ℕ
@@ -54,5 +53,5 @@ valuesOf one n d i =
     record {
       flags = pick one flagsWhole (pick (eqb i 0) flagsFirst (pick (eqb (suc i) n) flagsLast flagsBetween));
       «sequence_count» = sequenceCountAt (d .«sequence_count») i;
-      counter = record { 0 = counterOf one (d .next) i };
+      counter = record { 0 = counterOf one (d .counter) i };
     }

@@ -19,16 +19,15 @@ ghost use Rattle.write.specs.Given.{lent};
 ghost use Rattle.write.specs.Lending.{Lends};
 ghost use Rattle.sender.specs.declared.Sent.the-variants.{Whole, Segments};
 ghost use Rattle.packet.specs.Format.{counterWidth, flagsBetween, flagsFirst, flagsLast, flagsWhole};
-ghost use Rattle.cut.specs.Cutting.{countersFit, limitTest, valueRefusal, chunk as chunkOf, rounded};
+ghost use Rattle.cut.specs.Cutting.{limitTest, valueRefusal, chunk as chunkOf, rounded};
 ghost use Rattle.cut.specs.Cutting.{countAnswer, packetAnswer, packetOutput};
 ghost use Rattle.cut.specs.Inner.{packetsOf, planOf, counterOf, fromOf, toOf, valuesOf};
 use packet::SegmentCounter;
-use sender::Next;
 use sender::Sender;
 use sender::Sent;
-use walk::REFUSED_COUNTER;
 use walk::REFUSED_HEADER_LONG;
 use walk::REFUSED_LARGE;
+use walk::REFUSED_MANY_SEGMENTS;
 use walk::REFUSED_NO_ROOM;
 use walk::REFUSED_NUMBER;
 use walk::REFUSED_OUTPUT;
@@ -139,19 +138,6 @@ fn count_of(single: bool, b: usize, c: usize) -> usize
     parts_of(b, c)
 }
 
-// Whether n segments have a counter each.
-fn counters_fit(next: Next, n: usize) -> bool
-    ensures { λ r. ⌜ r ≡ countersFit next n ⌝ }
-{
-    match next {
-        Next::At(c) => {
-            let left = sender::COUNTERS - c.0 as u64;
-            n as u64 <= left
-        }
-        Next::NoneLeft => false,
-    }
-}
-
 // The secondary header as it will stand in a packet.
 fn header_of(single: bool, h: usize) -> usize
     ensures { λ r. ⌜ r ≡ pick single h (capped (h + counterWidth)) ⌝ }
@@ -162,14 +148,13 @@ fn header_of(single: bool, h: usize) -> usize
     fields::plus(h, packet::COUNTER)
 }
 
-// 23, 12, 24, 25, and the numbers that they are judged on.
-fn plan_of(p: usize, h: usize, b: usize, sender: Sender, r: Tested) -> Plan
-    ensures { λ q. ⌜ q ≡ planOf p h b sender r ⌝ }
+// 23, 12, 24, 29, and the numbers that they are judged on.
+fn plan_of(p: usize, h: usize, b: usize, r: Tested) -> Plan
+    ensures { λ q. ⌜ q ≡ planOf p h b r ⌝ }
 {
     let single = write::packet_size(h, b) <= p;
     let chunk = chunk_of(p, h);
     let count = count_of(single, b, chunk);
-    let next = sender.next;
     let a = walk::unless(r, b <= BODY_MOST, REFUSED_LARGE);
     let c = walk::unless(
         a,
@@ -179,8 +164,8 @@ fn plan_of(p: usize, h: usize, b: usize, sender: Sender, r: Tested) -> Plan
     let d = walk::unless(c, octets::either(single, 1 <= chunk), REFUSED_NO_ROOM);
     let e = walk::unless(
         d,
-        octets::either(single, counters_fit(next, count)),
-        REFUSED_COUNTER,
+        octets::either(single, count <= packet::SEGMENTS_MOST),
+        REFUSED_MANY_SEGMENTS,
     );
     Plan {
         tested: e,
@@ -192,17 +177,14 @@ fn plan_of(p: usize, h: usize, b: usize, sender: Sender, r: Tested) -> Plan
 
 // ---- the numbers of a sender and of a packet
 
-// The counter of segment i, 0 if there is none.
-fn counter_at(single: bool, next: Next, i: usize) -> SegmentCounter
-    ensures { λ r. ⌜ r .0 ≡ counterOf single next i ⌝ }
+// The counter of segment i, 0 if there are none.
+fn counter_at(single: bool, first: SegmentCounter, i: usize) -> SegmentCounter
+    ensures { λ r. ⌜ r .0 ≡ counterOf single first i ⌝ }
 {
     if single {
         return SegmentCounter(0);
     }
-    match next.after(i) {
-        Next::At(c) => c,
-        Next::NoneLeft => SegmentCounter(0),
-    }
+    sender::counter_after(first, i)
 }
 
 // The sequence flags of packet i.
@@ -247,11 +229,10 @@ fn to_of(single: bool, from: usize, chunk: usize, b: usize) -> usize
 fn values_at(single: bool, count: usize, sender: Sender, i: usize) -> PacketValues
     ensures { λ r. ⌜ r ≡ valuesOf single count sender i ⌝ }
 {
-    let next = sender.next;
     let first = sender.sequence_count;
     let flags = flags_at(single, count, i);
     let number = packet::sequence_count_after(first, i);
-    let counter = counter_at(single, next, i);
+    let counter = counter_at(single, sender.counter, i);
     PacketValues {
         flags: flags,
         sequence_count: number,
@@ -289,7 +270,7 @@ pub fn count_by(
 {
     let values = test_message(old, s, p, v, time, zone, name, domain, lengths, id, sender);
     let h = write::header_size(s, v, time, zone, name, domain, lengths, id);
-    let plan = plan_of(p, h, body, sender, values);
+    let plan = plan_of(p, h, body, values);
     let tested = plan.tested;
     if tested.number != 0 {
         return Counted {
@@ -376,7 +357,7 @@ pub fn packet_by(
 {
     let values = test_message(old, s, p, v, time, zone, name, domain, lengths, id, sender);
     let h = write::header_size(s, v, time, zone, name, domain, lengths, id);
-    let plan = plan_of(p, h, body.len(), sender, values);
+    let plan = plan_of(p, h, body.len(), values);
     let o = values_at(plan.single, plan.count, sender, i);
     let from = from_of(plan.single, plan.chunk, i, body.len());
     let to = to_of(plan.single, from, plan.chunk, body.len());

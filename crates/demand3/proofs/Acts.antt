@@ -1,7 +1,7 @@
 -- Calls on a store's octets told by its cells alone: what each packet is to the store, and how long each output. So the hypotheses of
 -- demand 3 about a given list of calls are told by tests that compute over cells.
 -- Assumes nothing.
-use Prim.Native.Nat.{ℕ, suc, _+_, _≤_, _<_}
+use Prim.Native.Nat.{ℕ, _+_, _≤_, _<_}
 use mathlib.Core.Path.{_≡_, refl, ap, ap₂, sym, _∙_}
 use mathlib.Core.Logic.{_⊎_, inl, inr}
 use mathlib.Core.Bool.{Bool, true, false}
@@ -15,9 +15,10 @@ use Rattle.octets.proofs.Lists.{bool}
 use Rattle.walk.specs.declared.Settings.{Settings}
 use Rattle.walk.specs.Walk.{refusal}
 use Rattle.packet.specs.Reading.{segmented}
+use Rattle.packet.specs.Numbers.{nextCounter, stepsMost}
 use Rattle.cells.specs.Segments.{Seg, sameRest}
 use Rattle.cells.specs.Rows.{Cell, mayHold}
-use Rattle.cells.specs.Messages.{cellsOf, look, top}
+use Rattle.cells.specs.Messages.{cellsOf, look}
 use Rattle.arrival.specs.Arriving.{stored, again, refused, placed, beside, lowestFree, segmentArrived, arrivedIn, arrived}
 use Rattle.taking.specs.Taking.{message}
 use Rattle.demand3.specs.Cells.{hasFree}
@@ -112,7 +113,7 @@ eventsOf cs (meets e long) = e ∷ pick (lands cs e) (takes long ∷ []) []
 
 unfoldable pub actEvents : List Cell → List Act → List Event
 actEvents cs [] = []
-actEvents cs (a ∷ l) = eventsOf cs a ++ actEvents (after suc top cs (eventsOf cs a)) l
+actEvents cs (a ∷ l) = eventsOf cs a ++ actEvents (after nextCounter stepsMost cs (eventsOf cs a)) l
 
 module _ (s : Settings) (Z n : ℕ) where
   module _ (st : List ℕ) (k : Kept s Z n st) where
@@ -160,7 +161,7 @@ module _ (s : Settings) (Z n : ℕ) where
       ap₂ _++_ (by-acts st k c)
       (acts-are l (storeBy s Z st c) (by-keeps s Z n st k c)
       ∙ ap (λ (x : List Cell). actEvents x (map (actOf s Z) l))
-      (by-cells s Z n st k c ∙ ap (after suc top (cellsOf s Z st n)) (by-acts st k c)))
+      (by-cells s Z n st k c ∙ ap (after nextCounter stepsMost (cellsOf s Z st n)) (by-acts st k c)))
 
   -- ---- the room and a message untaken, told by the events
 
@@ -172,7 +173,7 @@ module _ (s : Settings) (Z n : ℕ) where
   starts-with c p st (inl e) = (drawing s Z (draws s Z st c) c, rw e refl)
   starts-with c p st (inr e) = (drawing s Z (draws s Z st c) c, rw (e .1) refl)
 
-  pub room-told : (one : 1 ≤ Z) → InUse s n → (l : List Call) → CellRoom suc top (empty n) (eventsIn s Z zeros l) → Room s Z n l
+  pub room-told : (one : 1 ≤ Z) → InUse s n → (l : List Call) → CellRoom nextCounter stepsMost (empty n) (eventsIn s Z zeros l) → Room s Z n l
   unfolding eventsIn
   room-told one u l r x y c p e b a g f new =
       let t = segment s p in
@@ -189,7 +190,7 @@ module _ (s : Settings) (Z n : ℕ) where
       (ap (λ (z : List Cell). look z (t .key) (t .counter)) (sym m) ∙ new)
 
   pub untaken-told : (m : Sending) (st : List ℕ) (l : List Call) → Kept s Z n st →
-      CellUntaken suc top (sentOf s m) (cellsOf s Z st n) (eventsIn s Z st l) → Untaken s Z m st l
+      CellUntaken nextCounter stepsMost (sentOf s m) (cellsOf s Z st n) (eventsIn s Z st l) → Untaken s Z m st l
   unfolding eventsIn
   untaken-told m st l k r x y c e t =
       let sx = storeAfter s Z st x in
@@ -202,10 +203,10 @@ module _ (s : Settings) (Z n : ℕ) where
       ∙ ap (λ (z : List Event). eventsIn s Z st x ++ z)
       (append-assoc (before s Z c) (takes long ∷ []) (eventsIn s Z (storeBy s Z sx c) y))
       ∙ sym (append-assoc (eventsIn s Z st x) (before s Z c) (takes long ∷ eventsIn s Z (storeBy s Z sx c) y)) in
-      let f : takenFrom suc top (after suc top (cellsOf s Z sx n) (before s Z c)) long ≡ message (t .0) =
+      let f : takenFrom nextCounter stepsMost (after nextCounter stepsMost (cellsOf s Z sx n) (before s Z c)) long ≡ message (t .0) =
       cc (sym (took-by s Z n sx kx c (b .0)) ∙ t .1) in
-      let g : after suc top (cellsOf s Z st n) (eventsIn s Z st x ++ before s Z c) ≡ after suc top (cellsOf s Z sx n) (before s Z c) =
-      after-append suc top (cellsOf s Z st n) (eventsIn s Z st x) (before s Z c)
-      ∙ ap (λ (z : List Cell). after suc top z (before s Z c)) (sym (run-cells s Z n x st k)) in
+      let g : after nextCounter stepsMost (cellsOf s Z st n) (eventsIn s Z st x ++ before s Z c) ≡ after nextCounter stepsMost (cellsOf s Z sx n) (before s Z c) =
+      after-append nextCounter stepsMost (cellsOf s Z st n) (eventsIn s Z st x) (before s Z c)
+      ∙ ap (λ (z : List Cell). after nextCounter stepsMost z (before s Z c)) (sym (run-cells s Z n x st k)) in
       r (eventsIn s Z st x ++ before s Z c) (eventsIn s Z (storeBy s Z sx c) y) long (t .0) d
-      (ap (λ (z : List Cell). takenFrom suc top z long) g ∙ f) (t .2)
+      (ap (λ (z : List Cell). takenFrom nextCounter stepsMost z long) g ∙ f) (t .2)

@@ -1,5 +1,5 @@
 -- Which messages demand 3 speaks of, in plain numbers: header values in range, at most 256 octets of secondary header with the counter,
--- two or more bodies of octets, none empty and of any lengths, no counter above 4,294,967,295, and 10 + H octets and each body fit a
+-- 2 to 4,096 bodies of octets, none empty and of any lengths, any counter of 32 bits to start from, and 10 + H octets and each body fit a
 -- cell after its mark.
 -- Assumes nothing.
 use Prim.Native.Nat.{ℕ, suc, _+_, _≤_, _<_}
@@ -9,15 +9,16 @@ use mathlib.Core.List.{List, []}
 use native.Mathlib.Omega.{arith}
 use lib.ListN.{length, getD}
 use lib.Dec.{eqb}
-use Rattle.octets.specs.Octets.{pick, Octets}
+use Rattle.octets.specs.Octets.{pick, Octets, most32}
 use Rattle.walk.specs.declared.Settings.{Settings}
 use Rattle.packet.specs.Format.{Opt, counterOctets, headerMost, packetMost, SettingsInRange, HeadInRange, InRange}
+use Rattle.packet.specs.Numbers.{segmentsMost}
 use Rattle.format.proofs.Frame.{packet-long}
 use Rattle.format.proofs.Back.{data-long}
 use Rattle.format.proofs.Stretches.{counter-long, secondary-long}
 use Rattle.demand3.specs.Sendings.{Sending, flagsIn, manyOf, startOf, valuesAt, packetWith, headerSize, IsCut, counterIn}
 use Rattle.demand3.proofs.ReadAs.{flags-segment}
-use Rattle.sender.proofs.Stepping.{steps-suc}
+use Rattle.sender.proofs.Stepping.{steps-counter}
 
 flags-top : (n i : ℕ) → flagsIn n i < 4
 unfolding flagsIn
@@ -42,11 +43,11 @@ module _ (s : Settings) (m : Sending) where
       ∙ omega (arith, data-long s (valuesAt s m i c), secondary-long s (valuesAt s m i c), counter-four i c)
 
   pub any-cut : (Z : ℕ) → Z ≤ 2 + packetMost → SettingsInRange s → HeadInRange s (m .head) → headerSize s m + 4 ≤ headerMost →
-      2 ≤ manyOf s m → startOf s m + manyOf s m ≤ 4294967296 →
+      2 ≤ manyOf s m → manyOf s m ≤ segmentsMost → startOf s m ≤ most32 →
       ((i : ℕ) → i < manyOf s m → Octets (partOf i) × (1 ≤ length (partOf i)) × (12 + headerSize s m + length (partOf i) ≤ Z)) →
       IsCut s Z m
-  any-cut Z top t h long two fit parts =
-      record { many = two; range = in-range; fits = λ i l. omega (arith, segment-long i 0, parts i l .2) }
+  any-cut Z top t h long two few fit parts =
+      record { many = two; most = few; range = in-range; fits = λ i l. omega (arith, segment-long i 0, parts i l .2) }
     where
       in-range : (i : ℕ) → i < manyOf s m → InRange s (valuesAt s m i 0)
       in-range i l =
@@ -57,7 +58,7 @@ module _ (s : Settings) (m : Sending) where
             sequence-count = omega arith;
             counter =
                 subst (λ (b : Bool). Opt b (λ x. x < 4294967296) 0 (counterIn s m i)) (sym (flags-segment (manyOf s m) i))
-                (omega (arith, steps-suc i (startOf s m)));
+                (omega (arith, steps-counter i (startOf s m) fit));
             body = parts i l .0;
             packet = omega (arith, segment-long i 0, parts i l .2);
             header = omega (arith, secondary-long s (valuesAt s m i 0), counter-four i 0);

@@ -17,6 +17,7 @@ use Rattle.octets.specs.Octets.{pick}
 use Rattle.walk.specs.declared.Settings.{Settings}
 use Rattle.walk.specs.declared.Refusal.{Refusal}
 use Rattle.walk.specs.Walk.{refusal}
+use Rattle.packet.specs.Numbers.{nextCounter, stepsMost}
 use Rattle.sender.specs.declared.Sender.{Sender}
 use Rattle.write.specs.declared.HeaderValues.{HeaderValues}
 use Rattle.write.specs.Given.{Lent}
@@ -29,7 +30,7 @@ use Rattle.cut.proofs.count_by.Reads as count-bys
 use Rattle.cut.proofs.packet_by.Reads as cut-bys
 use Rattle.fewest.proofs.Calls.{packet-wrote, packet-by-wrote}
 use Rattle.cells.specs.Order.{countIn, cellSize, gate}
-use Rattle.cells.specs.Messages.{Run, cellsOf, picked, top}
+use Rattle.cells.specs.Messages.{Run, cellsOf, picked}
 use Rattle.arrival.specs.Arriving.{Arrived, whole, stored, again, refused, arrived, storeWith}
 use Rattle.taking.specs.Taking.{Took, message, unable, writing, drawn, tookIn, took}
 use Rattle.taking.specs.declared.Taken.{Taken}
@@ -144,7 +145,7 @@ unfolding tookIn
 took-not s Z st long e = go (gate s Z st) refl
   where
     go : (g : ℕ) → gate s Z st ≡ g → ⊥
-    go zero h = drawn-not (picked suc top (cellsOf s Z st (countIn Z st))) long (took-open s Z st long h ∙ e)
+    go zero h = drawn-not (picked nextCounter stepsMost (cellsOf s Z st (countIn Z st))) long (took-open s Z st long h ∙ e)
     go (suc g) h =
         let d : unable (suc g) ≡ unable 0 = ap unable (sym h) ∙ sym (took-shut s Z st long (λ k. omega (arith, h, k))) ∙ e in
         let z : _≡_ {A = ℕ} (suc g) 0 = cc in omega arith

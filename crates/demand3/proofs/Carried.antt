@@ -1,7 +1,7 @@
 -- What demand 3 over octets presupposes is what demand 3 over cells does of the events: the messages, the arrivals, the room, a
 -- message untaken and told anew.
 -- Assumes nothing.
-use Prim.Native.Nat.{ℕ, suc, _+_, _≤_, _<_}
+use Prim.Native.Nat.{ℕ, _+_, _≤_, _<_}
 use mathlib.Core.Path.{_≡_, ap, sym, _∙_, subst}
 use mathlib.Core.Logic.{_≢_, _⊎_, inl, inr}
 use mathlib.Core.Bool.{Bool}
@@ -10,21 +10,23 @@ use mathlib.Core.List.{List, [], _∷_, _++_, map, append-assoc, append-nil, Lis
 use native.Mathlib.Omega.{arith}
 use lib.ListN.{length}
 use Rattle.walk.specs.declared.Settings.{Settings}
+use Rattle.packet.specs.Numbers.{nextCounter, stepsMost}
+use Rattle.octets.specs.Octets.{most32}
 use Rattle.cells.specs.Segments.{Seg, segOf}
 use Rattle.cells.specs.Rows.{Cell}
-use Rattle.cells.specs.Messages.{cellsOf, look, top}
+use Rattle.cells.specs.Messages.{cellsOf, look}
 use Rattle.taking.specs.Taking.{message}
 use Rattle.demand3.specs.Cells.{hasFree}
 use Rattle.cells.proofs.Empty.{empty-cells, empty-count, empty-order}
-use Rattle.demand3.specs.Traffic.{Sent, segmentsOf, Event, arrives, takes, empty, takenFrom, after, OneOf, Room as CellRoom}
+use Rattle.demand3.specs.Traffic.{Sent, segmentsOf, Event, arrives, takes, empty, takenFrom, after, OneOf, Room as CellRoom, stepsIn}
 use Rattle.demand3.specs.Promise.{Anew as CellAnew, fresh as cell-fresh, retaken as cell-retaken, Untaken as CellUntaken, AllCame as CellAllCame}
-use Rattle.demand3.specs.Base.{final, Traffic01}
+use Rattle.demand3.specs.Base.{Traffic01}
 use Rattle.demand3.specs.Calls.{Call, Handed, outOf, storeAfter, tookBy}
 use Rattle.demand3.specs.Sendings.{Sending, ReadsAs, manyOf, segmentAt, keyIn, IsCut}
 use Rattle.demand3.specs.Presupposed.{AllCame, MayCome, own, unsegmented, malformed, over-long, other-keyed, Traffic, Untaken, InUse, emptyStore, storeBehind, Anew, fresh, retaken, Room}
 use Rattle.demand3.proofs.Keeps.{after-append}
-use Rattle.demand3.proofs.ReadAs.{own-fits}
-use Rattle.demand3.proofs.Sents.{sentOf, own-in, in-own, no-wrap}
+use Rattle.demand3.proofs.ReadAs.{own-fits, start-fits}
+use Rattle.demand3.proofs.Sents.{sentOf, own-in, in-own, short}
 use Rattle.demand3.proofs.Steps.{eventOf, event-reads, reads-event, settings-go, Kept}
 use Rattle.demand3.proofs.Events.{before, drawing, eventsIn, events-append, events-one, by-arrives, by-takes, origin}
 use Rattle.demand3.proofs.Simulates.{took-by, by-took, run-keeps, run-cells, handed-in, in-handed}
@@ -43,13 +45,13 @@ begins s Z n one u =
 module _ (s : Settings) (Z : ℕ) (ms : List Sending) where
   -- a segment that arrives is one of theirs, or other-keyed
   seg-source : (p : List ℕ) (t : Seg) → ((m : Sending) → List·Memᴰ m ms → IsCut s Z m) → MayCome s Z ms p → ReadsAs s p t → 2 + length p ≤ Z →
-      OneOf suc (map (sentOf s) ms) t ⊎ ((m : Sent) → List·Memᴰ m (map (sentOf s) ms) → t .key ≢ m .key)
+      OneOf nextCounter (map (sentOf s) ms) t ⊎ ((m : Sent) → List·Memᴰ m (map (sentOf s) ms) → t .key ≢ m .key)
   unfolding segOf
   seg-source p t k (own m h i l r) a b =
       inl (
         sentOf s m,
         Memᴰ·map (sentOf s) h,
-        subst (λ (x : Seg). List·Memᴰ x (segmentsOf suc (sentOf s m))) (sym (r .segment) ∙ a .segment) (own-in s Z m (k m h) i l),
+        subst (λ (x : Seg). List·Memᴰ x (segmentsOf nextCounter (sentOf s m))) (sym (r .segment) ∙ a .segment) (own-in s Z m (k m h) i l),
       )
   seg-source p t k (unsegmented e) a b = let f = a .segmented in let z : _≡_ {A = ℕ} 0 1 = cc in absurd (omega arith)
   seg-source p t k (malformed e) a b = absurd (e (a .accepted))
@@ -63,33 +65,38 @@ module _ (s : Settings) (Z : ℕ) (ms : List Sending) where
   -- of events each arrival of which is among those of some calls
   pub traffic-of : (cs : List Call) → Traffic s Z ms cs → (st : List ℕ) (es : List Event) →
       ((t : Seg) → List·Memᴰ (arrives t) es → List·Memᴰ (arrives t) (eventsIn s Z st cs)) → Traffic01 (map (sentOf s) ms) es
-  traffic-of cs g st es into = record { no-wrap = wrap; apart = part; source = from }
+  traffic-of cs g st es into = record { start = first; short = few; apart = part; source = from }
     where
-      wrap : (m : Sent) → List·Memᴰ m (map (sentOf s) ms) → final m ≤ top
-      wrap m h =
+      first : (m : Sent) → List·Memᴰ m (map (sentOf s) ms) → m .start ≤ most32
+      first m h =
           let v = Memᴰ·of-map (sentOf s) ms h in
-          subst (λ (x : Sent). final x ≤ top) (v .2) (no-wrap s Z (v .0) (g .cut (v .0) (v .1)))
+          subst (λ (x : Sent). x .start ≤ most32) (v .2) (start-fits s Z (v .0) (g .cut (v .0) (v .1)))
+
+      few : (m : Sent) → List·Memᴰ m (map (sentOf s) ms) → stepsIn m ≤ stepsMost
+      few m h =
+          let v = Memᴰ·of-map (sentOf s) ms h in
+          subst (λ (x : Sent). stepsIn x ≤ stepsMost) (v .2) (short s Z (v .0) (g .cut (v .0) (v .1)))
 
       part : (m w : Sent) → List·Memᴰ m (map (sentOf s) ms) → List·Memᴰ w (map (sentOf s) ms) →
           (m ≡ w) ⊎ (m .key ≢ w .key) ⊎
-          ((t u : Seg) → List·Memᴰ t (segmentsOf suc m) → List·Memᴰ u (segmentsOf suc w) → t .counter ≢ u .counter)
+          ((t u : Seg) → List·Memᴰ t (segmentsOf nextCounter m) → List·Memᴰ u (segmentsOf nextCounter w) → t .counter ≢ u .counter)
       part m w h k =
           let a = Memᴰ·of-map (sentOf s) ms h in
           let b = Memᴰ·of-map (sentOf s) ms k in
           subst
           (λ (x : Sent). (x ≡ w) ⊎ (x .key ≢ w .key) ⊎
-          ((t u : Seg) → List·Memᴰ t (segmentsOf suc x) → List·Memᴰ u (segmentsOf suc w) → t .counter ≢ u .counter))
+          ((t u : Seg) → List·Memᴰ t (segmentsOf nextCounter x) → List·Memᴰ u (segmentsOf nextCounter w) → t .counter ≢ u .counter))
           (a .2)
           (subst
           (λ (y : Sent). (sentOf s (a .0) ≡ y) ⊎ (keyIn s (a .0) ≢ y .key) ⊎
-          ((t u : Seg) → List·Memᴰ t (segmentsOf suc (sentOf s (a .0))) → List·Memᴰ u (segmentsOf suc y) → t .counter ≢ u .counter))
+          ((t u : Seg) → List·Memᴰ t (segmentsOf nextCounter (sentOf s (a .0))) → List·Memᴰ u (segmentsOf nextCounter y) → t .counter ≢ u .counter))
           (b .2) (go (a .0) (b .0) (a .1) (b .1) (g .apart (a .0) (b .0) (a .1) (b .1))))
         where
           go : (x y : Sending) → List·Memᴰ x ms → List·Memᴰ y ms →
               (x ≡ y) ⊎ (keyIn s x ≢ keyIn s y) ⊎
               ((i j : ℕ) → i < manyOf s x → j < manyOf s y → segmentAt s x i .counter ≢ segmentAt s y j .counter) →
               (sentOf s x ≡ sentOf s y) ⊎ (keyIn s x ≢ keyIn s y) ⊎
-              ((t u : Seg) → List·Memᴰ t (segmentsOf suc (sentOf s x)) → List·Memᴰ u (segmentsOf suc (sentOf s y)) → t .counter ≢ u .counter)
+              ((t u : Seg) → List·Memᴰ t (segmentsOf nextCounter (sentOf s x)) → List·Memᴰ u (segmentsOf nextCounter (sentOf s y)) → t .counter ≢ u .counter)
           go x y hx hy (inl e) = inl (ap (sentOf s) e)
           go x y hx hy (inr (inl e)) = inr (inl e)
           go x y hx hy (inr (inr f)) =
@@ -102,7 +109,7 @@ module _ (s : Settings) (Z : ℕ) (ms : List Sending) where
               (ap (λ (z : Seg). z .counter) (sym (v .2)) ∙ e ∙ ap (λ (z : Seg). z .counter) (w′ .2))))
 
       from : (t : Seg) → List·Memᴰ (arrives t) es →
-          OneOf suc (map (sentOf s) ms) t ⊎ ((m : Sent) → List·Memᴰ m (map (sentOf s) ms) → t .key ≢ m .key)
+          OneOf nextCounter (map (sentOf s) ms) t ⊎ ((m : Sent) → List·Memᴰ m (map (sentOf s) ms) → t .key ≢ m .key)
       from t h =
           let v = in-handed s Z cs st t (into t h) in
           let r = event-reads s Z (v .0) t (v .2) in
@@ -110,7 +117,7 @@ module _ (s : Settings) (Z : ℕ) (ms : List Sending) where
 
   -- all its segments have come exactly if all have arrived
   pub came-all : (cs all : List Call) → Traffic s Z ms all → ((p : List ℕ) → Handed p cs → Handed p all) → (st : List ℕ) (m : Sending) →
-      List·Memᴰ m ms → AllCame s m cs → CellAllCame suc (sentOf s m) (eventsIn s Z st cs)
+      List·Memᴰ m ms → AllCame s m cs → CellAllCame nextCounter (sentOf s m) (eventsIn s Z st cs)
   came-all cs all g into st m h f t k =
       let v = in-own s Z m (g .cut m h) t k in
       let c = f (v .0) (v .1) in
@@ -118,7 +125,7 @@ module _ (s : Settings) (Z : ℕ) (ms : List Sending) where
       let e : eventOf s Z (c .0) ≡ arrives t = reads-event s Z (c .0) (segmentAt s m (v .0)) (c .2) l ∙ ap arrives (sym (v .2)) in
       subst (λ (x : Event). List·Memᴰ x (eventsIn s Z st cs)) e (handed-in s Z cs st (c .0) (c .1))
 
-  pub all-came : (cs : List Call) (st : List ℕ) (m : Sending) → IsCut s Z m → CellAllCame suc (sentOf s m) (eventsIn s Z st cs) → AllCame s m cs
+  pub all-came : (cs : List Call) (st : List ℕ) (m : Sending) → IsCut s Z m → CellAllCame nextCounter (sentOf s m) (eventsIn s Z st cs) → AllCame s m cs
   all-came cs st m k f i l =
       let v = in-handed s Z cs st (segmentAt s m i) (f (segmentAt s m i) (own-in s Z m k i l)) in
       (v .0, v .1, event-reads s Z (v .0) (segmentAt s m i) (v .2) .0)
@@ -128,20 +135,20 @@ module _ (s : Settings) (Z : ℕ) (ms : List Sending) where
 module _ (s : Settings) (Z n : ℕ) where
   -- none of the calls takes the message: none of the events does
   pub untaken-of : (m : Sending) (st : List ℕ) (cs : List Call) → Kept s Z n st → Untaken s Z m st cs →
-      CellUntaken suc top (sentOf s m) (cellsOf s Z st n) (eventsIn s Z st cs)
+      CellUntaken nextCounter stepsMost (sentOf s m) (cellsOf s Z st n) (eventsIn s Z st cs)
   untaken-of m st cs k u p q long r e t i =
       let o = origin s Z cs st p (takes long) q e in
       let x = storeAfter s Z st (o .earlier) in
       let kx = run-keeps s Z n (o .earlier) st k in
       let b = by-takes s Z x (o .call) long (o .ahead) (o .behind) (o .its) in
-      let c : after suc top (cellsOf s Z st n) p ≡ after suc top (cellsOf s Z x n) (before s Z (o .call)) =
-      ap (after suc top (cellsOf s Z st n)) (o .before-it ∙ ap (λ (l : List Event). eventsIn s Z st (o .earlier) ++ l) (b .0))
-      ∙ after-append suc top (cellsOf s Z st n) (eventsIn s Z st (o .earlier)) (before s Z (o .call))
-      ∙ ap (λ (l : List Cell). after suc top l (before s Z (o .call))) (sym (run-cells s Z n (o .earlier) st k)) in
+      let c : after nextCounter stepsMost (cellsOf s Z st n) p ≡ after nextCounter stepsMost (cellsOf s Z x n) (before s Z (o .call)) =
+      ap (after nextCounter stepsMost (cellsOf s Z st n)) (o .before-it ∙ ap (λ (l : List Event). eventsIn s Z st (o .earlier) ++ l) (b .0))
+      ∙ after-append nextCounter stepsMost (cellsOf s Z st n) (eventsIn s Z st (o .earlier)) (before s Z (o .call))
+      ∙ ap (λ (l : List Cell). after nextCounter stepsMost l (before s Z (o .call))) (sym (run-cells s Z n (o .earlier) st k)) in
       let d : tookBy s Z x (o .call) ≡ some (message r) =
       took-by s Z n x kx (o .call) (b .1)
-      ∙ ap (λ (l : List Cell). some (takenFrom suc top l (length (outOf (o .call))))) (sym c)
-      ∙ ap (λ (y : ℕ). some (takenFrom suc top (after suc top (cellsOf s Z st n) p) y)) (b .2)
+      ∙ ap (λ (l : List Cell). some (takenFrom nextCounter stepsMost l (length (outOf (o .call))))) (sym c)
+      ∙ ap (λ (y : ℕ). some (takenFrom nextCounter stepsMost (after nextCounter stepsMost (cellsOf s Z st n) p) y)) (b .2)
       ∙ ap some t in
       u (o .earlier) (o .others) (o .call) (o .place) (r, d, i)
 
@@ -150,23 +157,23 @@ module _ (s : Settings) (Z n : ℕ) where
     zeros = emptyStore Z n
 
     -- the cells after calls from the empty store on
-    pub behind-cells : (cs : List Call) → cellsOf s Z (storeBehind s Z n cs) n ≡ after suc top (empty n) (eventsIn s Z zeros cs)
+    pub behind-cells : (cs : List Call) → cellsOf s Z (storeBehind s Z n cs) n ≡ after nextCounter stepsMost (empty n) (eventsIn s Z zeros cs)
     behind-cells cs =
         run-cells s Z n cs zeros (begins s Z n one z)
-        ∙ ap (λ (l : List Cell). after suc top l (eventsIn s Z zeros cs)) (empty-cells s Z n)
+        ∙ ap (λ (l : List Cell). after nextCounter stepsMost l (eventsIn s Z zeros cs)) (empty-cells s Z n)
 
     pub behind-keeps : (cs : List Call) → Kept s Z n (storeBehind s Z n cs)
     behind-keeps cs = run-keeps s Z n cs zeros (begins s Z n one z)
 
-    pub room-of : (cs : List Call) → Room s Z n cs → CellRoom suc top (empty n) (eventsIn s Z zeros cs)
+    pub room-of : (cs : List Call) → Room s Z n cs → CellRoom nextCounter stepsMost (empty n) (eventsIn s Z zeros cs)
     unfolding segOf
     room-of cs g p q t e new =
         let o = origin s Z cs zeros p (arrives t) q e in
         let b = by-arrives s Z (storeBehind s Z n (o .earlier)) (o .call) t (o .ahead) (o .behind) (o .its) in
         let v = b .1 in
         let r = event-reads s Z (v .0) t (v .2) in
-        let c : after suc top (empty n) p ≡ cellsOf s Z (storeBehind s Z n (o .earlier)) n =
-        ap (after suc top (empty n))
+        let c : after nextCounter stepsMost (empty n) p ≡ cellsOf s Z (storeBehind s Z n (o .earlier)) n =
+        ap (after nextCounter stepsMost (empty n))
         (o .before-it ∙ ap (λ (l : List Event). eventsIn s Z zeros (o .earlier) ++ l) (b .0) ∙ append-nil (eventsIn s Z zeros (o .earlier)))
         ∙ sym (behind-cells (o .earlier)) in
         let f =
@@ -177,23 +184,23 @@ module _ (s : Settings) (Z n : ℕ) where
         ap hasFree c ∙ f
 
     -- a message told anew by the calls is told anew by the events
-    pub anew-of : (m : Sending) (cs : List Call) → Anew s Z n m cs → CellAnew suc top n (sentOf s m) (eventsIn s Z zeros cs)
+    pub anew-of : (m : Sending) (cs : List Call) → Anew s Z n m cs → CellAnew nextCounter stepsMost n (sentOf s m) (eventsIn s Z zeros cs)
     unfolding eventsIn
     anew-of m cs fresh = cell-fresh
     anew-of m cs (retaken x c t) =
         let st = storeBehind s Z n x in
         let k = behind-keeps x in
         let b = by-took s Z st c (t .0) (t .1) in
-        let e : takenFrom suc top (after suc top (cellsOf s Z st n) (before s Z c)) (length (outOf c)) ≡ message (t .0) =
+        let e : takenFrom nextCounter stepsMost (after nextCounter stepsMost (cellsOf s Z st n) (before s Z c)) (length (outOf c)) ≡ message (t .0) =
         cc (sym (took-by s Z n st k c (b .0)) ∙ t .1) in
-        let a : after suc top (cellsOf s Z st n) (before s Z c) ≡ after suc top (empty n) (eventsIn s Z zeros x ++ before s Z c) =
-        ap (λ (l : List Cell). after suc top l (before s Z c)) (behind-cells x)
-        ∙ sym (after-append suc top (empty n) (eventsIn s Z zeros x) (before s Z c)) in
+        let a : after nextCounter stepsMost (cellsOf s Z st n) (before s Z c) ≡ after nextCounter stepsMost (empty n) (eventsIn s Z zeros x ++ before s Z c) =
+        ap (λ (l : List Cell). after nextCounter stepsMost l (before s Z c)) (behind-cells x)
+        ∙ sym (after-append nextCounter stepsMost (empty n) (eventsIn s Z zeros x) (before s Z c)) in
         let d : eventsIn s Z zeros (x ++ c ∷ []) ≡ (eventsIn s Z zeros x ++ before s Z c) ++ takes (length (outOf c)) ∷ [] =
         events-append s Z x (c ∷ []) zeros
         ∙ ap (λ (l : List Event). eventsIn s Z zeros x ++ l)
         (events-one s Z st c ∙ ap (λ (y : Bool). before s Z c ++ drawing s Z y c) (b .0))
         ∙ sym (append-assoc (eventsIn s Z zeros x) (before s Z c) (takes (length (outOf c)) ∷ [])) in
-        subst (CellAnew suc top n (sentOf s m)) (sym d)
+        subst (CellAnew nextCounter stepsMost n (sentOf s m)) (sym d)
         (cell-retaken (eventsIn s Z zeros x ++ before s Z c) (length (outOf c)) (t .0)
-        (ap (λ (l : List Cell). takenFrom suc top l (length (outOf c))) (sym a) ∙ e) (t .2))
+        (ap (λ (l : List Cell). takenFrom nextCounter stepsMost l (length (outOf c))) (sym a) ∙ e) (t .2))

@@ -17,14 +17,13 @@ use Rattle.octets.specs.Laying.{together}
 use Rattle.walk.specs.declared.Settings.{Settings}
 use Rattle.fields.specs.Form.{joined}
 use Rattle.packet.specs.Format.{identification, headerOctets, octetsOf, InRange}
-use Rattle.packet.specs.Numbers.{countAt}
+use Rattle.packet.specs.Numbers.{countAt, nextCounter}
 use Rattle.write.specs.Given.{headOf}
 use Rattle.cut.specs.Cutting.{counterAt, single, packets, headerLength, countRefusal, countAnswer, flagsAt, bodyAt, packetAt, givenAt}
 use Rattle.fewest.specs.Carrying.{firstOf}
-use Rattle.fewest.specs.Runs.{place}
 use Rattle.fewest.proofs.Lists.{first-length, first-at}
 use Rattle.fewest.proofs.Parts.{packets-one, parts-joined}
-use Rattle.fewest.proofs.Numbers.{Starts, counter-of, counters, packet-range, cuts-well}
+use Rattle.fewest.proofs.Numbers.{packet-range, cuts-well, segments-most}
 use Rattle.walk.specs.Walk.{refusal}
 use Rattle.taking.specs.Told.{takenOf}
 use Rattle.demand3.specs.Calls.{Call, outOf, tookBy, outBy}
@@ -65,13 +64,6 @@ module _ (s : Settings) (Z : ℕ) (m : Cutting) (k : Succeeds s Z m) where
   is-cut =
       ⊎-elim (λ e. let p = packets-one P H B e in absurd (omega (arith, k .many, many-is))) (λ e. e) (bool (single P H B))
 
-  starts : Starts (m .sender .next) (packets P H B)
-  starts = counters (m .old) s P (m .values) (m .texts) (m .body) (m .sender) no-refusal is-cut
-
-  start-is : place (m .sender .next) ≡ starts .start .0
-  unfolding place
-  start-is = ap place (starts .starts)
-
   -- as many segments as the count answers
   pub cutter-many : manyOf s (sendingOf s m) ≡ countOf s m .count
   cutter-many = first-length (bodyAt P H (m .body)) (countOf s m .count)
@@ -95,12 +87,11 @@ module _ (s : Settings) (Z : ℕ) (m : Cutting) (k : Succeeds s Z m) where
 
   module _ (i : ℕ) (l : i < manyOf s (sendingOf s m)) where
     values-are : givenAt s P (m .values) (m .texts) (m .body) (m .sender) i ≡ valuesAt s (sendingOf s m) i (sequenceCountOf i)
-    unfolding packetAt
+    unfolding packetAt counterAt
     values-are =
         let f = flags-are i in
-        let c : pick (single P H B) 0 (counterAt (m .sender .next) i) ≡ stepsOf suc i (place (m .sender .next)) =
-        ap (λ (b : Bool). pick b 0 (counterAt (m .sender .next) i)) is-cut ∙ counter-of (m .sender .next) (starts .start) i (starts .starts)
-        ∙ ap (stepsOf suc i) (sym start-is) in
+        let c : pick (single P H B) 0 (counterAt (m .sender .counter) i) ≡ stepsOf nextCounter i (m .sender .counter .0) =
+        ap (λ (b : Bool). pick b 0 (counterAt (m .sender .counter) i)) is-cut in
         let b : bodyAt P H (m .body) i ≡ getD (firstOf (bodyAt P H (m .body)) (countOf s m .count)) i [] =
         sym (first-at (bodyAt P H (m .body)) (countOf s m .count) i [] (omega (arith, cutter-many))) in
         λ j. record { head = sendingOf s m .head; flags = f j; sequence-count = sequenceCountOf i; counter = c j; body = b j }
@@ -132,6 +123,7 @@ module _ (s : Settings) (Z : ℕ) (m : Cutting) (k : Succeeds s Z m) where
   cutter-cut =
       record {
         many = omega (arith, cutter-many, k .many);
+        most = omega (arith, cutter-many, many-is, segments-most (m .old) s P (m .values) (m .texts) (m .body) (m .sender) no-refusal is-cut);
         range = λ i l. recounted-range s (valuesAt s (sendingOf s m) i (sequenceCountOf i)) 0 (omega arith) (given-range i l);
         fits = cut-fits;
       }
@@ -146,12 +138,12 @@ module _ (s : Settings) (Z : ℕ) (m : Cutting) (k : Succeeds s Z m) where
   -- and what a call hands out is what the cutter was given: H, B and the first counter, the header's octets, the body
   pub cutter-hands-out : (n : ℕ) (st : List ℕ) (c : Call) → Delivers s Z n (sendingOf s m) st c →
       (Option·map takenOf (tookBy s Z st c)
-      ≡ some (record { refusal = refusal 0; header = H; body = B; counter = record { 0 = place (m .sender .next) } }))
+      ≡ some (record { refusal = refusal 0; header = H; body = B; counter = m .sender .counter }))
       × (outBy s Z st c
       ≡ identification (headOf (m .values) (m .texts)) ++ headerOctets s (headOf (m .values) (m .texts)) ++ m .body ++ drop (2 + H + B) (outOf c))
   cutter-hands-out n st c d = (
     d .told
-        ∙ ap (λ (b : List ℕ). some (record { refusal = refusal 0; header = H; body = length b; counter = record { 0 = place (m .sender .next) } }))
+        ∙ ap (λ (b : List ℕ). some (record { refusal = refusal 0; header = H; body = length b; counter = m .sender .counter }))
         cutter-body,
     d .written
         ∙ ap

@@ -1,6 +1,6 @@
 -- A run of calls that demand 3 speaks of: two messages of one key with neighbouring counters, five segments, arrive interleaved at four
--- cells of 1,024 octets. One was cut by the cutter, the other is cut as the cutter never does, its last segment longer than its first.
--- The header is figure 14's. Here: the messages and the packets, and what each is to the store.
+-- cells of 1,024 octets. One was cut by the cutter, and its counters go round the end; the other is cut as the cutter never does, its
+-- last segment longer than its first. The header is figure 14's. Here: the messages and the packets, and what each is to the store.
 -- Assumes nothing.
 use Prim.Native.Nat.{ℕ, _+_, _≤_, _<_}
 use mathlib.Core.Path.{_≡_, refl, ap, _∙_, subst}
@@ -24,16 +24,15 @@ use Rattle.packet.specs.FixedPart.{octetField, wideField, sduField, afterSdu, a
 use Rattle.packet.specs.FixedPart.{afterSecondary, afterQualifier, afterTransaction, afterPresence, fixedOf, flagsOf, presentOf}
 use Rattle.packet.specs.Reading.{primaryTests, primaryOf, idsOf, textsOf, bodyTest, refusalOf, refusedHeader, acceptedHeader, readPacket}
 use Rattle.packet.specs.Key.{counterPlace, keyOf}
-use Rattle.sender.specs.declared.Next.the-variants.{At}
+use Rattle.packet.specs.Numbers.{nextCounter}
 use Rattle.sender.specs.Sending.{stepsOf}
 use Rattle.write.specs.Given.{headOf, sum, nameChecks, routingChecks, idChecks, textChecks, utf8Checks, headerChecks, unlessAll}
 use Rattle.write.specs.Writing.{settingsTest, zoneTest, partsTest, textTest}
 use Rattle.write.specs.Lending.{Lends}
 use Rattle.write.specs.Figure14.{header as values, texts}
-use Rattle.cut.specs.Cutting.{countersFit, packets, rounded, limitTest, valueTests, messageTests, countRefusal, countAnswer, bodyAt}
+use Rattle.cut.specs.Cutting.{packets, rounded, limitTest, valueTests, messageTests, countRefusal, countAnswer, bodyAt}
 use Rattle.cut.proofs.Packets.{packet-most}
 use Rattle.fewest.specs.Carrying.{firstOf}
-use Rattle.fewest.specs.Runs.{place}
 use Rattle.fewest.proofs.Numbers.{cuts-well}
 use Rattle.cells.specs.Segments.{Seg, segOf, both}
 use Rattle.cells.specs.Rows.{mayHold}
@@ -50,7 +49,7 @@ use Rattle.demand3.proofs.Acts.{repeat-event}
 abbrev pub settings : Settings
 settings = record { t = 8; profile = varintProfile }
 
--- three segments, counters 7, 8 and 9
+-- three segments, counters 4,294,967,294, 4,294,967,295 and 0
 abbrev pub cutting : Cutting
 cutting =
     record {
@@ -59,18 +58,18 @@ cutting =
       values = values;
       texts = texts;
       body = 1 ∷ 2 ∷ 3 ∷ 4 ∷ 5 ∷ 6 ∷ 7 ∷ 8 ∷ [];
-      sender = record { «sequence_count» = record { 0 = 0 }; next = At (record { 0 = 7 }) };
+      sender = record { «sequence_count» = record { 0 = 0 }; counter = record { 0 = 4294967294 } };
     }
 
 abbrev pub three : Sending
 three = sendingOf settings cutting
 
--- two segments, counters 10 and 11
+-- two segments, counters 1 and 2
 abbrev pub two : Sending
 two =
     record {
       head = headOf values texts;
-      start = 10;
+      start = 1;
       bodies = (21 ∷ 22 ∷ 23 ∷ []) ∷ (24 ∷ 25 ∷ 26 ∷ 27 ∷ 28 ∷ 29 ∷ 30 ∷ []) ∷ [];
     }
 
@@ -105,7 +104,7 @@ huge = 0x18 ∷ 5 ∷ 0x40 ∷ 0 ∷ 4 ∷ 0 ∷ header ++ (0 ∷ 0 ∷ 0 ∷ 12
 
 -- another key, with a counter of the first message
 abbrev pub other : List ℕ
-other = 0x18 ∷ 6 ∷ 0 ∷ 0 ∷ 0 ∷ 25 ∷ header ++ (0 ∷ 0 ∷ 0 ∷ 8 ∷ 4 ∷ [])
+other = 0x18 ∷ 6 ∷ 0 ∷ 0 ∷ 0 ∷ 25 ∷ header ++ (255 ∷ 255 ∷ 255 ∷ 255 ∷ 4 ∷ [])
 
 -- ---- octets
 
@@ -150,13 +149,13 @@ lends =
 
 three-counts : countOf settings cutting .refusal .number ≡ 0
 unfolding countAnswer countRefusal messageTests limitTest valueTests settingsTest zoneTest partsTest textTest utf8Checks allText isText accepts ended unless
-    unlessAll headerChecks nameChecks routingChecks idChecks textChecks sum packets rounded countersFit headOf split headerOctets fixedOctets
+    unlessAll headerChecks nameChecks routingChecks idChecks textChecks sum packets rounded headOf split headerOctets fixedOctets
     frontOctets backOctets wide
 three-counts = refl
 
 three-count : countOf settings cutting .count ≡ 3
 unfolding countAnswer countRefusal messageTests limitTest valueTests settingsTest zoneTest partsTest textTest utf8Checks allText isText accepts ended unless
-    unlessAll headerChecks nameChecks routingChecks idChecks textChecks sum packets rounded countersFit headOf split headerOctets fixedOctets
+    unlessAll headerChecks nameChecks routingChecks idChecks textChecks sum packets rounded headOf split headerOctets fixedOctets
     frontOctets backOctets wide
 three-count = refl
 
@@ -199,7 +198,7 @@ header-long = refl
 pub two-cut : IsCut settings cellSize two
 two-cut =
     any-cut settings two cellSize (omega arith) (head-range .settings) (head-range .head) (omega (arith, header-long)) (omega arith)
-    (omega arith)
+    (omega arith) (omega arith)
     (λ i l. parts i l (below-or i 1))
   where
     Part : ℕ → Type 0
@@ -231,34 +230,34 @@ two-at i l t e c h =
     let k : i < manyOf settings two = omega (arith, two-many) in
     repeat-event settings cellSize two two-cut i k c h ∙ ap arrives e
 
-pub is-seven : (c : ℕ) → c < 16384 → eventOf settings cellSize (of-three 0 c) ≡ arrives (seg 7 1 (1 ∷ 2 ∷ 3 ∷ []))
-unfolding stepsOf place flagsIn firstOf bodyAt countAnswer countRefusal messageTests limitTest valueTests settingsTest zoneTest partsTest textTest utf8Checks
-    allText isText accepts ended unless unlessAll headerChecks nameChecks routingChecks idChecks textChecks sum packets rounded countersFit headOf
-    split headerOctets fixedOctets frontOctets backOctets wide identification presence
-is-seven = three-at 0 (omega arith) (seg 7 1 (1 ∷ 2 ∷ 3 ∷ [])) refl
+pub is-three-first : (c : ℕ) → c < 16384 → eventOf settings cellSize (of-three 0 c) ≡ arrives (seg 4294967294 1 (1 ∷ 2 ∷ 3 ∷ []))
+unfolding stepsOf flagsIn firstOf bodyAt countAnswer countRefusal messageTests limitTest valueTests settingsTest zoneTest partsTest textTest utf8Checks
+    allText isText accepts ended unless unlessAll headerChecks nameChecks routingChecks idChecks textChecks sum packets rounded headOf
+    split headerOctets fixedOctets frontOctets backOctets wide identification presence nextCounter
+is-three-first = three-at 0 (omega arith) (seg 4294967294 1 (1 ∷ 2 ∷ 3 ∷ [])) refl
 
-pub is-eight : (c : ℕ) → c < 16384 → eventOf settings cellSize (of-three 1 c) ≡ arrives (seg 8 0 (4 ∷ 5 ∷ 6 ∷ []))
-unfolding stepsOf place flagsIn firstOf bodyAt countAnswer countRefusal messageTests limitTest valueTests settingsTest zoneTest partsTest textTest utf8Checks
-    allText isText accepts ended unless unlessAll headerChecks nameChecks routingChecks idChecks textChecks sum packets rounded countersFit headOf
-    split headerOctets fixedOctets frontOctets backOctets wide identification presence
-is-eight = three-at 1 (omega arith) (seg 8 0 (4 ∷ 5 ∷ 6 ∷ [])) refl
+pub is-three-next : (c : ℕ) → c < 16384 → eventOf settings cellSize (of-three 1 c) ≡ arrives (seg 4294967295 0 (4 ∷ 5 ∷ 6 ∷ []))
+unfolding stepsOf flagsIn firstOf bodyAt countAnswer countRefusal messageTests limitTest valueTests settingsTest zoneTest partsTest textTest utf8Checks
+    allText isText accepts ended unless unlessAll headerChecks nameChecks routingChecks idChecks textChecks sum packets rounded headOf
+    split headerOctets fixedOctets frontOctets backOctets wide identification presence nextCounter
+is-three-next = three-at 1 (omega arith) (seg 4294967295 0 (4 ∷ 5 ∷ 6 ∷ [])) refl
 
-pub is-nine : (c : ℕ) → c < 16384 → eventOf settings cellSize (of-three 2 c) ≡ arrives (seg 9 2 (7 ∷ 8 ∷ []))
-unfolding stepsOf place flagsIn firstOf bodyAt countAnswer countRefusal messageTests limitTest valueTests settingsTest zoneTest partsTest textTest utf8Checks
-    allText isText accepts ended unless unlessAll headerChecks nameChecks routingChecks idChecks textChecks sum packets rounded countersFit headOf
-    split headerOctets fixedOctets frontOctets backOctets wide identification presence
-is-nine = three-at 2 (omega arith) (seg 9 2 (7 ∷ 8 ∷ [])) refl
+pub is-three-last : (c : ℕ) → c < 16384 → eventOf settings cellSize (of-three 2 c) ≡ arrives (seg 0 2 (7 ∷ 8 ∷ []))
+unfolding stepsOf flagsIn firstOf bodyAt countAnswer countRefusal messageTests limitTest valueTests settingsTest zoneTest partsTest textTest utf8Checks
+    allText isText accepts ended unless unlessAll headerChecks nameChecks routingChecks idChecks textChecks sum packets rounded headOf
+    split headerOctets fixedOctets frontOctets backOctets wide identification presence nextCounter
+is-three-last = three-at 2 (omega arith) (seg 0 2 (7 ∷ 8 ∷ [])) refl
 
-pub is-ten : (c : ℕ) → c < 16384 → eventOf settings cellSize (of-two 0 c) ≡ arrives (seg 10 1 (21 ∷ 22 ∷ 23 ∷ []))
-unfolding stepsOf flagsIn headOf split identification headerOctets fixedOctets presence frontOctets backOctets wide
-is-ten = two-at 0 (omega arith) (seg 10 1 (21 ∷ 22 ∷ 23 ∷ [])) refl
+pub is-two-first : (c : ℕ) → c < 16384 → eventOf settings cellSize (of-two 0 c) ≡ arrives (seg 1 1 (21 ∷ 22 ∷ 23 ∷ []))
+unfolding stepsOf flagsIn headOf split identification headerOctets fixedOctets presence frontOctets backOctets wide nextCounter
+is-two-first = two-at 0 (omega arith) (seg 1 1 (21 ∷ 22 ∷ 23 ∷ [])) refl
 
-pub is-eleven : (c : ℕ) → c < 16384 → eventOf settings cellSize (of-two 1 c) ≡ arrives (seg 11 2 (24 ∷ 25 ∷ 26 ∷ 27 ∷ 28 ∷ 29 ∷ 30 ∷ []))
-unfolding stepsOf flagsIn headOf split identification headerOctets fixedOctets presence frontOctets backOctets wide
-is-eleven = two-at 1 (omega arith) (seg 11 2 (24 ∷ 25 ∷ 26 ∷ 27 ∷ 28 ∷ 29 ∷ 30 ∷ [])) refl
+pub is-two-last : (c : ℕ) → c < 16384 → eventOf settings cellSize (of-two 1 c) ≡ arrives (seg 2 2 (24 ∷ 25 ∷ 26 ∷ 27 ∷ 28 ∷ 29 ∷ 30 ∷ []))
+unfolding stepsOf flagsIn headOf split identification headerOctets fixedOctets presence frontOctets backOctets wide nextCounter
+is-two-last = two-at 1 (omega arith) (seg 2 2 (24 ∷ 25 ∷ 26 ∷ 27 ∷ 28 ∷ 29 ∷ 30 ∷ [])) refl
 
 abbrev pub stray : Seg
-stray = record { key = 0x18 ∷ 6 ∷ header; counter = 8; flags = 0; body = 4 ∷ [] }
+stray = record { key = 0x18 ∷ 6 ∷ header; counter = 4294967295; flags = 0; body = 4 ∷ [] }
 
 pub is-single : eventOf settings cellSize single ≡ passes
 unfolding mayHold readPacket refusalOf refusedHeader acceptedHeader primaryTests begun check octets numberAt primaryOf octetField wideField sduField afterSdu

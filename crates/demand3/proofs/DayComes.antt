@@ -15,14 +15,13 @@ use Rattle.packet.specs.FixedPart.{afterSecondary, afterQualifier, afterTransac
 use Rattle.packet.specs.Reading.{primaryTests, primaryOf, idsOf, textsOf, bodyTest, refusalOf, refusedHeader, acceptedHeader, readPacket}
 use Rattle.packet.specs.Key.{counterPlace, keyOf}
 use Rattle.write.specs.Given.{headOf}
-use Rattle.fewest.specs.Runs.{place}
 use Rattle.cells.specs.Order.{cellSize}
 use Rattle.demand3.specs.Sendings.{Sending, manyOf, segmentAt, keyIn, startOf}
 use Rattle.demand3.specs.Presupposed.{MayCome, own, unsegmented, malformed, over-long, other-keyed}
 use Rattle.demand3.proofs.ReadAs.{repeat-reads, repeat-octets}
 use Rattle.demand3.proofs.Day.{settings, three, two, messages, of-three, of-two, header, theKey, single, stub, huge, other, single-octets}
 use Rattle.demand3.proofs.Day.{stub-octets, huge-octets, other-octets, three-many, two-many, three-cut, two-cut}
-use Rattle.sender.proofs.Stepping.{steps-suc}
+use Rattle.sender.proofs.Stepping.{steps-round}
 
 pub one-of : (m : Sending) → List·Memᴰ m messages → (m ≡ three) ⊎ (m ≡ two)
 one-of m h = go (List·Memᴰ·cases-cons h)
@@ -95,10 +94,12 @@ other-fine = (other-octets, other-keyed (λ m h e. go m (one-of m h) e))
 
 -- ---- and the two messages share no counter
 
-three-start : startOf settings three ≡ 7
-unfolding place
-three-start = refl
-
 pub no-counter : (i j : ℕ) → i < manyOf settings three → j < manyOf settings two → segmentAt settings three i .counter ≢ segmentAt settings two j .counter
 no-counter i j l k e =
-    omega (arith, e, steps-suc i (startOf settings three), steps-suc j (startOf settings two), three-start, three-many)
+    omega (
+      arith,
+      e,
+      steps-round i (startOf settings three) (omega arith),
+      steps-round j (startOf settings two) (omega arith),
+      three-many,
+    )

@@ -1,7 +1,7 @@
 -- What the run of `Day` comes to: a take refused by 20 and one by 21, the first message handed out by a joining, octet by octet, its
 -- cells free for others and for itself, and after it is sent once more the whole promise of demand 3 anew.
 -- Assumes nothing.
-use Prim.Native.Nat.{ℕ, suc, _+_, _≤_, _<_}
+use Prim.Native.Nat.{ℕ, _+_, _≤_, _<_}
 use mathlib.Core.Path.{_≡_, refl, ap, ap₂, sym, _∙_, subst}
 use mathlib.Core.Logic.{_⊎_, inl, inr}
 use mathlib.Core.Bool.{true}
@@ -12,12 +12,13 @@ use Rattle.octets.specs.Octets.{Octets, wide, alike}
 use Rattle.octets.proofs.Lists.{below-or}
 use Rattle.fields.specs.Form.{split}
 use Rattle.packet.specs.Format.{presence, identification, fixedOctets, frontOctets, backOctets, headerOctets}
+use Rattle.packet.specs.Numbers.{nextCounter, stepsMost}
+use Rattle.sender.specs.Sending.{stepsOf}
 use Rattle.write.specs.Given.{headOf}
-use Rattle.fewest.specs.Runs.{place}
 use Rattle.cells.specs.Segments.{carries, sameRest}
 use Rattle.cells.specs.Rows.{Cell, free, held}
 use Rattle.cells.specs.Order.{cellSize}
-use Rattle.cells.specs.Messages.{Run, look, roleOf, bodies, restFrom, runFrom, pickIn, among, top}
+use Rattle.cells.specs.Messages.{Run, look, roleOf, bodies, restFrom, runFrom, pickIn, among}
 use Rattle.taking.specs.Taking.{message, unable}
 use Rattle.demand3.specs.Cells.{put, hasFree}
 use Rattle.demand3.specs.Traffic.{Event, empty, takenFrom, stepped, after}
@@ -34,58 +35,57 @@ use Rattle.demand3.proofs.Carried.{behind-keeps}
 use Rattle.demand3.proofs.Whole.{demand3·whole, soundness·whole}
 use Rattle.demand3.proofs.Cutter.{cutter-hands-out}
 use Rattle.demand3.proofs.Acts.{comes, lands, actEvents, acts-are, untaken-told}
-use Rattle.demand3.proofs.Day.{settings, cutting, three, succeeds, messages, of-three, header, three-many, three-cut, seg, stray, is-eight, is-nine}
+use Rattle.demand3.proofs.Day.{settings, cutting, three, succeeds, messages, of-three, header, three-many, three-cut, seg, stray, is-three-next, is-three-last}
 use Rattle.demand3.proofs.DayComes.{Fine, three-fine}
-use Rattle.demand3.proofs.DayRun.{lentOut, dawn, early, morning, atNoon, noon, evening, eight, nine, dawnActs, morningActs, noonActs}
+use Rattle.demand3.proofs.DayRun.{lentOut, dawn, early, morning, atNoon, noon, evening, three-next, three-last, dawnActs, morningActs, noonActs}
 use Rattle.demand3.proofs.DayRun.{eveningActs, dawn-acts, morning-acts, noon-acts, evening-acts, day-acts, in-use, one, cells-are}
 use Rattle.demand3.proofs.DayRun.{joined-takes, taking-takes, traffic, given}
-use Rattle.sender.proofs.Stepping.{steps-suc}
 
 abbrev Z : ℕ
 Z = cellSize
 
 -- ---- the cells
 
-abbrev cellSeven : Cell
-cellSeven = held (seg 7 1 (1 ∷ 2 ∷ 3 ∷ []))
+abbrev cellThreeFirst : Cell
+cellThreeFirst = held (seg 4294967294 1 (1 ∷ 2 ∷ 3 ∷ []))
 
-abbrev cellEight : Cell
-cellEight = held (seg 8 0 (4 ∷ 5 ∷ 6 ∷ []))
+abbrev cellThreeNext : Cell
+cellThreeNext = held (seg 4294967295 0 (4 ∷ 5 ∷ 6 ∷ []))
 
-abbrev cellNine : Cell
-cellNine = held (seg 9 2 (7 ∷ 8 ∷ []))
+abbrev cellThreeLast : Cell
+cellThreeLast = held (seg 0 2 (7 ∷ 8 ∷ []))
 
-abbrev cellTen : Cell
-cellTen = held (seg 10 1 (21 ∷ 22 ∷ 23 ∷ []))
+abbrev cellTwoFirst : Cell
+cellTwoFirst = held (seg 1 1 (21 ∷ 22 ∷ 23 ∷ []))
 
 -- three segments, and a free cell
-three-held : after suc top (empty 4) (actEvents (empty 4) dawnActs) ≡ cellNine ∷ cellTen ∷ cellSeven ∷ free ∷ []
-unfolding actEvents after stepped takenFrom look carries sameRest alike put hasFree pickIn runFrom restFrom roleOf bodies among
+three-held : after nextCounter stepsMost (empty 4) (actEvents (empty 4) dawnActs) ≡ cellThreeLast ∷ cellTwoFirst ∷ cellThreeFirst ∷ free ∷ []
+unfolding actEvents after stepped takenFrom look carries sameRest alike put hasFree pickIn runFrom restFrom roleOf bodies among nextCounter
 three-held = refl
 
-one-held : after suc top (empty 4) (actEvents (empty 4) (comes nine ∷ [])) ≡ cellNine ∷ free ∷ free ∷ free ∷ []
+one-held : after nextCounter stepsMost (empty 4) (actEvents (empty 4) (comes three-last ∷ [])) ≡ cellThreeLast ∷ free ∷ free ∷ free ∷ []
 unfolding actEvents after stepped look carries alike put
 one-held = refl
 
 -- the store is full before noon
-full : after suc top (empty 4) (actEvents (empty 4) morningActs) ≡ cellNine ∷ cellTen ∷ cellSeven ∷ cellEight ∷ []
-unfolding actEvents after stepped takenFrom look carries sameRest alike put hasFree pickIn runFrom restFrom roleOf bodies among
+full : after nextCounter stepsMost (empty 4) (actEvents (empty 4) morningActs) ≡ cellThreeLast ∷ cellTwoFirst ∷ cellThreeFirst ∷ cellThreeNext ∷ []
+unfolding actEvents after stepped takenFrom look carries sameRest alike put hasFree pickIn runFrom restFrom roleOf bodies among nextCounter
 full = refl
 
 -- at noon the first message's cells are freed, and no others
-freed : after suc top (empty 4) (actEvents (empty 4) noonActs) ≡ free ∷ cellTen ∷ free ∷ free ∷ []
-unfolding actEvents after stepped takenFrom look carries sameRest alike put hasFree pickIn runFrom restFrom roleOf bodies among
+freed : after nextCounter stepsMost (empty 4) (actEvents (empty 4) noonActs) ≡ free ∷ cellTwoFirst ∷ free ∷ free ∷ []
+unfolding actEvents after stepped takenFrom look carries sameRest alike put hasFree pickIn runFrom restFrom roleOf bodies among nextCounter
 freed = refl
 
-pub noon-cells : cellsIn settings Z 4 (storeBehind settings Z 4 noon) ≡ free ∷ cellTen ∷ free ∷ free ∷ []
+pub noon-cells : cellsIn settings Z 4 (storeBehind settings Z 4 noon) ≡ free ∷ cellTwoFirst ∷ free ∷ free ∷ []
 noon-cells = cells-are noon noonActs noon-acts ∙ freed
 
 -- in the evening they are used again: by another key, and by the message itself
 abbrev pub cellsAtEnd : List Cell
-cellsAtEnd = held stray ∷ cellEight ∷ cellNine ∷ cellSeven ∷ []
+cellsAtEnd = held stray ∷ cellThreeNext ∷ cellThreeLast ∷ cellThreeFirst ∷ []
 
-used-again : after suc top (empty 4) (actEvents (empty 4) (noonActs ++ eveningActs)) ≡ cellsAtEnd
-unfolding actEvents after stepped takenFrom look carries sameRest alike put hasFree pickIn runFrom restFrom roleOf bodies among
+used-again : after nextCounter stepsMost (empty 4) (actEvents (empty 4) (noonActs ++ eveningActs)) ≡ cellsAtEnd
+unfolding actEvents after stepped takenFrom look carries sameRest alike put hasFree pickIn runFrom restFrom roleOf bodies among nextCounter
 used-again = refl
 
 pub end-cells : cellsIn settings Z 4 (storeBehind settings Z 4 (noon ++ evening)) ≡ cellsAtEnd
@@ -93,49 +93,49 @@ end-cells = cells-are (noon ++ evening) (noonActs ++ eveningActs) day-acts ∙ u
 
 -- ---- the takings
 
-takes-nothing : takenFrom suc top (cellNine ∷ free ∷ free ∷ free ∷ []) 100 ≡ unable 20
-unfolding takenFrom pickIn runFrom restFrom roleOf look carries alike
+takes-nothing : takenFrom nextCounter stepsMost (cellThreeLast ∷ free ∷ free ∷ free ∷ []) 100 ≡ unable 20
+unfolding takenFrom pickIn runFrom restFrom roleOf look carries alike nextCounter
 takes-nothing = refl
 
 -- the run's first take finds nothing complete
 pub none-yet : tookBy settings Z (storeBehind settings Z 4 (arrival (of-three 2 2) ∷ [])) (taking (lentOut 100)) ≡ some (unable 20)
 none-yet =
-    taking-takes (arrival (of-three 2 2) ∷ []) (comes nine ∷ []) (ap (λ (x : Event). comes x ∷ []) (is-nine 2 (omega arith)))
-    (cellNine ∷ free ∷ free ∷ free ∷ []) one-held (lentOut 100)
+    taking-takes (arrival (of-three 2 2) ∷ []) (comes three-last ∷ []) (ap (λ (x : Event). comes x ∷ []) (is-three-last 2 (omega arith)))
+    (cellThreeLast ∷ free ∷ free ∷ free ∷ []) one-held (lentOut 100)
     ∙ ap some takes-nothing
 
-takes-short : takenFrom suc top (after suc top (cellNine ∷ cellTen ∷ cellSeven ∷ free ∷ []) (eight ∷ [])) 30 ≡ unable 21
-unfolding after stepped takenFrom look carries sameRest alike put hasFree pickIn runFrom restFrom roleOf bodies among
+takes-short : takenFrom nextCounter stepsMost (after nextCounter stepsMost (cellThreeLast ∷ cellTwoFirst ∷ cellThreeFirst ∷ free ∷ []) (three-next ∷ [])) 30 ≡ unable 21
+unfolding after stepped takenFrom look carries sameRest alike put hasFree pickIn runFrom restFrom roleOf bodies among nextCounter
 takes-short = refl
 
-lands-new : lands (cellNine ∷ cellTen ∷ cellSeven ∷ free ∷ []) eight ≡ true
+lands-new : lands (cellThreeLast ∷ cellTwoFirst ∷ cellThreeFirst ∷ free ∷ []) three-next ≡ true
 unfolding look carries alike hasFree
 lands-new = refl
 
 -- one octet too few
 pub too-few : tookBy settings Z (storeBehind settings Z 4 dawn) early ≡ some (unable 21)
 too-few =
-    joined-takes dawn dawnActs dawn-acts (cellNine ∷ cellTen ∷ cellSeven ∷ free ∷ []) three-held (of-three 1 1) (lentOut 30) eight
-    (is-eight 1 (omega arith)) lands-new
+    joined-takes dawn dawnActs dawn-acts (cellThreeLast ∷ cellTwoFirst ∷ cellThreeFirst ∷ free ∷ []) three-held (of-three 1 1) (lentOut 30) three-next
+    (is-three-next 1 (omega arith)) lands-new
     ∙ ap some takes-short
 
 abbrev pub theRun : Run
 theRun =
-    record { head = seg 7 1 (1 ∷ 2 ∷ 3 ∷ []); rest = seg 8 0 (4 ∷ 5 ∷ 6 ∷ []) ∷ seg 9 2 (7 ∷ 8 ∷ []) ∷ [] }
+    record { head = seg 4294967294 1 (1 ∷ 2 ∷ 3 ∷ []); rest = seg 4294967295 0 (4 ∷ 5 ∷ 6 ∷ []) ∷ seg 0 2 (7 ∷ 8 ∷ []) ∷ [] }
 
-takes-three : takenFrom suc top (after suc top (cellNine ∷ cellTen ∷ cellSeven ∷ cellEight ∷ []) (eight ∷ [])) 35 ≡ message theRun
-unfolding after stepped takenFrom look carries sameRest alike put hasFree pickIn runFrom restFrom roleOf bodies among
+takes-three : takenFrom nextCounter stepsMost (after nextCounter stepsMost (cellThreeLast ∷ cellTwoFirst ∷ cellThreeFirst ∷ cellThreeNext ∷ []) (three-next ∷ [])) 35 ≡ message theRun
+unfolding after stepped takenFrom look carries sameRest alike put hasFree pickIn runFrom restFrom roleOf bodies among nextCounter
 takes-three = refl
 
-lands-again : lands (cellNine ∷ cellTen ∷ cellSeven ∷ cellEight ∷ []) eight ≡ true
+lands-again : lands (cellThreeLast ∷ cellTwoFirst ∷ cellThreeFirst ∷ cellThreeNext ∷ []) three-next ≡ true
 unfolding look carries sameRest alike
 lands-again = refl
 
 -- at noon
 noon-took : tookBy settings Z (storeBehind settings Z 4 morning) atNoon ≡ some (message theRun)
 noon-took =
-    joined-takes morning morningActs morning-acts (cellNine ∷ cellTen ∷ cellSeven ∷ cellEight ∷ []) full (of-three 1 79) (lentOut 35) eight
-    (is-eight 79 (omega arith)) lands-again
+    joined-takes morning morningActs morning-acts (cellThreeLast ∷ cellTwoFirst ∷ cellThreeFirst ∷ cellThreeNext ∷ []) full (of-three 1 79) (lentOut 35) three-next
+    (is-three-next 79 (omega arith)) lands-again
     ∙ ap some takes-three
 
 pub the-key : theRun .head .key ≡ keyIn settings three
@@ -143,12 +143,15 @@ unfolding headOf split identification headerOctets fixedOctets presence frontOct
 the-key = refl
 
 pub the-start : theRun .head .counter ≡ startOf settings three
-unfolding place
 the-start = refl
 
 -- the message was taken at noon
 pub anew : Anew settings Z 4 three noon
 anew = retaken morning atNoon (theRun, noon-took, (the-key, the-start))
+
+first-counter : theRun .head .counter ≡ segmentAt settings three 0 .counter
+unfolding stepsOf
+first-counter = refl
 
 -- the joining at noon hands it out
 pub handed : Delivers settings Z 4 three (storeBehind settings Z 4 morning) atNoon
@@ -174,9 +177,6 @@ handed =
         let f : p ≡ of-three 1 79 = cc (e .1) in
         subst Fine (sym f) (three-fine 1 (omega arith) 79 (omega arith))
 
-    first-counter : 7 ≡ segmentAt settings three 0 .counter
-    first-counter = omega (arith, the-start, steps-suc 0 (startOf settings three))
-
 -- identification, header and body, and after them the output as it was
 pub written : outBy settings Z (storeBehind settings Z 4 morning) atNoon ≡ 0x18 ∷ 5 ∷ header ++ (1 ∷ 2 ∷ 3 ∷ 4 ∷ 5 ∷ 6 ∷ 7 ∷ 8 ∷ lentOut 4)
 unfolding headOf split identification headerOctets fixedOctets presence frontOctets backOctets wide
@@ -184,23 +184,23 @@ written = cutter-hands-out settings Z cutting succeeds 4 (storeBehind settings Z
 
 -- ---- and anew
 
-left : leftIn suc top (sentOf settings three) (free ∷ cellTen ∷ free ∷ free ∷ []) (actEvents (free ∷ cellTen ∷ free ∷ free ∷ []) eveningActs) ≡ true
-unfolding leftIn actEvents after stepped takenFrom look carries sameRest alike put hasFree pickIn runFrom restFrom roleOf bodies among place headOf
-    split identification headerOctets fixedOctets presence frontOctets backOctets wide
+left : leftIn nextCounter stepsMost (sentOf settings three) (free ∷ cellTwoFirst ∷ free ∷ free ∷ []) (actEvents (free ∷ cellTwoFirst ∷ free ∷ free ∷ []) eveningActs) ≡ true
+unfolding leftIn actEvents after stepped takenFrom look carries sameRest alike put hasFree pickIn runFrom restFrom roleOf bodies among headOf
+    split identification headerOctets fixedOctets presence frontOctets backOctets wide nextCounter
 left = refl
 
 pub untaken : Untaken settings Z three (storeBehind settings Z 4 noon) evening
 untaken =
     let k = behind-keeps settings Z 4 one in-use noon in
-    let e : eventsIn settings Z (storeBehind settings Z 4 noon) evening ≡ actEvents (free ∷ cellTen ∷ free ∷ free ∷ []) eveningActs =
+    let e : eventsIn settings Z (storeBehind settings Z 4 noon) evening ≡ actEvents (free ∷ cellTwoFirst ∷ free ∷ free ∷ []) eveningActs =
     acts-are settings Z 4 evening (storeBehind settings Z 4 noon) k ∙ ap₂ actEvents noon-cells evening-acts in
     untaken-told settings Z 4 three (storeBehind settings Z 4 noon) evening k
-    (subst (λ (l : List Event). CellUntaken suc top (sentOf settings three) (cellsIn settings Z 4 (storeBehind settings Z 4 noon)) l) (sym e)
+    (subst (λ (l : List Event). CellUntaken nextCounter stepsMost (sentOf settings three) (cellsIn settings Z 4 (storeBehind settings Z 4 noon)) l) (sym e)
     (subst
-    (λ (l : List Cell). CellUntaken suc top (sentOf settings three) l (actEvents (free ∷ cellTen ∷ free ∷ free ∷ []) eveningActs))
+    (λ (l : List Cell). CellUntaken nextCounter stepsMost (sentOf settings three) l (actEvents (free ∷ cellTwoFirst ∷ free ∷ free ∷ []) eveningActs))
     (sym noon-cells)
-    (untaken-by suc top (sentOf settings three) (free ∷ cellTen ∷ free ∷ free ∷ [])
-    (actEvents (free ∷ cellTen ∷ free ∷ free ∷ []) eveningActs) left)))
+    (untaken-by nextCounter stepsMost (sentOf settings three) (free ∷ cellTwoFirst ∷ free ∷ free ∷ [])
+    (actEvents (free ∷ cellTwoFirst ∷ free ∷ free ∷ []) eveningActs) left)))
 
 -- so demand 3 speaks of the run
 pub promised : Promise settings Z 4 messages three noon evening

@@ -11,6 +11,7 @@ use Rattle.octets.specs.Octets.{wide, alike}
 use Rattle.octets.specs.Laying.{together}
 use Rattle.fields.specs.Form.{split}
 use Rattle.packet.specs.Format.{fixedOctets, frontOctets, backOctets, headerOctets}
+use Rattle.packet.specs.Numbers.{nextCounter}
 use Rattle.write.specs.Given.{headOf}
 use Rattle.cells.specs.Segments.{carries, sameRest}
 use Rattle.cells.specs.Order.{cellSize}
@@ -28,9 +29,9 @@ use Rattle.demand3.proofs.Events.{one-split}
 use Rattle.demand3.proofs.Joins.{joining·whole, only-joins·whole}
 use Rattle.demand3.proofs.Acts.{EachPacket, each-packet, actEvents}
 use Rattle.demand3.proofs.Roomy.{room·whole}
-use Rattle.demand3.proofs.Day.{settings, two, messages, of-two, two-cut, is-ten}
+use Rattle.demand3.proofs.Day.{settings, two, messages, of-two, two-cut, is-two-first}
 use Rattle.demand3.proofs.DayComes.{Fine, two-fine}
-use Rattle.demand3.proofs.DayRun.{lentOut, ten, in-use, traffic, joined-takes}
+use Rattle.demand3.proofs.DayRun.{lentOut, two-first, in-use, traffic, joined-takes}
 
 abbrev Z : ℕ
 Z = cellSize
@@ -67,8 +68,8 @@ given =
 
 -- nothing is complete with the first segment alone
 takes-none : tookBy settings Z (storeBehind settings Z 4 []) stores ≡ some (unable 20)
-unfolding actEvents after stepped takenFrom look carries sameRest alike put hasFree pickIn runFrom restFrom roleOf bodies
-takes-none = joined-takes [] [] refl (empty 4) refl (of-two 0 3) (lentOut 33) ten (is-ten 3 (omega arith)) refl
+unfolding actEvents after stepped takenFrom look carries sameRest alike put hasFree pickIn runFrom restFrom roleOf bodies nextCounter
+takes-none = joined-takes [] [] refl (empty 4) refl (of-two 0 3) (lentOut 33) two-first (is-two-first 3 (omega arith)) refl
 
 untaken : Untaken settings Z two (storeBehind settings Z 4 []) (stores ∷ [])
 unfolding storeAfter

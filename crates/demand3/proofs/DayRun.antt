@@ -2,7 +2,7 @@
 -- again after a take, repeats with another sequence count, a whole, a malformed, an over-long and an other-keyed packet, a take
 -- refused by 21, joinings.
 -- Assumes nothing.
-use Prim.Native.Nat.{ℕ, suc, _+_, _≤_, _<_}
+use Prim.Native.Nat.{ℕ, _+_, _≤_, _<_}
 use mathlib.Core.Path.{_≡_, refl, ap, ap₂, sym, _∙_, subst}
 use mathlib.Core.Logic.{_≢_, _⊎_, inl, inr}
 use mathlib.Core.Bool.{true}
@@ -11,10 +11,11 @@ use mathlib.Core.List.{List, [], _∷_, _++_, map}
 use native.Mathlib.Omega.{arith}
 use lib.ListN.{length, replicate}
 use Rattle.octets.specs.Octets.{alike}
+use Rattle.packet.specs.Numbers.{nextCounter, stepsMost}
 use Rattle.cells.specs.Segments.{carries, sameRest}
 use Rattle.cells.specs.Rows.{Cell}
 use Rattle.cells.specs.Order.{cellSize}
-use Rattle.cells.specs.Messages.{look, roleOf, bodies, restFrom, runFrom, pickIn, among, top}
+use Rattle.cells.specs.Messages.{look, roleOf, bodies, restFrom, runFrom, pickIn, among}
 use Rattle.demand3.specs.Cells.{put, hasFree}
 use Rattle.cells.proofs.Empty.{empty-cells}
 use Rattle.demand3.specs.Traffic.{Event, arrives, passes, empty, takenFrom, stepped, after, Room as CellRoom}
@@ -28,7 +29,7 @@ use Rattle.demand3.proofs.Simulates.{took-by}
 use Rattle.demand3.proofs.Carried.{begins, behind-cells, behind-keeps}
 use Rattle.demand3.proofs.Acts.{EachPacket, each-packet, Act, comes, draw, meets, actOf, lands, actEvents, draws-by, acts-are, room-told}
 use Rattle.demand3.proofs.Day.{settings, three, two, messages, of-three, of-two, single, stub, huge, other, three-cut, two-cut, seg, stray}
-use Rattle.demand3.proofs.Day.{is-seven, is-eight, is-nine, is-ten, is-eleven, is-single, is-stub, is-huge, is-other}
+use Rattle.demand3.proofs.Day.{is-three-first, is-three-next, is-three-last, is-two-first, is-two-last, is-single, is-stub, is-huge, is-other}
 use Rattle.demand3.proofs.DayComes.{one-of, Fine, three-fine, two-fine, single-fine, stub-fine, huge-fine, other-fine, no-counter}
 
 -- ---- the calls
@@ -70,30 +71,30 @@ evening =
 
 -- ---- the same by their events
 
-abbrev pub seven : Event
-seven = arrives (seg 7 1 (1 ∷ 2 ∷ 3 ∷ []))
+abbrev pub three-first : Event
+three-first = arrives (seg 4294967294 1 (1 ∷ 2 ∷ 3 ∷ []))
 
-abbrev pub eight : Event
-eight = arrives (seg 8 0 (4 ∷ 5 ∷ 6 ∷ []))
+abbrev pub three-next : Event
+three-next = arrives (seg 4294967295 0 (4 ∷ 5 ∷ 6 ∷ []))
 
-abbrev pub nine : Event
-nine = arrives (seg 9 2 (7 ∷ 8 ∷ []))
+abbrev pub three-last : Event
+three-last = arrives (seg 0 2 (7 ∷ 8 ∷ []))
 
-abbrev pub ten : Event
-ten = arrives (seg 10 1 (21 ∷ 22 ∷ 23 ∷ []))
+abbrev pub two-first : Event
+two-first = arrives (seg 1 1 (21 ∷ 22 ∷ 23 ∷ []))
 
-abbrev pub eleven : Event
-eleven = arrives (seg 11 2 (24 ∷ 25 ∷ 26 ∷ 27 ∷ 28 ∷ 29 ∷ 30 ∷ []))
+abbrev pub two-last : Event
+two-last = arrives (seg 2 2 (24 ∷ 25 ∷ 26 ∷ 27 ∷ 28 ∷ 29 ∷ 30 ∷ []))
 
 abbrev pub dawnActs : List Act
 dawnActs =
-    comes nine ∷ draw 100 ∷ comes ten ∷ comes passes ∷ comes passes ∷ meets seven 100 ∷ comes nine ∷ comes passes ∷ []
+    comes three-last ∷ draw 100 ∷ comes two-first ∷ comes passes ∷ comes passes ∷ meets three-first 100 ∷ comes three-last ∷ comes passes ∷ []
 
 abbrev pub morningActs : List Act
-morningActs = dawnActs ++ meets eight 30 ∷ comes eight ∷ []
+morningActs = dawnActs ++ meets three-next 30 ∷ comes three-next ∷ []
 
 abbrev pub eveningActs : List Act
-eveningActs = comes (arrives stray) ∷ meets passes 0 ∷ comes eleven ∷ comes seven ∷ draw 33 ∷ comes eight ∷ comes nine ∷ []
+eveningActs = comes (arrives stray) ∷ meets passes 0 ∷ comes two-last ∷ comes three-first ∷ draw 33 ∷ comes three-next ∷ comes three-last ∷ []
 
 abbrev Z : ℕ
 Z = cellSize
@@ -105,30 +106,30 @@ pub evening-acts : map (actOf settings Z) evening ≡ eveningActs
 evening-acts =
     consed (ap comes is-other)
     (consed (ap (λ (x : Event). meets x 0) is-single)
-    (consed (ap comes (is-eleven 4 (omega arith)))
-    (consed (ap comes (is-seven 80 (omega arith)))
-    (consed refl (consed (ap comes (is-eight 81 (omega arith))) (consed (ap comes (is-nine 82 (omega arith))) refl))))))
+    (consed (ap comes (is-two-last 4 (omega arith)))
+    (consed (ap comes (is-three-first 80 (omega arith)))
+    (consed refl (consed (ap comes (is-three-next 81 (omega arith))) (consed (ap comes (is-three-last 82 (omega arith))) refl))))))
 
 pub dawn-acts : map (actOf settings Z) dawn ≡ dawnActs
 dawn-acts =
-    consed (ap comes (is-nine 2 (omega arith)))
+    consed (ap comes (is-three-last 2 (omega arith)))
     (consed refl
-    (consed (ap comes (is-ten 3 (omega arith)))
+    (consed (ap comes (is-two-first 3 (omega arith)))
     (consed (ap comes is-stub)
     (consed (ap comes is-single)
-    (consed (ap (λ (x : Event). meets x 100) (is-seven 0 (omega arith)))
-    (consed (ap comes (is-nine 77 (omega arith))) (consed (ap comes is-huge) refl)))))))
+    (consed (ap (λ (x : Event). meets x 100) (is-three-first 0 (omega arith)))
+    (consed (ap comes (is-three-last 77 (omega arith))) (consed (ap comes is-huge) refl)))))))
 
 pub morning-acts : map (actOf settings Z) morning ≡ morningActs
 morning-acts =
     ap₂ _++_ dawn-acts
-    (consed (ap (λ (x : Event). meets x 30) (is-eight 1 (omega arith))) (consed (ap comes (is-eight 78 (omega arith))) refl))
+    (consed (ap (λ (x : Event). meets x 30) (is-three-next 1 (omega arith))) (consed (ap comes (is-three-next 78 (omega arith))) refl))
 
 abbrev pub noonActs : List Act
-noonActs = morningActs ++ meets eight 35 ∷ []
+noonActs = morningActs ++ meets three-next 35 ∷ []
 
 pub noon-acts : map (actOf settings Z) noon ≡ noonActs
-noon-acts = ap₂ _++_ morning-acts (ap (λ (x : Event). meets x 35 ∷ []) (is-eight 79 (omega arith)))
+noon-acts = ap₂ _++_ morning-acts (ap (λ (x : Event). meets x 35 ∷ []) (is-three-next 79 (omega arith)))
 
 pub day-acts : map (actOf settings Z) (noon ++ evening) ≡ noonActs ++ eveningActs
 day-acts = ap₂ _++_ noon-acts evening-acts
@@ -151,31 +152,31 @@ module _ (l : List Call) (acts : List Act) (e : map (actOf settings Z) l ≡ act
       ∙ ap (λ (x : List Cell). actEvents x (map (actOf settings Z) l)) (empty-cells settings Z 4)
       ∙ ap (actEvents (empty 4)) e
 
-  pub cells-are : cellsIn settings Z 4 now ≡ after suc top (empty 4) (actEvents (empty 4) acts)
-  cells-are = behind-cells settings Z 4 one in-use l ∙ ap (after suc top (empty 4)) events-are
+  pub cells-are : cellsIn settings Z 4 now ≡ after nextCounter stepsMost (empty 4) (actEvents (empty 4) acts)
+  cells-are = behind-cells settings Z 4 one in-use l ∙ ap (after nextCounter stepsMost (empty 4)) events-are
 
   -- what a joining of a segment takes
   pub joined-takes :
-      (cs : List Cell) → after suc top (empty 4) (actEvents (empty 4) acts) ≡ cs → (p out : List ℕ) (t : Event) → eventOf settings Z p ≡ t →
+      (cs : List Cell) → after nextCounter stepsMost (empty 4) (actEvents (empty 4) acts) ≡ cs → (p out : List ℕ) (t : Event) → eventOf settings Z p ≡ t →
       lands cs t ≡ true →
-      tookBy settings Z now (joining p out) ≡ some (takenFrom suc top (after suc top cs (t ∷ [])) (length out))
+      tookBy settings Z now (joining p out) ≡ some (takenFrom nextCounter stepsMost (after nextCounter stepsMost cs (t ∷ [])) (length out))
   joined-takes cs f p out t q g =
       let k = behind-keeps settings Z 4 one in-use l in
       let c = cells-are ∙ f in
       let d : draws settings Z now (joining p out) ≡ true =
       draws-by settings Z 4 now k p out ∙ ap (λ (x : List Cell). lands x (eventOf settings Z p)) c ∙ ap (lands cs) q ∙ g in
       took-by settings Z 4 now k (joining p out) d
-      ∙ ap (λ (x : List Cell). some (takenFrom suc top (after suc top x (eventOf settings Z p ∷ [])) (length out))) c
-      ∙ ap (λ (x : Event). some (takenFrom suc top (after suc top cs (x ∷ [])) (length out))) q
+      ∙ ap (λ (x : List Cell). some (takenFrom nextCounter stepsMost (after nextCounter stepsMost x (eventOf settings Z p ∷ [])) (length out))) c
+      ∙ ap (λ (x : Event). some (takenFrom nextCounter stepsMost (after nextCounter stepsMost cs (x ∷ [])) (length out))) q
 
   -- and a taking
   pub taking-takes :
-      (cs : List Cell) → after suc top (empty 4) (actEvents (empty 4) acts) ≡ cs → (out : List ℕ) →
-      tookBy settings Z now (taking out) ≡ some (takenFrom suc top cs (length out))
+      (cs : List Cell) → after nextCounter stepsMost (empty 4) (actEvents (empty 4) acts) ≡ cs → (out : List ℕ) →
+      tookBy settings Z now (taking out) ≡ some (takenFrom nextCounter stepsMost cs (length out))
   unfolding after
   taking-takes cs f out =
       took-by settings Z 4 now (behind-keeps settings Z 4 one in-use l) (taking out) refl
-      ∙ ap (λ (x : List Cell). some (takenFrom suc top x (length out))) (cells-are ∙ f)
+      ∙ ap (λ (x : List Cell). some (takenFrom nextCounter stepsMost x (length out))) (cells-are ∙ f)
 
 -- ---- the hypotheses
 
@@ -251,8 +252,8 @@ traffic =
         (subst (Apart two) (sym f) (inr (inr (λ i j a b c. no-counter j i b a (sym c)))))
     apart′ m w (inr e) (inr f) = inl (e ∙ sym f)
 
-has-room : roomIn suc top (empty 4) (actEvents (empty 4) (noonActs ++ eveningActs)) ≡ true
-unfolding actEvents roomIn after stepped takenFrom look carries sameRest alike put hasFree pickIn runFrom restFrom roleOf bodies among
+has-room : roomIn nextCounter stepsMost (empty 4) (actEvents (empty 4) (noonActs ++ eveningActs)) ≡ true
+unfolding actEvents roomIn after stepped takenFrom look carries sameRest alike put hasFree pickIn runFrom restFrom roleOf bodies among nextCounter
 has-room = refl
 
 -- J-8: a free cell before each new segment (DEMANDS 3.5), with fewer cells than segments
@@ -262,6 +263,6 @@ given =
       traffic = traffic;
       room =
           room-told settings Z 4 one in-use (noon ++ evening)
-          (subst (CellRoom suc top (empty 4)) (sym (events-are (noon ++ evening) (noonActs ++ eveningActs) day-acts))
-          (room-by suc top (empty 4) (actEvents (empty 4) (noonActs ++ eveningActs)) has-room));
+          (subst (CellRoom nextCounter stepsMost (empty 4)) (sym (events-are (noon ++ evening) (noonActs ++ eveningActs) day-acts))
+          (room-by nextCounter stepsMost (empty 4) (actEvents (empty 4) (noonActs ++ eveningActs)) has-room));
     }

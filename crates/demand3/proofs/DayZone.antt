@@ -2,7 +2,7 @@
 -- first and once more, and is taken with its zone octets. The cutter refuses the same message by 30, reading tells that its packets are
 -- of the withdrawn kind, and demand 3 speaks of it as of any other. The header is figure 14's, with the zone `no`.
 -- Assumes nothing.
-use Prim.Native.Nat.{ℕ, suc, _+_, _≤_, _<_}
+use Prim.Native.Nat.{ℕ, _+_, _≤_, _<_}
 use mathlib.Core.Path.{_≡_, refl, ap, _∙_}
 use mathlib.Core.Bool.{true, false}
 use mathlib.Core.List.{List, [], _∷_, _++_}
@@ -16,7 +16,7 @@ use Rattle.walk.specs.Walk.{unless}
 use Rattle.fields.specs.Form.{uintegerOctets, blobOctets, textOctets, split, allText}
 use Rattle.packet.specs.Format.{Values, presence, identification, fixedOctets, frontOctets, backOctets, headerOctets}
 use Rattle.packet.specs.Reading.{readPacket}
-use Rattle.sender.specs.declared.Next.the-variants.{At}
+use Rattle.packet.specs.Numbers.{nextCounter, stepsMost}
 use Rattle.sender.specs.Sending.{stepsOf}
 use Rattle.write.specs.declared.HeaderValues.{HeaderValues}
 use Rattle.write.specs.Given.{Lent, lent, headOf, sum, nameChecks, routingChecks, idChecks, textChecks, utf8Checks, headerChecks, unlessAll}
@@ -25,15 +25,14 @@ use Rattle.write.specs.Lending.{Lends}
 use Rattle.format.specs.Told.{valuesOf, headOf as toldHead}
 use Rattle.format.proofs.TwoWay.{reads-back}
 use Rattle.format.proofs.Accepting.{written}
-use Rattle.cut.specs.Cutting.{countersFit, packets, rounded, limitTest, valueTests, messageTests, countRefusal, countAnswer, bodyAt}
+use Rattle.cut.specs.Cutting.{packets, rounded, limitTest, valueTests, messageTests, countRefusal, countAnswer, bodyAt}
 use Rattle.cut.proofs.Packets.{packet-most}
 use Rattle.fewest.specs.Carrying.{firstOf}
-use Rattle.fewest.specs.Runs.{place}
 use Rattle.fewest.proofs.Numbers.{cuts-well}
 use Rattle.cells.specs.Segments.{Seg, carries, sameRest}
 use Rattle.cells.specs.Rows.{Cell, held}
 use Rattle.cells.specs.Order.{cellSize}
-use Rattle.cells.specs.Messages.{cellsOf, look, roleOf, bodies, restFrom, runFrom, pickIn, top}
+use Rattle.cells.specs.Messages.{cellsOf, look, roleOf, bodies, restFrom, runFrom, pickIn}
 use Rattle.taking.specs.Taking.{Took, message, unable, writing, took}
 use Rattle.demand3.specs.Cells.{put}
 use Rattle.demand3.specs.Traffic.{Event, arrives, empty, takenFrom, stepped, after}
@@ -94,7 +93,7 @@ cutting =
       values = values;
       texts = texts;
       body = 1 ∷ 2 ∷ 3 ∷ 4 ∷ 5 ∷ 6 ∷ 7 ∷ 8 ∷ 9 ∷ 10 ∷ [];
-      sender = record { «sequence_count» = record { 0 = 0 }; next = At (record { 0 = 7 }) };
+      sender = record { «sequence_count» = record { 0 = 0 }; counter = record { 0 = 7 } };
     }
 
 abbrev pub zoned : Sending
@@ -104,19 +103,19 @@ zoned = sendingOf settings cutting
 
 pub cutter-refuses : countAnswer false settings 39 values texts 10 (cutting .sender) .refusal .number ≡ 30
 unfolding countAnswer countRefusal messageTests limitTest valueTests settingsTest zoneTest partsTest textTest utf8Checks allText isText accepts follows begins ended
-    unless unlessAll headerChecks nameChecks routingChecks idChecks textChecks sum packets rounded countersFit headOf split headerOctets fixedOctets
+    unless unlessAll headerChecks nameChecks routingChecks idChecks textChecks sum packets rounded headOf split headerOctets fixedOctets
     frontOctets backOctets textOctets blobOctets uintegerOctets write varintOctets wide
 cutter-refuses = refl
 
 counts : countOf settings cutting .refusal .number ≡ 0
 unfolding countAnswer countRefusal messageTests limitTest valueTests settingsTest zoneTest partsTest textTest utf8Checks allText isText accepts follows begins ended
-    unless unlessAll headerChecks nameChecks routingChecks idChecks textChecks sum packets rounded countersFit headOf split headerOctets fixedOctets
+    unless unlessAll headerChecks nameChecks routingChecks idChecks textChecks sum packets rounded headOf split headerOctets fixedOctets
     frontOctets backOctets textOctets blobOctets uintegerOctets write varintOctets wide
 counts = refl
 
 count : countOf settings cutting .count ≡ 2
 unfolding countAnswer countRefusal messageTests limitTest valueTests settingsTest zoneTest partsTest textTest utf8Checks allText isText accepts follows begins ended
-    unless unlessAll headerChecks nameChecks routingChecks idChecks textChecks sum packets rounded countersFit headOf split headerOctets fixedOctets
+    unless unlessAll headerChecks nameChecks routingChecks idChecks textChecks sum packets rounded headOf split headerOctets fixedOctets
     frontOctets backOctets textOctets blobOctets uintegerOctets write varintOctets wide
 count = refl
 
@@ -178,15 +177,15 @@ arrives-as i l t e c h =
     repeat-event settings cellSize zoned zoned-cut i (omega (arith, many-is)) c h ∙ ap arrives e
 
 is-first : (c : ℕ) → c < 16384 → eventOf settings cellSize (packetWith settings zoned 0 c) ≡ arrives opens
-unfolding stepsOf place flagsIn firstOf bodyAt countAnswer countRefusal messageTests limitTest valueTests settingsTest zoneTest partsTest textTest
-    utf8Checks allText isText accepts follows begins ended unless unlessAll headerChecks nameChecks routingChecks idChecks textChecks sum packets rounded countersFit
-    headOf split headerOctets fixedOctets frontOctets backOctets textOctets blobOctets uintegerOctets write varintOctets wide identification presence
+unfolding stepsOf flagsIn firstOf bodyAt countAnswer countRefusal messageTests limitTest valueTests settingsTest zoneTest partsTest textTest
+    utf8Checks allText isText accepts follows begins ended unless unlessAll headerChecks nameChecks routingChecks idChecks textChecks sum packets rounded
+    headOf split headerOctets fixedOctets frontOctets backOctets textOctets blobOctets uintegerOctets write varintOctets wide identification presence nextCounter
 is-first = arrives-as 0 (omega arith) opens refl
 
 is-last : (c : ℕ) → c < 16384 → eventOf settings cellSize (packetWith settings zoned 1 c) ≡ arrives closes
-unfolding stepsOf place flagsIn firstOf bodyAt countAnswer countRefusal messageTests limitTest valueTests settingsTest zoneTest partsTest textTest
-    utf8Checks allText isText accepts follows begins ended unless unlessAll headerChecks nameChecks routingChecks idChecks textChecks sum packets rounded countersFit
-    headOf split headerOctets fixedOctets frontOctets backOctets textOctets blobOctets uintegerOctets write varintOctets wide identification presence
+unfolding stepsOf flagsIn firstOf bodyAt countAnswer countRefusal messageTests limitTest valueTests settingsTest zoneTest partsTest textTest
+    utf8Checks allText isText accepts follows begins ended unless unlessAll headerChecks nameChecks routingChecks idChecks textChecks sum packets rounded
+    headOf split headerOctets fixedOctets frontOctets backOctets textOctets blobOctets uintegerOctets write varintOctets wide identification presence nextCounter
 is-last = arrives-as 1 (omega arith) closes refl
 
 -- the last segment, once more with another sequence count, and the first
@@ -205,26 +204,26 @@ in-use = record { settings = record { t-low = omega arith; t-top = omega arith; 
 one : 1 ≤ cellSize
 one = omega arith
 
-two-held : after suc top (empty 2) (arrives closes ∷ arrives closes ∷ arrives opens ∷ []) ≡ held closes ∷ held opens ∷ []
+two-held : after nextCounter stepsMost (empty 2) (arrives closes ∷ arrives closes ∷ arrives opens ∷ []) ≡ held closes ∷ held opens ∷ []
 unfolding after stepped look carries sameRest alike put
 two-held = refl
 
 -- both segments are held
 pub zoned-held : cellsOf settings cellSize (storeBehind settings cellSize 2 calls) 2 ≡ held closes ∷ held opens ∷ []
-zoned-held = behind-cells settings cellSize 2 one in-use calls ∙ ap (after suc top (empty 2)) events ∙ two-held
+zoned-held = behind-cells settings cellSize 2 one in-use calls ∙ ap (after nextCounter stepsMost (empty 2)) events ∙ two-held
 
 -- what a taking writes
 abbrev pub out : Took → List ℕ
 out (message r) = writing r
 out (unable k) = []
 
-all-out : out (takenFrom suc top (held closes ∷ held opens ∷ []) 36) ≡ key ++ cutting .body
-unfolding takenFrom look carries alike roleOf bodies restFrom runFrom pickIn
+all-out : out (takenFrom nextCounter stepsMost (held closes ∷ held opens ∷ []) 36) ≡ key ++ cutting .body
+unfolding takenFrom look carries alike roleOf bodies restFrom runFrom pickIn nextCounter
 all-out = refl
 
 -- the message is taken, with its zone octets
 pub zoned-taken : out (took settings cellSize (storeBehind settings cellSize 2 calls) 36) ≡ key ++ cutting .body
 zoned-taken =
     ap out (took-is settings cellSize 2 (storeBehind settings cellSize 2 calls) (behind-keeps settings cellSize 2 one in-use calls) 36)
-    ∙ ap (λ (cs : List Cell). out (takenFrom suc top cs 36)) zoned-held
+    ∙ ap (λ (cs : List Cell). out (takenFrom nextCounter stepsMost cs 36)) zoned-held
     ∙ all-out

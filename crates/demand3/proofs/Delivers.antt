@@ -1,7 +1,7 @@
 -- A taking at a store's octets, from the taking at its cells: what it writes and tells, and which cells it zeroes, octet by octet;
 -- with enough output and with less; and takings one after the other.
 -- Assumes nothing.
-use Prim.Native.Nat.{ℕ, suc, _+_, _-_, _≤_, _<_}
+use Prim.Native.Nat.{ℕ, _+_, _-_, _≤_, _<_}
 use mathlib.Core.Path.{_≡_, refl, ap, sym, _∙_, subst}
 use mathlib.Core.Bool.{Bool, true}
 use mathlib.Core.Option.{none, some, Option·map}
@@ -11,10 +11,11 @@ use lib.ListN.{length, drop, length-append, length-map}
 use lib.Seq.{sets-eq}
 use Rattle.octets.specs.Octets.{pick}
 use Rattle.walk.specs.declared.Settings.{Settings}
+use Rattle.packet.specs.Numbers.{nextCounter, stepsMost}
 use Rattle.cells.specs.Rows.{Cell, held, rowAt, zeroRow}
 use Rattle.cells.specs.Order.{countIn, cellAt}
 use Rattle.taking.specs.declared.Taken.{Taken}
-use Rattle.cells.specs.Messages.{Run, bodyOf, segments, picked, top}
+use Rattle.cells.specs.Messages.{Run, bodyOf, segments, picked}
 use Rattle.taking.specs.Taking.{Took, message, unable, writing, took, outWith, storeLess}
 use Rattle.walk.specs.Walk.{refusal}
 use Rattle.taking.specs.Told.{takenOf}
@@ -76,7 +77,7 @@ module _ (s : Settings) (Z n : ℕ) (m : Sending) (k : IsCut s Z m) where
     long = length (outOf c)
 
     -- a call that takes the original
-    pub delivers : draws s Z st c ≡ true → (r : Run) → took s Z at long ≡ message r → Original suc (sentOf s m) r → Delivers s Z n m st c
+    pub delivers : draws s Z st c ≡ true → (r : Run) → took s Z at long ≡ message r → Original nextCounter (sentOf s m) r → Delivers s Z n m st c
     unfolding tookBy
     delivers d r e o =
         record { told = tells; written = writes; there = held-there; zeroed = zeroes; others = leaves }
@@ -130,7 +131,7 @@ module _ (s : Settings) (Z n : ℕ) (m : Sending) (k : IsCut s Z m) where
             f (v .0, v .1, y ∙ ap held (v .2)))
 
     -- a taking at the cells is a taking at the octets
-    pub takes-of : Gives suc top (sentOf s m) (cellsIn s Z n at) → Output suc top (sentOf s m) (cellsIn s Z n at) → Takes s Z n m st c
+    pub takes-of : Gives nextCounter stepsMost (sentOf s m) (cellsIn s Z n at) → Output nextCounter stepsMost (sentOf s m) (cellsIn s Z n at) → Takes s Z n m st c
     unfolding tookBy stepsOf
     takes-of g u = record { gives = given; enough = plenty; short = brief }
       where
@@ -171,33 +172,33 @@ module _ (s : Settings) (Z n : ℕ) (m : Sending) (k : IsCut s Z m) where
 
   module _ (st : List ℕ) (c : Kept s Z n st) where
     takings-cells : (outs : List (List ℕ)) →
-        cellsIn s Z n (storeAfter s Z st (map taking outs)) ≡ after suc top (cellsIn s Z n st) (map takes (map length outs))
-    takings-cells outs = run-cells s Z n (map taking outs) st c ∙ ap (after suc top (cellsIn s Z n st)) (events-takings s Z outs st)
+        cellsIn s Z n (storeAfter s Z st (map taking outs)) ≡ after nextCounter stepsMost (cellsIn s Z n st) (map takes (map length outs))
+    takings-cells outs = run-cells s Z n (map taking outs) st c ∙ ap (after nextCounter stepsMost (cellsIn s Z n st)) (events-takings s Z outs st)
 
     -- one of as many as there are cells hands out the message
-    pub hands-of : Handed suc top n (sentOf s m) (cellsIn s Z n st) → HandsOut s Z n m st
+    pub hands-of : Handed nextCounter stepsMost n (sentOf s m) (cellsIn s Z n st) → HandsOut s Z n m st
     hands-of h outs l e = finish (h (map length outs) (omega (arith, length-map outs length)) enough)
       where
-        enough : CellLongEnough suc top (cellsIn s Z n st) (map length outs)
+        enough : CellLongEnough nextCounter stepsMost (cellsIn s Z n st) (map length outs)
         enough x y long r d p =
             let v = map-split length outs x long y d in
-            let w : cellsIn s Z n (storeAfter s Z st (map taking (v .0))) ≡ after suc top (cellsIn s Z n st) (map takes x) =
-            takings-cells (v .0) ∙ ap (λ (z : List ℕ). after suc top (cellsIn s Z n st) (map takes z)) (v .4) in
+            let w : cellsIn s Z n (storeAfter s Z st (map taking (v .0))) ≡ after nextCounter stepsMost (cellsIn s Z n st) (map takes x) =
+            takings-cells (v .0) ∙ ap (λ (z : List ℕ). after nextCounter stepsMost (cellsIn s Z n st) (map takes z)) (v .4) in
             subst (λ (z : ℕ). length (writing r) ≤ z) (v .5)
-            (e (v .0) (v .2) (v .1) r (v .3) (ap (λ (z : List Cell). picked suc top z) w ∙ p))
+            (e (v .0) (v .2) (v .1) r (v .3) (ap (λ (z : List Cell). picked nextCounter stepsMost z) w ∙ p))
 
         finish : ((x : List ℕ) × (long : ℕ) × (y : List ℕ) × (map length outs ≡ x ++ long ∷ y) ×
-            ((r : Run) × (takenFrom suc top (after suc top (cellsIn s Z n st) (map takes x)) long ≡ message r) × Original suc (sentOf s m) r)) →
+            ((r : Run) × (takenFrom nextCounter stepsMost (after nextCounter stepsMost (cellsIn s Z n st) (map takes x)) long ≡ message r) × Original nextCounter (sentOf s m) r)) →
             (x : List (List ℕ)) × (out : List ℕ) × (y : List (List ℕ)) × (outs ≡ x ++ out ∷ y) ×
             Delivers s Z n m (storeAfter s Z st (map taking x)) (taking out)
         finish a =
             let v = map-split length outs (a .0) (a .1) (a .2) (a .3) in
             let there = storeAfter s Z st (map taking (v .0)) in
             let kept = run-keeps s Z n (map taking (v .0)) st c in
-            let w : cellsIn s Z n there ≡ after suc top (cellsIn s Z n st) (map takes (a .0)) =
-            takings-cells (v .0) ∙ ap (λ (z : List ℕ). after suc top (cellsIn s Z n st) (map takes z)) (v .4) in
+            let w : cellsIn s Z n there ≡ after nextCounter stepsMost (cellsIn s Z n st) (map takes (a .0)) =
+            takings-cells (v .0) ∙ ap (λ (z : List ℕ). after nextCounter stepsMost (cellsIn s Z n st) (map takes z)) (v .4) in
             let t : took s Z there (length (v .1)) ≡ message (a .4 .0) =
-            took-is s Z n there kept (length (v .1)) ∙ ap (λ (z : List Cell). takenFrom suc top z (length (v .1))) w
-            ∙ ap (takenFrom suc top (after suc top (cellsIn s Z n st) (map takes (a .0)))) (v .5)
+            took-is s Z n there kept (length (v .1)) ∙ ap (λ (z : List Cell). takenFrom nextCounter stepsMost z (length (v .1))) w
+            ∙ ap (takenFrom nextCounter stepsMost (after nextCounter stepsMost (cellsIn s Z n st) (map takes (a .0)))) (v .5)
             ∙ a .4 .1 in
             (v .0, v .1, v .2, v .3, delivers there (taking (v .1)) kept refl (a .4 .0) t (a .4 .2))

@@ -1,6 +1,6 @@
 -- What a cell holds came: a packet that reads as it was handed over. And of the calls of a run, one takes a message, or none does.
 -- Assumes nothing.
-use Prim.Native.Nat.{ℕ, suc, _+_, _≤_, _<_}
+use Prim.Native.Nat.{ℕ, _+_, _≤_, _<_}
 use mathlib.Core.Path.{_≡_, refl, ap, sym, _∙_, subst}
 use mathlib.Core.Logic.{_⊎_, inl, inr}
 use mathlib.Core.Bool.{true, false, true≢false}
@@ -9,10 +9,11 @@ use mathlib.Core.List.{List, [], _∷_, _++_, List·Memᴰ}
 use native.Mathlib.Omega.{arith}
 use Rattle.octets.proofs.Lists.{bool}
 use Rattle.walk.specs.declared.Settings.{Settings}
+use Rattle.packet.specs.Numbers.{nextCounter, stepsMost}
 use Rattle.cells.specs.Segments.{Seg, carries}
 use Rattle.cells.specs.Rows.{Cell, held}
 use Rattle.cells.specs.Order.{cellAt}
-use Rattle.cells.specs.Messages.{Run, top}
+use Rattle.cells.specs.Messages.{Run}
 use Rattle.cells.proofs.Distinct.{carries-true, carries-yes}
 use Rattle.taking.specs.Taking.{Took, message, unable}
 use Rattle.demand3.specs.Complete.{Held}
@@ -31,12 +32,12 @@ use Rattle.demand3.proofs.Carried.{behind-cells}
 
 module _ (Z : ℕ) (one : 1 ≤ Z) (s : Settings) (n : ℕ) (u : InUse s n) where
   pub held-came : (cs : List Call) (j : ℕ) (t : Seg) → j < n → cellAt s Z (storeBehind s Z n cs) j ≡ held t → Came s t cs
-  held-came cs j t l e = go (held-after suc top (eventsIn s Z zeros cs) (empty n) t there)
+  held-came cs j t l e = go (held-after nextCounter stepsMost (eventsIn s Z zeros cs) (empty n) t there)
     where
       zeros : List ℕ
       zeros = emptyStore Z n
 
-      there : Held t (after suc top (empty n) (eventsIn s Z zeros cs))
+      there : Held t (after nextCounter stepsMost (empty n) (eventsIn s Z zeros cs))
       there =
           subst (Held t) (behind-cells s Z n one u cs)
           (subst (λ (x : Cell). List·Memᴰ x (cellsIn s Z n (storeBehind s Z n cs))) e

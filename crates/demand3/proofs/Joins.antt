@@ -1,6 +1,6 @@
 -- A joining that completes a message hands it out; joinings leave nothing complete in the store.
 -- Assumes nothing.
-use Prim.Native.Nat.{ℕ, suc, _+_, _-_, _≤_}
+use Prim.Native.Nat.{ℕ, _+_, _-_, _≤_}
 use mathlib.Core.Path.{_≡_, refl, ap, sym, _∙_, subst}
 use mathlib.Core.Logic.{_≢_, _⊎_, inl, inr}
 use mathlib.Core.Bool.{true}
@@ -10,8 +10,9 @@ use mathlib.Core.List.{List·Memᴰ·append-cases, Memᴰ·append-left, Memᴰ·
 use native.Mathlib.Omega.{arith}
 use Rattle.octets.specs.Octets.{Octets}
 use Rattle.walk.specs.declared.Settings.{Settings}
+use Rattle.packet.specs.Numbers.{nextCounter, stepsMost}
 use Rattle.cells.specs.Order.{cellSize}
-use Rattle.cells.specs.Messages.{Run, picked, top}
+use Rattle.cells.specs.Messages.{Run, picked}
 use Rattle.cells.proofs.Empty.{empty-cells}
 use Rattle.taking.specs.Taking.{unable}
 use Rattle.demand3.specs.Cells.{hasFree}
@@ -83,23 +84,23 @@ room-arrival s Z n l p out g x y c q e b ok seg fit new = go (append-split l (ar
 
 -- ---- the laws
 
-empty-none : (n : ℕ) → picked suc top (empty n) ≡ none
-empty-none n = go (picked suc top (empty n)) refl
+empty-none : (n : ℕ) → picked nextCounter stepsMost (empty n) ≡ none
+empty-none n = go (picked nextCounter stepsMost (empty n)) refl
   where
-    go : (o : Option Run) → picked suc top (empty n) ≡ o → picked suc top (empty n) ≡ none
+    go : (o : Option Run) → picked nextCounter stepsMost (empty n) ≡ o → picked nextCounter stepsMost (empty n) ≡ none
     go none e = e
-    go (some r) e = absurd (held-empty n (r .head) (picked-held suc top (empty n) r e))
+    go (some r) e = absurd (held-empty n (r .head) (picked-held nextCounter stepsMost (empty n) r e))
 
 module _ (Z : ℕ) (one : 1 ≤ Z) where
   -- nothing is complete in an empty store
   none-begins : (s : Settings) (n : ℕ) → NoneComplete s Z n (storeBehind s Z n [])
   unfolding storeAfter
-  none-begins s n = ap (picked suc top) (empty-cells s Z n) ∙ empty-none n
+  none-begins s n = ap (picked nextCounter stepsMost) (empty-cells s Z n) ∙ empty-none n
 
   none-left : WholeNoneLeft Z
   unfolding storeAfter
   none-left s n u l p out e f =
-      ap (λ (x : List ℕ). picked suc top (cellsIn s Z n x)) (store-append s Z l (joining p out ∷ []) (emptyStore Z n)) ∙ none-after Z one s n u l p out e f
+      ap (λ (x : List ℕ). picked nextCounter stepsMost (cellsIn s Z n x)) (store-append s Z l (joining p out ∷ []) (emptyStore Z n)) ∙ none-after Z one s n u l p out e f
 
   only-joins : WholeOnlyJoins Z
   only-joins s n u l g = on l [] refl (none-begins s n)

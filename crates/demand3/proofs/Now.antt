@@ -1,6 +1,6 @@
 -- A message at the store after some calls, from demand 3 over cells: what of the promise holds without the room, and what with it.
 -- Assumes nothing.
-use Prim.Native.Nat.{ℕ, suc, _≤_}
+use Prim.Native.Nat.{ℕ, _≤_}
 use mathlib.Core.Path.{_≡_, refl, ap, sym, _∙_, subst}
 use mathlib.Core.Logic.{_⊎_, inl, inr}
 use mathlib.Core.Option.{none, some}
@@ -8,14 +8,14 @@ use mathlib.Core.List.{List, [], _∷_, _++_, map, append-assoc, List·Memᴰ, L
 use native.Mathlib.Omega.{arith}
 use Rattle.octets.specs.Octets.{Octets}
 use Rattle.walk.specs.declared.Settings.{Settings}
+use Rattle.packet.specs.Numbers.{nextCounter, stepsMost}
 use Rattle.cells.specs.Rows.{Cell}
-use Rattle.cells.specs.Messages.{top}
 use Rattle.taking.specs.Taking.{message}
 use Rattle.demand3.specs.Traffic.{Event, arrives, empty, after, Room as CellRoom}
 use Rattle.demand3.specs.Promise.{Gives, Output, Handed as CellHanded, AllCame as CellAllCame, Untaken as CellUntaken, Delivery as CellDelivery, Promise as CellPromise}
 use Rattle.demand3.specs.Base.{CompleteFrom, Done01, Traffic01}
 use Rattle.demand3.specs.Calls.{Call, arrival, taking, joining, Brings, Handed, arrivedStore, storeAt, tookBy, storeBy, storeAfter}
-use Rattle.demand3.specs.Sendings.{Sending, keyIn, startOf, endOf, IsCut}
+use Rattle.demand3.specs.Sendings.{Sending, keyIn, startOf, stepsTo, IsCut}
 use Rattle.demand3.specs.Presupposed.{MayCome, Traffic, Untaken, InUse, emptyStore, storeBehind, cellsIn, Anew}
 use Rattle.demand3.specs.Whole.{IsComplete, Takes, HandsOut, Delivery}
 use Rattle.demand3.proofs.Base.{demand3·01, soundness01}
@@ -71,11 +71,11 @@ module _ (Z : ℕ) (one : 1 ≤ Z) (s : Settings) (n : ℕ) (u : InUse s n) wher
   abbrev zeros : List ℕ
   zeros = emptyStore Z n
 
-  -- complete by the message's last counter, and by the segments'
-  pub done-of : (m : Sending) → IsCut s Z m → (l : List Cell) → CompleteFrom l (keyIn s m) (startOf s m) (endOf s m) → Done01 (sentOf s m) l
+  -- complete by the message's steps, and by those of its segments
+  pub done-of : (m : Sending) → IsCut s Z m → (l : List Cell) → CompleteFrom l (keyIn s m) (startOf s m) (stepsTo s m) → Done01 (sentOf s m) l
   done-of m k l d = subst (CompleteFrom l (keyIn s m) (startOf s m)) (sym (end-is s Z m k)) d
 
-  pub of-done : (m : Sending) → IsCut s Z m → (l : List Cell) → Done01 (sentOf s m) l → CompleteFrom l (keyIn s m) (startOf s m) (endOf s m)
+  pub of-done : (m : Sending) → IsCut s Z m → (l : List Cell) → Done01 (sentOf s m) l → CompleteFrom l (keyIn s m) (startOf s m) (stepsTo s m)
   of-done m k l d = subst (CompleteFrom l (keyIn s m) (startOf s m)) (end-is s Z m k) d
 
   module _ (ms : List Sending) (m : Sending) (h : List·Memᴰ m ms) (first : List Call) (a : Anew s Z n m first) where
@@ -89,8 +89,8 @@ module _ (Z : ℕ) (one : 1 ≤ Z) (s : Settings) (n : ℕ) (u : InUse s n) wher
       events-are : eventsIn s Z zeros (first ++ since) ≡ es
       events-are = events-append s Z first since zeros
 
-      cells-are : cellsIn s Z n now ≡ after suc top (empty n) es
-      cells-are = behind-cells s Z n one u (first ++ since) ∙ ap (after suc top (empty n)) events-are
+      cells-are : cellsIn s Z n now ≡ after nextCounter stepsMost (empty n) es
+      cells-are = behind-cells s Z n one u (first ++ since) ∙ ap (after nextCounter stepsMost (empty n)) events-are
 
       pub kept-now : Kept s Z n now
       kept-now = behind-keeps s Z n one u (first ++ since)
@@ -101,28 +101,28 @@ module _ (Z : ℕ) (one : 1 ≤ Z) (s : Settings) (n : ℕ) (u : InUse s n) wher
             traffic-of s Z ms (first ++ since) g zeros es (λ t k. subst (List·Memᴰ (arrives t)) (sym events-are) k)
 
         -- without the room
-        pub sound-now : (Done01 (sentOf s m) (cellsIn s Z n now) → CellAllCame suc (sentOf s m) (eventsIn s Z (storeBehind s Z n first) since)) ×
-            CellDelivery suc top (Done01 (sentOf s m)) n (sentOf s m) (cellsIn s Z n now)
+        pub sound-now : (Done01 (sentOf s m) (cellsIn s Z n now) → CellAllCame nextCounter (sentOf s m) (eventsIn s Z (storeBehind s Z n first) since)) ×
+            CellDelivery nextCounter stepsMost (Done01 (sentOf s m)) n (sentOf s m) (cellsIn s Z n now)
         sound-now =
             subst
-            (λ (l : List Cell). (Done01 (sentOf s m) l → CellAllCame suc (sentOf s m) (eventsIn s Z (storeBehind s Z n first) since)) ×
-            CellDelivery suc top (Done01 (sentOf s m)) n (sentOf s m) l)
+            (λ (l : List Cell). (Done01 (sentOf s m) l → CellAllCame nextCounter (sentOf s m) (eventsIn s Z (storeBehind s Z n first) since)) ×
+            CellDelivery nextCounter stepsMost (Done01 (sentOf s m)) n (sentOf s m) l)
             (sym cells-are)
             (soundness01 n (map (sentOf s) ms) (eventsIn s Z zeros first) (eventsIn s Z (storeBehind s Z n first) since) traffic-now (sentOf s m)
             (Memᴰ·map (sentOf s) h) (anew-of s Z n one u m first a))
 
         -- with it
-        pub promise-now : CellRoom suc top (empty n) (eventsIn s Z zeros (first ++ since)) → Untaken s Z m (storeBehind s Z n first) since →
-            CellPromise suc top (Done01 (sentOf s m)) n (sentOf s m) (eventsIn s Z (storeBehind s Z n first) since) (cellsIn s Z n now)
+        pub promise-now : CellRoom nextCounter stepsMost (empty n) (eventsIn s Z zeros (first ++ since)) → Untaken s Z m (storeBehind s Z n first) since →
+            CellPromise nextCounter stepsMost (Done01 (sentOf s m)) n (sentOf s m) (eventsIn s Z (storeBehind s Z n first) since) (cellsIn s Z n now)
         promise-now r w =
             subst
-            (CellPromise suc top (Done01 (sentOf s m)) n (sentOf s m) (eventsIn s Z (storeBehind s Z n first) since))
+            (CellPromise nextCounter stepsMost (Done01 (sentOf s m)) n (sentOf s m) (eventsIn s Z (storeBehind s Z n first) since))
             (sym cells-are)
             (demand3·01 n (map (sentOf s) ms) (eventsIn s Z zeros first) (eventsIn s Z (storeBehind s Z n first) since)
-            (record { traffic = traffic-now; room = subst (CellRoom suc top (empty n)) events-are r })
+            (record { traffic = traffic-now; room = subst (CellRoom nextCounter stepsMost (empty n)) events-are r })
             (sentOf s m) (Memᴰ·map (sentOf s) h) (anew-of s Z n one u m first a)
             (subst
-            (λ (l : List Cell). CellUntaken suc top (sentOf s m) l (eventsIn s Z (storeBehind s Z n first) since))
+            (λ (l : List Cell). CellUntaken nextCounter stepsMost (sentOf s m) l (eventsIn s Z (storeBehind s Z n first) since))
             (behind-cells s Z n one u first)
             (untaken-of s Z n m (storeBehind s Z n first) since (behind-keeps s Z n one u first) w)))
 
@@ -169,15 +169,15 @@ module _ (Z : ℕ) (one : 1 ≤ Z) (s : Settings) (n : ℕ) (u : InUse s n) wher
         kept : Kept s Z n st
         kept = kept-now since
 
-        v : CellDelivery suc top (Done01 (sentOf s m)) n (sentOf s m) (cellsIn s Z n st)
+        v : CellDelivery nextCounter stepsMost (Done01 (sentOf s m)) n (sentOf s m) (cellsIn s Z n st)
         v = sound-now since g .1
 
         -- after one packet more
         more-takes : (p : List ℕ) → Octets p × MayCome s Z ms p →
-            Gives suc top (sentOf s m) (cellsIn s Z n (arrivedStore s Z st p)) × Output suc top (sentOf s m) (cellsIn s Z n (arrivedStore s Z st p))
+            Gives nextCounter stepsMost (sentOf s m) (cellsIn s Z n (arrivedStore s Z st p)) × Output nextCounter stepsMost (sentOf s m) (cellsIn s Z n (arrivedStore s Z st p))
         more-takes p o =
             let w = sound-now (since ++ arrival p ∷ []) (traffic-more since g p (o .0) (o .1)) .1 in
-            subst (λ (x : List ℕ). Gives suc top (sentOf s m) (cellsIn s Z n x) × Output suc top (sentOf s m) (cellsIn s Z n x))
+            subst (λ (x : List ℕ). Gives nextCounter stepsMost (sentOf s m) (cellsIn s Z n x) × Output nextCounter stepsMost (sentOf s m) (cellsIn s Z n x))
             (store-more since p) (w .gives, w .output)
 
         takes′ : (c : Call) → ((p : List ℕ) → Brings p c → Octets p × MayCome s Z ms p) → Takes s Z n m st c
@@ -191,13 +191,13 @@ module _ (Z : ℕ) (one : 1 ≤ Z) (s : Settings) (n : ℕ) (u : InUse s n) wher
 
         -- after more calls
         done-then : IsComplete s Z n m st → (more : List Call) → Untaken s Z m st more →
-            Done01 (sentOf s m) (cellsIn s Z n (storeAfter s Z st more)) × Gives suc top (sentOf s m) (cellsIn s Z n (storeAfter s Z st more)) ×
-            Output suc top (sentOf s m) (cellsIn s Z n (storeAfter s Z st more)) ×
-            CellHanded suc top n (sentOf s m) (cellsIn s Z n (storeAfter s Z st more))
+            Done01 (sentOf s m) (cellsIn s Z n (storeAfter s Z st more)) × Gives nextCounter stepsMost (sentOf s m) (cellsIn s Z n (storeAfter s Z st more)) ×
+            Output nextCounter stepsMost (sentOf s m) (cellsIn s Z n (storeAfter s Z st more)) ×
+            CellHanded nextCounter stepsMost n (sentOf s m) (cellsIn s Z n (storeAfter s Z st more))
         done-then d more w =
             subst
-            (λ (l : List Cell). Done01 (sentOf s m) l × Gives suc top (sentOf s m) l × Output suc top (sentOf s m) l ×
-            CellHanded suc top n (sentOf s m) l)
+            (λ (l : List Cell). Done01 (sentOf s m) l × Gives nextCounter stepsMost (sentOf s m) l × Output nextCounter stepsMost (sentOf s m) l ×
+            CellHanded nextCounter stepsMost n (sentOf s m) l)
             (sym (run-cells s Z n more st kept))
             (v .lasts (done-of m k (cellsIn s Z n st) d) (eventsIn s Z st more) (untaken-of s Z n m st more kept w))
 
@@ -208,16 +208,16 @@ module _ (Z : ℕ) (one : 1 ≤ Z) (s : Settings) (n : ℕ) (u : InUse s n) wher
             takes-of s Z n m k then c (at-keeps s Z n then (run-keeps s Z n more st kept) c) (x .0) (x .1)
           where
             with-packet : (p : List ℕ) →
-                Gives suc top (sentOf s m) (cellsIn s Z n (arrivedStore s Z (storeAfter s Z st more) p)) ×
-                Output suc top (sentOf s m) (cellsIn s Z n (arrivedStore s Z (storeAfter s Z st more) p))
+                Gives nextCounter stepsMost (sentOf s m) (cellsIn s Z n (arrivedStore s Z (storeAfter s Z st more) p)) ×
+                Output nextCounter stepsMost (sentOf s m) (cellsIn s Z n (arrivedStore s Z (storeAfter s Z st more) p))
             with-packet p =
                 let y = done-then d (more ++ arrival p ∷ []) (untaken-more s Z m st more p w) in
-                subst (λ (x : List ℕ). Gives suc top (sentOf s m) (cellsIn s Z n x) × Output suc top (sentOf s m) (cellsIn s Z n x))
+                subst (λ (x : List ℕ). Gives nextCounter stepsMost (sentOf s m) (cellsIn s Z n x) × Output nextCounter stepsMost (sentOf s m) (cellsIn s Z n x))
                 (arrived-more s Z st more p) (y .1, y .2)
 
             at-then : (c′ : Call) →
-                Gives suc top (sentOf s m) (cellsIn s Z n (storeAt s Z (storeAfter s Z st more) c′)) ×
-                Output suc top (sentOf s m) (cellsIn s Z n (storeAt s Z (storeAfter s Z st more) c′))
+                Gives nextCounter stepsMost (sentOf s m) (cellsIn s Z n (storeAt s Z (storeAfter s Z st more) c′)) ×
+                Output nextCounter stepsMost (sentOf s m) (cellsIn s Z n (storeAt s Z (storeAfter s Z st more) c′))
             at-then (arrival p) = with-packet p
             at-then (taking out) = let y = done-then d more w in (y .1, y .2)
             at-then (joining p out) = with-packet p

@@ -8,18 +8,18 @@ use mathlib.Core.List.{List, _++_}
 use native.Mathlib.Omega.{arith}
 use lib.ListN.{length, drop, length-append, length-take, length-drop}
 use lib.Dec.{eqb}
-use Rattle.octets.specs.Octets.{pick, part, Octets}
+use Rattle.octets.specs.Octets.{pick, part, Octets, most32}
 use Rattle.walk.specs.declared.Settings.{Settings}
 use Rattle.packet.specs.Format.{Values, Opt, segment, identification, counterOctets, headerOctets, secondaryOctets, dataOctets, octetsOf, InRange}
 use Rattle.packet.specs.Reading.{readPacket, segmented, counterSize}
 use Rattle.packet.specs.Key.{keyOf}
+use Rattle.sender.specs.Sending.{stepsOf}
 use Rattle.format.specs.Told.{valuesOf}
 use Rattle.format.proofs.TwoWay.{writes-octets, reads-back}
 use Rattle.format.proofs.Frame.{identification-long, packet-long}
 use Rattle.format.proofs.Accepting.{accepted, written}
 use Rattle.cells.specs.Segments.{Seg, segOf}
 use Rattle.demand3.specs.Sendings.{Sending, flagsIn, ReadsAs, manyOf, startOf, valuesAt, packetWith, segmentAt, IsCut, counterIn}
-use Rattle.sender.proofs.Stepping.{steps-suc}
 
 -- ---- what reading tells of written values
 
@@ -107,11 +107,10 @@ module _ (s : Settings) (Z : ℕ) (m : Sending) (k : IsCut s Z m) (i : ℕ) (l :
     pub repeat-octets : Octets (packetWith s m i c)
     repeat-octets = writes-octets s (valuesAt s m i c) with-range
 
--- no counter past the last (DEMANDS 3.2)
-pub counters-fit : (s : Settings) (Z : ℕ) (m : Sending) → IsCut s Z m → startOf s m + manyOf s m ≤ 4294967296
-counters-fit s Z m k =
-    let l : manyOf s m - 1 < manyOf s m = omega (arith, k .many) in
-    omega (arith, counter-fits s Z m k (manyOf s m - 1) l, steps-suc (manyOf s m - 1) (startOf s m), k .many)
+-- any counter may be the first
+pub start-fits : (s : Settings) (Z : ℕ) (m : Sending) → IsCut s Z m → startOf s m ≤ most32
+unfolding stepsOf
+start-fits s Z m k = omega (arith, counter-fits s Z m k 0 (omega (arith, k .many)))
 
 -- ---- lengths
 

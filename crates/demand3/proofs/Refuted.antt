@@ -3,7 +3,7 @@
 -- matches by transaction id alone. The first three are any program at all of which this is said: what it leaves after a list of calls,
 -- or what a call then takes. The last two are programs of `Ways`. Each fails a part of demand 3 on the run of `Day`; the store meets it.
 -- Assumes nothing.
-use Prim.Native.Nat.{ℕ, suc, _+_, _≤_, _<_}
+use Prim.Native.Nat.{ℕ, _+_, _≤_, _<_}
 use mathlib.Core.Path.{_≡_, refl, ap, ap₂, sym, _∙_, subst}
 use mathlib.Core.Logic.{_⊎_, inl, inr}
 use mathlib.Core.Option.{Option, none, some, Option·map}
@@ -14,12 +14,12 @@ use Rattle.octets.specs.Octets.{Octets, wide, alike}
 use Rattle.octets.proofs.Lists.{below-or}
 use Rattle.fields.specs.Form.{split}
 use Rattle.packet.specs.Format.{presence, identification, fixedOctets, frontOctets, backOctets, headerOctets}
+use Rattle.packet.specs.Numbers.{nextCounter, stepsMost}
 use Rattle.write.specs.Given.{headOf}
-use Rattle.fewest.specs.Runs.{place}
 use Rattle.cells.specs.Segments.{carries, sameRest}
 use Rattle.cells.specs.Order.{cellSize}
 use Rattle.taking.specs.declared.Taken.{Taken}
-use Rattle.cells.specs.Messages.{Run, look, roleOf, bodies, bodyOf, restFrom, runFrom, pickIn, picked, among, top}
+use Rattle.cells.specs.Messages.{Run, look, roleOf, bodies, bodyOf, restFrom, runFrom, pickIn, picked, among}
 use Rattle.taking.specs.Taking.{Took, message, unable}
 use Rattle.walk.specs.Walk.{refusal}
 use Rattle.taking.specs.Told.{takenOf}
@@ -37,9 +37,9 @@ use Rattle.demand3.proofs.Acts.{EachPacket, each-packet, Act, comes, dr
 use Rattle.demand3.proofs.ReadAs.{repeat-reads}
 use Rattle.demand3.proofs.Cutter.{cutter-hands-out}
 use Rattle.demand3.proofs.Day.{settings, cutting, three, succeeds, messages, of-three, of-two, single, stub, huge, three-many, three-long}
-use Rattle.demand3.proofs.Day.{three-cut, seg, stray, is-seven, is-nine, is-ten, is-single, is-stub}
+use Rattle.demand3.proofs.Day.{three-cut, seg, stray, is-three-first, is-three-last, is-two-first, is-single, is-stub}
 use Rattle.demand3.proofs.DayComes.{Fine, three-fine}
-use Rattle.demand3.proofs.DayRun.{lentOut, early, morning, atNoon, noon, evening, seven, nine, ten, noonActs, eveningActs, consed, day-acts, in-use, traffic}
+use Rattle.demand3.proofs.DayRun.{lentOut, early, morning, atNoon, noon, evening, three-first, three-last, two-first, noonActs, eveningActs, consed, day-acts, in-use, traffic}
 use Rattle.demand3.proofs.DayEnd.{cellsAtEnd, end-cells, theRun, the-key, the-start, promised}
 use Rattle.demand3.proofs.Ways.{goes, goesOn, behind, takenBy, by, ofKey, lastOf, heldFrom, numbered, numberWay, match, restBy, opened, chosen, transactionWay}
 use Rattle.sender.specs.Sending.{stepsOf}
@@ -125,7 +125,7 @@ no-empty run e f =
 
 -- what is told of the first message: H, B and c
 abbrev pub told : Taken
-told = record { refusal = refusal 0; header = 21; body = 8; counter = record { 0 = 7 } }
+told = record { refusal = refusal 0; header = 21; body = 8; counter = record { 0 = 4294967294 } }
 
 -- at the end of the run the first message, taken at noon, is complete anew: a taking with 31 octets or more tells it
 abbrev pub TakesAgain : (List Call → Call → Option Took) → Type 0
@@ -135,18 +135,18 @@ TakesAgain by = (out : List ℕ) → 31 ≤ length out → Option·map takenOf (
 abbrev pub Once : (List Call → Call → Option Took) → Type 0
 Once by = (x y : List Call) (c d : Call) (r q : Run) → by x c ≡ some (message r) → by (x ++ c ∷ y) d ≡ some (message q) → ⊥
 
-picks-three : picked suc top cellsAtEnd ≡ some theRun
-unfolding look carries alike pickIn runFrom restFrom roleOf
+picks-three : picked nextCounter stepsMost cellsAtEnd ≡ some theRun
+unfolding look carries alike pickIn runFrom restFrom roleOf nextCounter
 picks-three = refl
 
 -- the store does so
 pub takes-again : TakesAgain (λ cs c. tookBy settings Z (storeBehind settings Z 4 cs) c)
-unfolding place headOf split identification headerOctets fixedOctets presence frontOctets backOctets wide
+unfolding headOf split identification headerOctets fixedOctets presence frontOctets backOctets wide
 takes-again out l =
     let h : headerSize settings three ≡ 21 = refl in
     let d =
     promised .delivery .takes (taking out) (λ p b. absurd (no-packet p b)) .enough
-    (refl, (theRun, ap (picked suc top) end-cells ∙ picks-three, (the-key, the-start))) (omega (arith, three-long)) in
+    (refl, (theRun, ap (picked nextCounter stepsMost) end-cells ∙ picks-three, (the-key, the-start))) (omega (arith, three-long)) in
     cutter-hands-out settings Z cutting succeeds 4 (storeBehind settings Z 4 (noon ++ evening)) (taking out) d .0
   where
     no-packet : (p : List ℕ) → Brings p (taking out) → ⊥
@@ -171,7 +171,7 @@ TellsIt by = (x y : List Call) (c : Call) (r : Run) → noon ++ evening ≡ x ++
 
 -- the store does so
 pub tells-it : TellsIt (λ cs c. tookBy settings Z (storeBehind settings Z 4 cs) c)
-unfolding place stepsOf headOf split identification headerOctets fixedOctets presence frontOctets backOctets wide
+unfolding stepsOf headOf split identification headerOctets fixedOctets presence frontOctets backOctets wide nextCounter
 tells-it x y c r d e i =
     let a : r .head .counter ≡ segmentAt settings three 0 .counter = i .1 in
     let v =
@@ -197,24 +197,24 @@ tells-it x y c r d e i =
 told-body : (r : Run) → some (takenOf (message r)) ≡ some told → length (bodyOf r) ≡ 8
 told-body r h = let e : takenOf (message r) ≡ told = cc h in ap (λ (x : Taken). x .body) e
 
--- after these calls a joining of the first: of the key there are then three segments, as many as the counters 7 to 9, and 8 is missing
+-- after these calls a joining of the first: of the key there are then three segments, as many as the counters from its first, 4,294,967,294, to its last, 0, and the one between is missing
 abbrev thirdComes : List Call
 thirdComes =
     arrival (of-three 2 2) ∷ taking (lentOut 100) ∷ arrival (of-two 0 3) ∷ arrival stub ∷ arrival single ∷ []
 
-third-acts : map (actOf settings Z) thirdComes ≡ comes nine ∷ draw 100 ∷ comes ten ∷ comes passes ∷ comes passes ∷ []
+third-acts : map (actOf settings Z) thirdComes ≡ comes three-last ∷ draw 100 ∷ comes two-first ∷ comes passes ∷ comes passes ∷ []
 third-acts =
-    consed (ap comes (is-nine 2 (omega arith)))
-    (consed refl (consed (ap comes (is-ten 3 (omega arith))) (consed (ap comes is-stub) (consed (ap comes is-single) refl))))
+    consed (ap comes (is-three-last 2 (omega arith)))
+    (consed refl (consed (ap comes (is-two-first 3 (omega arith))) (consed (ap comes is-stub) (consed (ap comes is-single) refl))))
 
 -- what is handed out then lacks the segment between
 abbrev lacking : Run
-lacking = record { head = seg 7 1 (1 ∷ 2 ∷ 3 ∷ []); rest = seg 9 2 (7 ∷ 8 ∷ []) ∷ [] }
+lacking = record { head = seg 4294967294 1 (1 ∷ 2 ∷ 3 ∷ []); rest = seg 0 2 (7 ∷ 8 ∷ []) ∷ [] }
 
 lacking-taken :
-    takenBy numberWay (behind numberWay (empty 4) (comes nine ∷ draw 100 ∷ comes ten ∷ comes passes ∷ comes passes ∷ [])) (meets seven 100)
+    takenBy numberWay (behind numberWay (empty 4) (comes three-last ∷ draw 100 ∷ comes two-first ∷ comes passes ∷ comes passes ∷ [])) (meets three-first 100)
     ≡ some (message lacking)
-unfolding takenBy behind goesOn goes numbered ofKey lastOf heldFrom look carries sameRest alike put hasFree roleOf bodies
+unfolding takenBy behind goesOn goes numbered ofKey lastOf heldFrom look carries sameRest alike put hasFree roleOf bodies nextCounter
 lacking-taken = refl
 
 lacking-long : length (bodyOf lacking) ≡ 5
@@ -225,7 +225,7 @@ pub no-number : TellsIt (by numberWay settings Z 4) → ⊥
 no-number f =
     let e : by numberWay settings Z 4 thirdComes (joining (of-three 0 0) (lentOut 100)) ≡ some (message lacking) =
     ap₂ (λ (l : List Act) (a : Act). takenBy numberWay (behind numberWay (empty 4) l) a) third-acts
-    (ap (λ (t : Event). meets t 100) (is-seven 0 (omega arith)))
+    (ap (λ (t : Event). meets t 100) (is-three-first 0 (omega arith)))
     ∙ lacking-taken in
     let g = f thirdComes rest (joining (of-three 0 0) (lentOut 100)) lacking refl e (the-key, the-start) in
     omega (arith, told-body lacking (sym (ap (Option·map takenOf) e) ∙ g), lacking-long)
@@ -235,12 +235,12 @@ no-number f =
 
 -- ---- segments matched by transaction id alone
 
--- the segment of another key that stands at counter 8 is taken for the message's own
+-- the segment of another key that stands at counter 4,294,967,295 is taken for the message's own
 abbrev mixed : Run
-mixed = record { head = seg 7 1 (1 ∷ 2 ∷ 3 ∷ []); rest = stray ∷ seg 9 2 (7 ∷ 8 ∷ []) ∷ [] }
+mixed = record { head = seg 4294967294 1 (1 ∷ 2 ∷ 3 ∷ []); rest = stray ∷ seg 0 2 (7 ∷ 8 ∷ []) ∷ [] }
 
 mixed-taken : takenBy transactionWay (behind transactionWay (empty 4) (noonActs ++ eveningActs)) (draw 31) ≡ some (message mixed)
-unfolding takenBy behind goesOn goes match restBy opened chosen carries sameRest alike put hasFree roleOf bodies among
+unfolding takenBy behind goesOn goes match restBy opened chosen carries sameRest alike put hasFree roleOf bodies among nextCounter
 mixed-taken = refl
 
 mixed-long : length (bodyOf mixed) ≡ 6

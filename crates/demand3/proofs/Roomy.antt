@@ -1,13 +1,13 @@
 -- A store with as many cells as packets are handed over, by arrivals and joinings, has room for them, whatever is taken: over the
 -- octets, from the same over cells.
 -- Assumes nothing.
-use Prim.Native.Nat.{ℕ, suc, _+_, _≤_}
+use Prim.Native.Nat.{ℕ, _+_, _≤_}
 use mathlib.Core.Path.{_≡_, refl}
 use mathlib.Core.Bool.{Bool, true, false}
 use mathlib.Core.List.{List, [], _∷_, _++_}
 use native.Mathlib.Omega.{arith}
 use Rattle.walk.specs.declared.Settings.{Settings}
-use Rattle.cells.specs.Messages.{top}
+use Rattle.packet.specs.Numbers.{nextCounter, stepsMost}
 use Rattle.cells.specs.Order.{cellSize}
 use Rattle.demand3.specs.Traffic.{Event, arrives, passes, takes}
 use Rattle.demand3.specs.Calls.{Call, arrival, taking, joining, packetsIn, draws, storeBy}
@@ -60,7 +60,7 @@ module _ (s : Settings) (Z : ℕ) where
 roomy-of : (Z : ℕ) → 1 ≤ Z → WholeRoom Z
 roomy-of Z one s n u cs h =
     room-told s Z n one u cs
-    (roomy suc top n (eventsIn s Z (emptyStore Z n) cs) (let l = few s Z cs (emptyStore Z n) in omega arith))
+    (roomy nextCounter stepsMost n (eventsIn s Z (emptyStore Z n) cs) (let l = few s Z cs (emptyStore Z n) in omega arith))
 
 pub room·whole : WholeRoom cellSize
 room·whole = roomy-of cellSize (omega arith)

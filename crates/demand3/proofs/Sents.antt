@@ -10,16 +10,16 @@ use borrow.Author.Tests.{eq-eqb, ne-eqb}
 use Rattle.octets.proofs.Lists.{below-or}
 use Rattle.octets.specs.Laying.{together}
 use Rattle.walk.specs.declared.Settings.{Settings}
+use Rattle.packet.specs.Numbers.{nextCounter, stepsMost}
 use Rattle.format.proofs.Frame.{identification-long}
 use Rattle.cells.specs.Segments.{Seg}
-use Rattle.cells.specs.Messages.{listed, top}
+use Rattle.cells.specs.Messages.{listed}
 use Rattle.demand3.specs.Traffic.{Sent, bodyIn, flagsBefore, later, runOf, segmentsOf, stepsIn}
-use Rattle.demand3.specs.Base.{final}
-use Rattle.demand3.specs.Sendings.{Sending, wholeBody, flagsIn, manyOf, segmentAt, identificationOf, headerOf, keyIn, headerSize, startOf, endOf, IsCut}
-use Rattle.demand3.proofs.ReadAs.{same-seg, counters-fit}
+use Rattle.demand3.specs.Sendings.{Sending, wholeBody, flagsIn, manyOf, segmentAt, identificationOf, headerOf, keyIn, headerSize, startOf, stepsTo, IsCut}
+use Rattle.demand3.proofs.ReadAs.{same-seg}
 use Rattle.demand3.proofs.AnyCut.{partOf}
 use Rattle.sender.specs.Sending.{stepsOf}
-use Rattle.sender.proofs.Stepping.{steps-suc, steps-last}
+use Rattle.sender.proofs.Stepping.{steps-last}
 
 -- ---- rows of things
 
@@ -64,19 +64,19 @@ listed-all d (x ∷ l) = ap (λ (y : List _). x ∷ y) (listed-on (λ (i : ℕ).
 module _ (k : List ℕ) (a n : ℕ) (f : ℕ → List ℕ) (g : ℕ → ℕ) (final : (i : ℕ) → 1 ≤ i → suc i ≡ n → g i ≡ 2)
     (inner : (i : ℕ) → 1 ≤ i → suc i < n → g i ≡ 0) where
   abbrev rowOf : ℕ → Seg
-  rowOf i = record { key = k; counter = stepsOf suc i a; flags = g i; body = f i }
+  rowOf i = record { key = k; counter = stepsOf nextCounter i a; flags = g i; body = f i }
 
   flags-before : (j i : ℕ) → 1 ≤ i → suc i + j ≡ n → flagsBefore (listed f j (suc i)) ≡ g i
   unfolding listed
   flags-before zero i l e = sym (final i l (omega arith))
   flags-before (suc j) i l e = sym (inner i l (omega arith))
 
-  later-listed : (j i c : ℕ) → 1 ≤ i → i + j ≡ n → c ≡ stepsOf suc i a → later suc k c (listed f j i) ≡ listed rowOf j i
+  later-listed : (j i c : ℕ) → 1 ≤ i → i + j ≡ n → c ≡ stepsOf nextCounter i a → later nextCounter k c (listed f j i) ≡ listed rowOf j i
   unfolding listed later
   later-listed zero i c l e h = refl
   later-listed (suc j) i c l e h =
       ap₂ _∷_ (same-seg refl h (flags-before j i l (omega arith)) refl)
-      (later-listed j (suc i) (suc c) (omega arith) (omega arith) (ap suc h ∙ sym (steps-last suc i a)))
+      (later-listed j (suc i) (nextCounter c) (omega arith) (omega arith) (ap nextCounter h ∙ sym (steps-last nextCounter i a)))
 
 -- ---- a message
 
@@ -98,23 +98,23 @@ module _ (s : Settings) (Z : ℕ) (m : Sending) (k : IsCut s Z m) where
   twice : suc (suc q) ≡ manyOf s m
   twice = omega (arith, k .many)
 
-  segments-are : segmentsOf suc (sentOf s m) ≡ listed (segmentAt s m) (manyOf s m) 0
+  segments-are : segmentsOf nextCounter (sentOf s m) ≡ listed (segmentAt s m) (manyOf s m) 0
   unfolding runOf listed flagsIn stepsOf
   segments-are =
       ap₂ _∷_ (same-seg refl refl refl refl)
       (later-listed (keyIn s m) (startOf s m) (manyOf s m) (partOf s m) (flagsIn (manyOf s m))
       (λ i l e. rw (ne-eqb i 0 (λ z. omega arith), eq-eqb (suc i) (manyOf s m) e))
       (λ i l e. rw (ne-eqb i 0 (λ z. omega arith), ne-eqb (suc i) (manyOf s m) (λ z. omega arith)))
-      (suc q) 1 (suc (startOf s m)) (omega arith) (omega (arith, twice)) refl)
+      (suc q) 1 (nextCounter (startOf s m)) (omega arith) (omega (arith, twice)) refl)
       ∙ ap (λ (n : ℕ). listed (segmentAt s m) n 0) twice
 
   -- segment i is one of its segments
-  pub own-in : (i : ℕ) → i < manyOf s m → List·Memᴰ (segmentAt s m i) (segmentsOf suc (sentOf s m))
+  pub own-in : (i : ℕ) → i < manyOf s m → List·Memᴰ (segmentAt s m i) (segmentsOf nextCounter (sentOf s m))
   own-in i l =
       subst (List·Memᴰ (segmentAt s m i)) (sym segments-are) (listed-in (segmentAt s m) (manyOf s m) 0 i (omega arith) (omega arith))
 
   -- and there are no others
-  pub in-own : (t : Seg) → List·Memᴰ t (segmentsOf suc (sentOf s m)) → (i : ℕ) × (i < manyOf s m) × (t ≡ segmentAt s m i)
+  pub in-own : (t : Seg) → List·Memᴰ t (segmentsOf nextCounter (sentOf s m)) → (i : ℕ) × (i < manyOf s m) × (t ≡ segmentAt s m i)
   in-own t h =
       let v = in-listed (segmentAt s m) (manyOf s m) 0 t (subst (List·Memᴰ t) segments-are h) in
       (v .0, omega (arith, v .1), v .2)
@@ -124,14 +124,12 @@ module _ (s : Settings) (Z : ℕ) (m : Sending) (k : IsCut s Z m) where
   unfolding listed
   body-is = ap (λ (n : ℕ). together (listed (partOf s m) n 0)) twice ∙ ap together (listed-all [] (m .bodies))
 
-  pub end-is : final (sentOf s m) ≡ endOf s m
-  end-is =
-      let e : stepsIn (sentOf s m) ≡ manyOf s m - 1 = omega (arith, twice, listed-long (partOf s m) q 2) in
-      ap (λ (n : ℕ). stepsOf suc n (startOf s m)) e
+  pub end-is : stepsIn (sentOf s m) ≡ stepsTo s m
+  end-is = omega (arith, twice, listed-long (partOf s m) q 2)
 
-  -- no counter past the last (DEMANDS 3.2)
-  pub no-wrap : final (sentOf s m) ≤ top
-  no-wrap = omega (arith, end-is, steps-suc (manyOf s m - 1) (startOf s m), counters-fit s Z m k, k .many)
+  -- no more segments than a message may have (DEMANDS 3.2)
+  pub short : stepsIn (sentOf s m) ≤ stepsMost
+  short = omega (arith, end-is, k .most, k .many)
 
   -- identification and H octets
   pub key-long : length (keyIn s m) ≡ 2 + headerSize s m

@@ -1,7 +1,7 @@
 -- The cells after a list of calls are the cells after its events; what a call takes is what the event takes; and a packet was
 -- handed over exactly if its event is among them.
 -- Assumes nothing.
-use Prim.Native.Nat.{ℕ, suc}
+use Prim.Native.Nat.{ℕ}
 use mathlib.Core.Path.{_≡_, refl, ap, sym, _∙_, subst}
 use mathlib.Core.Logic.{_⊎_, inl, inr}
 use mathlib.Core.Bool.{Bool, true, false}
@@ -12,9 +12,10 @@ use native.Mathlib.Omega.{arith}
 use lib.ListN.{length}
 use Rattle.octets.specs.Octets.{pick}
 use Rattle.walk.specs.declared.Settings.{Settings}
+use Rattle.packet.specs.Numbers.{nextCounter, stepsMost}
 use Rattle.cells.specs.Segments.{Seg}
 use Rattle.cells.specs.Rows.{Cell}
-use Rattle.cells.specs.Messages.{cellsOf, Run, top}
+use Rattle.cells.specs.Messages.{cellsOf, Run}
 use Rattle.taking.specs.Taking.{message, took}
 use Rattle.join.specs.Joining.{lessTaken}
 use Rattle.demand3.specs.Traffic.{Event, arrives, takes, takenFrom, stepped, after}
@@ -48,7 +49,7 @@ module _ (s : Settings) (Z n : ℕ) where
     at-keeps (taking out) = k
     at-keeps (joining p out) = arrival-keeps s Z n st k p
 
-    pub at-cells : (c : Call) → cellsOf s Z (storeAt s Z st c) n ≡ after suc top cs (before s Z c)
+    pub at-cells : (c : Call) → cellsOf s Z (storeAt s Z st c) n ≡ after nextCounter stepsMost cs (before s Z c)
     unfolding after
     at-cells (arrival p) = arrival-cells s Z n st k p
     at-cells (taking out) = refl
@@ -56,13 +57,13 @@ module _ (s : Settings) (Z n : ℕ) where
 
     -- what it takes
     pub took-by : (c : Call) → draws s Z st c ≡ true →
-        tookBy s Z st c ≡ some (takenFrom suc top (after suc top cs (before s Z c)) (length (outOf c)))
+        tookBy s Z st c ≡ some (takenFrom nextCounter stepsMost (after nextCounter stepsMost cs (before s Z c)) (length (outOf c)))
     unfolding tookBy
     took-by c d =
         ap (λ (b : Bool). pick b (some (took s Z (storeAt s Z st c) (length (outOf c)))) none) d
         ∙ ap some
         (took-is s Z n (storeAt s Z st c) (at-keeps c) (length (outOf c))
-        ∙ ap (λ (x : List Cell). takenFrom suc top x (length (outOf c))) (at-cells c))
+        ∙ ap (λ (x : List Cell). takenFrom nextCounter stepsMost x (length (outOf c))) (at-cells c))
 
     pub by-keeps : (c : Call) → Kept s Z n (storeBy s Z st c)
     by-keeps c = subst (Kept s Z n) (sym (store-by s Z st c)) (go (draws s Z st c))
@@ -71,18 +72,18 @@ module _ (s : Settings) (Z n : ℕ) where
         go true = taking-keeps s Z n (storeAt s Z st c) (at-keeps c) (length (outOf c))
         go false = at-keeps c
 
-    pub by-cells : (c : Call) → cellsOf s Z (storeBy s Z st c) n ≡ after suc top cs (eventsBy s Z st c)
+    pub by-cells : (c : Call) → cellsOf s Z (storeBy s Z st c) n ≡ after nextCounter stepsMost cs (eventsBy s Z st c)
     unfolding after
     by-cells c =
         ap (λ (x : List ℕ). cellsOf s Z x n) (store-by s Z st c)
         ∙ go (draws s Z st c)
-        ∙ sym (after-append suc top cs (before s Z c) (drawing s Z (draws s Z st c) c))
+        ∙ sym (after-append nextCounter stepsMost cs (before s Z c) (drawing s Z (draws s Z st c) c))
       where
         go : (b : Bool) → cellsOf s Z (pick b (lessTaken s Z (storeAt s Z st c) (length (outOf c))) (storeAt s Z st c)) n ≡
-            after suc top (after suc top cs (before s Z c)) (drawing s Z b c)
+            after nextCounter stepsMost (after nextCounter stepsMost cs (before s Z c)) (drawing s Z b c)
         go true =
             taking-cells s Z n (storeAt s Z st c) (at-keeps c) (length (outOf c))
-            ∙ ap (λ (x : List Cell). stepped suc top x (takes (length (outOf c)))) (at-cells c)
+            ∙ ap (λ (x : List Cell). stepped nextCounter stepsMost x (takes (length (outOf c)))) (at-cells c)
         go false = at-cells c
 
   -- ---- a list of calls
@@ -93,13 +94,13 @@ module _ (s : Settings) (Z n : ℕ) where
   run-keeps (c ∷ l) st k = run-keeps l (storeBy s Z st c) (by-keeps st k c)
 
   pub run-cells : (l : List Call) (st : List ℕ) → Kept s Z n st →
-      cellsOf s Z (storeAfter s Z st l) n ≡ after suc top (cellsOf s Z st n) (eventsIn s Z st l)
+      cellsOf s Z (storeAfter s Z st l) n ≡ after nextCounter stepsMost (cellsOf s Z st n) (eventsIn s Z st l)
   unfolding storeAfter eventsIn after
   run-cells [] st k = refl
   run-cells (c ∷ l) st k =
       run-cells l (storeBy s Z st c) (by-keeps st k c)
-      ∙ ap (λ (x : List Cell). after suc top x (eventsIn s Z (storeBy s Z st c) l)) (by-cells st k c)
-      ∙ sym (after-append suc top (cellsOf s Z st n) (eventsBy s Z st c) (eventsIn s Z (storeBy s Z st c) l))
+      ∙ ap (λ (x : List Cell). after nextCounter stepsMost x (eventsIn s Z (storeBy s Z st c) l)) (by-cells st k c)
+      ∙ sym (after-append nextCounter stepsMost (cellsOf s Z st n) (eventsBy s Z st c) (eventsIn s Z (storeBy s Z st c) l))
 
 module _ (s : Settings) (Z : ℕ) where
   -- ---- packets among the calls

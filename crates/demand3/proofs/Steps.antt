@@ -1,7 +1,7 @@
 -- A call on a store's octets is an event of its cells: a packet that may be held arrives as its segment, any other passes, a taking
 -- takes. A store in order stays in order, with as many cells.
 -- Assumes nothing.
-use Prim.Native.Nat.{ℕ, suc, _+_, _*_, _/_, _≤_}
+use Prim.Native.Nat.{ℕ, _+_, _*_, _/_, _≤_}
 use mathlib.Core.Path.{_≡_, refl, ap, sym, _∙_, subst}
 use mathlib.Core.Logic.{_⊎_, inl, inr}
 use mathlib.Core.Bool.{Bool, true, false}
@@ -18,11 +18,12 @@ use Rattle.walk.specs.Walk.{refusal, begun}
 use Rattle.packet.specs.Format.{SettingsInRange}
 use Rattle.format.proofs.Start.{begun-back}
 use Rattle.packet.specs.Reading.{readPacket, segmented}
+use Rattle.packet.specs.Numbers.{nextCounter, stepsMost}
 use Rattle.cells.specs.Segments.{Seg, both, sameRest}
 use Rattle.cells.specs.Rows.{Cell, mayHold}
 use Rattle.cells.specs.Order.{inOrder, countIn}
 use Rattle.cells.proofs.Held.{both-true}
-use Rattle.cells.specs.Messages.{cellsOf, look, top}
+use Rattle.cells.specs.Messages.{cellsOf, look}
 use Rattle.arrival.specs.Arriving.{Arrived, whole, stored, again, refused, placed, beside, lowestFree, segmentArrived, arrivedIn, arrived, storeWith}
 use Rattle.taking.specs.Taking.{Took, message, unable, tookIn, took, storeLess}
 use Rattle.demand3.specs.Cells.{put}
@@ -187,18 +188,18 @@ module _ (s : Settings) (Z n : ℕ) (st : List ℕ) (k : Kept s Z n st) where
         go (some u) e = same u (sameRest u (segment s p))
 
     -- the cells after an arrival
-    pub arrival-cells : cellsOf s Z (arrivedStore s Z st p) n ≡ stepped suc top cs (eventOf s Z p)
+    pub arrival-cells : cellsOf s Z (arrivedStore s Z st p) n ≡ stepped nextCounter stepsMost cs (eventOf s Z p)
     unfolding stepped
     arrival-cells = ap (λ (x : Arrived). cellsOf s Z (storeWith Z st p x) n) arrived-is ∙ go (bool (mayHold s Z p))
       where
         go : (mayHold s Z p ≡ true) ⊎ (mayHold s Z p ≡ false) →
-            cellsOf s Z (storeWith Z st p (arrivedIn s Z st n p)) n ≡ stepped suc top cs (eventOf s Z p)
+            cellsOf s Z (storeWith Z st p (arrivedIn s Z st n p)) n ≡ stepped nextCounter stepsMost cs (eventOf s Z p)
         go (inl e) =
             ap (λ (x : Arrived). cellsOf s Z (storeWith Z st p x) n) (segment-came e) ∙ segment-cells e
-            ∙ ap (stepped suc top cs) (sym (pick-yes (mayHold s Z p) (arrives (segment s p)) passes e))
+            ∙ ap (stepped nextCounter stepsMost cs) (sym (pick-yes (mayHold s Z p) (arrives (segment s p)) passes e))
         go (inr e) =
             ap (λ (x : List ℕ). cellsOf s Z x n) (passed e)
-            ∙ ap (stepped suc top cs) (sym (pick-no (mayHold s Z p) (arrives (segment s p)) passes e))
+            ∙ ap (stepped nextCounter stepsMost cs) (sym (pick-no (mayHold s Z p) (arrives (segment s p)) passes e))
 
     pub arrival-keeps : Kept s Z n (arrivedStore s Z st p)
     arrival-keeps =
@@ -212,19 +213,19 @@ module _ (s : Settings) (Z n : ℕ) (st : List ℕ) (k : Kept s Z n st) where
 
   module _ (long : ℕ) where
     -- what it comes to, by the cells
-    pub took-is : took s Z st long ≡ takenFrom suc top cs long
+    pub took-is : took s Z st long ≡ takenFrom nextCounter stepsMost cs long
     unfolding tookIn takenFrom
     took-is =
         sym (took-open s Z st long (gate-by s Z st (k .settings) (k .order)))
         ∙ ap (λ (x : ℕ). tookIn s Z st x long) (k .count)
 
     -- the cells after it
-    pub taking-cells : cellsOf s Z (lessTaken s Z st long) n ≡ stepped suc top cs (takes long)
+    pub taking-cells : cellsOf s Z (lessTaken s Z st long) n ≡ stepped nextCounter stepsMost cs (takes long)
     unfolding stepped storeLess
     taking-cells =
         ap (λ (x : ℕ). cellsOf s Z (storeLess s Z st x (took s Z st long)) n) (k .count)
         ∙ ap (λ (x : Took). cellsOf s Z (storeLess s Z st n x) n) took-is
-        ∙ go (takenFrom suc top cs long)
+        ∙ go (takenFrom nextCounter stepsMost cs long)
       where
         go : (t : Took) → cellsOf s Z (storeLess s Z st n t) n ≡ lessened t cs
         go (message r) = cells-taken s Z st n r inside

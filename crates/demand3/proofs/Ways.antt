@@ -2,20 +2,21 @@
 -- counter, and which message they pick. Of the faults that were met there are two: one that calls a message complete by the number of
 -- its segments, and one that matches by transaction id alone. The store's own way comes to what its calls promise.
 -- Assumes nothing.
-use Prim.Native.Nat.{ℕ, zero, suc, _-_, _≤_}
+use Prim.Native.Nat.{ℕ, zero, suc, _+_, _-_, _≤_}
 use mathlib.Core.Path.{_≡_, refl, ap, ap₂, sym, _∙_}
 use mathlib.Core.Logic.{_⊎_, inl, inr}
 use mathlib.Core.Bool.{Bool, true, false}
 use mathlib.Core.Option.{Option, none, some}
 use mathlib.Core.List.{List, [], _∷_, map}
 use lib.ListN.{length}
-use lib.Dec.{eqb}
-use Rattle.octets.specs.Octets.{pick, part, alike}
+use lib.Dec.{eqb, leb}
+use Rattle.octets.specs.Octets.{pick, part, alike, most32}
 use Rattle.octets.proofs.Lists.{bool}
 use Rattle.walk.specs.declared.Settings.{Settings}
+use Rattle.packet.specs.Numbers.{nextCounter, stepsMost}
 use Rattle.cells.specs.Segments.{Seg, both}
 use Rattle.cells.specs.Rows.{Cell, segmentIn, bySegment}
-use Rattle.cells.specs.Messages.{Run, Role, first, middle, last, roleOf, cellsOf, orElse, look, link, opensBy, restFrom, runFrom, pickIn, picked, top}
+use Rattle.cells.specs.Messages.{Run, Role, first, middle, last, roleOf, cellsOf, orElse, look, link, opensBy, restFrom, runFrom, pickIn, picked}
 use Rattle.taking.specs.Taking.{Took, drawn, took}
 use Rattle.cells.proofs.Picking.{pick-yes}
 use Rattle.cells.proofs.Empty.{empty-cells}
@@ -74,18 +75,18 @@ module _ (w : Way) where
 -- ---- the store's way
 
 abbrev pub storeWay : Way
-storeWay = record { find = look; choose = picked suc top }
+storeWay = record { find = look; choose = picked nextCounter stepsMost }
 
-goes-same : (cs : List Cell) (e : Event) → goes storeWay cs e ≡ stepped suc top cs e
+goes-same : (cs : List Cell) (e : Event) → goes storeWay cs e ≡ stepped nextCounter stepsMost cs e
 unfolding goes stepped takenFrom
 goes-same cs (arrives t) = refl
 goes-same cs passes = refl
 goes-same cs (takes long) = refl
 
-all-same : (es : List Event) (cs : List Cell) → goesOn storeWay cs es ≡ after suc top cs es
+all-same : (es : List Event) (cs : List Cell) → goesOn storeWay cs es ≡ after nextCounter stepsMost cs es
 unfolding goesOn after
 all-same [] cs = refl
-all-same (e ∷ es) cs = all-same es (goes storeWay cs e) ∙ ap (λ (x : List Cell). after suc top x es) (goes-same cs e)
+all-same (e ∷ es) cs = all-same es (goes storeWay cs e) ∙ ap (λ (x : List Cell). after nextCounter stepsMost x es) (goes-same cs e)
 
 joins-same : (cs : List Cell) (e : Event) → joins storeWay cs e ≡ lands cs e
 joins-same cs (arrives t) = refl
@@ -111,13 +112,13 @@ module _ (s : Settings) (Z n : ℕ) where
         ∙ go (bool (draws s Z st (joining p out)))
       where
         taken : Option Took
-        taken = some (drawn (picked suc top (goes storeWay cs (eventOf s Z p))) (length out))
+        taken = some (drawn (picked nextCounter stepsMost (goes storeWay cs (eventOf s Z p))) (length out))
 
         go : (draws s Z st (joining p out) ≡ true) ⊎ (draws s Z st (joining p out) ≡ false) →
             pick (draws s Z st (joining p out)) taken none ≡ tookBy s Z st (joining p out)
         go (inl d) =
             pick-yes (draws s Z st (joining p out)) taken none d
-            ∙ ap (λ (x : List Cell). some (drawn (picked suc top x) (length out))) (goes-same cs (eventOf s Z p))
+            ∙ ap (λ (x : List Cell). some (drawn (picked nextCounter stepsMost x) (length out))) (goes-same cs (eventOf s Z p))
             ∙ sym (took-by s Z n st k (joining p out) d)
         go (inr d) =
             pick-no (draws s Z st (joining p out)) taken none d
@@ -170,14 +171,18 @@ among (some t) ts = t ∷ ts
 
 unfoldable pub heldFrom : ℕ → List Cell → List ℕ → ℕ → List Seg
 heldFrom zero cs k c = []
-heldFrom (suc n) cs k c = among (look cs k c) (heldFrom n cs k (suc c))
+heldFrom (suc n) cs k c = among (look cs k c) (heldFrom n cs k (nextCounter c))
+
+-- the steps from one counter to another, round the end if it is lower
+abbrev between : ℕ → ℕ → ℕ
+between c d = pick (leb c d) (d - c) (most32 - c + suc d)
 
 -- there is a last, and of the key as many segments as the counters from the first to it
 abbrev enough : List Cell → List Seg → Seg → Option Seg → Option (List Seg)
 enough cs ts t none = none
 enough cs ts t (some u) =
-    pick (eqb (length ts) (suc (u .counter - t .counter)))
-    (some (heldFrom (u .counter - t .counter) cs (t .key) (suc (t .counter)))) none
+    pick (eqb (length ts) (suc (between (t .counter) (u .counter))))
+    (some (heldFrom (between (t .counter) (u .counter)) cs (t .key) (nextCounter (t .counter)))) none
 
 abbrev numberedFrom : List Cell → Cell → Option Run
 numberedFrom cs x =
@@ -210,10 +215,10 @@ match (x ∷ xs) k c = orElse (matched k c x) (match xs k c)
 module _ (find : List Cell → List ℕ → ℕ → Option Seg) where
   unfoldable pub restBy : ℕ → List Cell → List ℕ → ℕ → Option (List Seg)
   restBy zero cs k c = none
-  restBy (suc n) cs k c = let r = restBy n cs k (suc c) in link (find cs k c) r
+  restBy (suc n) cs k c = let r = restBy n cs k (nextCounter c) in link (find cs k c) r
 
   unfoldable pub opened : List Cell → Seg → Option Run
-  opened cs t = let r = restBy top cs (t .key) (suc (t .counter)) in opensBy (roleOf (t .flags)) t r
+  opened cs t = let r = restBy stepsMost cs (t .key) (nextCounter (t .counter)) in opensBy (roleOf (t .flags)) t r
 
   abbrev openedIn : List Cell → Cell → Option Run
   openedIn cs x = bySegment none (opened cs) (segmentIn x)
@@ -229,20 +234,20 @@ abbrev pub transactionWay : Way
 transactionWay = wayBy match
 
 -- with the store's finding it is the store's way
-rest-same : (n : ℕ) (cs : List Cell) (k : List ℕ) (c : ℕ) → restBy look n cs k c ≡ restFrom suc top n cs k c
+rest-same : (n : ℕ) (cs : List Cell) (k : List ℕ) (c : ℕ) → restBy look n cs k c ≡ restFrom nextCounter stepsMost n cs k c
 unfolding restBy restFrom
 rest-same zero cs k c = refl
-rest-same (suc n) cs k c = ap (link (look cs k c)) (rest-same n cs k (suc c))
+rest-same (suc n) cs k c = ap (link (look cs k c)) (rest-same n cs k (nextCounter c))
 
-opened-same : (cs : List Cell) (t : Seg) → opened look cs t ≡ runFrom suc top cs t
+opened-same : (cs : List Cell) (t : Seg) → opened look cs t ≡ runFrom nextCounter stepsMost cs t
 unfolding opened runFrom
-opened-same cs t = ap (opensBy (roleOf (t .flags)) t) (rest-same top cs (t .key) (suc (t .counter)))
+opened-same cs t = ap (opensBy (roleOf (t .flags)) t) (rest-same stepsMost cs (t .key) (nextCounter (t .counter)))
 
-pub chosen-same : (cs xs : List Cell) → chosen look cs xs ≡ pickIn suc top cs xs
+pub chosen-same : (cs xs : List Cell) → chosen look cs xs ≡ pickIn nextCounter stepsMost cs xs
 unfolding chosen pickIn
 chosen-same cs [] = refl
 chosen-same cs (x ∷ xs) = ap₂ orElse (go (segmentIn x)) (chosen-same cs xs)
   where
-    go : (o : Option Seg) → bySegment none (opened look cs) o ≡ bySegment none (runFrom suc top cs) o
+    go : (o : Option Seg) → bySegment none (opened look cs) o ≡ bySegment none (runFrom nextCounter stepsMost cs) o
     go none = refl
     go (some t) = opened-same cs t

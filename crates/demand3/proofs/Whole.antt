@@ -1,16 +1,16 @@
 -- Demand 3 over the store's octets, from demand 3 over its cells; and what of it holds without the room.
 -- Assumes nothing.
-use Prim.Native.Nat.{ℕ, suc, _≤_}
+use Prim.Native.Nat.{ℕ, _≤_}
 use mathlib.Core.Path.{_≡_, ap, sym, _∙_, subst}
 use mathlib.Core.Logic.{_⊎_, inl, inr}
 use mathlib.Core.Bool.{true}
 use mathlib.Core.List.{List, _∷_, _++_, map, List·Memᴰ, Memᴰ·append-left, Memᴰ·append-right, List·Memᴰ·append-cases, Memᴰ·map, Memᴰ·of-map}
 use native.Mathlib.Omega.{arith}
 use lib.ListN.{length}
+use Rattle.packet.specs.Numbers.{nextCounter, stepsMost}
 use Rattle.cells.specs.Segments.{Seg}
 use Rattle.cells.specs.Rows.{Cell}
 use Rattle.cells.specs.Order.{cellSize}
-use Rattle.cells.specs.Messages.{top}
 use Rattle.taking.specs.Taking.{message, took}
 use Rattle.demand3.specs.Traffic.{Sent, Event, arrives, empty, takenFrom, after}
 use Rattle.demand3.specs.Promise.{Original, Promise as CellPromise}
@@ -52,7 +52,7 @@ module _ (Z : ℕ) (one : 1 ≤ Z) where
       st : List ℕ
       st = storeBehind s Z n (first ++ since)
 
-      v : CellPromise suc top (Done01 (sentOf s m)) n (sentOf s m) (eventsIn s Z (storeBehind s Z n first) since) (cellsIn s Z n st)
+      v : CellPromise nextCounter stepsMost (Done01 (sentOf s m)) n (sentOf s m) (eventsIn s Z (storeBehind s Z n first) since) (cellsIn s Z n st)
       v = promise-now Z one s n u ms m h first a since (g .traffic) (room-of s Z n one u (first ++ since) (g .room)) w
 
   -- without the room
@@ -75,7 +75,7 @@ module _ (Z : ℕ) (one : 1 ≤ Z) where
         v .1,
         ap (λ (z : Sent). z .key) (v .2) ∙ w .2,
         delivers s Z n (v .0) (g .cut (v .0) (v .1)) st c (at-keeps s Z n st kept c) (b .0) r (b .1)
-            (subst (λ (z : Sent). Original suc z r) (sym (v .2)) (w .3)),
+            (subst (λ (z : Sent). Original nextCounter z r) (sym (v .2)) (w .3)),
       )
     where
       st : List ℕ
@@ -90,16 +90,16 @@ module _ (Z : ℕ) (one : 1 ≤ Z) where
       b : (draws s Z st c ≡ true) × (took s Z (storeAt s Z st c) (length (outOf c)) ≡ message r)
       b = by-took s Z st c r e
 
-      cells-are : after suc top (empty n) es ≡ after suc top (cellsIn s Z n st) (before s Z c)
+      cells-are : after nextCounter stepsMost (empty n) es ≡ after nextCounter stepsMost (cellsIn s Z n st) (before s Z c)
       cells-are =
-          after-append suc top (empty n) (eventsIn s Z (emptyStore Z n) x) (before s Z c)
-          ∙ ap (λ (l : List Cell). after suc top l (before s Z c)) (sym (behind-cells s Z n one u x))
+          after-append nextCounter stepsMost (empty n) (eventsIn s Z (emptyStore Z n) x) (before s Z c)
+          ∙ ap (λ (l : List Cell). after nextCounter stepsMost l (before s Z c)) (sym (behind-cells s Z n one u x))
 
-      taken : takenFrom suc top (after suc top (empty n) es) (length (outOf c)) ≡ message r
+      taken : takenFrom nextCounter stepsMost (after nextCounter stepsMost (empty n) es) (length (outOf c)) ≡ message r
       taken =
-          let d : takenFrom suc top (after suc top (cellsIn s Z n st) (before s Z c)) (length (outOf c)) ≡ message r =
+          let d : takenFrom nextCounter stepsMost (after nextCounter stepsMost (cellsIn s Z n st) (before s Z c)) (length (outOf c)) ≡ message r =
           cc (sym (took-by s Z n st kept c (b .0)) ∙ e) in
-          ap (λ (l : List Cell). takenFrom suc top l (length (outOf c))) cells-are ∙ d
+          ap (λ (l : List Cell). takenFrom nextCounter stepsMost l (length (outOf c))) cells-are ∙ d
 
       into : (t : Seg) → List·Memᴰ (arrives t) (eventsIn s Z (emptyStore Z n) x) ⊎ List·Memᴰ (arrives t) (before s Z c) →
           List·Memᴰ (arrives t) (eventsIn s Z (emptyStore Z n) x ++ eventsIn s Z st (c ∷ y))

@@ -1,5 +1,5 @@
 -- When a message is complete in a store's cells.
--- SPEC S-8: under one key a first at some counter, a last at a higher one, a continuation at every counter in between.
+-- SPEC S-8: under one key a first at some counter, a last some steps on, a continuation at every counter in between.
 -- Assumes nothing: these are definitions.
 use Prim.Native.Nat.{ℕ, _≤_, _<_}
 use mathlib.Core.Path.{_≡_}

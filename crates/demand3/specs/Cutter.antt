@@ -15,7 +15,6 @@ use Rattle.cut.specs.declared.Counted.{Counted}
 use Rattle.cut.specs.Cutting.{headerLength, countAnswer, bodyAt}
 use Rattle.fewest.specs.Cutting.{octetsAt}
 use Rattle.fewest.specs.Carrying.{firstOf}
-use Rattle.fewest.specs.Runs.{place}
 use Rattle.demand3.specs.Sendings.{Sending}
 
 -- what the cutter is given beside the settings, which is the limit P, the header's values and texts, the body, and the sender's numbers as they
@@ -42,7 +41,7 @@ module _ (s : Settings) where
   sendingOf m =
       record {
         head = headOf (m .values) (m .texts);
-        start = place (m .sender .next);
+        start = m .sender .counter .0;
         bodies = firstOf (bodyAt (m .limit) (headerLength s (m .values) (m .texts)) (m .body)) (countOf m .count);
       }
 
@@ -50,7 +49,7 @@ module _ (s : Settings) where
   pub record Succeeds (Z : ℕ) (m : Cutting) : Type 0 where
     -- texts and body are octets, and a transaction id has 64 bits: what their types say
     pub lends : Lends (m .values) (m .texts) (m .body)
-    -- the count succeeds, so that no counter passes 4,294,967,295 (DEMANDS 3.2)
+    -- the count succeeds, so that there are at most 4,096 segments (DEMANDS 3.2)
     pub counts : countOf m .refusal .number ≡ 0
     -- two segments or more (DEMANDS 3.2)
     pub many : 2 ≤ countOf m .count

@@ -1,14 +1,15 @@
 -- Joinings at a store where no message is complete, as a program that only joins makes them: the joining that completes a message hands
 -- it out, and leaves nothing complete.
 -- Assumes nothing: these are definitions.
-use Prim.Native.Nat.{ℕ, suc, _+_, _≤_}
+use Prim.Native.Nat.{ℕ, _+_, _≤_}
 use mathlib.Core.Path.{_≡_}
 use mathlib.Core.Logic.{_≢_}
 use mathlib.Core.Option.{some, none}
 use mathlib.Core.List.{List, [], _∷_, _++_, List·Memᴰ}
 use lib.ListN.{length}
 use Rattle.walk.specs.declared.Settings.{Settings}
-use Rattle.cells.specs.Messages.{picked, top}
+use Rattle.packet.specs.Numbers.{nextCounter, stepsMost}
+use Rattle.cells.specs.Messages.{picked}
 use Rattle.taking.specs.Taking.{unable}
 use Rattle.demand3.specs.Calls.{Call, joining, tookBy}
 use Rattle.demand3.specs.Sendings.{Sending, headerSize, bodySize}
@@ -18,7 +19,7 @@ use Rattle.demand3.specs.Whole.{Delivers}
 module _ (s : Settings) (Z n : ℕ) where
   -- no message is complete: a taking would pick none
   abbrev pub NoneComplete : List ℕ → Type 0
-  NoneComplete st = picked suc top (cellsIn s Z n st) ≡ none
+  NoneComplete st = picked nextCounter stepsMost (cellsIn s Z n st) ≡ none
 
   -- the joining of p, after the calls `before` and `since`, completes the message and has output for it
   pub record Completes (ms : List Sending) (m : Sending) (before since : List Call) (p out : List ℕ) : Type 0 where

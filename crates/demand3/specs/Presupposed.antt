@@ -51,7 +51,7 @@ module _ (s : Settings) (Z : ℕ) where
     other-keyed : ((m : Sending) → List·Memᴰ m ms → keyOf p (readPacket s p) ≢ keyIn s m) → MayCome ms p
 
   pub record Traffic (ms : List Sending) (cs : List Call) : Type 0 where
-    -- two segments or more, each with room in a cell, no counter past the last (DEMANDS 3.2)
+    -- two segments or more, at most 4,096, each with room in a cell (DEMANDS 3.2)
     pub cut : (m : Sending) → List·Memᴰ m ms → IsCut s Z m
     -- two have different keys, or no counter in common (DEMANDS 3.3)
     pub apart : (m w : Sending) → List·Memᴰ m ms → List·Memᴰ w ms →

@@ -13,6 +13,7 @@ use Rattle.octets.specs.Laying.{together}
 use Rattle.walk.specs.declared.Settings.{Settings}
 use Rattle.packet.specs.Format.{Head, Values, identification, headerOctets, octetsOf, InRange}
 use Rattle.packet.specs.Reading.{readPacket, segmented}
+use Rattle.packet.specs.Numbers.{nextCounter, segmentsMost}
 use Rattle.cells.specs.Segments.{Seg, segOf}
 use Rattle.sender.specs.Sending.{stepsOf}
 
@@ -41,15 +42,15 @@ module _ (s : Settings) where
   abbrev pub manyOf : Sending → ℕ
   manyOf m = length (m .bodies)
 
-  -- the counters of its first, of segment i, and of its last
+  -- the counters of its first and of segment i, and the steps from its first to its last
   abbrev pub startOf : Sending → ℕ
   startOf m = m .start
 
   abbrev pub counterIn : Sending → ℕ → ℕ
-  counterIn m i = stepsOf suc i (startOf m)
+  counterIn m i = stepsOf nextCounter i (startOf m)
 
-  abbrev pub endOf : Sending → ℕ
-  endOf m = counterIn m (manyOf m - 1)
+  abbrev pub stepsTo : Sending → ℕ
+  stepsTo m = manyOf m - 1
 
   -- the values of segment i, with this sequence count
   abbrev pub valuesAt : Sending → ℕ → ℕ → Values
@@ -91,10 +92,11 @@ module _ (s : Settings) where
 
   -- a message that demand 3 speaks of, for cells of Z octets
   pub record IsCut (Z : ℕ) (m : Sending) : Type 0 where
-    -- two segments or more (DEMANDS 3.2)
+    -- two segments or more, and no more than a message may have (DEMANDS 3.2)
     pub many : 2 ≤ manyOf m
-    -- each a packet of the format: header values in range, a body of one octet or more, and no counter above 4,294,967,295, so none
-    -- is past the last. The sequence count 0 stands for any
+    pub most : manyOf m ≤ segmentsMost
+    -- each a packet of the format: header values in range, a body of one octet or more, and a counter of 32 bits, which all are if the
+    -- first is. The sequence count 0 stands for any
     pub range : (i : ℕ) → i < manyOf m → InRange s (valuesAt m i 0)
     -- each has room in a cell, after its mark; the length is the same with every sequence count
     pub fits : (i : ℕ) → i < manyOf m → 2 + length (packetWith m i 0) ≤ Z

@@ -106,7 +106,7 @@ module _ (next : ℕ → ℕ) where
 
 module _ (next : ℕ → ℕ) (span : ℕ) where
   pub record Traffic (ms : List Sent) (es : List Event) : Type 0 where
-    -- no counter comes round (DEMANDS 3.2): no message has more steps than the span, nor one counter twice
+    -- no message has more steps than the span, nor one counter twice (DEMANDS 3.2)
     pub short : (m : Sent) → List·Memᴰ m ms → stepsIn m ≤ span
     pub steady : (m : Sent) → List·Memᴰ m ms → (t u : Seg) → List·Memᴰ t (segmentsOf next m) → List·Memᴰ u (segmentsOf next m) →
         t .counter ≡ u .counter → t ≡ u

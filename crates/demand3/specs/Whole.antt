@@ -2,7 +2,7 @@
 -- `complete` of `Promise`, by `IsComplete`; 3.7 `enough` of `Takes`, what is written then `Delivers`, and that takings come to it
 -- `HandsOut`; 3.8 `lasts` and `stays`.
 -- Assumes nothing: these are definitions.
-use Prim.Native.Nat.{ℕ, suc, _+_, _≤_, _<_}
+use Prim.Native.Nat.{ℕ, _+_, _≤_, _<_}
 use mathlib.Core.Path.{_≡_}
 use mathlib.Core.Logic.{_↔_}
 use mathlib.Core.Bool.{true}
@@ -11,22 +11,22 @@ use mathlib.Core.List.{List, _∷_, _++_, map, List·Memᴰ}
 use lib.ListN.{length, drop}
 use Rattle.octets.specs.Octets.{Octets}
 use Rattle.walk.specs.declared.Settings.{Settings}
+use Rattle.packet.specs.Numbers.{nextCounter, stepsMost}
 use Rattle.cells.specs.Rows.{held, rowAt, zeroRow}
 use Rattle.cells.specs.Order.{cellAt}
-use Rattle.cells.specs.Messages.{Run, picked, top}
+use Rattle.cells.specs.Messages.{Run, picked}
 use Rattle.taking.specs.Taking.{message, unable, writing}
 use Rattle.walk.specs.Walk.{refusal}
 use Rattle.taking.specs.Told.{takenOf}
 use Rattle.demand3.specs.Base.{CompleteFrom}
 use Rattle.demand3.specs.Calls.{Call, taking, Brings, packetsIn, outOf, draws, storeAt, tookBy, storeBy, outBy, storeAfter, outsAfter}
-use Rattle.demand3.specs.Sendings.{Sending, wholeBody, manyOf, segmentAt, identificationOf, headerOf, keyIn, headerSize, bodySize, startOf, endOf}
+use Rattle.demand3.specs.Sendings.{Sending, wholeBody, manyOf, segmentAt, identificationOf, headerOf, keyIn, headerSize, bodySize, startOf, stepsTo}
 use Rattle.demand3.specs.Presupposed.{InUse, emptyStore, storeBehind, cellsIn, AllCame, MayCome, Traffic, Given, Its, Untaken, Anew, Room}
 
 module _ (s : Settings) (Z n : ℕ) where
-  -- complete (SPEC S-8), here for
-  -- the message's own key, first counter and last
+  -- complete (SPEC S-8), here for the message's own key, first counter and number of steps to its last
   abbrev pub IsComplete : Sending → List ℕ → Type 0
-  IsComplete m st = CompleteFrom (cellsIn s Z n st) (keyIn s m) (startOf s m) (endOf s m)
+  IsComplete m st = CompleteFrom (cellsIn s Z n st) (keyIn s m) (startOf s m) (stepsTo s m)
 
   -- cell j holds a segment of the message
   abbrev pub Holds : Sending → List ℕ → ℕ → Type 0
@@ -49,7 +49,7 @@ module _ (s : Settings) (Z n : ℕ) where
 
   -- the taking of a call picks the message
   abbrev pub Picks : Sending → List ℕ → Call → Type 0
-  Picks m st c = (draws s Z st c ≡ true) × ((r : Run) × (picked suc top (cellsIn s Z n (storeAt s Z st c)) ≡ some r) × Its s m r)
+  Picks m st c = (draws s Z st c ≡ true) × ((r : Run) × (picked nextCounter stepsMost (cellsIn s Z n (storeAt s Z st c)) ≡ some r) × Its s m r)
 
   -- a call at this store, a taking or a joining
   pub record Takes (m : Sending) (st : List ℕ) (c : Call) : Type 0 where
@@ -65,7 +65,7 @@ module _ (s : Settings) (Z n : ℕ) where
   -- outputs for takings one after the other, each at least as long as what it picks
   abbrev pub LongEnough : List ℕ → List (List ℕ) → Type 0
   LongEnough st outs = (x y : List (List ℕ)) (out : List ℕ) (r : Run) → outs ≡ x ++ out ∷ y →
-      picked suc top (cellsIn s Z n (storeAfter s Z st (map taking x))) ≡ some r → length (writing r) ≤ length out
+      picked nextCounter stepsMost (cellsIn s Z n (storeAfter s Z st (map taking x))) ≡ some r → length (writing r) ≤ length out
 
   -- of as many such takings as there are cells, with no other call between, one hands out the message
   abbrev pub HandsOut : Sending → List ℕ → Type 0

@@ -87,7 +87,7 @@ module _ (old : Bool) (s : Settings) (P : ℕ) (v : HeaderValues) (t : Lent) (bo
         first = λ e. b .segment (cut-needed e) .first;
         last = λ e. b .segment (cut-needed e) .last;
         between = λ e. b .segment (cut-needed e) .between;
-        counter = λ e. let g = b .segment (cut-needed e) in (g .start, g .starts, g .counter);
+        counter = λ e. b .segment (cut-needed e) .counter;
       }
 
   -- packets that are octet for octet these, and what reading answers of them

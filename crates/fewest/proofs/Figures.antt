@@ -1,5 +1,6 @@
--- What SPEC's figures on cutting show beside their numbers: after figure 12's two segments no counter is left, the laws speak of
--- figure 8's message, and three of the wrong programs are refuted on it (E-5): a cutter that repeats packet 0, one that refuses, and an invented count.
+-- What SPEC's figures on cutting show beside their numbers: figure 12's second message goes round the end, and after it the next counter is
+-- 1; the laws speak of figure 8's message, and three of the wrong programs are refuted on it (E-5): a cutter that repeats packet 0, one that
+-- refuses, and an invented count.
 -- The header is figure 14's, H 21, and a body is so many zeros.
 -- Assumes nothing.
 use Prim.Native.Nat.{ℕ, zero, suc}
@@ -14,32 +15,31 @@ use Rattle.utf8.specs.Test.{ended, accepts, isText}
 use Rattle.walk.specs.Walk.{begun, check, octets, fieldFrom, unless}
 use Rattle.fields.specs.Form.{joined, split, allText}
 use Rattle.packet.specs.Figure14.{settings, zeros}
-use Rattle.packet.specs.Numbers.{countAt}
+use Rattle.packet.specs.Numbers.{countAt, nextCounter}
 use Rattle.packet.specs.Format.{presence, identification, fixedOctets, frontOctets, counterOctets, backOctets, headerOctets, secondaryOctets, dataOctets, octetsOf}
 use Rattle.packet.specs.FixedPart.{afterSdu, afterArea, afterService, afterOperation, afterVersion, afterSession, afterSecondary, afterQualifier}
 use Rattle.packet.specs.FixedPart.{afterTransaction, afterPresence, fixedOf, flagsOf, presentOf, wideField}
 use Rattle.packet.specs.Reading.{primaryTests, primaryOf, idsOf, textsOf, bodyTest, acceptedHeader, readPacket}
-use Rattle.sender.specs.declared.Next.the-variants.{NoneLeft}
-use Rattle.sender.specs.Sending.{nextCounter, afterSegment, afterSegments, stepsOf}
+use Rattle.sender.specs.Sending.{afterSegment, afterSegments, stepsOf}
 use Rattle.write.specs.Given.{headOf, sum, nameChecks, routingChecks, idChecks, textChecks, utf8Checks, headerChecks, unlessAll}
 use Rattle.write.specs.Writing.{settingsTest, zoneTest, partsTest, textTest}
 use Rattle.write.specs.Lending.{Lends}
 use Rattle.write.specs.Figure14.{header as values, texts}
 use Rattle.cut.specs.declared.Counted.{Counted}
 use Rattle.cut.specs.declared.Cut.{Cut}
-use Rattle.cut.specs.Cutting.{countersFit, counterAt, packets, rounded, limitTest, valueTests, messageTests, countRefusal, senderAfter, countAnswer, flagsAt, bodyAt, packetAt, packetAnswer}
+use Rattle.cut.specs.Cutting.{counterAt, packets, rounded, limitTest, valueTests, messageTests, countRefusal, senderAfter, countAnswer, flagsAt, bodyAt, packetAt, packetAnswer}
 use Rattle.fewest.specs.Figure14.{sender}
 use Rattle.fewest.specs.Carrying.{bodyOf, firstOf, Carries}
 use Rattle.fewest.specs.Cutting.{number, octetsAt, allPackets, AllBack}
 use Rattle.fewest.proofs.ReadBack.{packets-read-back, carries}
 use Rattle.fewest.proofs.Delivering.{not-refused}
 
--- figure 12: the largest counter is used, and then none is left
-pub twelve-none : countAnswer false settings 64 values texts 38 (sender 4294967294) .sender .next ≡ NoneLeft
+-- figure 12: counters 4,294,967,295 and 0 are used, and the next is 1
+pub twelve-round : countAnswer false settings 64 values texts 38 (sender 4294967295) .sender .counter .0 ≡ 1
 unfolding countAnswer countRefusal messageTests limitTest valueTests settingsTest zoneTest partsTest textTest utf8Checks allText isText accepts ended unless
-    unlessAll headerChecks nameChecks routingChecks idChecks textChecks sum packets rounded countersFit headOf split headerOctets fixedOctets
+    unlessAll headerChecks nameChecks routingChecks idChecks textChecks sum packets rounded headOf split headerOctets fixedOctets
     frontOctets backOctets wide senderAfter afterSegments afterSegment nextCounter
-twelve-none = refl
+twelve-round = refl
 
 -- ---- figure 8's message, and the wrong programs
 
@@ -65,7 +65,7 @@ lends =
 
 counts : countRefusal false settings 64 values texts 38 (sender 0) .number ≡ 0
 unfolding countRefusal messageTests limitTest valueTests settingsTest zoneTest partsTest textTest utf8Checks allText isText accepts ended unless unlessAll
-    headerChecks nameChecks routingChecks idChecks textChecks sum packets rounded countersFit headOf split headerOctets fixedOctets frontOctets
+    headerChecks nameChecks routingChecks idChecks textChecks sum packets rounded headOf split headerOctets fixedOctets frontOctets
     backOctets wide
 counts = refl
 
@@ -84,7 +84,7 @@ repeated-long : length (joined (bodyOf settings) repeated) ≡ 66
 unfolding firstOf joined packetAt flagsAt bodyAt packets rounded countAt counterAt stepsOf headOf split octetsOf identification dataOctets
     secondaryOctets fixedOctets presence frontOctets counterOctets backOctets headerOctets wide readPacket acceptedHeader primaryTests begun check
     octets numberAt primaryOf afterSdu afterArea afterService afterOperation afterVersion afterSession afterSecondary fieldFrom afterQualifier afterTransaction
-    afterPresence fixedOf flagsOf presentOf idsOf textsOf bodyTest wideField
+    afterPresence fixedOf flagsOf presentOf idsOf textsOf bodyTest wideField nextCounter
 repeated-long = refl
 
 -- does not carry the message: its bodies joined are 66 octets, not 38
@@ -97,7 +97,7 @@ long-at :
     (length (octetsAt settings 64 values texts (zeros 38) (sender 0) 0) ≡ 64)
     × (length (octetsAt settings 64 values texts (zeros 38) (sender 0) 1) ≡ 36)
 unfolding packetAt flagsAt bodyAt packets rounded countAt counterAt stepsOf headOf split octetsOf identification dataOctets secondaryOctets
-    fixedOctets presence frontOctets counterOctets backOctets headerOctets wide
+    fixedOctets presence frontOctets counterOctets backOctets headerOctets wide nextCounter
 long-at = (refl, refl)
 
 -- nor does the call's promise allow it: packet 1 has 36 octets, and packet 0 has 64
@@ -107,7 +107,7 @@ repeats-not-promised e = let l = ap length e in omega (arith, long-at)
 
 eight-count : countAnswer false settings 64 values texts 38 (sender 0) .count ≡ 2
 unfolding countAnswer countRefusal messageTests limitTest valueTests settingsTest zoneTest partsTest textTest utf8Checks allText isText accepts ended unless
-    unlessAll headerChecks nameChecks routingChecks idChecks textChecks sum packets rounded countersFit headOf split headerOctets fixedOctets
+    unlessAll headerChecks nameChecks routingChecks idChecks textChecks sum packets rounded headOf split headerOctets fixedOctets
     frontOctets backOctets wide
 eight-count = refl
 

@@ -8,26 +8,23 @@ use native.Mathlib.Omega.{arith}
 use lib.ListN.{length}
 use lib.Dec.{leb, eqb}
 use borrow.Author.Tests.{leb-true, eq-eqb, ne-eqb}
-use Rattle.octets.specs.Octets.{pick, part, Octets, most32}
+use Rattle.octets.specs.Octets.{pick, part, Octets}
 use Rattle.octets.proofs.Has.{octets-part}
 use Rattle.walk.specs.declared.Settings.{Settings}
 use Rattle.walk.specs.Profile.{fixedProfile}
 use Rattle.walk.specs.Walk.{noneFailed, unless, timestampLeast, timestampMost}
 use Rattle.packet.proofs.Counts.{count-mod}
-use Rattle.packet.specs.declared.SegmentCounter.{SegmentCounter}
 use Rattle.packet.specs.Format.{Opt, segment, SettingsInRange, InRange}
+use Rattle.packet.specs.Numbers.{segmentsMost}
 use Rattle.sender.specs.declared.Sender.{Sender}
-use Rattle.sender.specs.declared.Next.{Next}
-use Rattle.sender.specs.declared.Next.the-variants.{At, NoneLeft}
-use Rattle.sender.specs.Sending.{stepsOf}
-use Rattle.sender.proofs.Stepping.{steps-suc}
+use Rattle.sender.proofs.Stepping.{steps-counter}
 use Rattle.write.specs.declared.HeaderValues.{HeaderValues}
 use Rattle.write.specs.Given.{Lent}
 use Rattle.write.specs.Lending.{Lends}
 use Rattle.write.specs.Writing.{settingsTest, fine}
 use Rattle.write.proofs.Tests.{unless-fine}
 use Rattle.write.proofs.Answers.{secondary-length}
-use Rattle.cut.specs.Cutting.{countersFit, counterAt, single, chunk, packets, headerLength, countRefusal, flagsAt, bodyAt, packetAt, givenAt}
+use Rattle.cut.specs.Cutting.{counterAt, single, chunk, packets, headerLength, countRefusal, flagsAt, bodyAt, packetAt, givenAt}
 use Rattle.cut.proofs.Plans.{before, Good, good, Cuts, cuts}
 use Rattle.cut.proofs.Packets.{counter-flag, packet-most}
 use Rattle.two_way.proofs.Headers.{checks-range}
@@ -74,23 +71,6 @@ module _ (P H B i : ℕ) where
     unfolding flagsAt
     flags-between n z = rw (e, ne-eqb i 0 n, ne-eqb (suc i) (packets P H B) z)
 
--- ---- the counter
-
--- where n segments have a counter each, the sender has one to start from
-pub record Starts (d : Next) (n : ℕ) : Type 0 where
-  pub start : SegmentCounter
-  pub starts : d ≡ At start
-  pub fit : start .0 + n ≤ suc most32
-
-pub fit-starts : (d : Next) (n : ℕ) → countersFit d n ≡ true → Starts d n
-unfolding countersFit
-fit-starts (At c) n g = record { start = c; starts = refl; fit = leb-true (c .0 + n) (suc most32) g }
-fit-starts NoneLeft n g = let z : _≡_ {A = ℕ} 0 1 = cc in absurd (omega arith)
-
-pub counter-of : (d : Next) (c : SegmentCounter) (i : ℕ) → d ≡ At c → counterAt d i ≡ stepsOf suc i (c .0)
-unfolding counterAt
-counter-of d c i e = rw (e, counterAt)
-
 -- ---- a message whose count succeeds
 
 module _ (old : Bool) (s : Settings) (P : ℕ) (v : HeaderValues) (t : Lent) (body : List ℕ) (d : Sender)
@@ -101,11 +81,11 @@ module _ (old : Bool) (s : Settings) (P : ℕ) (v : HeaderValues) (t : Lent) (bo
   abbrev B : ℕ
   B = length body
 
-  both : Cuts P H B d × (fine (before old s P v t d) ≡ true)
+  both : Cuts P H B × (fine (before old s P v t d) ≡ true)
   unfolding countRefusal
-  both = cuts P H B d (before old s P v t d) (eq-eqb (countRefusal old s P v t (length body) d .number) 0 z)
+  both = cuts P H B (before old s P v t d) (eq-eqb (countRefusal old s P v t (length body) d .number) 0 z)
 
-  pub cuts-well : Cuts P H B d
+  pub cuts-well : Cuts P H B
   cuts-well = both .0
 
   pub good-values : Good s P v t d
@@ -114,10 +94,10 @@ module _ (old : Bool) (s : Settings) (P : ℕ) (v : HeaderValues) (t : Lent) (bo
   pub room : single P H B ≡ false → 1 ≤ chunk P H
   room e = leb-true 1 (chunk P H) (ap (λ (b : Bool). pick b true (leb 1 (chunk P H))) (sym e) ∙ cuts-well .some)
 
-  pub counters : single P H B ≡ false → Starts (d .next) (packets P H B)
-  counters e =
-      fit-starts (d .next) (packets P H B)
-      (ap (λ (b : Bool). pick b true (countersFit (d .next) (packets P H B))) (sym e) ∙ cuts-well .counters)
+  pub segments-most : single P H B ≡ false → packets P H B ≤ segmentsMost
+  segments-most e =
+      leb-true (packets P H B) segmentsMost
+      (ap (λ (b : Bool). pick b true (leb (packets P H B) segmentsMost)) (sym e) ∙ cuts-well .segments)
 
   settings-range : SettingsInRange s
   unfolding settingsTest
@@ -133,13 +113,10 @@ module _ (old : Bool) (s : Settings) (P : ℕ) (v : HeaderValues) (t : Lent) (bo
 
   -- the counter fits, and there is none in an unsegmented packet
   counter-range :
-      (i : ℕ) → i < packets P H B → (b : Bool) → single P H B ≡ b →
-      Opt (not b) (λ x. x < 4294967296) 0 (pick b 0 (counterAt (d .next) i))
-  counter-range i l true e = refl
-  counter-range i l false e =
-      let k = counters e in
-      let c = counter-of (d .next) (k .start) i (k .starts) ∙ steps-suc i (k .start .0) in
-      omega (arith, k .fit)
+      (i : ℕ) (b : Bool) → Opt (not b) (λ x. x < 4294967296) 0 (pick b 0 (counterAt (d .counter) i))
+  unfolding counterAt
+  counter-range i true = refl
+  counter-range i false = omega (arith, steps-counter i (d .counter .0) (good-values .counter))
 
   body-octets : Octets body → (i : ℕ) (b : Bool) → Octets (pick b body (part body (i * chunk P H) (chunk P H)))
   body-octets o i true = o
@@ -163,8 +140,8 @@ module _ (old : Bool) (s : Settings) (P : ℕ) (v : HeaderValues) (t : Lent) (bo
         flags = flags-top P H B i;
         sequence-count = omega arith;
         counter =
-            subst (λ (b : Bool). Opt b (λ x. x < 4294967296) 0 (pick (single P H B) 0 (counterAt (d .next) i))) (sym g)
-            (counter-range i l (single P H B) refl);
+            subst (λ (b : Bool). Opt b (λ x. x < 4294967296) 0 (pick (single P H B) 0 (counterAt (d .counter) i))) (sym g)
+            (counter-range i (single P H B));
         body = body-octets (w .octets .body) i (single P H B);
         packet = omega (arith, packet-most s P v t body d i (cuts-well .some), k .top);
         header =

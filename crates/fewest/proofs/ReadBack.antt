@@ -14,12 +14,12 @@ use Rattle.octets.proofs.Lists.{bool}
 use Rattle.walk.specs.declared.Settings.{Settings}
 use Rattle.fields.specs.Form.{joined}
 use Rattle.packet.specs.Format.{Values, segment, octetsOf}
-use Rattle.packet.specs.Numbers.{nextCount, countAt}
+use Rattle.packet.specs.Numbers.{nextCount, countAt, nextCounter}
 use Rattle.packet.proofs.Counts.{count-mod}
 use Rattle.packet.specs.Reading.{segmented}
 use Rattle.sender.specs.declared.Sender.{Sender}
 use Rattle.sender.specs.Sending.{stepsOf}
-use Rattle.sender.proofs.Stepping.{steps-suc, steps-last}
+use Rattle.sender.proofs.Stepping.{steps-counter, steps-last}
 use Rattle.write.specs.declared.HeaderValues.{HeaderValues}
 use Rattle.write.specs.Given.{Lent, headOf}
 use Rattle.write.specs.Lending.{Lends}
@@ -32,7 +32,7 @@ use Rattle.fewest.specs.Carrying.{bodyOf, Carried, Carries}
 use Rattle.fewest.specs.Cutting.{told, number, octetsAt, allPackets, Segment, Back, AllBack}
 use Rattle.fewest.proofs.Lists.{first-length, first-each, first-same, joined-first}
 use Rattle.fewest.proofs.Parts.{packets-one, two-at-least, piece-full, piece-some, piece-most, parts-joined}
-use Rattle.fewest.proofs.Numbers.{segment-is, flags-whole, flags-first, flags-last, flags-between, counter-of, cuts-well, good-values, room, counters, packet-range}
+use Rattle.fewest.proofs.Numbers.{segment-is, flags-whole, flags-first, flags-last, flags-between, cuts-well, good-values, room, packet-range}
 use Rattle.fewest.proofs.Fewest.{fewest}
 
 -- the body of a packet is the one that is told
@@ -52,13 +52,12 @@ module _ (old : Bool) (s : Settings) (P : ℕ) (v : HeaderValues) (t : Lent) (bo
   segment-back :
       (i : ℕ) (p : List ℕ) → i < packets P H B → told s p ≡ givenAt s P v t body d i → segmented p ≡ true → single P H B ≡ false →
       Segment s P v t body d i p
-  unfolding packetAt bodyAt
+  unfolding packetAt bodyAt counterAt
   segment-back i p l x q e =
       let f : told s p .flags ≡ flagsAt P H B i = ap (λ (u : Values). u .flags) x in
-      let k = counters old s P v t body d z e in
       let h = room old s P v t body d z e in
-      let c : told s p .counter ≡ stepsOf suc i (k .start .0) =
-      ap (λ (u : Values). u .counter) x ∙ ap (λ (b : Bool). pick b 0 (counterAt (d .next) i)) e ∙ counter-of (d .next) (k .start) i (k .starts) in
+      let c : told s p .counter ≡ stepsOf nextCounter i (d .counter .0) =
+      ap (λ (u : Values). u .counter) x ∙ ap (λ (b : Bool). pick b 0 (counterAt (d .counter) i)) e in
       let y : bodyOf s p ≡ part body (i * chunk P H) (chunk P H) =
       body-told s p x ∙ ap (λ (b : Bool). pick b body (part body (i * chunk P H) (chunk P H))) e in
       let n = ap length y in
@@ -67,10 +66,8 @@ module _ (old : Bool) (s : Settings) (P : ℕ) (v : HeaderValues) (t : Lent) (bo
         first = λ u. f ∙ flags-first P H B i e u;
         last = λ u. f ∙ flags-last P H B i e (λ j. omega (arith, two-at-least P H B e h)) u;
         between = λ j u. f ∙ flags-between P H B i e j u;
-        start = k .start;
-        starts = k .starts;
         counter = c;
-        counter-top = omega (arith, k .fit, c ∙ steps-suc i (k .start .0));
+        counter-top = omega (arith, c, steps-counter i (d .counter .0) (good-values old s P v t body d z .counter));
         full-body = λ u. n ∙ piece-full P H B e h i body refl u;
         body-some = omega (arith, piece-some P H B e h i body refl l);
         body-top = omega (arith, piece-most P H B e h i body refl);
@@ -124,19 +121,17 @@ module _ (old : Bool) (s : Settings) (P : ℕ) (v : HeaderValues) (t : Lent) (bo
   counts-on i l = back (suc i) l .count ∙ ap nextCount (sym (back i (omega arith) .count))
 
   counter-told :
-      single P H B ≡ false → (i : ℕ) → i < packets P H B → told s (octetsAt s P v t body d i) .counter ≡ counterAt (d .next) i
+      single P H B ≡ false → (i : ℕ) → i < packets P H B → told s (octetsAt s P v t body d i) .counter ≡ counterAt (d .counter) i
   unfolding packetAt
   counter-told e i l =
-      ap (λ (u : Values). u .counter) (back i l .values) ∙ ap (λ (b : Bool). pick b 0 (counterAt (d .next) i)) e
+      ap (λ (u : Values). u .counter) (back i l .values) ∙ ap (λ (b : Bool). pick b 0 (counterAt (d .counter) i)) e
 
   counters-on :
       single P H B ≡ false → (i : ℕ) → suc i < packets P H B →
-      told s (octetsAt s P v t body d (suc i)) .counter ≡ suc (told s (octetsAt s P v t body d i) .counter)
+      told s (octetsAt s P v t body d (suc i)) .counter ≡ nextCounter (told s (octetsAt s P v t body d i) .counter)
+  unfolding counterAt
   counters-on e i l =
-      let k = counters old s P v t body d z e in
-      let a = counter-told e i (omega arith) ∙ counter-of (d .next) (k .start) i (k .starts) in
-      let b = counter-told e (suc i) l ∙ counter-of (d .next) (k .start) (suc i) (k .starts) in
-      b ∙ steps-last suc i (k .start .0) ∙ ap suc (sym a)
+      counter-told e (suc i) l ∙ steps-last nextCounter i (d .counter .0) ∙ ap nextCounter (sym (counter-told e i (omega arith)))
 
   -- C-7
   pub packets-read-back : AllBack s P v t body d

@@ -1,7 +1,7 @@
 -- What one message does to the sender's two numbers, refused or not: the sequence counts go on by one for each packet, the counters by
 -- one for each segment. And what two lists of packets do, sent one after the other.
 -- Assumes nothing.
-use Prim.Native.Nat.{ℕ, zero, suc, _+_, _≤_}
+use Prim.Native.Nat.{ℕ, zero, suc, _+_}
 use mathlib.Core.Path.{_≡_, refl, ap, ap₂, sym, _∙_, subst}
 use mathlib.Core.Logic.{⊎-elim}
 use mathlib.Core.Bool.{Bool, true, false, not}
@@ -9,26 +9,22 @@ use mathlib.Core.List.{List, [], _∷_, _++_}
 use native.Mathlib.Omega.{arith}
 use native.Mathlib.Nat.{add-zero}
 use lib.ListN.{length, length-append}
-use borrow.Author.Tests.{eqb-true}
-use Rattle.octets.specs.Octets.{pick, most32}
-use Rattle.octets.proofs.Lists.{bool, below-or}
+use Rattle.octets.specs.Octets.{pick}
+use Rattle.octets.proofs.Lists.{bool}
 use Rattle.fields.specs.Form.{joined}
-use Rattle.packet.specs.declared.SegmentCounter.{SegmentCounter}
 use Rattle.packet.specs.Format.{Values, segment, when}
-use Rattle.packet.specs.Numbers.{nextCount, countAt}
+use Rattle.packet.specs.Numbers.{nextCount, countAt, nextCounter}
 use Rattle.sender.specs.declared.Sender.{Sender}
-use Rattle.sender.specs.declared.Next.{Next}
-use Rattle.sender.specs.declared.Next.the-variants.{At, NoneLeft}
-use Rattle.sender.specs.Sending.{counterAfter, afterPacket, afterSegments, stepsOf}
-use Rattle.sender.proofs.Stepping.{steps-suc, steps-more}
-use Rattle.sender.proofs.Moving.{after-fits, after-past, after-both}
+use Rattle.sender.specs.Sending.{afterPacket, afterSegments, stepsOf}
+use Rattle.sender.proofs.Stepping.{steps-more, steps-counter}
+use Rattle.sender.proofs.Moving.{after-both}
 use Rattle.write.specs.Writing.{fine}
 use Rattle.cut.specs.Cutting.{counterAt, single, packets, headerLength, countRefusal, senderAfter, countAnswer, packetAt, givenAt}
 use Rattle.fewest.specs.Carrying.{firstOf}
-use Rattle.fewest.specs.Runs.{Message, counted, packetsOf, countsOf, counterIn, countersOf, place, Bits32, Goes}
+use Rattle.fewest.specs.Runs.{Message, counted, packetsOf, countsOf, counterIn, countersOf, Bits32, Goes}
 use Rattle.fewest.proofs.Lists.{joined-append, joined-none, joined-suc, first-length, first-same, first-more}
 use Rattle.fewest.proofs.Parts.{packets-one}
-use Rattle.fewest.proofs.Numbers.{segment-is, counter-of, counters}
+use Rattle.fewest.proofs.Numbers.{segment-is}
 
 -- ---- lists of packets
 
@@ -65,12 +61,7 @@ count-more c n (suc i) = let e : suc (n + i) ≡ n + suc i = omega arith in ap n
 
 -- ---- one list of packets after the other
 
-place-top : (n : Next) → Bits32 n → place n ≤ 4294967296
-unfolding place
-place-top (At c) h = omega arith
-place-top NoneLeft h = omega arith
-
-pub goes-none : (d : Sender) → Bits32 (d .next) → Goes d [] d
+pub goes-none : (d : Sender) → Bits32 d → Goes d [] d
 unfolding firstOf joined countAt stepsOf
 goes-none d h =
     record {
@@ -79,7 +70,6 @@ goes-none d h =
       counters = refl;
       next = refl;
       bits = h;
-      top = place-top (d .next) h;
     }
 
 pub goes-on : {d e f : Sender} (l m : List Values) → Goes d l e → Goes e m f → Goes d (l ++ m) f
@@ -101,42 +91,21 @@ goes-on {d} {e} {f} l m a b =
           ∙ ap (countAt (d .«sequence_count» .0)) (sym n);
       counters =
           c ∙ ap₂ _++_ (a .counters) (b .counters)
-          ∙ ap (λ (x : List ℕ). firstOf (λ (i : ℕ). stepsOf suc i (place (d .next))) (length (countersOf l)) ++ x)
-          (first-same (λ (i : ℕ). stepsOf suc i (place (e .next))) (λ (i : ℕ). stepsOf suc (length (countersOf l) + i) (place (d .next)))
+          ∙ ap (λ (x : List ℕ). firstOf (λ (i : ℕ). stepsOf nextCounter i (d .counter .0)) (length (countersOf l)) ++ x)
+          (first-same (λ (i : ℕ). stepsOf nextCounter i (e .counter .0)) (λ (i : ℕ). stepsOf nextCounter (length (countersOf l) + i) (d .counter .0))
           (length (countersOf m)) (λ i h. steps-on i))
-          ∙ sym (first-more (λ (i : ℕ). stepsOf suc i (place (d .next))) (length (countersOf l)) (length (countersOf m)))
-          ∙ ap (firstOf (λ (i : ℕ). stepsOf suc i (place (d .next)))) (sym k);
-      next = b .next ∙ steps-on (length (countersOf m)) ∙ ap (λ (x : ℕ). stepsOf suc x (place (d .next))) (sym k);
+          ∙ sym (first-more (λ (i : ℕ). stepsOf nextCounter i (d .counter .0)) (length (countersOf l)) (length (countersOf m)))
+          ∙ ap (firstOf (λ (i : ℕ). stepsOf nextCounter i (d .counter .0))) (sym k);
+      next = b .next ∙ steps-on (length (countersOf m)) ∙ ap (λ (x : ℕ). stepsOf nextCounter x (d .counter .0)) (sym k);
       bits = b .bits;
-      top = b .top;
     }
   where
-    steps-on : (i : ℕ) → stepsOf suc i (place (e .next)) ≡ stepsOf suc (length (countersOf l) + i) (place (d .next))
-    steps-on i = ap (stepsOf suc i) (a .next) ∙ steps-more suc (length (countersOf l)) i (place (d .next))
+    steps-on : (i : ℕ) → stepsOf nextCounter i (e .counter .0) ≡ stepsOf nextCounter (length (countersOf l) + i) (d .counter .0)
+    steps-on i = ap (stepsOf nextCounter i) (a .next) ∙ steps-more nextCounter (length (countersOf l)) i (d .counter .0)
 
 -- ---- one message
 
--- after n segments
-place-after : (c : SegmentCounter) (n : ℕ) → c .0 ≤ most32 → c .0 + n ≤ 4294967296 → place (counterAfter n (At c)) ≡ c .0 + n
-unfolding place
-place-after c n h l =
-    ⊎-elim
-    (λ k. ap place (after-past n c h k) ∙ omega arith)
-    (λ k. ap place (after-fits n c k))
-    (below-or most32 (c .0 + n))
-
-bits-after : (c : SegmentCounter) (n : ℕ) → c .0 ≤ most32 → Bits32 (counterAfter n (At c))
-bits-after c n h =
-    ⊎-elim
-    (λ k. subst Bits32 (sym (after-past n c h k)) tt)
-    (λ k. subst Bits32 (sym (after-fits n c k)) k)
-    (below-or most32 (c .0 + n))
-
-place-at : (n : Next) (c : SegmentCounter) → n ≡ At c → place n ≡ c .0
-unfolding place
-place-at n c e = ap place e
-
-module _ (d : Sender) (m : Message) (h : Bits32 (d .next)) where
+module _ (d : Sender) (m : Message) (h : Bits32 d) where
   abbrev H : ℕ
   H = headerLength (m .settings) (m .values) (m .texts)
 
@@ -161,55 +130,42 @@ module _ (d : Sender) (m : Message) (h : Bits32 (d .next)) where
       record {
         counts = counts-given 1;
         count = refl;
-        counters = c ∙ ap (firstOf (λ (i : ℕ). stepsOf suc i (place (d .next)))) (sym (ap length c));
-        next = ap (λ (x : ℕ). stepsOf suc x (place (d .next))) (sym (ap length c));
+        counters = c ∙ ap (firstOf (λ (i : ℕ). stepsOf nextCounter i (d .counter .0))) (sym (ap length c));
+        next = ap (λ (x : ℕ). stepsOf nextCounter x (d .counter .0)) (sym (ap length c));
         bits = h;
-        top = place-top (d .next) h;
       }
 
-  counter-given : single (m .limit) H B ≡ false → (c : SegmentCounter) → d .next ≡ At c → (i : ℕ) → given i .counter ≡ stepsOf suc i (place (d .next))
-  unfolding packetAt
-  counter-given e c x i =
-      ap (λ (b : Bool). pick b 0 (counterAt (d .next) i)) e ∙ counter-of (d .next) c i x
-      ∙ ap (stepsOf suc i) (sym (place-at (d .next) c x))
+  counter-given : single (m .limit) H B ≡ false → (i : ℕ) → given i .counter ≡ stepsOf nextCounter i (d .counter .0)
+  unfolding packetAt counterAt
+  counter-given e i = ap (λ (b : Bool). pick b 0 (counterAt (d .counter) i)) e
 
-  cut-goes :
-      countRefusal (m .old) (m .settings) (m .limit) (m .values) (m .texts) B d .number ≡ 0 → single (m .limit) H B ≡ false →
-      Goes d (firstOf given (packets (m .limit) H B)) (afterSegments (packets (m .limit) H B) d)
-  cut-goes z e =
+  cut-goes : single (m .limit) H B ≡ false → Goes d (firstOf given (packets (m .limit) H B)) (afterSegments (packets (m .limit) H B) d)
+  cut-goes e =
       let n = packets (m .limit) H B in
-      let k = counters (m .old) (m .settings) (m .limit) (m .values) (m .texts) (m .body) d z e in
-      let t : k .start .0 ≤ most32 = subst Bits32 (k .starts) h in
-      let c : countersOf (firstOf given n) ≡ firstOf (λ (i : ℕ). stepsOf suc i (place (d .next))) n =
+      let c : countersOf (firstOf given n) ≡ firstOf (λ (i : ℕ). stepsOf nextCounter i (d .counter .0)) n =
       counters-segments given n (λ i. segment-given i ∙ ap not e)
-      ∙ first-same (λ (i : ℕ). given i .counter) (λ (i : ℕ). stepsOf suc i (place (d .next))) n (λ i l. counter-given e (k .start) (k .starts) i) in
-      let y : length (countersOf (firstOf given n)) ≡ n = ap length c ∙ first-length (λ (i : ℕ). stepsOf suc i (place (d .next))) n in
-      let p = place-at (d .next) (k .start) (k .starts) in
-      let q : place (counterAfter n (d .next)) ≡ k .start .0 + n =
-      ap (λ (x : Next). place (counterAfter n x)) (k .starts) ∙ place-after (k .start) n t (k .fit) in
+      ∙ first-same (λ (i : ℕ). given i .counter) (λ (i : ℕ). stepsOf nextCounter i (d .counter .0)) n (λ i l. counter-given e i) in
+      let y : length (countersOf (firstOf given n)) ≡ n = ap length c ∙ first-length (λ (i : ℕ). stepsOf nextCounter i (d .counter .0)) n in
       subst (λ (x : Sender). Goes d (firstOf given n) x) (sym (after-both n d))
       (record {
         counts = counts-given n;
         count = ap (countAt (d .«sequence_count» .0)) (sym (first-length given n));
-        counters = c ∙ ap (firstOf (λ (i : ℕ). stepsOf suc i (place (d .next)))) (sym y);
-        next = omega (arith, steps-suc (length (countersOf (firstOf given n))) (place (d .next)));
-        bits = subst (λ (x : Next). Bits32 (counterAfter n x)) (sym (k .starts)) (bits-after (k .start) n t);
-        top = omega (arith, k .fit);
+        counters = c ∙ ap (firstOf (λ (i : ℕ). stepsOf nextCounter i (d .counter .0))) (sym y);
+        next = ap (λ (x : ℕ). stepsOf nextCounter x (d .counter .0)) (sym y);
+        bits = steps-counter n (d .counter .0) h;
       })
 
   after-is : {b : Bool} → single (m .limit) H B ≡ b → senderAfter (m .limit) H B d ≡ pick b (afterPacket d) (afterSegments (packets (m .limit) H B) d)
   unfolding senderAfter
   after-is e = ap (λ (x : Bool). pick x (afterPacket d) (afterSegments (packets (m .limit) H B) d)) e
 
-  made-goes :
-      countRefusal (m .old) (m .settings) (m .limit) (m .values) (m .texts) B d .number ≡ 0 →
-      Goes d (firstOf given (packets (m .limit) H B)) (senderAfter (m .limit) H B d)
-  made-goes z =
+  made-goes : Goes d (firstOf given (packets (m .limit) H B)) (senderAfter (m .limit) H B d)
+  made-goes =
       ⊎-elim
       (λ e.
       subst (λ (x : Sender). Goes d (firstOf given (packets (m .limit) H B)) x) (sym (after-is e))
       (subst (λ (n : ℕ). Goes d (firstOf given n) (afterPacket d)) (sym (packets-one (m .limit) H B e)) (whole-goes e)))
-      (λ e. subst (λ (x : Sender). Goes d (firstOf given (packets (m .limit) H B)) x) (sym (after-is e)) (cut-goes z e))
+      (λ e. subst (λ (x : Sender). Goes d (firstOf given (packets (m .limit) H B)) x) (sym (after-is e)) (cut-goes e))
       (bool (single (m .limit) H B))
 
   -- what a message does to the sender, refused or not
@@ -217,6 +173,6 @@ module _ (d : Sender) (m : Message) (h : Bits32 (d .next)) where
   unfolding countAnswer firstOf
   one-goes =
       ⊎-elim
-      (λ f. rw f (made-goes (eqb-true (countRefusal (m .old) (m .settings) (m .limit) (m .values) (m .texts) B d .number) 0 f)))
+      (λ f. rw f made-goes)
       (λ f. rw f (goes-none d h))
       (bool (fine (countRefusal (m .old) (m .settings) (m .limit) (m .values) (m .texts) B d)))

@@ -1,25 +1,21 @@
 -- The sender over several messages: the numbers after a run are those after its last message, sequence counts go on by one for each
--- packet, and counters by one for each segment, so that each is larger than all before it and none is given twice; and none is left
--- exactly once 4,294,967,295 has been used, from when on no segment is sent.
+-- packet, and counters by one for each segment, round the end; so of 4,294,967,296 segments one after another no two have the same counter.
 -- Assumes nothing.
-use Prim.Native.Nat.{ℕ, _+_, _≤_, _<_, suc}
+use Prim.Native.Nat.{ℕ, _+_, _-_, _≤_, _<_}
 use mathlib.Core.Path.{_≡_, refl, ap, sym, _∙_}
-use mathlib.Core.Logic.{_↔_}
 use mathlib.Core.List.{List, [], _∷_, _++_}
 use native.Mathlib.Omega.{arith}
 use lib.ListN.{length, getD}
 use Rattle.octets.specs.Octets.{most32}
-use Rattle.packet.specs.Numbers.{countAt}
+use Rattle.packet.specs.Numbers.{countAt, nextCounter}
 use Rattle.sender.specs.declared.Sender.{Sender}
-use Rattle.sender.specs.declared.Next.{Next}
-use Rattle.sender.specs.declared.Next.the-variants.{At, NoneLeft}
 use Rattle.sender.specs.Sending.{stepsOf}
-use Rattle.sender.proofs.Stepping.{steps-suc}
-use Rattle.fewest.specs.Runs.{Message, counted, packetsOf, afterRun, sent, countsOf, countersOf, place, Bits32, Goes}
+use Rattle.sender.proofs.Stepping.{steps-more, steps-counter, no-return}
+use Rattle.fewest.specs.Runs.{Message, counted, packetsOf, afterRun, sent, countsOf, countersOf, Bits32, Goes}
 use Rattle.fewest.proofs.Lists.{first-at}
 use Rattle.fewest.proofs.Runs.{goes-none, goes-on, one-goes}
 
-pub run : (d : Sender) (ms : List Message) → Bits32 (d .next) → Goes d (sent d ms) (afterRun d ms)
+pub run : (d : Sender) (ms : List Message) → Bits32 d → Goes d (sent d ms) (afterRun d ms)
 unfolding sent afterRun
 run d [] h = goes-none d h
 run d (m ∷ ms) h =
@@ -32,48 +28,32 @@ unfolding afterRun
 run-last d [] m = refl
 run-last d (x ∷ ms) m = run-last (counted d x .sender) ms m
 
-none-place : {n : Next} → n ≡ NoneLeft → place n ≡ 4294967296
-unfolding place
-none-place e = ap place e
-
-place-none : (n : Next) → Bits32 n → place n ≡ 4294967296 → n ≡ NoneLeft
-unfolding place
-place-none (At c) b e = absurd (omega arith)
-place-none NoneLeft b e = refl
-
-module _ (d : Sender) (ms : List Message) (h : Bits32 (d .next)) where
+module _ (d : Sender) (ms : List Message) (h : Bits32 d) where
   abbrev given-counters : List ℕ
   given-counters = countersOf (sent d ms)
 
-  counter-at : (i : ℕ) → i < length given-counters → getD given-counters i 0 ≡ place (d .next) + i
-  counter-at i l =
+  -- segment number i of a run has the sender's counter moved on by i, and the sender after it the next
+  pub run-counter : (i : ℕ) → i < length given-counters → getD given-counters i 0 ≡ stepsOf nextCounter i (d .counter .0)
+  run-counter i l =
       ap (λ (x : List ℕ). getD x i 0) (run d ms h .counters)
-      ∙ first-at (λ (i : ℕ). stepsOf suc i (place (d .next))) (length given-counters) i 0 l
-      ∙ steps-suc i (place (d .next))
+      ∙ first-at (λ (i : ℕ). stepsOf nextCounter i (d .counter .0)) (length given-counters) i 0 l
 
-  place-at-end : place (afterRun d ms .next) ≡ place (d .next) + length given-counters
-  place-at-end = run d ms h .next ∙ steps-suc (length given-counters) (place (d .next))
-
-  -- each counter is larger than all before it: none is given to two segments of a run
-  pub run-rising : (i j : ℕ) → i < j → j < length given-counters → getD given-counters i 0 < getD given-counters j 0
-  run-rising i j l k = omega (arith, counter-at i (omega arith), counter-at j k)
+  pub run-next : afterRun d ms .counter .0 ≡ stepsOf nextCounter (length given-counters) (d .counter .0)
+  run-next = run d ms h .next
 
   -- each is one of 32 bits
   pub run-bits : (i : ℕ) → i < length given-counters → getD given-counters i 0 ≤ most32
-  run-bits i l = let k = run d ms h in omega (arith, counter-at i l, place-at-end, k .top)
+  run-bits i l = omega (arith, run-counter i l, steps-counter i (d .counter .0) h)
 
-  -- once none is left, no segment is sent
-  pub run-none : d .next ≡ NoneLeft → length given-counters ≡ 0
-  run-none e =
-      let k = run d ms h in
-      let p = none-place e in
-      omega (arith, place-at-end, k .top)
-
-  -- none is left exactly once the largest has been used
-  pub run-left : afterRun d ms .next ≡ NoneLeft ↔ (place (d .next) + length given-counters ≡ 4294967296)
-  run-left =
-      let k = run d ms h in
-      (λ e. sym place-at-end ∙ none-place e, λ e. place-none (afterRun d ms .next) (k .bits) (place-at-end ∙ e))
+  -- two segments that are not 4,294,967,296 or more apart have different counters
+  pub run-apart : (i j : ℕ) → i < j → j < length given-counters → j - i ≤ most32 → getD given-counters i 0 ≡ getD given-counters j 0 → ⊥
+  run-apart i j l k near e =
+      let c = d .counter .0 in
+      let n : i + (j - i) ≡ j = omega arith in
+      no-return (j - i) (stepsOf nextCounter i c) (steps-counter i c h) (omega arith) near
+      (steps-more nextCounter i (j - i) c
+      ∙ ap (λ (x : ℕ). stepsOf nextCounter x c) n
+      ∙ sym (run-counter j k) ∙ sym e ∙ run-counter i (omega arith))
 
   -- packet number i of a run has the sender's sequence count moved on by i
   pub run-count : (i : ℕ) → i < length (sent d ms) → getD (countsOf (sent d ms)) i 0 ≡ countAt (d .«sequence_count» .0) i

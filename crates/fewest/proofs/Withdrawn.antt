@@ -28,7 +28,7 @@ module _ (s : Settings) (P : ℕ) (v : HeaderValues) (t : Lent) (d : Sender) whe
 
   -- the tests after 30, by whether there is a zone
   abbrev counted : ℕ → Bool → Tested
-  counted B b = messageTests P (headerLength s v t) B d (textTest t (partsTest t (unless (not b) 30 before)))
+  counted B b = messageTests P (headerLength s v t) B (textTest t (partsTest t (unless (not b) 30 before)))
 
   abbrev cut : List ℕ → ℕ → ℕ → Bool → Tested
   cut body i room b =
@@ -41,8 +41,8 @@ module _ (s : Settings) (P : ℕ) (v : HeaderValues) (t : Lent) (d : Sender) whe
     count-refused B =
         let f = refuses 30 before refl in
         ap (counted B) e
-        ∙ ap (messageTests P (headerLength s v t) B d) (text-stays t (unless false 30 before) f)
-        ∙ still-tests P (headerLength s v t) B d (unless false 30 before) f
+        ∙ ap (messageTests P (headerLength s v t) B) (text-stays t (unless false 30 before) f)
+        ∙ still-tests P (headerLength s v t) B (unless false 30 before) f
 
     pub packet-refused : (body : List ℕ) (i room : ℕ) → packetRefusal false s P v t body d i room ≡ unless false 30 before
     unfolding packetRefusal

@@ -8,13 +8,11 @@ use lib.ListN.{length}
 use Rattle.octets.specs.Octets.{Octets, most32}
 use Rattle.walk.specs.declared.Settings.{Settings}
 use Rattle.fields.specs.Form.{joined}
-use Rattle.packet.specs.declared.SegmentCounter.{SegmentCounter}
 use Rattle.packet.specs.Format.{Values, flagsBetween, flagsFirst, flagsLast, flagsWhole, identification, headerOctets, octetsOf, InRange}
-use Rattle.packet.specs.Numbers.{nextCount, countAt, countMost}
+use Rattle.packet.specs.Numbers.{nextCount, countAt, countMost, nextCounter}
 use Rattle.packet.specs.Reading.{segmented, readPacket}
 use Rattle.packet.specs.Key.{keyOf}
 use Rattle.sender.specs.declared.Sender.{Sender}
-use Rattle.sender.specs.declared.Next.the-variants.{At}
 use Rattle.sender.specs.Sending.{stepsOf}
 use Rattle.write.specs.declared.HeaderValues.{HeaderValues}
 use Rattle.write.specs.Given.{Lent, headOf}
@@ -57,11 +55,8 @@ module _ (s : Settings) (P : ℕ) (v : HeaderValues) (t : Lent) (body : List ℕ
     pub last : suc i ≡ number → told s p .flags ≡ flagsLast
     -- those between have 00
     pub between : (i ≡ 0 → ⊥) → (suc i ≡ number → ⊥) → told s p .flags ≡ flagsBetween
-    -- the sender had a counter to start from
-    pub start : SegmentCounter
-    pub starts : d .next ≡ At start
-    -- the counter told is i steps from that
-    pub counter : told s p .counter ≡ stepsOf suc i (start .0)
+    -- the counter told is i steps from the sender's
+    pub counter : told s p .counter ≡ stepsOf nextCounter i (d .counter .0)
     -- and there is such a counter
     pub counter-top : told s p .counter ≤ most32
     -- each body but the last has C octets
@@ -106,7 +101,8 @@ module _ (s : Settings) (P : ℕ) (v : HeaderValues) (t : Lent) (body : List ℕ
     pub two : oneEnough ≡ false → 2 ≤ number
     -- from one to the next the sequence count goes up by one, and 0 follows 16,383
     pub counts : (i : ℕ) → suc i < number → told s (octetsAt (suc i)) .sequence-count ≡ nextCount (told s (octetsAt i) .sequence-count)
-    -- and if cutting is needed the counter goes up by one
-    pub counters : oneEnough ≡ false → (i : ℕ) → suc i < number → told s (octetsAt (suc i)) .counter ≡ suc (told s (octetsAt i) .counter)
+    -- and if cutting is needed the counter goes up by one, and 0 follows 4,294,967,295
+    pub counters : oneEnough ≡ false → (i : ℕ) → suc i < number →
+        told s (octetsAt (suc i)) .counter ≡ nextCounter (told s (octetsAt i) .counter)
     -- their bodies joined are the message's
     pub bodies : joined (bodyOf s) allPackets ≡ body

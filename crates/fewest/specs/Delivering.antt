@@ -7,12 +7,11 @@ use lib.ListN.{length}
 use Rattle.walk.specs.declared.Settings.{Settings}
 use Rattle.fields.specs.Form.{joined}
 use Rattle.packet.specs.declared.Header.{Header}
-use Rattle.packet.specs.declared.SegmentCounter.{SegmentCounter}
 use Rattle.packet.specs.Format.{flagsBetween, flagsFirst, flagsLast, flagsWhole, identification, headerOctets}
 use Rattle.packet.specs.Key.{keyOf}
+use Rattle.packet.specs.Numbers.{nextCounter}
 use Rattle.sender.specs.Sending.{stepsOf}
 use Rattle.sender.specs.declared.Sender.{Sender}
-use Rattle.sender.specs.declared.Next.the-variants.{At}
 use Rattle.write.specs.declared.HeaderValues.{HeaderValues}
 use Rattle.write.specs.Given.{Lent, headOf}
 use Rattle.format.specs.Told.{content}
@@ -38,8 +37,8 @@ module _ (s : Settings) (P : ℕ) (v : HeaderValues) (t : Lent) (d : Sender) (n 
     pub last : 2 ≤ n → suc i ≡ n → h .primary .flags ≡ flagsLast
     -- those between have 00
     pub between : 2 ≤ n → (i ≡ 0 → ⊥) → (suc i ≡ n → ⊥) → h .primary .flags ≡ flagsBetween
-    -- and its counter is i steps from the one that the sender had to start from
-    pub counter : 2 ≤ n → (c : SegmentCounter) × (d .next ≡ At c) × (h .ids .counter .0 ≡ stepsOf suc i (c .0))
+    -- and its counter is i steps from the sender's
+    pub counter : 2 ≤ n → h .ids .counter .0 ≡ stepsOf nextCounter i (d .counter .0)
 
   -- all of them, of a message with this body
   pub record Delivers (body : List ℕ) (p : ℕ → List ℕ) (h : ℕ → Header) : Type 0 where

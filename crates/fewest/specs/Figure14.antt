@@ -2,7 +2,6 @@
 -- Assumes nothing: these are definitions.
 use Prim.Native.Nat.{ℕ}
 use Rattle.sender.specs.declared.Sender.{Sender}
-use Rattle.sender.specs.declared.Next.the-variants.{At}
 
 abbrev pub sender : ℕ → Sender
-sender c = record { «sequence_count» = record { 0 = 0 }; next = At (record { 0 = c }) }
+sender c = record { «sequence_count» = record { 0 = 0 }; counter = record { 0 = c } }

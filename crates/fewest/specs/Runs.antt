@@ -1,6 +1,6 @@
 -- A run of messages of one sender, each counted by the numbers as the one before left them; refused ones may be among them.
 -- Assumes nothing: these are definitions.
-use Prim.Native.Nat.{ℕ, _+_, _≤_, suc}
+use Prim.Native.Nat.{ℕ, _≤_}
 use mathlib.Core.Path.{_≡_}
 use mathlib.Core.Bool.{Bool}
 use mathlib.Core.List.{List, [], _∷_, _++_, map}
@@ -9,10 +9,8 @@ use Rattle.octets.specs.Octets.{most32}
 use Rattle.walk.specs.declared.Settings.{Settings}
 use Rattle.fields.specs.Form.{joined}
 use Rattle.packet.specs.Format.{Values, segment, when}
-use Rattle.packet.specs.Numbers.{countAt}
+use Rattle.packet.specs.Numbers.{countAt, nextCounter}
 use Rattle.sender.specs.declared.Sender.{Sender}
-use Rattle.sender.specs.declared.Next.{Next}
-use Rattle.sender.specs.declared.Next.the-variants.{At, NoneLeft}
 use Rattle.sender.specs.Sending.{stepsOf}
 use Rattle.write.specs.declared.HeaderValues.{HeaderValues}
 use Rattle.write.specs.Given.{Lent}
@@ -59,15 +57,9 @@ counterIn v = when (segment (v .flags)) (v .counter ∷ [])
 abbrev pub countersOf : List Values → List ℕ
 countersOf l = joined counterIn l
 
--- the counter that the next segment gets; one past the last if none is left
-unfoldable pub place : Next → ℕ
-place (At c) = c .0
-place NoneLeft = suc most32
-
 -- a counter of 32 bits, as its type has it
-abbrev pub Bits32 : Next → Type 0
-Bits32 (At c) = c .0 ≤ most32
-Bits32 NoneLeft = Unit {0}
+abbrev pub Bits32 : Sender → Type 0
+Bits32 d = d .counter .0 ≤ most32
 
 -- what a list of packets, sent between a sender and the one after them, has
 pub record Goes (d : Sender) (l : List Values) (e : Sender) : Type 0 where
@@ -75,10 +67,8 @@ pub record Goes (d : Sender) (l : List Values) (e : Sender) : Type 0 where
   pub counts : countsOf l ≡ firstOf (countAt (d .«sequence_count» .0)) (length l)
   -- and the sender after them has the next
   pub count : e .«sequence_count» .0 ≡ countAt (d .«sequence_count» .0) (length l)
-  -- the counters of the segments go on by one for each segment, from the sender's
-  pub counters : countersOf l ≡ firstOf (λ (i : ℕ). stepsOf suc i (place (d .next))) (length (countersOf l))
-  -- the sender after them has the next, or none is left
-  pub next : place (e .next) ≡ stepsOf suc (length (countersOf l)) (place (d .next))
-  pub bits : Bits32 (e .next)
-  -- none passes 4,294,967,295
-  pub top : place (e .next) ≤ suc most32
+  -- the counters of the segments go on by one for each segment, from the sender's, round the end
+  pub counters : countersOf l ≡ firstOf (λ (i : ℕ). stepsOf nextCounter i (d .counter .0)) (length (countersOf l))
+  -- and the sender after them has the next
+  pub next : e .counter .0 ≡ stepsOf nextCounter (length (countersOf l)) (d .counter .0)
+  pub bits : Bits32 e

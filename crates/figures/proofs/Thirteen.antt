@@ -1,7 +1,7 @@
 -- Figure 13: what a taking from two cells with the message of figure 8 writes. It is told by the store's cells, since over its octets
 -- the computation passes the limit of steps.
 -- Assumes nothing.
-use Prim.Native.Nat.{ℕ, suc, _≤_}
+use Prim.Native.Nat.{ℕ, _≤_}
 use mathlib.Core.Path.{_≡_, refl, ap, ap₂, _∙_}
 use mathlib.Core.List.{List, [], _∷_}
 use native.Mathlib.Omega.{arith}
@@ -9,7 +9,7 @@ use Rattle.octets.specs.Octets.{wide, alike, number as numberAt}
 use Rattle.utf8.specs.Test.{ended, accepts, isText}
 use Rattle.walk.specs.Walk.{begun, check, octets, fieldFrom, unless}
 use Rattle.fields.specs.Form.{split, allText}
-use Rattle.packet.specs.Numbers.{nextCount, countAt}
+use Rattle.packet.specs.Numbers.{nextCount, countAt, nextCounter, stepsMost}
 use Rattle.packet.specs.Format.{presence, identification, fixedOctets, frontOctets, counterOctets, backOctets, headerOctets, secondaryOctets, dataOctets, octetsOf}
 use Rattle.packet.specs.FixedPart.{octetField, wideField, sduField, afterSdu, afterArea, afterService, afterOperation, afterVersion, afterSession}
 use Rattle.packet.specs.FixedPart.{afterSecondary, afterQualifier, afterTransaction, afterPresence, fixedOf, flagsOf, presentOf}
@@ -17,11 +17,11 @@ use Rattle.packet.specs.Reading.{primaryTests, primaryOf, idsOf, textsOf, bodyT
 use Rattle.packet.specs.Key.{counterPlace, keyOf}
 use Rattle.write.specs.Given.{headOf, sum, nameChecks, routingChecks, idChecks, textChecks, utf8Checks, headerChecks, unlessAll}
 use Rattle.write.specs.Writing.{settingsTest, zoneTest, partsTest, textTest}
-use Rattle.cut.specs.Cutting.{countersFit, counterAt, packets, rounded, limitTest, valueTests, messageTests, countRefusal, flagsAt, bodyAt, packetAt, packetRefusal, packetOutput}
+use Rattle.cut.specs.Cutting.{counterAt, packets, rounded, limitTest, valueTests, messageTests, countRefusal, flagsAt, bodyAt, packetAt, packetRefusal, packetOutput}
 use Rattle.packet.specs.Figure14.{settings, zeros}
 use Rattle.cells.specs.Segments.{Seg, segOf, carries}
 use Rattle.cells.specs.Rows.{Cell, held, mayHold}
-use Rattle.cells.specs.Messages.{cellsOf, look, roleOf, bodies, restFrom, runFrom, pickIn, top}
+use Rattle.cells.specs.Messages.{cellsOf, look, roleOf, bodies, restFrom, runFrom, pickIn}
 use Rattle.demand3.specs.Cells.{put}
 use Rattle.demand3.specs.Traffic.{Event, arrives, empty, takenFrom, stepped, after}
 use Rattle.demand3.specs.Calls.{Call, arrival, storeBy, storeAfter}
@@ -50,8 +50,8 @@ unfolding nextCount wide alike numberAt begun check octets unless split presence
     headerOctets secondaryOctets dataOctets octetsOf primaryTests primaryOf octetField wideField sduField afterSdu afterArea afterService
     afterOperation afterVersion afterSession afterSecondary fieldFrom afterQualifier afterTransaction afterPresence fixedOf flagsOf presentOf idsOf
     textsOf bodyTest refusedHeader acceptedHeader readPacket counterPlace keyOf headOf sum nameChecks routingChecks idChecks textChecks headerChecks
-    unlessAll settingsTest zoneTest partsTest textTest utf8Checks allText isText accepts ended countersFit counterAt stepsOf countAt packets rounded limitTest
-    valueTests messageTests countRefusal flagsAt bodyAt packetAt packetRefusal packetOutput segOf mayHold
+    unlessAll settingsTest zoneTest partsTest textTest utf8Checks allText isText accepts ended counterAt stepsOf countAt packets rounded limitTest
+    valueTests messageTests countRefusal flagsAt bodyAt packetAt packetRefusal packetOutput segOf mayHold nextCounter
 first-comes = refl
 
 last-comes : eventOf settings 1024 (packet 64 38 1 36) ≡ arrives closes
@@ -59,8 +59,8 @@ unfolding nextCount wide alike numberAt begun check octets unless split presence
     headerOctets secondaryOctets dataOctets octetsOf primaryTests primaryOf octetField wideField sduField afterSdu afterArea afterService
     afterOperation afterVersion afterSession afterSecondary fieldFrom afterQualifier afterTransaction afterPresence fixedOf flagsOf presentOf idsOf
     textsOf bodyTest refusedHeader acceptedHeader readPacket counterPlace keyOf headOf sum nameChecks routingChecks idChecks textChecks headerChecks
-    unlessAll settingsTest zoneTest partsTest textTest utf8Checks allText isText accepts ended countersFit counterAt stepsOf countAt packets rounded limitTest
-    valueTests messageTests countRefusal flagsAt bodyAt packetAt packetRefusal packetOutput segOf mayHold
+    unlessAll settingsTest zoneTest partsTest textTest utf8Checks allText isText accepts ended counterAt stepsOf countAt packets rounded limitTest
+    valueTests messageTests countRefusal flagsAt bodyAt packetAt packetRefusal packetOutput segOf mayHold nextCounter
 last-comes = refl
 
 events : eventsIn settings 1024 (emptyStore 1024 2) arrivals ≡ arrives opens ∷ arrives closes ∷ []
@@ -73,20 +73,20 @@ in-use = record { settings = record { t-low = omega arith; t-top = omega arith; 
 one : 1 ≤ 1024
 one = omega arith
 
-two-held : after suc top (empty 2) (arrives opens ∷ arrives closes ∷ []) ≡ held opens ∷ held closes ∷ []
+two-held : after nextCounter stepsMost (empty 2) (arrives opens ∷ arrives closes ∷ []) ≡ held opens ∷ held closes ∷ []
 unfolding after stepped look carries alike put
 two-held = refl
 
 behind : cellsOf settings 1024 (storeBehind settings 1024 2 arrivals) 2 ≡ held opens ∷ held closes ∷ []
-behind = behind-cells settings 1024 2 one in-use arrivals ∙ ap (after suc top (empty 2)) events ∙ two-held
+behind = behind-cells settings 1024 2 one in-use arrivals ∙ ap (after nextCounter stepsMost (empty 2)) events ∙ two-held
 
-sixty-one : written (takenFrom suc top (held opens ∷ held closes ∷ []) 61) ≡ is 61
-unfolding takenFrom look carries alike roleOf bodies restFrom runFrom pickIn
+sixty-one : written (takenFrom nextCounter stepsMost (held opens ∷ held closes ∷ []) 61) ≡ is 61
+unfolding takenFrom look carries alike roleOf bodies restFrom runFrom pickIn nextCounter
 sixty-one = refl
 
 pub thirteen : taken eight 61 ≡ is 61
 unfolding storeAfter storeBy
 thirteen =
     ap written (took-is settings 1024 2 (storeBehind settings 1024 2 arrivals) (behind-keeps settings 1024 2 one in-use arrivals) 61)
-    ∙ ap (λ (cs : List Cell). written (takenFrom suc top cs 61)) behind
+    ∙ ap (λ (cs : List Cell). written (takenFrom nextCounter stepsMost cs 61)) behind
     ∙ sixty-one

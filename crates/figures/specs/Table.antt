@@ -57,6 +57,10 @@ counted r = pick (eqb (r .refusal .number) 0) (is (r .count)) (gives (r .refusal
 abbrev pub count : ℕ → ℕ → ℕ → Said
 count P B c = counted (countAnswer false settings P values texts B (sender c))
 
+-- the counter that the sender has after it
+abbrev pub next : ℕ → ℕ → ℕ → Said
+next P B c = is (countAnswer false settings P values texts B (sender c) .sender .counter .0)
+
 -- how many octets packet number i has
 abbrev pub size : ℕ → ℕ → ℕ → Said
 size P B i = is (packetAnswer false settings P values texts (zeros B) (sender 0) i P .length)
@@ -64,6 +68,11 @@ size P B i = is (packetAnswer false settings P values texts (zeros B) (sender 0)
 -- the packet, as it is written into so many octets
 abbrev pub packet : ℕ → ℕ → ℕ → ℕ → List ℕ
 packet P B i room = packetOutput false settings P values texts (zeros B) (sender 0) i (zeros room)
+
+-- the counter that reading finds in it, cut from the counter c on
+abbrev pub counter : ℕ → ℕ → ℕ → ℕ → ℕ → Said
+counter P B c i room =
+    is (readPacket settings (packetOutput false settings P values texts (zeros B) (sender c) i (zeros room)) .ids .counter .0)
 
 abbrev pub lengthField : List ℕ → Said
 lengthField p = is (numberAt 2 p 4)
@@ -119,7 +128,10 @@ table =
     ∷ row 11 (count 31 4 0) (is 1)
     ∷ row 11 (count 31 5 0) (gives 24)
     ∷ row 12 (count 64 38 4294967294) (is 2)
-    ∷ row 12 (count 64 38 4294967295) (gives 25)
+    ∷ row 12 (count 64 38 4294967295) (is 2)
+    ∷ row 12 (counter 64 38 4294967295 0 64) (is 4294967295)
+    ∷ row 12 (counter 64 38 4294967295 1 36) (is 0)
+    ∷ row 12 (next 64 38 4294967295) (is 1)
     ∷ row 13 (taken eight 61) (is 61)
     ∷ row 14 (header (readPacket settings fourteen)) (header told)
     ∷ row 14 (octets (writeOutput false settings values own texts [] (zeros 27)))

@@ -50,7 +50,7 @@ writeOut s h x flags count counter body out =
 
 -- a sender's numbers as they were given
 abbrev pub given : List ℕ → List ℕ
-given d = numberAt d 0 ∷ numberAt d 1 ∷ numberAt d 2 ∷ []
+given d = numberAt d 0 ∷ numberAt d 1 ∷ []
 
 -- the refusal, and the numbers after an unsegmented packet
 unfoldable pub afterPacketNumbers : List ℕ → List ℕ

@@ -8,7 +8,6 @@ use lib.Dec.{leb, eqb}
 use Rattle.octets.specs.Octets.{pick, most8, most16, most32, octetAt as numberAt}
 use Rattle.packet.specs.declared.Present.{Present}
 use Rattle.sender.specs.declared.Sender.{Sender}
-use Rattle.sender.specs.declared.Next.the-variants.{At, NoneLeft}
 use Rattle.write.specs.declared.HeaderValues.{HeaderValues}
 use Rattle.write.specs.declared.PacketValues.{PacketValues}
 
@@ -80,17 +79,13 @@ packetFits flags count counter = fitsTo 3 (flags ∷ count ∷ counter ∷ []) p
 abbrev pub packetOf : ℕ → ℕ → ℕ → PacketValues
 packetOf flags count counter = record { flags = flags; «sequence_count» = record { 0 = count }; counter = record { 0 = counter } }
 
--- ---- a sender: sequence count, whether a counter is left (1) or none (0), and the counter, 0 if none is left
+-- ---- a sender: sequence count and segment counter
 
 abbrev pub senderWidths : List ℕ
-senderWidths = most16 ∷ 1 ∷ most32 ∷ []
+senderWidths = most16 ∷ most32 ∷ []
 
 abbrev pub senderFits : List ℕ → Bool
-senderFits l = pick (fitsTo 3 l senderWidths) (pick (eqb (numberAt l 1) 1) true (eqb (numberAt l 2) 0)) false
+senderFits l = fitsTo 2 l senderWidths
 
-unfoldable pub senderOf : List ℕ → Sender
-senderOf l =
-    record {
-      «sequence_count» = record { 0 = numberAt l 0 };
-      next = pick (eqb (numberAt l 1) 1) (At (record { 0 = numberAt l 2 })) NoneLeft;
-    }
+abbrev pub senderOf : List ℕ → Sender
+senderOf l = record { «sequence_count» = record { 0 = numberAt l 0 }; counter = record { 0 = numberAt l 1 } }

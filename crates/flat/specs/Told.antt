@@ -14,10 +14,7 @@ use Rattle.packet.specs.declared.Present.{Present}
 use Rattle.packet.specs.declared.Ids.{Ids}
 use Rattle.packet.specs.declared.Texts.{Texts}
 use Rattle.packet.specs.declared.Header.{Header}
-use Rattle.sender.specs.declared.Next.{Next}
-use Rattle.sender.specs.declared.Next.the-variants.{At, NoneLeft}
 use Rattle.sender.specs.declared.Sender.{Sender}
-use Rattle.sender.specs.Sending.{counterNumber}
 use Rattle.write.specs.declared.Written.{Written}
 use Rattle.cut.specs.declared.Counted.{Counted}
 use Rattle.cut.specs.declared.Cut.{Cut}
@@ -85,14 +82,9 @@ readNumbers h =
 abbrev pub writtenNumbers : Written → List ℕ
 writtenNumbers w = w .refusal .number ∷ w .length ∷ []
 
--- whether a counter is left
-unfoldable pub leftNumber : Next → ℕ
-leftNumber (At c) = 1
-leftNumber NoneLeft = 0
-
--- a sender: its sequence count, that, and the counter, 0 if none is left
+-- a sender: its sequence count and its counter
 abbrev pub senderNumbers : Sender → List ℕ
-senderNumbers d = d .«sequence_count» .0 ∷ leftNumber (d .next) ∷ counterNumber (d .next) ∷ []
+senderNumbers d = d .«sequence_count» .0 ∷ d .counter .0 ∷ []
 
 -- the refusal, the number of packets, the sender
 abbrev pub countedNumbers : Counted → List ℕ

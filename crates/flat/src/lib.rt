@@ -9,13 +9,12 @@ ghost use lib.ListN.{length};
 ghost use lib.Seq.{sets};
 ghost use Rattle.walk.specs.Walk.{settingsOf};
 ghost use Rattle.packet.specs.Reading.{readPacket};
-ghost use Rattle.sender.specs.Sending.{counterNumber};
 ghost use Rattle.write.specs.Given.{lent};
 ghost use Rattle.flat.specs.Given.{fitsTo, headerFits, presentOf, headerOf, packetFits, packetOf, senderFits, senderOf};
 ghost use Rattle.flat.specs.Answers.{tooWide, nextNumbers, writeRefused, writeNumbers, writeOut, afterPacketNumbers};
 ghost use Rattle.flat.specs.Answers.{afterSegmentNumbers, cutRefused, countNumbers, packetNumbers, packetOut};
 ghost use Rattle.flat.specs.Told.{primaryNumbers, nameNumbers, routingNumbers, presentNumbers, idsNumbers, placeNumbers, placesTo};
-ghost use Rattle.flat.specs.Told.{textNumbers, readNumbers, writtenNumbers, leftNumber, senderNumbers, countedNumbers, cutNumbers};
+ghost use Rattle.flat.specs.Told.{textNumbers, readNumbers, writtenNumbers, senderNumbers, countedNumbers, cutNumbers};
 use cut::Counted;
 use cut::Cut;
 use fields::Place;
@@ -29,7 +28,6 @@ use packet::SecondaryApid;
 use packet::SegmentCounter;
 use packet::SequenceCount;
 use packet::Texts;
-use sender::Next;
 use sender::Sender;
 use varint::MOST_16;
 use varint::MOST_32;
@@ -44,11 +42,11 @@ use write::Written;
 pub const READ: usize = 75;
 
 // How many numbers a sender has, and how many its calls and those of cutting answer.
-pub const SENDER: usize = 3;
+pub const SENDER: usize = 2;
 
-pub const AFTER: usize = 4;
+pub const AFTER: usize = 3;
 
-pub const CUT: usize = 5;
+pub const CUT: usize = 4;
 
 // The refusal of a number that is too wide for its field.
 const TOO_WIDE: u64 = 22;
@@ -292,12 +290,12 @@ fn packet_of(flags: u64, sequence_count: u64, counter: u64) -> PacketValues
     }
 }
 
-// Whether a sender's numbers fit: if no counter is left, its counter is 0.
+// Whether a sender's numbers fit.
 fn sender_fits(d: &[u64; SENDER]) -> bool
     ensures { λ r. ⌜ r ≡ senderFits (now (d .entry)) ⌝ }
 {
-    let widths = [MOST_16, 1, MOST_32];
-    octets::both(fits(d, &widths), octets::either(d[1] == 1, d[2] == 0))
+    let widths = [MOST_16, MOST_32];
+    fits(d, &widths)
 }
 
 // The sender, whose numbers fit.
@@ -305,49 +303,20 @@ fn sender_of(d: &[u64; SENDER]) -> Sender
     requires { ⌜ senderFits (now d) ≡ true ⌝ }
     ensures { λ r. ⌜ r ≡ senderOf (now (d .entry)) ⌝ }
 {
-    let sequence_count = SequenceCount(d[0] as u16);
-    if d[1] == 1 {
-        return Sender {
-            sequence_count: sequence_count,
-            next: Next::At(SegmentCounter(d[2] as u32)),
-        };
-    }
     Sender {
-        sequence_count: sequence_count,
-        next: Next::NoneLeft,
+        sequence_count: SequenceCount(d[0] as u16),
+        counter: SegmentCounter(d[1] as u32),
     }
 }
 
 // ---- values to numbers
 
-// Whether a counter is left.
-fn left_number(n: Next) -> u64
-    ensures { λ r. ⌜ r ≡ leftNumber n ⌝ }
-{
-    match n {
-        Next::At(_) => 1,
-        Next::NoneLeft => 0,
-    }
-}
-
-// The counter, 0 if none is left.
-fn counter_number(n: Next) -> u64
-    ensures { λ r. ⌜ r ≡ counterNumber n ⌝ }
-{
-    match n {
-        Next::At(c) => c.0 as u64,
-        Next::NoneLeft => 0,
-    }
-}
-
 fn sender_numbers(d: Sender) -> [u64; SENDER]
     ensures { λ r. ⌜ r ≡ senderNumbers d ⌝ }
 {
     let sequence_count = d.sequence_count;
-    let next = d.next;
-    let left = left_number(next);
-    let counter = counter_number(next);
-    [sequence_count.0 as u64, left, counter]
+    let counter = d.counter;
+    [sequence_count.0 as u64, counter.0 as u64]
 }
 
 fn counted_numbers(r: Counted) -> [u64; CUT]
@@ -355,7 +324,7 @@ fn counted_numbers(r: Counted) -> [u64; CUT]
 {
     let refusal = r.refusal;
     let d = sender_numbers(r.sender);
-    [refusal.number as u64, r.count as u64, d[0], d[1], d[2]]
+    [refusal.number as u64, r.count as u64, d[0], d[1]]
 }
 
 fn cut_numbers(r: Cut) -> [u64; CUT]
@@ -363,7 +332,7 @@ fn cut_numbers(r: Cut) -> [u64; CUT]
 {
     let refusal = r.refusal;
     let d = sender_numbers(r.sender);
-    [refusal.number as u64, r.length as u64, d[0], d[1], d[2]]
+    [refusal.number as u64, r.length as u64, d[0], d[1]]
 }
 
 // ---- the calls
@@ -455,10 +424,10 @@ pub fn after_packet(sender: &[u64; SENDER]) -> [u64; AFTER]
     ensures { λ r. ⌜ r ≡ afterPacketNumbers (now (sender .entry)) ⌝ }
 {
     if !sender_fits(sender) {
-        return [TOO_WIDE, sender[0], sender[1], sender[2]];
+        return [TOO_WIDE, sender[0], sender[1]];
     }
     let d = sender_numbers(sender_of(sender).after_packet());
-    [0, d[0], d[1], d[2]]
+    [0, d[0], d[1]]
 }
 
 // The sender's numbers after a segment.
@@ -466,10 +435,10 @@ pub fn after_segment(sender: &[u64; SENDER]) -> [u64; AFTER]
     ensures { λ r. ⌜ r ≡ afterSegmentNumbers (now (sender .entry)) ⌝ }
 {
     if !sender_fits(sender) {
-        return [TOO_WIDE, sender[0], sender[1], sender[2]];
+        return [TOO_WIDE, sender[0], sender[1]];
     }
     let d = sender_numbers(sender_of(sender).after_segment());
-    [0, d[0], d[1], d[2]]
+    [0, d[0], d[1]]
 }
 
 fn cut_too_wide(s: Settings, p: u64, sender: &[u64; SENDER]) -> [u64; CUT]
@@ -477,7 +446,7 @@ fn cut_too_wide(s: Settings, p: u64, sender: &[u64; SENDER]) -> [u64; CUT]
 {
     let none = Tested { number: 0 };
     let number = too_wide(cut::test_limit(s, p as usize, none));
-    [number, 0, sender[0], sender[1], sender[2]]
+    [number, 0, sender[0], sender[1]]
 }
 
 // The number of packets of a message, and the sender's numbers after it.

@@ -1,7 +1,7 @@
 -- What an arrival and a taking tell a joining: where the body of a packet stands that came whole; and that taking refuses by no
 -- zero, and tells an H that fits its output.
 -- Assumes nothing.
-use Prim.Native.Nat.{ℕ, suc, _+_, _-_, _≤_, _<_}
+use Prim.Native.Nat.{ℕ, _+_, _-_, _≤_, _<_}
 use mathlib.Core.Path.{_≡_, refl, ap, sym, _∙_}
 use mathlib.Core.Logic.{_⊎_, inl, inr}
 use mathlib.Core.Bool.{Bool, true, false}
@@ -14,6 +14,7 @@ use borrow.Author.Tests.{eqb-true, leb-true, eq-eqb, ne-eqb}
 use Rattle.octets.specs.Octets.{pick, Octets}
 use Rattle.octets.proofs.Lists.{bool}
 use Rattle.walk.specs.declared.Settings.{Settings}
+use Rattle.packet.specs.Numbers.{nextCounter, stepsMost}
 use Rattle.walk.specs.declared.Refusal.{Refusal}
 use Rattle.walk.specs.Walk.{refusal}
 use Rattle.packet.specs.Reading.{readPacket, segmented, counterSize}
@@ -21,7 +22,7 @@ use Rattle.format.proofs.Accepting.{accepted}
 use Rattle.cells.specs.Segments.{Seg, segOf, sameRest}
 use Rattle.cells.specs.Order.{countIn, gate}
 use Rattle.cells.proofs.Gate.{through-tells}
-use Rattle.cells.specs.Messages.{Run, bodyOf, cellsOf, look, picked, top}
+use Rattle.cells.specs.Messages.{Run, bodyOf, cellsOf, look, picked}
 use Rattle.arrival.specs.Arriving.{whole, stored, again, refused, placed, beside, lowestFree, segmentArrived, arrivedIn, arrived}
 use Rattle.taking.specs.Taking.{message, unable, writing, drawn, tookIn}
 use Rattle.taking.specs.declared.Taken.{Taken}
@@ -120,12 +121,12 @@ module _ (long : ℕ) where
     -- taking's answer is joining's
     pub took-as : takenAs (takenOf (tookIn s Z x n long)) ≡ joinedOf (tookAs (tookIn s Z x n long))
     unfolding tookIn
-    took-as = drawn-as (picked suc top (cellsOf s Z x n))
+    took-as = drawn-as (picked nextCounter stepsMost (cellsOf s Z x n))
 
     -- H, where it is told, leaves room for the two octets of identification
     took-fits : takenOf (tookIn s Z x n long) .header ≤ long - 2
     unfolding tookIn
-    took-fits = drawn-fits (picked suc top (cellsOf s Z x n))
+    took-fits = drawn-fits (picked nextCounter stepsMost (cellsOf s Z x n))
 
 -- so the place of the body is a number that an output's length can be
 pub place-fits :

@@ -78,7 +78,7 @@ pub count :
     Numbered ofCount (countRefusal old s P v t B d .number)
 unfolding countRefusal messageTests valueTests limitTest
 count old s P v t B d =
-    unless-ok C _ 25 _ refl
+    unless-ok C _ 29 _ refl
     (unless-ok C _ 24 _ refl
     (unless-ok C _ 12 _ refl
     (unless-ok C _ 23 _ refl
@@ -86,8 +86,9 @@ count old s P v t B d =
     (parts-ok C t _ refl
     (zone-ok C old v _ refl
     (unless-ok C _ 22 _ refl
+    (unless-ok C _ 22 _ refl
     (all-ok C (headerChecks s v t) 22 _ refl
-    (unless-ok C _ 15 _ refl (unless-ok C _ 15 _ refl (settings-ok C s noneFailed refl (among C 0 refl))))))))))))
+    (unless-ok C _ 15 _ refl (unless-ok C _ 15 _ refl (settings-ok C s noneFailed refl (among C 0 refl)))))))))))))
 
 -- numbers too wide, given to be cut
 pub count-wide : (s : Settings) (P : ℕ) → Numbered ofCount (unless false 22 (limitTest s P noneFailed) .number)

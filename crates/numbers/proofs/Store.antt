@@ -1,6 +1,6 @@
 -- Arrival, taking, joining, the order of a store and a whole recording are refused by a number of their own lists.
 -- Assumes nothing.
-use Prim.Native.Nat.{ℕ, suc, _+_}
+use Prim.Native.Nat.{ℕ, _+_}
 use mathlib.Core.Path.{_≡_, refl}
 use mathlib.Core.Bool.{true}
 use mathlib.Core.Option.{Option, none, some}
@@ -8,11 +8,12 @@ use mathlib.Core.List.{List, _∷_}
 use lib.ListN.{length}
 use lib.Dec.{leb, ltb, eqb}
 use Rattle.walk.specs.declared.Settings.{Settings}
+use Rattle.packet.specs.Numbers.{nextCounter, stepsMost}
 use Rattle.walk.specs.Walk.{begun, refusal}
 use Rattle.packet.specs.Reading.{readPacket, segmented}
 use Rattle.cells.specs.Segments.{Seg, segOf, sameRest}
 use Rattle.cells.specs.Order.{inOrder, countIn, gate}
-use Rattle.cells.specs.Messages.{Run, cellsOf, look, picked as pickedFrom, top}
+use Rattle.cells.specs.Messages.{Run, cellsOf, look, picked as pickedFrom}
 use Rattle.arrival.specs.Arriving.{Arrived, whole, stored, again, refused, placed, beside, lowestFree, segmentArrived, arrivedIn, arrived, storeWith}
 use Rattle.taking.specs.Taking.{Took, message, unable, writing, drawn, tookIn, took}
 use Rattle.arrival.specs.Told.{said, arrivalOf}
@@ -72,7 +73,7 @@ some-taken n e = among (0 ∷ ofTaking) n e
 pub taking : (s : Settings) (Z : ℕ) (st : List ℕ) (long : ℕ) → Numbered ofTaking (takenOf (took s Z st long) .refusal .number)
 unfolding took tookIn
 taking s Z st long =
-    picked Taken (eqb (gate s Z st) 0) _ (unable (gate s Z st)) (go (pickedFrom suc top (cellsOf s Z st (countIn Z st))))
+    picked Taken (eqb (gate s Z st) 0) _ (unable (gate s Z st)) (go (pickedFrom nextCounter stepsMost (cellsOf s Z st (countIn Z st))))
     (gated ofTaking refl refl s Z st)
   where
     go : (o : Option Run) → Taken (drawn o long)

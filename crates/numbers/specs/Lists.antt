@@ -45,7 +45,7 @@ ofWidths = 22 ∷ []
 
 -- the count leaves out the last two of cutting's
 abbrev pub ofCount : List ℕ
-ofCount = 15 ∷ 22 ∷ 30 ∷ 13 ∷ 28 ∷ 23 ∷ 12 ∷ 24 ∷ 25 ∷ []
+ofCount = 15 ∷ 22 ∷ 30 ∷ 13 ∷ 28 ∷ 23 ∷ 12 ∷ 24 ∷ 29 ∷ []
 
 abbrev pub ofCutting : List ℕ
 ofCutting = ofCount ++ (26 ∷ 21 ∷ [])

@@ -1,3 +1,4 @@
 pub mod Whole
 pub mod Counts
+pub mod Rounds
 pub mod Arguments

@@ -19,7 +19,7 @@ ghost use lib.ListN.{length};
 ghost use Rattle.octets.specs.Octets.{Octets};
 ghost use Rattle.walk.specs.Inner.{asWalk, ofWalk};
 ghost use Rattle.fields.specs.Fields.{opt};
-ghost use Rattle.packet.specs.Numbers.{nextSequenceCount, sequenceCountAt};
+ghost use Rattle.packet.specs.Numbers.{nextSequenceCount, sequenceCountAt, nextSegmentCounter};
 ghost use Rattle.packet.specs.FixedPart.{flagsOf, octetField, wideField, sduField};
 ghost use Rattle.packet.specs.Reading.{primaryTests, primaryOf, idsOf, textsOf, bodyTest, segmented as segmentedOf, counterSize};
 ghost use Rattle.packet.specs.Reading.{refusalOf, refusedHeader, noFixed, readPacket};
@@ -45,6 +45,9 @@ use walk::Walk;
 pub const COUNT_MOST: u16 = 16383;
 
 pub const COUNTS: usize = 16384;
+
+// The most segments of a message.
+pub const SEGMENTS_MOST: usize = 4096;
 
 pub struct Apid(pub u16);
 
@@ -217,6 +220,16 @@ pub fn next_sequence_count(c: SequenceCount) -> SequenceCount
     ensures { λ r. ⌜ r ≡ nextSequenceCount c ⌝ }
 {
     sequence_count_after(c, 1)
+}
+
+// The next segment counter: 0 follows 4,294,967,295.
+pub fn next_segment_counter(c: SegmentCounter) -> SegmentCounter
+    ensures { λ r. ⌜ r ≡ nextSegmentCounter c ⌝ }
+{
+    if c.0 == u32::MAX {
+        return SegmentCounter(0);
+    }
+    SegmentCounter(c.0 + 1)
 }
 
 // 1 to 4, then 5 or 27.

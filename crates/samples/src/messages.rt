@@ -7,7 +7,6 @@ use packet::Present;
 use packet::SecondaryApid;
 use packet::SegmentCounter;
 use packet::SequenceCount;
-use sender::Next;
 use sender::Sender;
 use walk::Settings;
 use write::HeaderValues;
@@ -122,10 +121,9 @@ fn header(m: u8) -> HeaderValues {
 
 // Sequence counts and counters of different messages lie apart.
 fn sender(m: u8) -> Sender {
-    let next = Next::At(SegmentCounter(m as u32 * 1000));
     Sender {
         sequence_count: SequenceCount(m as u16 * 6 + 16341),
-        next: next,
+        counter: SegmentCounter(m as u32 * 1000),
     }
 }
 

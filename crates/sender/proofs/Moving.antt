@@ -1,78 +1,50 @@
 -- The counter n segments on: the code's closed form is the definition's steps. And both numbers after n segments.
 -- Assumes nothing.
-use Prim.Native.Nat.{ℕ, zero, suc, _+_, _≤_, _<_}
+use Prim.Native.Nat.{ℕ, zero, suc, _+_, _-_, _%_, _≤_, _<_}
 use mathlib.Core.Path.{_≡_, refl, ap, ap₂, sym, _∙_}
-use mathlib.Core.Logic.{⊎-elim}
 use native.Mathlib.Omega.{arith}
-use native.Mathlib.Nat.{add-zero}
-use borrow.Author.Tests.{le-leb, lt-leb}
+use native.Mathlib.Nat.{add-mod-mod}
 use Rattle.octets.specs.Octets.{most32}
-use Rattle.octets.proofs.Lists.{below-or}
 use Rattle.packet.specs.declared.SegmentCounter.{SegmentCounter}
 use Rattle.packet.specs.declared.SequenceCount.{SequenceCount}
-use Rattle.packet.specs.Numbers.{countAt, sequenceCountAt}
+use Rattle.packet.specs.Numbers.{countAt, sequenceCountAt, nextCounter}
 use Rattle.sender.specs.declared.Sender.{Sender}
-use Rattle.sender.specs.declared.Next.{Next}
-use Rattle.sender.specs.declared.Next.the-variants.{At, NoneLeft}
 use Rattle.sender.specs.declared.Sent.{Sent}
 use Rattle.sender.specs.declared.Sent.the-variants.{Whole, Segments}
-use Rattle.sender.specs.Sending.{nextCounter, counterAfter, afterPacket, afterSegment, afterSegments, afterMessage}
+use Rattle.sender.specs.Sending.{stepsOf, counterAfter, afterPacket, afterSegment, afterSegments, afterMessage}
+use Rattle.sender.proofs.Stepping.{steps-last, steps-round}
 
-pub after-fits : (n : ℕ) (c : SegmentCounter) → c .0 + n ≤ most32 → counterAfter n (At c) ≡ At (record { 0 = c .0 + n })
-unfolding counterAfter nextCounter
-after-fits zero c h = ap (λ (k : ℕ). At (record { 0 = k })) (sym (add-zero (c .0)))
-after-fits (suc n) c h =
-    let e = after-fits n c (omega arith) in
-    let l : c .0 + n < most32 = omega arith in
-    let s : suc (c .0 + n) ≡ c .0 + suc n = omega arith in
-    rw (e, lt-leb most32 (c .0 + n) l, nextCounter) (ap (λ (k : ℕ). At (record { 0 = k })) s)
+-- ---- the counter, as the code makes it
 
-pub after-none : (n : ℕ) → counterAfter n NoneLeft ≡ NoneLeft
-unfolding counterAfter nextCounter
-after-none zero = refl
-after-none (suc n) = ap nextCounter (after-none n)
+abbrev counted : ℕ → SegmentCounter
+counted x = record { 0 = x }
 
--- the largest was used
-used : (c : SegmentCounter) → most32 ≤ c .0 → nextCounter (At c) ≡ NoneLeft
-unfolding nextCounter
-used c h = rw (le-leb most32 (c .0) h, nextCounter)
+module _ (n : ℕ) (c : SegmentCounter) (l : c .0 ≤ most32) where
+  reduced : stepsOf nextCounter n (c .0) ≡ (c .0 + n % 4294967296) % 4294967296
+  reduced = steps-round n (c .0) l ∙ sym (add-mod-mod (c .0) n 4294967296)
 
-pub after-past : (n : ℕ) (c : SegmentCounter) → c .0 ≤ most32 → most32 < c .0 + n → counterAfter n (At c) ≡ NoneLeft
-unfolding counterAfter
-after-past zero c t h = absurd (omega arith)
-after-past (suc n) c t h =
-    ⊎-elim
-    (λ k. ap nextCounter (after-past n c t k) ∙ after-none 1)
-    (λ k.
-    let l : most32 ≤ c .0 + n = omega arith in
-    ap nextCounter (after-fits n c k) ∙ used (record { 0 = c .0 + n }) l)
-    (below-or most32 (c .0 + n))
+  pub after-below : {x : ℕ} → x ≡ c .0 + n % 4294967296 → x < 4294967296 → counted x ≡ counterAfter n c
+  after-below {x} e h = ap counted (let k : x ≡ stepsOf nextCounter n (c .0) = omega (arith, reduced) in k)
 
--- ---- by the case that a match has found
-
-module _ {n : Next} {c : SegmentCounter} (e : n ≡ At c) where
-  pub after-at : (k : ℕ) → c .0 + k ≤ most32 → At (record { 0 = c .0 + k }) ≡ counterAfter k n
-  after-at k h = rw e (sym (after-fits k c h))
-
-  pub after-over : (k : ℕ) → c .0 ≤ most32 → most32 < c .0 + k → NoneLeft ≡ counterAfter k n
-  after-over k t h = rw e (sym (after-past k c t h))
-
-pub after-still : {n : Next} → n ≡ NoneLeft → (k : ℕ) → NoneLeft ≡ counterAfter k n
-after-still e k = rw e (sym (after-none k))
+  pub after-round : {x : ℕ} → x ≡ c .0 + n % 4294967296 → 4294967296 ≤ x → counted (x - 4294967296) ≡ counterAfter n c
+  after-round {x} e h =
+      ap counted (let k : x - 4294967296 ≡ stepsOf nextCounter n (c .0) = omega (arith, reduced) in k)
 
 -- ---- both numbers
 
-pub after-both : (n : ℕ) (d : Sender) → afterSegments n d ≡ record { «sequence_count» = sequenceCountAt (d .«sequence_count») n; next = counterAfter n (d .next) }
-unfolding afterSegments afterSegment countAt counterAfter
-after-both zero d = refl
-after-both (suc n) d = ap afterSegment (after-both n d)
+abbrev sending : SequenceCount → SegmentCounter → Sender
+sending c m = record { «sequence_count» = c; counter = m }
 
-abbrev sending : SequenceCount → Next → Sender
-sending c m = record { «sequence_count» = c; next = m }
+pub after-both : (n : ℕ) (d : Sender) → afterSegments n d ≡ sending (sequenceCountAt (d .«sequence_count») n) (counterAfter n (d .counter))
+unfolding afterSegments afterSegment countAt stepsOf
+after-both zero d = refl
+after-both (suc n) d =
+    ap afterSegment (after-both n d)
+    ∙ ap (λ (x : ℕ). sending (sequenceCountAt (d .«sequence_count») (suc n)) (counted x)) (sym (steps-last nextCounter n (d .counter .0)))
 
 -- as the code makes it
 pub moved-both :
-    (n : ℕ) (d : Sender) {c : SequenceCount} {m : Next} → c ≡ sequenceCountAt (d .«sequence_count») n → m ≡ counterAfter n (d .next) →
+    (n : ℕ) (d : Sender) {c : SequenceCount} {m : SegmentCounter} → c ≡ sequenceCountAt (d .«sequence_count») n → m ≡ counterAfter n (d .counter) →
     sending c m ≡ afterSegments n d
 moved-both n d e f = ap₂ sending e f ∙ sym (after-both n d)
 

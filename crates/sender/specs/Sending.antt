@@ -1,42 +1,28 @@
 -- The sender's two running numbers.
--- SPEC C-7: one step of the sequence count for each packet, one of the counter for each segment; after the last counter none is left.
+-- SPEC C-7: one step of the sequence count for each packet, one of the counter for each segment; after the largest of each comes 0.
 -- Assumes nothing: these are definitions.
 use Prim.Native.Nat.{ℕ, zero, suc}
-use lib.Dec.{leb}
-use Rattle.octets.specs.Octets.{pick, most32}
-use Rattle.packet.specs.Numbers.{nextSequenceCount}
+use Rattle.packet.specs.declared.SegmentCounter.{SegmentCounter}
+use Rattle.packet.specs.Numbers.{nextSequenceCount, nextCounter, nextSegmentCounter}
 use Rattle.sender.specs.declared.Sender.{Sender}
-use Rattle.sender.specs.declared.Next.{Next}
-use Rattle.sender.specs.declared.Next.the-variants.{At, NoneLeft}
 use Rattle.sender.specs.declared.Sent.{Sent}
 use Rattle.sender.specs.declared.Sent.the-variants.{Whole, Segments}
 
--- n steps of `next` from a number on: segment i of a message has the counter i steps from the message's first, where `next` is one more
+-- n steps of `next` from a number on: segment i of a message has the counter i steps from the message's first
 unfoldable pub stepsOf : (ℕ → ℕ) → ℕ → ℕ → ℕ
 stepsOf next zero c = c
 stepsOf next (suc n) c = stepsOf next n (next c)
 
--- the counter after one that was used; none is left once the largest has been used, and stays so
-unfoldable pub nextCounter : Next → Next
-nextCounter (At c) = pick (leb most32 (c .0)) NoneLeft (At (record { 0 = suc (c .0) }))
-nextCounter NoneLeft = NoneLeft
-
--- n segments on
-unfoldable pub counterAfter : ℕ → Next → Next
-counterAfter zero n = n
-counterAfter (suc k) n = nextCounter (counterAfter k n)
-
--- the counter as a number, 0 if none is left
-unfoldable pub counterNumber : Next → ℕ
-counterNumber (At c) = c .0
-counterNumber NoneLeft = 0
+-- the counter n segments on
+abbrev pub counterAfter : ℕ → SegmentCounter → SegmentCounter
+counterAfter n c = record { 0 = stepsOf nextCounter n (c .0) }
 
 -- the state after an unsegmented packet, and after a segment
 unfoldable pub afterPacket : Sender → Sender
-afterPacket d = record { «sequence_count» = nextSequenceCount (d .«sequence_count»); next = d .next }
+afterPacket d = record { «sequence_count» = nextSequenceCount (d .«sequence_count»); counter = d .counter }
 
 unfoldable pub afterSegment : Sender → Sender
-afterSegment d = record { «sequence_count» = nextSequenceCount (d .«sequence_count»); next = nextCounter (d .next) }
+afterSegment d = record { «sequence_count» = nextSequenceCount (d .«sequence_count»); counter = nextSegmentCounter (d .counter) }
 
 -- after n segments
 unfoldable pub afterSegments : ℕ → Sender → Sender

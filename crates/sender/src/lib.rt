@@ -1,29 +1,20 @@
-// The sender's two running numbers: the sequence count of the next packet, and the counter of the next segment or that none is left.
+// The sender's two running numbers: the sequence count of the next packet, and the counter of the next segment.
 //
 // `after_packet` and `after_segment` hand back the state after one packet, whole or a segment, `after_message` the state after a
-// message; they refuse nothing. A counter of 4,294,967,295 may be used, and then none is left. How many packets a message takes is
-// for crate `cut`.
+// message; they refuse nothing. After the largest of each number comes 0, so there is always a next one. How many packets a message takes
+// is for crate `cut`.
 ghost use mathlib.Core.Path.{_≡_};
 ghost use Rattle.sender.specs.Sending.{counterAfter, afterPacket, afterSegment, afterSegments, afterMessage};
 use packet::SegmentCounter;
 use packet::SequenceCount;
 
-// The largest counter.
-pub const COUNTER_MOST: u32 = 4294967295;
-
 // How many counters there are.
-pub const COUNTERS: u64 = COUNTER_MOST as u64 + 1;
-
-// The counter that the next segment gets, or that none is left.
-pub enum Next {
-    At(SegmentCounter),
-    NoneLeft,
-}
+const COUNTERS: u64 = 4294967296;
 
 // The sender's two running numbers.
 pub struct Sender {
     pub sequence_count: SequenceCount,
-    pub next: Next,
+    pub counter: SegmentCounter,
 }
 
 // How a message is sent: as one unsegmented packet, or as so many segments.
@@ -32,23 +23,15 @@ pub enum Sent {
     Segments(usize),
 }
 
-impl Next {
-    // The counter n segments on.
-    pub fn after(self, n: usize) -> Next
-        ensures { λ r. ⌜ r ≡ counterAfter n self ⌝ }
-    {
-        match self {
-            Next::At(c) => {
-                let x = c.0;
-                let left = (COUNTER_MOST - x) as u64;
-                if n as u64 <= left {
-                    return Next::At(SegmentCounter(x + n as u32));
-                }
-                Next::NoneLeft
-            }
-            Next::NoneLeft => Next::NoneLeft,
-        }
+// The counter n segments on: 0 follows 4,294,967,295.
+pub fn counter_after(c: SegmentCounter, n: usize) -> SegmentCounter
+    ensures { λ r. ⌜ r ≡ counterAfter n c ⌝ }
+{
+    let x = c.0 as u64 + n as u64 % COUNTERS;
+    if x < COUNTERS {
+        return SegmentCounter(x as u32);
     }
+    SegmentCounter((x - COUNTERS) as u32)
 }
 
 impl Sender {
@@ -57,10 +40,10 @@ impl Sender {
         ensures { λ r. ⌜ r ≡ afterPacket self ⌝ }
     {
         let later = packet::next_sequence_count(self.sequence_count);
-        let next = self.next;
+        let counter = self.counter;
         Sender {
             sequence_count: later,
-            next: next,
+            counter: counter,
         }
     }
 
@@ -68,12 +51,11 @@ impl Sender {
     fn after_segments(self, n: usize) -> Sender
         ensures { λ r. ⌜ r ≡ afterSegments n self ⌝ }
     {
-        let next = self.next;
-        let moved = next.after(n);
+        let counter = counter_after(self.counter, n);
         let sequence_count = packet::sequence_count_after(self.sequence_count, n);
         Sender {
             sequence_count: sequence_count,
-            next: moved,
+            counter: counter,
         }
     }
 

@@ -104,11 +104,11 @@ bodies-last s Z st j ks {x} e ex = bodies-first s Z st j [] ks e ex ∙ append-n
 
 -- ---- the loop
 
-module _ (next : ℕ → ℕ) (span : ℕ) (s : Settings) (Z : ℕ) (st : List ℕ) (n : ℕ) (k js : List ℕ) (place : ℕ) (o : List ℕ) (slack : ℕ) where
+module _ (next : ℕ → ℕ) (span : ℕ) (s : Settings) (Z : ℕ) (st : List ℕ) (n : ℕ) (k js : List ℕ) (place : ℕ) (o : List ℕ) where
   -- what is done, over what is left to do: the run after the counter c, its bodies from `at` on
   pub record Copying (out : List ℕ) (c left steps at : ℕ) : Type 0 where
     pub rest : List ℕ
-    pub ahead : follow next span s Z st n k (left + slack) (next c) ≡ some rest
+    pub ahead : follow next span s Z st n k left (next c) ≡ some rest
     pub octets : sets out at (bodiesAt s Z st rest) ≡ sets o place (bodiesAt s Z st js)
     pub room : at + length (bodiesAt s Z st rest) ≤ length out
     pub long : length out ≡ length o
@@ -116,10 +116,10 @@ module _ (next : ℕ → ℕ) (span : ℕ) (s : Settings) (Z : ℕ) (st : List �
     pub count : steps + left ≤ 4294967295
 
 pub copying-first :
-    (next : ℕ → ℕ) (span : ℕ) (s : Settings) (Z : ℕ) (st : List ℕ) (n : ℕ) (k : List ℕ) (c place slack : ℕ) (o : List ℕ) {left : ℕ} →
-    left + slack ≡ span → left ≤ 4294967295 → Ready next span s Z st n k (next c) place o →
-    Copying next span s Z st n k (placesFrom next span s Z st n k (next c)) place o slack o c left 0 place
-copying-first next span s Z st n k c place slack o e h r =
+    (next : ℕ → ℕ) (span : ℕ) (s : Settings) (Z : ℕ) (st : List ℕ) (n : ℕ) (k : List ℕ) (c place : ℕ) (o : List ℕ) {left : ℕ} →
+    left ≡ span → left ≤ 4294967295 → Ready next span s Z st n k (next c) place o →
+    Copying next span s Z st n k (placesFrom next span s Z st n k (next c)) place o o c left 0 place
+copying-first next span s Z st n k c place o e h r =
     record {
       rest = placesFrom next span s Z st n k (next c);
       ahead = ap (λ (f : ℕ). follow next span s Z st n k f (next c)) e ∙ r .complete;
@@ -130,24 +130,25 @@ copying-first next span s Z st n k c place slack o e h r =
       count = omega arith;
     }
 
-module _ {next : ℕ → ℕ} {span : ℕ} {s : Settings} {Z : ℕ} {st : List ℕ} {n : ℕ} {k js : List ℕ} {place : ℕ} {o : List ℕ} {slack : ℕ}
-    {out : List ℕ} {c left steps at : ℕ} (w : Copying next span s Z st n k js place o slack out c left steps at) where
-  -- a run that is complete does not come to where no counter is left
-  pub copying-ended : left ≤ 0 → follow next span s Z st n k slack (next c) ≡ none → ⊥
-  copying-ended h e =
-      let z : slack ≡ left + slack = omega arith in
-      let u : none ≡ some (w .rest) = sym e ∙ ap (λ (f : ℕ). follow next span s Z st n k f (next c)) z ∙ w .ahead in
+module _ {next : ℕ → ℕ} {span : ℕ} {s : Settings} {Z : ℕ} {st : List ℕ} {n : ℕ} {k js : List ℕ} {place : ℕ} {o : List ℕ}
+    {out : List ℕ} {c left steps at : ℕ} (w : Copying next span s Z st n k js place o out c left steps at) where
+  -- a run that is complete does not come to where no step is left
+  pub copying-ended : left ≤ 0 → ⊥
+  unfolding follow
+  copying-ended h =
+      let z : 0 ≡ left = omega arith in
+      let u : none ≡ some (w .rest) = ap (λ (f : ℕ). follow next span s Z st n k f (next c)) z ∙ w .ahead in
       let y : _≡_ {A = ℕ} 0 1 = cc in
       omega arith
 
   module _ (h : 0 < left) {d : ℕ} (ed : d ≡ next c) {j : ℕ} (ej : j ≡ foundIn s Z st n k d) where
-    ahead-at : follow next span s Z st n k (suc (left - 1 + slack)) d ≡ some (w .rest)
+    ahead-at : follow next span s Z st n k (suc (left - 1)) d ≡ some (w .rest)
     ahead-at =
-        let e : suc (left - 1 + slack) ≡ left + slack = omega arith in
+        let e : suc (left - 1) ≡ left = omega arith in
         ap₂ (λ (f x : ℕ). follow next span s Z st n k f x) e ed ∙ w .ahead
 
     pub copying-inside : j < n
-    copying-inside = next-inside next span s Z st n k (left - 1 + slack) d (w .rest) ahead-at ej
+    copying-inside = next-inside next span s Z st n k (left - 1) d (w .rest) ahead-at ej
 
     module _ {r : List ℕ} {t : Piece} (er : r ≡ rowAt Z st j) (et : t ≡ pieceOf (readPacket s (packetIn r))) where
       abbrev x : List ℕ
@@ -158,7 +159,7 @@ module _ {next : ℕ → ℕ} {span : ℕ} {s : Settings} {Z : ℕ} {st : List �
 
       pub copying-room : at + length x ≤ length out
       copying-room =
-          let y = next-some next span s Z st n k (left - 1 + slack) d (w .rest) ahead-at ej in
+          let y = next-some next span s Z st n k (left - 1) d (w .rest) ahead-at ej in
           let e = ap length (bodies-first s Z st j (y .0) (w .rest) (y .1) body-is) ∙ length-append x (bodiesAt s Z st (y .0)) in
           omega (arith, w .room)
 
@@ -168,14 +169,14 @@ module _ {next : ℕ → ℕ} {span : ℕ} {s : Settings} {Z : ℕ} {st : List �
 
         pub copying-last : t .flags ≡ 2 → (steps + 1 ≡ length js) × (out′ ≡ sets o place (bodiesAt s Z st js))
         copying-last f =
-            let e = next-last next span s Z st n k (left - 1 + slack) d (w .rest) ahead-at ej (sym (flags-there s Z st j er et) ∙ f) in (
+            let e = next-last next span s Z st n k (left - 1) d (w .rest) ahead-at ej (sym (flags-there s Z st j er et) ∙ f) in (
               omega (arith, w .told, ap length e),
               eo ∙ ap (sets out at) (sym (bodies-last s Z st j (w .rest) e body-is)) ∙ w .octets,
             )
 
-        pub copying-turn : (t .flags ≡ 2 → ⊥) → Copying next span s Z st n k js place o slack out′ d (left - 1) (steps + 1) place′
+        pub copying-turn : (t .flags ≡ 2 → ⊥) → Copying next span s Z st n k js place o out′ d (left - 1) (steps + 1) place′
         copying-turn f =
-            let y = next-on next span s Z st n k (left - 1 + slack) d (w .rest) ahead-at ej (λ g. f (flags-there s Z st j er et ∙ g)) in
+            let y = next-on next span s Z st n k (left - 1) d (w .rest) ahead-at ej (λ g. f (flags-there s Z st j er et ∙ g)) in
             let b = bodies-first s Z st j (y .0) (w .rest) (y .1) body-is in
             let l = ap length b ∙ length-append x (bodiesAt s Z st (y .0)) in
             record {

@@ -47,39 +47,38 @@ module _ (s : Settings) (Z : ℕ) (st : List ℕ) (n : ℕ) (k : List ℕ) (c : 
 
 -- ---- one turn
 
-module _ (next : ℕ → ℕ) (span : ℕ) (s : Settings) (Z : ℕ) (st : List ℕ) (n : ℕ) (k : List ℕ) (b from slack : ℕ) where
+module _ (next : ℕ → ℕ) (span : ℕ) (s : Settings) (Z : ℕ) (st : List ℕ) (n : ℕ) (k : List ℕ) (b from : ℕ) where
   -- what the whole run comes to
   abbrev whole : Measured
   whole = total s Z st b (follow next span s Z st n k span (next from))
 
-  -- what is left after the counter c, and sum octets, come to what the whole run does; so many steps are left, and the slack, for which
-  -- there are no counters
+  -- what is left after the counter c, and sum octets, come to what the whole run does; so many steps are left
   pub record Counted (c left sum : ℕ) : Type 0 where
-    pub same : total s Z st sum (follow next span s Z st n k (left + slack) (next c)) ≡ whole
+    pub same : total s Z st sum (follow next span s Z st n k left (next c)) ≡ whole
     pub most : sum + left * 65542 ≤ b + 281500746448890
 
-  pub counted-first : {left : ℕ} → left + slack ≡ span → left ≤ 4294967295 → Counted from left b
+  pub counted-first : {left : ℕ} → left ≡ span → left ≤ 4294967295 → Counted from left b
   counted-first e h =
       record { same = ap (λ (f : ℕ). total s Z st b (follow next span s Z st n k f (next from))) e; most = omega arith }
 
   module _ {c left sum : ℕ} (inv : Counted c left sum) where
     module _ (more : 0 < left) {d : ℕ} (ed : d ≡ next c) {j : ℕ} (ej : j ≡ foundIn s Z st n k d) where
-      one-less : left + slack ≡ suc (left - 1 + slack)
+      one-less : left ≡ suc (left - 1)
       one-less = omega arith
 
-      whole-is : {o : Option (List ℕ)} → follow next span s Z st n k (suc (left - 1 + slack)) d ≡ o → total s Z st sum o ≡ whole
+      whole-is : {o : Option (List ℕ)} → follow next span s Z st n k (suc (left - 1)) d ≡ o → total s Z st sum o ≡ whole
       whole-is e =
           ap (total s Z st sum) (sym e ∙ ap₂ (λ (f x : ℕ). follow next span s Z st n k f x) (sym one-less) ed) ∙ inv .same
 
       pub counted-none : n ≤ j → Incomplete ≡ whole
-      counted-none h = whole-is (follow-none next span s Z st n k (left - 1 + slack) d ej h)
+      counted-none h = whole-is (follow-none next span s Z st n k (left - 1) d ej h)
 
       module _ (h : j < n) {r : List ℕ} {u : Piece} (er : r ≡ rowAt Z st j) (eu : u ≡ pieceOf (readPacket s (packetIn r))) where
         role-is : {x : Role} → roleOf (u .flags) ≡ x → roleOf (segAt s Z st j .flags) ≡ x
         role-is e = ap roleOf (sym (piece-flags s Z st n k d ej h er eu)) ∙ e
 
-        by : {x : Role} → roleOf (u .flags) ≡ x → total s Z st sum (linkBy x j (follow next span s Z st n k (left - 1 + slack) (next d))) ≡ whole
-        by e = whole-is (follow-by next span s Z st n k (left - 1 + slack) d ej h (role-is e))
+        by : {x : Role} → roleOf (u .flags) ≡ x → total s Z st sum (linkBy x j (follow next span s Z st n k (left - 1) (next d))) ≡ whole
+        by e = whole-is (follow-by next span s Z st n k (left - 1) d ej h (role-is e))
 
         pub counted-room : Octets st → b ≤ 65542 → sum + u .length < 18446744073709551616
         counted-room o l = omega (arith, piece-most s Z st n k d ej h er eu o, inv .most)
@@ -90,22 +89,23 @@ module _ (next : ℕ → ℕ) (span : ℕ) (s : Settings) (Z : ℕ) (st : List �
         pub counted-last : u .flags ≡ 2 → Long (sum + u .length) ≡ whole
         counted-last e =
             ap (λ (x : ℕ). Long (sum + x)) (piece-long s Z st n k d ej h er eu)
-            ∙ sym (total-last next span s Z st n k sum j (follow next span s Z st n k (left - 1 + slack) (next d)))
+            ∙ sym (total-last next span s Z st n k sum j (follow next span s Z st n k (left - 1) (next d)))
             ∙ by (role-last e)
 
         pub counted-on : Octets st → (u .flags ≡ 1 → ⊥) → (u .flags ≡ 2 → ⊥) → Counted d (left - 1) (sum + u .length)
         counted-on o x y =
             record {
               same =
-                  ap (λ (a : ℕ). total s Z st (sum + a) (follow next span s Z st n k (left - 1 + slack) (next d)))
+                  ap (λ (a : ℕ). total s Z st (sum + a) (follow next span s Z st n k (left - 1) (next d)))
                   (piece-long s Z st n k d ej h er eu)
-                  ∙ sym (total-on next span s Z st n k sum j (follow next span s Z st n k (left - 1 + slack) (next d)))
+                  ∙ sym (total-on next span s Z st n k sum j (follow next span s Z st n k (left - 1) (next d)))
                   ∙ by (role-middle x y);
               most = omega (arith, inv .most, piece-most s Z st n k d ej h er eu o);
             }
 
-    -- no counter is left
-    pub counted-out : left ≤ 0 → follow next span s Z st n k slack (next c) ≡ none → Incomplete ≡ whole
-    counted-out h e =
-        let z : slack ≡ left + slack = omega arith in
-        ap (total s Z st sum) (sym e ∙ ap (λ (f : ℕ). follow next span s Z st n k f (next c)) z) ∙ inv .same
+    -- no step is left
+    pub counted-out : left ≤ 0 → Incomplete ≡ whole
+    unfolding follow
+    counted-out h =
+        let z : 0 ≡ left = omega arith in
+        ap (λ (f : ℕ). total s Z st sum (follow next span s Z st n k f (next c))) z ∙ inv .same

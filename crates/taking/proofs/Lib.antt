@@ -8,7 +8,6 @@ pub mod Copying
 pub mod Bodies
 pub mod Heads
 pub mod Drawing
-pub mod Past
 pub mod Among
 pub mod Drawn
 pub mod Takings

@@ -1,7 +1,7 @@
 -- What a message that is taken tells: settings and order passed, it is the one that is picked and fits the output, and each of its
 -- segments is held in a cell.
 -- Assumes nothing.
-use Prim.Native.Nat.{ℕ, suc, _≤_, _<_}
+use Prim.Native.Nat.{ℕ, _≤_, _<_}
 use mathlib.Core.Path.{_≡_, ap}
 use mathlib.Core.Bool.{true}
 use mathlib.Core.List.{List}
@@ -11,12 +11,13 @@ use lib.ListN.{length}
 use lib.Dec.{leb, eqb}
 use borrow.Author.Tests.{leb-true}
 use Rattle.walk.specs.declared.Settings.{Settings}
+use Rattle.packet.specs.Numbers.{nextCounter, stepsMost}
 use Rattle.walk.specs.Walk.{begun}
 use Rattle.cells.specs.Segments.{Seg}
 use Rattle.cells.specs.Rows.{held}
 use Rattle.cells.specs.Order.{cellAt, countIn, inOrder, gate}
 use Rattle.cells.proofs.Gate.{through-tells, open-true}
-use Rattle.cells.specs.Messages.{cellsOf, Run, segments, picked, top}
+use Rattle.cells.specs.Messages.{cellsOf, Run, segments, picked}
 use Rattle.cells.proofs.Picking.{pick-tells}
 use Rattle.cells.proofs.Members.{In, picked-held}
 use Rattle.taking.specs.Taking.{message, unable, writing, drawn, tookIn, took}
@@ -35,7 +36,7 @@ drawn-tells (some m) long r e =
 pub record Taken (s : Settings) (Z : ℕ) (st : List ℕ) (long : ℕ) (r : Run) : Type 0 where
   pub settings : eqb (begun s .refused) 0 ≡ true
   pub order : inOrder s Z st ≡ true
-  pub picked : picked suc top (cellsOf s Z st (countIn Z st)) ≡ some r
+  pub picked : picked nextCounter stepsMost (cellsOf s Z st (countIn Z st)) ≡ some r
   pub fits : length (writing r) ≤ long
 
 pub taken-tells : (s : Settings) (Z : ℕ) (st : List ℕ) (long : ℕ) (r : Run) → took s Z st long ≡ message r → Taken s Z st long r
@@ -43,7 +44,7 @@ unfolding took tookIn
 taken-tells s Z st long r e =
     let a = through-tells (gate s Z st) (tookIn s Z st (countIn Z st) long) unable (message r) (λ k. not-unable k r) e in
     let b = open-true s Z st (a .0) in
-    let c = drawn-tells (picked suc top (cellsOf s Z st (countIn Z st))) long r (a .1) in
+    let c = drawn-tells (picked nextCounter stepsMost (cellsOf s Z st (countIn Z st))) long r (a .1) in
     record { settings = b .0; order = b .1; picked = c .0; fits = c .1 }
 
 -- each segment of the message is held in a cell before
@@ -51,5 +52,5 @@ pub segment-held :
     (s : Settings) (Z : ℕ) (st : List ℕ) (long : ℕ) (r : Run) → took s Z st long ≡ message r → (t : Seg) → In t (segments r) →
     (j : ℕ) × (j < countIn Z st) × (cellAt s Z st j ≡ held t)
 segment-held s Z st long r e t m =
-    let a = picked-held suc top (cellAt s Z st) (countIn Z st) r (taken-tells s Z st long r e .picked) t m in
+    let a = picked-held nextCounter stepsMost (cellAt s Z st) (countIn Z st) r (taken-tells s Z st long r e .picked) t m in
     (a .0, omega (arith, a .1 .top), a .2)

@@ -2,7 +2,7 @@
 -- SPEC S-10 to S-12: identification, the header without its counter and the body go out, H, B and c are told, and the message's cells
 -- become zero. The tests in their order: 15, 16, 20, 21.
 -- Assumes nothing: these are definitions.
-use Prim.Native.Nat.{ℕ, suc}
+use Prim.Native.Nat.{ℕ}
 use mathlib.Core.List.{List, _++_}
 use mathlib.Core.Option.{Option, none, some}
 use lib.ListN.{length}
@@ -10,9 +10,10 @@ use lib.Seq.{sets}
 use lib.Dec.{leb}
 use Rattle.octets.specs.Octets.{pick}
 use Rattle.walk.specs.declared.Settings.{Settings}
+use Rattle.packet.specs.Numbers.{nextCounter, stepsMost}
 use Rattle.cells.specs.Order.{cellAt, countIn, gate, through}
 use Rattle.taking.specs.Cleared.{clearedTo, zeroIf}
-use Rattle.cells.specs.Messages.{cellsOf, Run, bodyOf, segments, picked, amongIn, top}
+use Rattle.cells.specs.Messages.{cellsOf, Run, bodyOf, segments, picked, amongIn}
 
 -- what a taking comes to
 pub data Took : Type 0 where
@@ -30,7 +31,7 @@ drawn (some r) long = pick (leb (length (writing r)) long) (message r) (unable 2
 
 -- from the first n cells of a store that is in order
 unfoldable pub tookIn : Settings → ℕ → List ℕ → ℕ → ℕ → Took
-tookIn s Z st n long = drawn (picked suc top (cellsOf s Z st n)) long
+tookIn s Z st n long = drawn (picked nextCounter stepsMost (cellsOf s Z st n)) long
 
 -- from any octets
 unfoldable pub took : Settings → ℕ → List ℕ → ℕ → Took

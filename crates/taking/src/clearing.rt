@@ -2,9 +2,10 @@
 //
 // It goes once over the cells, by key and counters, and knows nothing of messages: which cells those are is for `taking` to say.
 ghost use mathlib.Core.Path.{_≡_};
-ghost use Prim.Native.Nat.{suc, _*_};
+ghost use Prim.Native.Nat.{_*_};
 ghost use lib.ListN.{length};
 ghost use lib.Seq.{sets};
+ghost use Rattle.packet.specs.Numbers.{nextCounter};
 ghost use Rattle.cells.specs.Rows.{zeroRow};
 ghost use Rattle.cells.specs.Order.{cellAt};
 ghost use Rattle.cells.specs.Inner.{withinIn};
@@ -32,7 +33,7 @@ pub fn clear(
 )
     requires { ⌜ now zero ≡ zeroRow (length (now zero)) ⌝ }
     ensures { λ r. ⌜ now (store .exit) ≡ clearedTo (λ i. zeroIf (length (now (zero .entry)))
-        (withinIn suc (now (key .entry)) (first .0) steps (cellAt s (length (now (zero .entry))) (now (store .entry)) i)))
+        (withinIn nextCounter (now (key .entry)) (first .0) steps (cellAt s (length (now (zero .entry))) (now (store .entry)) i)))
         (length (now (zero .entry))) n (now (store .entry)) ⌝ }
 {
     let z = zero.len();

@@ -6,18 +6,19 @@ pub mod clearing;
 
 ghost use mathlib.Core.Path.{_≡_};
 ghost use mathlib.Core.List.{_∷_, _++_};
-ghost use Prim.Native.Nat.{suc, _+_, _/_, _≤_, _<_};
+ghost use Prim.Native.Nat.{_+_, _/_, _≤_, _<_};
 ghost use lib.ListN.{length};
 ghost use lib.Seq.{sets};
 ghost use Rattle.octets.specs.Octets.{octetAt, part};
 ghost use Rattle.packet.specs.Reading.{readPacket};
 ghost use Rattle.packet.specs.Key.{keyOf};
+ghost use Rattle.packet.specs.Numbers.{nextCounter, stepsMost};
 ghost use Rattle.packet.specs.Format.{packetMost};
 ghost use Rattle.cells.specs.Rows.{zeroRow, packetIn, held};
 ghost use Rattle.cells.specs.Order.{cellsMost, lowest, cellAt};
 ghost use Rattle.cells.specs.Inner.{Asked};
 ghost use Rattle.cells.specs.Chains.{bucketAt, Chained};
-ghost use Rattle.cells.specs.Messages.{cellsOf, runIn, picked, top};
+ghost use Rattle.cells.specs.Messages.{cellsOf, runIn, picked};
 ghost use Rattle.taking.specs.Taking.{unable, tookIn, outWith, storeLess};
 ghost use Rattle.taking.specs.Told.{takenOf};
 ghost use Rattle.taking.specs.Inner.{pieceIn};
@@ -34,6 +35,9 @@ use walk::Settings;
 
 // The most cells that a taking searches without chains: making them for so few does not pay for a message of few segments.
 const SEARCH_MOST: usize = 64;
+
+// The most steps from a message's first segment to its last.
+const STEPS_MOST: u32 = packet::SEGMENTS_MOST as u32 - 1;
 
 // What taking answers: H, the octets of the body, and the first segment's counter.
 pub struct Taken {
@@ -105,15 +109,15 @@ fn follow(
     requires { ⌜ Lent s (now zero) (now store) n chained (now heads) (now links) ⌝ }
     requires { ⌜ Asked s (now q) «body_at» × (b ≤ packetMost) ⌝ }
     ensures { λ r. ⌜ r ≡ total s (length (now (zero .entry))) (now (store .entry)) b
-        (followed suc top s (length (now (zero .entry))) (now (store .entry)) n (keyOf (now (q .entry)) (readPacket s (now (q .entry)))) top
-        (suc (first .0))) ⌝ }
+        (followed nextCounter stepsMost s (length (now (zero .entry))) (now (store .entry)) n (keyOf (now (q .entry)) (readPacket s (now (q .entry))))
+        stepsMost (nextCounter (first .0))) ⌝ }
 {
     let z = zero.len();
     let mut c = first;
-    let mut left = cells::messages::further(first);
+    let mut left = STEPS_MOST;
     let mut sum = b;
     while 0 < left {
-        c = cells::messages::next(c);
+        c = packet::next_segment_counter(c);
         let j = cells::find_by(s, store, n, zero, q, body_at, c, chained, heads, links);
         if n <= j {
             return Measured::Incomplete;
@@ -164,7 +168,7 @@ fn run_at(
     links: &[u16; cells::CELLS_MOST],
 ) -> Measured
     requires { ⌜ Lent s (now zero) (now store) n chained (now heads) (now links) ⌝ }
-    ensures { λ r. ⌜ r ≡ answer (runIn suc top (cellsOf s (length (now (zero .entry))) (now (store .entry)) n)
+    ensures { λ r. ⌜ r ≡ answer (runIn nextCounter stepsMost (cellsOf s (length (now (zero .entry))) (now (store .entry)) n)
         (cellAt s (length (now (zero .entry))) (now (store .entry)) i)) ⌝ }
 {
     let r = cells::row(store, zero.len(), i);
@@ -202,7 +206,7 @@ fn pick_message(
     links: &[u16; cells::CELLS_MOST],
 ) -> Picked
     requires { ⌜ Lent s (now zero) (now store) n chained (now heads) (now links) ⌝ }
-    ensures { λ r. ⌜ r ≡ pickedOf suc top s (length (now (zero .entry))) (now (store .entry)) n ⌝ }
+    ensures { λ r. ⌜ r ≡ pickedOf nextCounter stepsMost s (length (now (zero .entry))) (now (store .entry)) n ⌝ }
 {
     let mut i: usize = 0;
     while i < n {
@@ -258,21 +262,22 @@ fn copy_rest(
 ) -> u32
     requires { ⌜ Lent s (now zero) (now store) n chained (now heads) (now links) ⌝ }
     requires { ⌜ Asked s (now q) «body_at» ⌝ }
-    requires { ⌜ Ready suc top s (length (now zero)) (now store) n (keyOf (now q) (readPacket s (now q))) (suc (first .0)) place (now out) ⌝ }
-    ensures { λ r. ⌜ r ≡ length (placesFrom suc top s (length (now (zero .entry))) (now (store .entry)) n
-        (keyOf (now (q .entry)) (readPacket s (now (q .entry)))) (suc (first .0))) ⌝ }
+    requires { ⌜ Ready nextCounter stepsMost s (length (now zero)) (now store) n (keyOf (now q) (readPacket s (now q))) (nextCounter (first .0)) place
+        (now out) ⌝ }
+    ensures { λ r. ⌜ r ≡ length (placesFrom nextCounter stepsMost s (length (now (zero .entry))) (now (store .entry)) n
+        (keyOf (now (q .entry)) (readPacket s (now (q .entry)))) (nextCounter (first .0))) ⌝ }
     ensures { λ r. ⌜ now (out .exit) ≡ sets (now (out .entry)) place
         (bodiesAt s (length (now (zero .entry))) (now (store .entry))
-        (placesFrom suc top s (length (now (zero .entry))) (now (store .entry)) n (keyOf (now (q .entry)) (readPacket s (now (q .entry))))
-        (suc (first .0)))) ⌝ }
+        (placesFrom nextCounter stepsMost s (length (now (zero .entry))) (now (store .entry)) n (keyOf (now (q .entry)) (readPacket s (now (q .entry))))
+        (nextCounter (first .0)))) ⌝ }
 {
     let z = zero.len();
     let mut c = first;
-    let mut left = cells::messages::further(first);
+    let mut left = STEPS_MOST;
     let mut steps: u32 = 0;
     let mut at = place;
     while 0 < left {
-        c = cells::messages::next(c);
+        c = packet::next_segment_counter(c);
         steps += 1;
         let j = cells::find_by(s, store, n, zero, q, body_at, c, chained, heads, links);
         let r = cells::row(store, z, j);
@@ -300,14 +305,16 @@ fn copy_message(
 ) -> Copied
     requires { ⌜ Lent s (now zero) (now store) n chained (now heads) (now links) ⌝ }
     requires { ⌜ cellAt s (length (now zero)) (now store) i ≡ held (segAt s (length (now zero)) (now store) i) ⌝ }
-    requires { ⌜ Opens suc top s (length (now zero)) (now store) n i (now out) ⌝ }
+    requires { ⌜ Opens nextCounter stepsMost s (length (now zero)) (now store) n i (now out) ⌝ }
     ensures { λ r. ⌜ r ≡ copiedOf (segAt s (length (now (zero .entry))) (now (store .entry)) i)
-        (length (placesFrom suc top s (length (now (zero .entry))) (now (store .entry)) n
-        (segAt s (length (now (zero .entry))) (now (store .entry)) i .key) (suc (segAt s (length (now (zero .entry))) (now (store .entry)) i .counter)))) ⌝ }
+        (length (placesFrom nextCounter stepsMost s (length (now (zero .entry))) (now (store .entry)) n
+        (segAt s (length (now (zero .entry))) (now (store .entry)) i .key)
+        (nextCounter (segAt s (length (now (zero .entry))) (now (store .entry)) i .counter)))) ⌝ }
     ensures { λ r. ⌜ now (out .exit) ≡ sets (now (out .entry)) 0
         (segAt s (length (now (zero .entry))) (now (store .entry)) i .key ++ bodiesAt s (length (now (zero .entry))) (now (store .entry))
-        (i ∷ placesFrom suc top s (length (now (zero .entry))) (now (store .entry)) n
-        (segAt s (length (now (zero .entry))) (now (store .entry)) i .key) (suc (segAt s (length (now (zero .entry))) (now (store .entry)) i .counter)))) ⌝ }
+        (i ∷ placesFrom nextCounter stepsMost s (length (now (zero .entry))) (now (store .entry)) n
+        (segAt s (length (now (zero .entry))) (now (store .entry)) i .key)
+        (nextCounter (segAt s (length (now (zero .entry))) (now (store .entry)) i .counter)))) ⌝ }
 {
     let r = cells::row(store, zero.len(), i);
     let q = cells::packet_in(r);
@@ -353,8 +360,8 @@ fn draw(
     links: &[u16; cells::CELLS_MOST],
 ) -> Taken
     requires { ⌜ Lent s (now zero) (now store) n chained (now heads) (now links) ⌝ }
-    requires { ⌜ i ≡ lowest (opensAt suc top s (length (now zero)) (now store) n) n 0 ⌝ }
-    requires { ⌜ (i < n) × (Measured.Long b ≡ answer (picked suc top (cellsOf s (length (now zero)) (now store) n))) ⌝ }
+    requires { ⌜ i ≡ lowest (opensAt nextCounter stepsMost s (length (now zero)) (now store) n) n 0 ⌝ }
+    requires { ⌜ (i < n) × (Measured.Long b ≡ answer (picked nextCounter stepsMost (cellsOf s (length (now zero)) (now store) n))) ⌝ }
     requires { ⌜ length (segAt s (length (now zero)) (now store) i .key) + b ≤ length (now out) ⌝ }
     ensures { λ r. ⌜ r ≡ takenOf (tookIn s (length (now (zero .entry))) (now (store .entry)) n (length (now (out .entry)))) ⌝ }
     ensures { λ r. ⌜ now (out .exit) ≡ outWith (now (out .entry)) (tookIn s (length (now (zero .entry))) (now (store .entry)) n (length (now (out .entry)))) ⌝ }

@@ -1,7 +1,7 @@
 -- What a packet of a recording comes to is what its joining takes; and the output of 65,536 octets is long enough for every message that
 -- 32 cells of 1,024 octets can hold, so that no joining is refused by 21.
 -- Assumes nothing.
-use Prim.Native.Nat.{ℕ, suc, _≤_}
+use Prim.Native.Nat.{ℕ, _≤_}
 use mathlib.Core.Path.{_≡_, refl, ap, sym, _∙_, subst}
 use mathlib.Core.Logic.{_≢_}
 use mathlib.Core.Bool.{Bool, true, false}
@@ -15,7 +15,8 @@ use Rattle.walk.specs.declared.Refusal.{Refusal}
 use Rattle.walk.specs.declared.Settings.{Settings}
 use Rattle.packet.specs.Format.{SettingsInRange}
 use Rattle.walk.specs.Walk.{refusal}
-use Rattle.cells.specs.Messages.{Run, picked, top}
+use Rattle.packet.specs.Numbers.{nextCounter, stepsMost}
+use Rattle.cells.specs.Messages.{Run, picked}
 use Rattle.arrival.specs.Arriving.{Arrived, whole, stored, again, refused, arrived, storeWith}
 use Rattle.taking.specs.Taking.{Took, message, unable, writing, took}
 use Rattle.join.specs.Joining.{tookAs, joinedBy, joining as joiningOf}
@@ -94,24 +95,24 @@ one-octet = omega arith
 
 module _ (s : Settings) (st : List ℕ) (k : Kept s Z cellCount st) (long : ℕ) (l : room ≤ long) where
   never-21 : took s Z st long ≢ unable 21
-  never-21 e = go (picked suc top (cellsIn s Z cellCount st)) refl
+  never-21 e = go (picked nextCounter stepsMost (cellsIn s Z cellCount st)) refl
     where
-      is : takenFrom suc top (cellsIn s Z cellCount st) long ≡ unable 21
+      is : takenFrom nextCounter stepsMost (cellsIn s Z cellCount st) long ≡ unable 21
       is = sym (took-is s Z cellCount st k long) ∙ e
 
-      fits : (r : Run) → picked suc top (cellsIn s Z cellCount st) ≡ some r → length (writing r) ≤ long
+      fits : (r : Run) → picked nextCounter stepsMost (cellsIn s Z cellCount st) ≡ some r → length (writing r) ≤ long
       fits r d =
           let few = k .count in
-          let a = message-fits s Z (omega arith) st (omega arith) r (ap (λ (n : ℕ). picked suc top (cellsIn s Z n st)) few ∙ d) in
+          let a = message-fits s Z (omega arith) st (omega arith) r (ap (λ (n : ℕ). picked nextCounter stepsMost (cellsIn s Z n st)) few ∙ d) in
           omega arith
 
-      go : (o : Option Run) → picked suc top (cellsIn s Z cellCount st) ≡ o → ⊥
+      go : (o : Option Run) → picked nextCounter stepsMost (cellsIn s Z cellCount st) ≡ o → ⊥
       go none d =
-          let f : unable 20 ≡ unable 21 = sym (nothing-picked suc top (cellsIn s Z cellCount st) long d .0) ∙ is in
+          let f : unable 20 ≡ unable 21 = sym (nothing-picked nextCounter stepsMost (cellsIn s Z cellCount st) long d .0) ∙ is in
           let z : _≡_ {A = ℕ} 20 21 = cc f in
           omega arith
       go (some r) d =
-          let f : message r ≡ unable 21 = sym (picked-taken suc top (cellsIn s Z cellCount st) long r d (fits r d)) ∙ is in
+          let f : message r ≡ unable 21 = sym (picked-taken nextCounter stepsMost (cellsIn s Z cellCount st) long r d (fits r d)) ∙ is in
           let z : _≡_ {A = ℕ} 0 1 = cc f in
           omega arith
 

@@ -1,7 +1,7 @@
 -- Every message all of whose segments are in a recording is written, and under a message's key nothing that is not a message: by demand
 -- 3 over the joinings of the recording's packets, which leave nothing complete in the store.
 -- Assumes nothing.
-use Prim.Native.Nat.{ℕ, suc, _+_, _<_}
+use Prim.Native.Nat.{ℕ, _+_, _<_}
 use mathlib.Core.Path.{_≡_, refl, ap, sym, _∙_, subst}
 use mathlib.Core.Logic.{_≢_, _⊎_, inl, inr}
 use mathlib.Core.Bool.{true}
@@ -13,6 +13,7 @@ use borrow.Author.Tests.{le-leb}
 use Rattle.walk.specs.declared.Settings.{Settings}
 use Rattle.packet.specs.Format.{SettingsInRange}
 use Rattle.packet.specs.Reading.{readPacket}
+use Rattle.packet.specs.Numbers.{nextCounter}
 use Rattle.cells.specs.Segments.{segOf}
 use Rattle.cells.specs.Order.{cellAt}
 use Rattle.cells.specs.Messages.{Run, bodyOf, look}
@@ -116,7 +117,7 @@ module _ (s : Settings) (range : SettingsInRange s) (ms : List Sending) (x : Lis
       go (inr (inr d)) =
           absurd
           (d 0 0 (let a = g .cut m h .many in omega arith) (let a = g .cut w k .many in omega arith)
-          (ap (stepsOf suc 0) y))
+          (ap (stepsOf nextCounter 0) y))
 
   -- ---- every message is written
 

@@ -1,8 +1,8 @@
 // The calls that read, write and cut, over plain numbers: crate `flat` has them in order.
 //
 // Number 1 is T, number 2 the profile, and part 1 of reading is the packet. Those of the others: the header's numbers, the sender's,
-// timestamp, zone, session name, domain, the lengths of its parts, authentication id, body. The sender's numbers: the sequence count, 1 if
-// a counter is left, else 0, and the counter.
+// timestamp, zone, session name, domain, the lengths of its parts, authentication id, body. The sender's numbers: the sequence
+// count and the counter.
 use crate::case;
 use crate::print;
 

@@ -103,8 +103,7 @@ pub const REFUSED_LARGE: u8 = 23;
 // No room for body octets in a packet.
 pub const REFUSED_NO_ROOM: u8 = 24;
 
-// No counter left.
-pub const REFUSED_COUNTER: u8 = 25;
+// 25 is withdrawn: there is always a next counter.
 
 // No packet of that number.
 pub const REFUSED_NUMBER: u8 = 26;
@@ -114,6 +113,9 @@ pub const REFUSED_LONG: u8 = 27;
 
 // A text that is not well-formed UTF-8.
 pub const REFUSED_TEXT: u8 = 28;
+
+// A message of too many segments.
+pub const REFUSED_MANY_SEGMENTS: u8 = 29;
 
 // A network zone to write: it is withdrawn.
 pub const REFUSED_WITHDRAWN: u8 = 30;

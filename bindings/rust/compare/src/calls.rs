@@ -2,7 +2,7 @@
 
 use crate::told;
 use orlyukan::{
-    Arrived, Cut, CutPacket, Entry, Header, Joined, Next, Order, Reading, Recording, Refusal, Salvaged, SegmentCounter, Sender,
+    Arrived, Cut, CutPacket, Entry, Header, Joined, Order, Reading, Recording, Refusal, Salvaged, SegmentCounter, Sender,
     SequenceCount, Settings, Taken, Which, Written,
 };
 
@@ -120,11 +120,7 @@ impl Calls for Library {
 pub struct Model;
 
 fn model_sender(sender: Sender) -> model::Sender {
-    let counter = match sender.counter {
-        Next::At(SegmentCounter(counter)) => Some(counter),
-        Next::NoneLeft => None,
-    };
-    model::Sender { sequence_count: sender.sequence_count.0, counter }
+    model::Sender { sequence_count: sender.sequence_count.0, counter: sender.counter.0 }
 }
 
 impl Calls for Model {

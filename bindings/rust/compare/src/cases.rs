@@ -5,12 +5,12 @@ use std::{env, fs, path::PathBuf};
 use crate::calls::Numbers;
 use crate::json::{parse, Json};
 use orlyukan::{
-    raw, Apid, Arrived, Cut, CutPacket, Entry, Header, Joined, Kind, Next, Place, Reading, Salvaged, SecondaryApid,
+    raw, Apid, Arrived, Cut, CutPacket, Entry, Header, Joined, Kind, Place, Reading, Salvaged, SecondaryApid,
     SegmentCounter, Sender, SequenceCount, Settings, Taken, Which, Written, VARINT,
 };
 
 /// The change requests that have landed and have cases of their own, in the order in which they landed.
-const LANDED: [&str; 5] = ["T-01", "T-04", "T-12", "T-10", "T-09"];
+const LANDED: [&str; 6] = ["T-01", "T-04", "T-12", "T-10", "T-09", "T-08"];
 
 /// The cases of a call, from the latest folder that has some, or nothing, with a word, if the folder is missing.
 pub fn load(call: &str) -> Option<Vec<Json>> {
@@ -105,11 +105,7 @@ pub fn numbers(case: &Json) -> Numbers {
 }
 
 pub fn sender(json: &Json) -> Sender {
-    let counter = match json.get("counter") {
-        Json::Null => Next::NoneLeft,
-        number => Next::At(SegmentCounter(number.as_number())),
-    };
-    Sender { sequence_count: SequenceCount(json.number("seq")), counter }
+    Sender { sequence_count: SequenceCount(json.number("seq")), counter: SegmentCounter(json.number("counter")) }
 }
 
 /// What a reading says; the length of a timestamp is T.

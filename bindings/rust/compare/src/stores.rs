@@ -21,7 +21,7 @@ fn piece(r: &mut Random, most: usize) -> Vec<u8> {
     r.octets(length)
 }
 
-/// Segments of one header from a counter on: a first, continuations and a last.
+/// Segments of one header from a counter on, round the end too: a first, continuations and a last.
 fn cut(r: &mut Random, s: Settings, o: &Owned, start: u64, count: u64) -> Option<Message> {
     let room = 1022 - 6 - o.h(s)?.min(252) - 4;
     let mut packets = Vec::new();
@@ -34,7 +34,7 @@ fn cut(r: &mut Random, s: Settings, o: &Owned, start: u64, count: u64) -> Option
         // Now and then a first or a last inside the run.
         let flags = if r.once_in(25) { r.below(3) } else { flags };
         let body = piece(r, room);
-        packets.push(packet_of(s, o, flags, r.bits(14), start + i, &body)?);
+        packets.push(packet_of(s, o, flags, r.bits(14), (start + i) % (1 << 32), &body)?);
     }
     Some(Message { packets })
 }
@@ -44,8 +44,9 @@ pub fn message(r: &mut Random, s: Settings) -> Message {
     loop {
         let o = headers::fitting(r, s);
         let count = r.between(2, 5);
-        let any = r.bits(31);
-        let start = r.pick(&[0, 1, 7, u64::from(u32::MAX) - count + 1, any]);
+        let (any, most) = (r.bits(31), u64::from(u32::MAX));
+        let round = most - r.below(count - 1);
+        let start = r.pick(&[0, 1, 7, most - count + 1, round, any]);
         if let Some(message) = cut(r, s, &o, start, count) {
             return message;
         }

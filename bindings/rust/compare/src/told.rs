@@ -2,7 +2,7 @@
 
 use model::Refusal;
 use orlyukan::{
-    Apid, Arrived, Cut, CutPacket, Entry, Header, Joined, Kind, Next, Order, Place, Reading, Recording, Salvaged,
+    Apid, Arrived, Cut, CutPacket, Entry, Header, Joined, Kind, Order, Place, Reading, Recording, Salvaged,
     SecondaryApid, SegmentCounter, Sender, SequenceCount, Settings, Stop, Taken, Which, Written,
 };
 
@@ -112,8 +112,7 @@ pub fn refusal(refused: Refusal) -> orlyukan::Refusal {
 }
 
 pub fn sender(sender: model::Sender) -> Sender {
-    let counter = sender.counter.map_or(Next::NoneLeft, |counter| Next::At(SegmentCounter(counter)));
-    Sender { sequence_count: SequenceCount(sender.sequence_count), counter }
+    Sender { sequence_count: SequenceCount(sender.sequence_count), counter: SegmentCounter(sender.counter) }
 }
 
 pub fn cut(given: Sender, answer: Result<(u64, model::Sender), Refusal>) -> Cut {

@@ -39,20 +39,20 @@ fn both(what: &str, given: &[u8], packet: &[u8], room: usize) -> (u64, u64) {
     (arrived.refusal, taken.refusal)
 }
 
-/// The segments of one message, the first and the last where they belong.
-fn message(transaction: u64, count: u64) -> Vec<Vec<u8>> {
+/// The segments of one message from a counter on, round the end too, the first and the last where they belong.
+fn message(transaction: u64, start: u64, count: u64) -> Vec<Vec<u8>> {
     let flags = |i| match i {
         0 => 1,
         _ if i + 1 == count => 2,
         _ => 0,
     };
-    (0..count).map(|i| segment(transaction, flags(i), i)).collect()
+    (0..count).map(|i| segment(transaction, flags(i), (start + i) % (1 << 32))).collect()
 }
 
 #[test]
 fn one_message_fills_it() {
     let mut r = Random::new(41);
-    let all = message(9, CELLS as u64);
+    let all = message(9, 0, CELLS as u64);
     let room = 23 + CELLS * 16;
     assert_eq!(both("in order", &store(CELLS, &all), &all[77], room), (0, 0));
     assert_eq!(both("no room", &store(CELLS, &all), &all[77], room - 1), (0, 21));
@@ -63,6 +63,27 @@ fn one_message_fills_it() {
     mixed.swap_remove(1234);
     assert_eq!(both("one missing", &store(CELLS, &mixed), &all[0], room), (0, 20));
     assert_eq!(both("a cell too many", &vec![0; (CELLS + 1) * CELL], &all[0], room), (16, 16));
+}
+
+/// Messages with a first or a last at either end of the counters; one that fills the store goes round wherever it begins.
+#[test]
+fn round_the_end() {
+    const TOP: u64 = u32::MAX as u64;
+    let mut r = Random::new(43);
+    for (first, last, refusal) in [(TOP, 0, 0), (0, TOP, 20), (0, 1, 0), (TOP - 1, TOP, 0), (TOP, 1, 20), (1, 0, 20), (TOP, TOP - 1, 20)] {
+        let given = store(3, &[segment(9, 2, last)]);
+        assert_eq!(both("two segments", &given, &segment(9, 1, first), 100), (0, refusal), "{first} and {last}");
+    }
+    for start in [TOP, TOP - 1, TOP - 2000, TOP + 2 - CELLS as u64, TOP + 1 - CELLS as u64] {
+        let mut all = message(9, start, CELLS as u64);
+        r.shuffle(&mut all);
+        let room = 23 + CELLS * 16;
+        assert_eq!(both("all cells", &store(CELLS, &all), &all[5], room), (0, 0), "from {start}");
+        assert_eq!(both("one octet less", &store(CELLS, &all), &all[5], room - 1), (0, 21), "from {start}");
+        let missing = all.swap_remove(1234);
+        assert_eq!(both("the last to come", &store(CELLS, &all), &missing, room), (0, 0), "from {start}");
+        assert_eq!(both("one missing", &store(CELLS, &all), &all[0], room), (0, 20), "from {start}");
+    }
 }
 
 #[test]
@@ -84,7 +105,7 @@ fn near_keys() {
 #[test]
 fn many_messages() {
     let mut r = Random::new(42);
-    let mut packets: Vec<Vec<u8>> = (0..60).flat_map(|k| message(k, 2 + k % 6)).collect();
+    let mut packets: Vec<Vec<u8>> = (0..60).flat_map(|k| message(k, 0, 2 + k % 6)).collect();
     r.shuffle(&mut packets);
     let (mut ours, mut theirs) = (store(300, &packets), store(300, &packets));
     let (mut our_out, mut their_out) = (vec![0; 300], vec![0; 300]);

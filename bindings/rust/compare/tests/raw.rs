@@ -11,7 +11,7 @@ use orlyukan::raw::{
     self, RawAfter, RawArrived, RawCut, RawHeader, RawJoined, RawNumber, RawRecording, RawSalvaged, RawSender, RawTaken,
     RawView,
 };
-use orlyukan::{Header, Joined, Next, Place, Reading, SegmentCounter, Sender, SequenceCount};
+use orlyukan::{Header, Joined, Place, Reading, SegmentCounter, Sender, SequenceCount};
 
 const CASES: u64 = 20_000;
 
@@ -106,38 +106,28 @@ fn raw_packet(sender: RawSender, i: u64, out: &mut [u8]) -> RawCut {
     answer
 }
 
-/// A sender is out of range by its sequence count, its counter, its flag, or a counter beside a flag that says that none is left.
+/// A sender is out of range by its sequence count or its counter; after the largest of each comes 0.
 #[test]
 fn senders() {
-    let fits = |s: RawSender| s.sequence_count < 16_384 && s.counter <= u64::from(u32::MAX) && s.has_counter <= 1;
+    let fits = |s: RawSender| s.sequence_count < 16_384 && s.counter <= u64::from(u32::MAX);
     let (mut met, mut out) = ([0u64; 32], vec![0; 64]);
     for sequence_count in [0, 16_382, 16_383, 16_384, 65_535, 65_536, 1 << 32, u64::MAX] {
-        for has_counter in [0, 1, 2, 256, u64::MAX] {
-            for counter in [0, 1, 4_294_967_293, 4_294_967_294, 4_294_967_295, 1 << 32, u64::MAX] {
-                let given = RawSender { sequence_count, has_counter, counter };
-                let plain = fits(given) && (has_counter == 1 || counter == 0);
-                let counted = raw_count(given);
-                let written = raw_packet(given, 0, &mut out);
-                met[counted.refusal as usize] += 1;
-                let expected = if !plain {
-                    RawCut { refusal: 22, number: 0, sender: given }
-                } else if has_counter == 0 || counter > 4_294_967_294 {
-                    RawCut { refusal: 25, number: 0, sender: given }
-                } else {
-                    let left = u64::from(counter < 4_294_967_294);
-                    let after = RawSender {
-                        sequence_count: (sequence_count + 2) % 16_384,
-                        has_counter: left,
-                        counter: left * (counter + 2),
-                    };
-                    RawCut { refusal: 0, number: 2, sender: after }
-                };
-                assert_eq!(counted, expected, "{given:?}");
-                assert_eq!((written.refusal, written.sender), (expected.refusal, given), "{given:?}");
-            }
+        for counter in [0, 1, 4_294_967_293, 4_294_967_294, 4_294_967_295, 1 << 32, u64::MAX] {
+            let given = RawSender { sequence_count, counter };
+            let counted = raw_count(given);
+            let written = raw_packet(given, 0, &mut out);
+            met[counted.refusal as usize] += 1;
+            let expected = if fits(given) {
+                let after = RawSender { sequence_count: (sequence_count + 2) % 16_384, counter: (counter + 2) % (1 << 32) };
+                RawCut { refusal: 0, number: 2, sender: after }
+            } else {
+                RawCut { refusal: 22, number: 0, sender: given }
+            };
+            assert_eq!(counted, expected, "{given:?}");
+            assert_eq!((written.refusal, written.sender), (expected.refusal, given), "{given:?}");
         }
     }
-    assert!(met[0] > 0 && met[22] > 0 && met[25] > 0, "{met:?}");
+    assert!(met[0] > 0 && met[22] > 0, "{met:?}");
 }
 
 /// A sender after one packet or one segment, and a sequence count alone: 22 above 16 bits, else on to the next, which is always below
@@ -153,12 +143,13 @@ fn moving_on() {
         let wide = sequence_count > 65_535;
         assert_eq!(answer, if wide { RawNumber { refusal: 22, number: 0 } } else { RawNumber { refusal: 0, number: next } });
 
-        let counter = if r.once_in(9) { r.too_wide(1 << 32) } else { r.bits(32) };
-        let has_counter = r.pick(&[0, 1, 1, 1, 2]);
-        let counter = if has_counter == 0 && !r.once_in(8) { 0 } else { counter };
-        let given = RawSender { sequence_count, has_counter, counter };
-        let bad = wide || has_counter > 1 || counter > u64::from(u32::MAX) || (has_counter == 0 && counter != 0);
-        let last = counter == u64::from(u32::MAX);
+        let counter = match r.below(9) {
+            0 => r.too_wide(1 << 32),
+            1 => u64::from(u32::MAX) - r.below(2),
+            _ => r.bits(32),
+        };
+        let given = RawSender { sequence_count, counter };
+        let bad = wide || counter > u64::from(u32::MAX);
         let (mut packet, mut segment): (RawAfter, RawAfter) = (spoiled(), spoiled());
         unsafe {
             raw::orl_after_packet(&given, &mut packet);
@@ -168,9 +159,8 @@ fn moving_on() {
             assert_eq!([packet, segment], [RawAfter { refusal: 22, sender: given }; 2]);
             continue;
         }
-        assert_eq!(packet, RawAfter { refusal: 0, sender: RawSender { sequence_count: next, has_counter, counter } });
-        let left = has_counter * u64::from(!last);
-        let after = RawSender { sequence_count: next, has_counter: left, counter: left * (counter + 1) };
+        assert_eq!(packet, RawAfter { refusal: 0, sender: RawSender { sequence_count: next, counter } });
+        let after = RawSender { sequence_count: next, counter: (counter + 1) % (1 << 32) };
         assert_eq!(segment, RawAfter { refusal: 0, sender: after }, "{given:?}");
     }
 }
@@ -262,8 +252,7 @@ fn lists() {
 /// The wrappers tell a sender as it is.
 #[test]
 fn wrapped_senders() {
-    let at = |counter| Next::At(SegmentCounter(counter));
-    let sender = |sequence_count, counter| Sender { sequence_count: SequenceCount(sequence_count), counter };
+    let sender = |sequence_count, counter| Sender { sequence_count: SequenceCount(sequence_count), counter: SegmentCounter(counter) };
     let refused = orlyukan::Refusal { number: 22, ..orlyukan::Refusal::default() };
     assert_eq!(orlyukan::next_sequence_count(SequenceCount(0)), Ok(SequenceCount(1)));
     assert_eq!(orlyukan::next_sequence_count(SequenceCount(16_383)), Ok(SequenceCount(0)));
@@ -271,8 +260,8 @@ fn wrapped_senders() {
     for too_wide in [65_536, 65_537, 1 << 32, u64::MAX] {
         assert_eq!(orlyukan::next_sequence_count(SequenceCount(too_wide)), Err(refused));
     }
-    assert_eq!(orlyukan::after_packet(sender(7, at(5))), Ok(sender(8, at(5))));
-    assert_eq!(orlyukan::after_segment(sender(16_383, at(4_294_967_295))), Ok(sender(0, Next::NoneLeft)));
-    assert_eq!(orlyukan::after_segment(sender(1, Next::NoneLeft)), Ok(sender(2, Next::NoneLeft)));
-    assert_eq!(orlyukan::after_segment(sender(1 << 20, at(0))), Err(refused));
+    assert_eq!(orlyukan::after_packet(sender(7, 5)), Ok(sender(8, 5)));
+    assert_eq!(orlyukan::after_segment(sender(7, 5)), Ok(sender(8, 6)));
+    assert_eq!(orlyukan::after_segment(sender(16_383, 4_294_967_295)), Ok(sender(0, 0)));
+    assert_eq!(orlyukan::after_segment(sender(1 << 20, 0)), Err(refused));
 }

@@ -3,7 +3,7 @@
 use compare::calls::{Calls, Library, Model};
 use compare::random::Random;
 use compare::tally::Tally;
-use orlyukan::{Next, Refusal, SegmentCounter, Sender, SequenceCount};
+use orlyukan::{Refusal, SegmentCounter, Sender, SequenceCount};
 
 const CASES: u64 = 120_000;
 
@@ -17,11 +17,11 @@ fn sequence_count(r: &mut Random) -> SequenceCount {
 
 fn sender(r: &mut Random) -> Sender {
     let counter = match r.below(6) {
-        0 => Next::NoneLeft,
-        1 => Next::At(SegmentCounter(r.too_wide(1 << 32))),
-        _ => Next::At(SegmentCounter(r.bits(32))),
+        0 => (1 << 32) - 1 - r.below(3),
+        1 => r.too_wide(1 << 32),
+        _ => r.bits(32),
     };
-    Sender { sequence_count: sequence_count(r), counter }
+    Sender { sequence_count: sequence_count(r), counter: SegmentCounter(counter) }
 }
 
 fn refusal<A>(answer: Result<A, Refusal>) -> u64 {

@@ -2,7 +2,7 @@
 
 use crate::values::{hold, refusal, Refusal, Sender, Settings, Tested, Values};
 use crate::write::{header_size, lay, test_values, Sequence, Writer};
-use crate::{CONTINUATION, FIRST, HEADER_LIMIT, LAST, LAST_COUNTER, PACKET_LIMIT, PRIMARY, SEQUENCE_COUNTS, UNSEGMENTED};
+use crate::{CONTINUATION, COUNTERS, FIRST, HEADER_LIMIT, LAST, PACKET_LIMIT, PRIMARY, SEGMENTS_LIMIT, SEQUENCE_COUNTS, UNSEGMENTED};
 
 /// The largest message body.
 const BODY_LIMIT: u64 = 1_048_576;
@@ -17,11 +17,11 @@ struct Plan {
     carried: usize,
 }
 
-/// 15 to 25, in their order.
+/// 15 to 29, in their order.
 fn plan(settings: Settings, p: u64, v: &Values, body: u64, sender: Sender) -> Result<Plan, Refusal> {
     let s = settings.test()?;
     hold((27..=PACKET_LIMIT as u64).contains(&p), 15)?;
-    hold(sender.sequence_count < SEQUENCE_COUNTS && sender.counter.unwrap_or(0) <= LAST_COUNTER, 22)?;
+    hold(sender.sequence_count < SEQUENCE_COUNTS && sender.counter < COUNTERS, 22)?;
     test_values(Writer::Today, s, v)?;
     hold(body <= BODY_LIMIT, 23)?;
     let header = header_size(s, v);
@@ -32,8 +32,7 @@ fn plan(settings: Settings, p: u64, v: &Values, body: u64, sender: Sender) -> Re
     hold(header + 4 <= HEADER_LIMIT, 12)?;
     let carried = (p as usize).checked_sub(header + 10).filter(|c| *c > 0).ok_or(refusal(24))?;
     let count = body.div_ceil(carried as u64);
-    let start = sender.counter.ok_or(refusal(25))?;
-    hold(start + (count - 1) <= LAST_COUNTER, 25)?;
+    hold(count <= SEGMENTS_LIMIT, 29)?;
     Ok(Plan { settings: s, header, count, carried })
 }
 
@@ -41,7 +40,7 @@ fn plan(settings: Settings, p: u64, v: &Values, body: u64, sender: Sender) -> Re
 pub fn count(settings: impl Into<Settings>, p: u64, v: &Values, body: u64, sender: Sender) -> Result<(u64, Sender), Refusal> {
     let plan = plan(settings.into(), p, v, body, sender)?;
     let segments = if plan.count == 1 { 0 } else { plan.count };
-    let counter = sender.counter.map(|start| start + segments).filter(|next| *next <= LAST_COUNTER);
+    let counter = (sender.counter + segments) % COUNTERS;
     let sequence_count = (sender.sequence_count + plan.count) % SEQUENCE_COUNTS;
     Ok((plan.count, Sender { sequence_count, counter }))
 }
@@ -70,7 +69,7 @@ pub fn packet(
     let size = PRIMARY + plan.header + counted + (to - from);
     let out = out.get_mut(..size).ok_or(refusal(21))?;
     let sequence_count = ((sender.sequence_count + i) % SEQUENCE_COUNTS) as u16;
-    let counter = (sender.counter.unwrap_or(0) + i) as u32;
+    let counter = ((sender.counter + i) % COUNTERS) as u32;
     lay(plan.settings, v, Sequence { flags, sequence_count, counter }, &body[from..to], out);
     Ok(size)
 }

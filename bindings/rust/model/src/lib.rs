@@ -42,5 +42,7 @@ pub const LAST: u8 = 2;
 pub const CONTINUATION: u8 = 0;
 /// How many sequence counts there are: 0 follows the last of them.
 pub const SEQUENCE_COUNTS: u64 = 16_384;
-/// The last counter.
-pub const LAST_COUNTER: u64 = u32::MAX as u64;
+/// How many segment counters there are: 0 follows the last of them.
+pub const COUNTERS: u64 = 1 << 32;
+/// The most segments of a message.
+pub const SEGMENTS_LIMIT: u64 = 4096;

@@ -44,8 +44,7 @@ impl<'a> Rooms<'a> {
 
     /// The neighbour of a segment, one counter up or down.
     fn beside(&self, s: &Segment, up: bool) -> Option<usize> {
-        let counter = if up { s.counter.checked_add(1) } else { s.counter.checked_sub(1) };
-        counter.and_then(|counter| self.find(s, counter))
+        self.find(s, if up { s.counter.wrapping_add(1) } else { s.counter.wrapping_sub(1) })
     }
 
     /// From a segment on, up to the last or down to the first of its run: its rooms, or nothing if one is missing.

@@ -1,7 +1,7 @@
 //! A sender's running numbers, moved on by one packet.
 
 use crate::values::{hold, Refusal, Sender};
-use crate::{LAST_COUNTER, SEQUENCE_COUNTS};
+use crate::{COUNTERS, SEQUENCE_COUNTS};
 
 /// The largest number that is taken for a sequence count; from the last sequence count on, 0 follows.
 const MOST: u64 = u16::MAX as u64;
@@ -14,12 +14,12 @@ pub fn next_sequence_count(sequence_count: u64) -> Result<u64, Refusal> {
 
 /// The sender after one unsegmented packet.
 pub fn after_packet(sender: Sender) -> Result<Sender, Refusal> {
-    hold(sender.counter.unwrap_or(0) <= LAST_COUNTER, 22)?;
+    hold(sender.counter < COUNTERS, 22)?;
     Ok(Sender { sequence_count: next_sequence_count(sender.sequence_count)?, ..sender })
 }
 
-/// The sender after one segment: no counter is left after the last.
+/// The sender after one segment.
 pub fn after_segment(sender: Sender) -> Result<Sender, Refusal> {
     let Sender { sequence_count, counter } = after_packet(sender)?;
-    Ok(Sender { sequence_count, counter: counter.map(|used| used + 1).filter(|next| *next <= LAST_COUNTER) })
+    Ok(Sender { sequence_count, counter: (counter + 1) % COUNTERS })
 }

@@ -6,7 +6,7 @@ use crate::hash::Build;
 use crate::read::read;
 use crate::segment::Segment;
 use crate::values::{hold, refusal, Refusal, Settings};
-use crate::{CONTINUATION, FIRST, LAST, PRIMARY, UNSEGMENTED};
+use crate::{CONTINUATION, FIRST, LAST, PRIMARY, SEGMENTS_LIMIT, UNSEGMENTED};
 
 /// The octets of a cell.
 pub const CELL: usize = 1024;
@@ -93,12 +93,13 @@ impl<'a> Index<'a> {
         run.push(cell);
         let first = self.held(cell);
         let mut counter = first.counter;
-        while let Some(next) = counter.checked_add(1) {
-            let Some(place) = self.cell_of(&first.at_counter(next)) else { return false };
+        for _ in 1..SEGMENTS_LIMIT {
+            counter = counter.wrapping_add(1);
+            let Some(place) = self.cell_of(&first.at_counter(counter)) else { return false };
             run.push(place);
             match self.held(place).flags {
                 LAST => return true,
-                CONTINUATION => counter = next,
+                CONTINUATION => {}
                 _ => return false,
             }
         }

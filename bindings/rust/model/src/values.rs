@@ -49,11 +49,11 @@ pub struct Values<'a> {
     pub authentication: &'a [u8],
 }
 
-/// A sender's two running numbers. The counter is `None` if none is left.
+/// A sender's two running numbers.
 #[derive(Clone, Copy, Debug, PartialEq, Eq)]
 pub struct Sender {
     pub sequence_count: u64,
-    pub counter: Option<u64>,
+    pub counter: u64,
 }
 
 /// `Err` with this number unless the test holds.

@@ -29,9 +29,6 @@ either-requires c κs = search needs
 unless-requires-3 : tie.Need-unless-requires-3
 unless-requires-3 c κs = search needs
 
-counters-fit-requires : tie.Need-counters-fit-requires
-counters-fit-requires c κs = search needs
-
 either-requires-2 : tie.Need-either-requires-2
 either-requires-2 c κs = search needs
 
@@ -41,13 +38,12 @@ unless-requires-4 c κs = search needs
 returns : tie.Need-returns
 unfolding planOf planRefusal
 returns c =
-    let g = c .before .before .before .before .before in
+    let g = c .before .before .before .before in
     simp (
       c .unless4 .ensures,
       c .before .either2 .ensures,
-      c .before .before .counters-fit .ensures,
-      c .before .before .before .unless3 .ensures,
-      c .before .before .before .before .either .ensures,
+      c .before .before .unless3 .ensures,
+      c .before .before .before .either .ensures,
       g .unless2 .ensures,
       g .before .header-of .ensures,
       g .before .before .unless .ensures,
@@ -68,7 +64,6 @@ plan-of-spec =
     unless-requires-2
     either-requires
     unless-requires-3
-    counters-fit-requires
     either-requires-2
     unless-requires-4
     returns)

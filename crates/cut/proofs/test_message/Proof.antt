@@ -1,10 +1,10 @@
 -- `cut::test_message` meets its contract: its tests are the definition's, in its order.
 -- Assumes nothing.
 use borrow.Author.Needs.{needs}
+use native.Mathlib.Omega.{arith}
+use Rattle.cut.proofs.Plans.{values-tested}
 use Rattle.cut.proofs.test_message.Statement.{statement}
 use Rattle.cut.proofs.test_message.Tie as tie
-use Rattle.cut.specs.Cutting.{valueTests}
-use Rattle.write.specs.Writing.{zoneTest, partsTest, textTest}
 
 zone-fits-requires : tie.Need-zone-fits-requires
 zone-fits-requires c κs = search needs
@@ -28,18 +28,12 @@ test-utf8-requires : tie.Need-test-utf8-requires
 test-utf8-requires c κs = search needs
 
 returns : tie.Need-returns
-unfolding valueTests zoneTest partsTest textTest
 returns c =
     let g = c .before .before .before .before in
-    simp (
-      c .test-utf8 .ensures,
-      c .before .test-parts .ensures,
-      c .before .before .unless2 .ensures,
-      c .before .before .before .unless .ensures,
-      g .before .test-header .ensures,
-      g .before .before .test-limit .ensures,
-      g .before .before .before .zone-fits .ensures,
-    )
+    let d = g .before .before .before .before .before .before .before .before .before .before .before .before .good .1 .1 .1 .1 .1 .1 .1 .1 .1 .1 .0 in
+    values-tested _ _ _ _ _ _ (omega (arith, d .1 .1 .1 .0 .1 .1 .0 .1)) (g .before .before .before .zone-fits .ensures)
+    (g .before .before .test-limit .ensures) (g .before .test-header .ensures) (c .before .before .before .unless .ensures)
+    (c .before .before .unless2 .ensures) (c .before .test-parts .ensures) (c .test-utf8 .ensures)
 
 pub test-message-spec : {M : Type 1} → statement M
 test-message-spec =

@@ -16,12 +16,9 @@ element-copy-out-t7 c = search needs
 element-copy-out-t10 : tie.Need-element-copy-out-t10
 element-copy-out-t10 c = search needs
 
-element-copy-out-t13 : tie.Need-element-copy-out-t13
-element-copy-out-t13 c = search needs
-
 returns : tie.Need-returns
 unfolding afterSegmentNumbers
-returns c = rw (sym (c .before .before .before .before .sender-fits .ensures) ∙ not-true _ (c .before .before .before .if1 .taken))
+returns c = rw (sym (c .before .before .before .sender-fits .ensures) ∙ not-true _ (c .before .before .if1 .taken))
 
 sender-of-requires : tie.Need-sender-of-requires
 sender-of-requires c κs = sym (c .before .sender-fits .ensures) ∙ not-false _ (c .if1 .left)
@@ -32,14 +29,11 @@ after-segment-requires c κs = search needs
 sender-numbers-requires : tie.Need-sender-numbers-requires
 sender-numbers-requires c κs = search needs
 
+array-read-t16 : tie.Need-array-read-t16
+array-read-t16 c = search needs
+
 array-read-t19 : tie.Need-array-read-t19
 array-read-t19 c = search needs
-
-array-read-t22 : tie.Need-array-read-t22
-array-read-t22 c = search needs
-
-array-read-t25 : tie.Need-array-read-t25
-array-read-t25 c = search needs
 
 returns-2 : tie.Need-returns-2
 unfolding afterSegmentNumbers
@@ -54,12 +48,10 @@ after-segment-spec =
     sender-fits-requires
     element-copy-out-t7
     element-copy-out-t10
-    element-copy-out-t13
     returns
     sender-of-requires
     after-segment-requires
     sender-numbers-requires
+    array-read-t16
     array-read-t19
-    array-read-t22
-    array-read-t25
     returns-2)

@@ -16,12 +16,9 @@ element-copy-out-t10 c = search needs
 element-copy-out-t13 : tie.Need-element-copy-out-t13
 element-copy-out-t13 c = search needs
 
-element-copy-out-t16 : tie.Need-element-copy-out-t16
-element-copy-out-t16 c = search needs
-
 returns : tie.Need-returns
 returns c =
-    let g = c .before .before .before in
+    let g = c .before .before in
     rw (g .too-wide .ensures, g .before .test-limit .ensures)
 
 pub cut-too-wide-spec : {M : Type 1} → statement M
@@ -32,5 +29,4 @@ cut-too-wide-spec =
     too-wide-requires
     element-copy-out-t10
     element-copy-out-t13
-    element-copy-out-t16
     returns)

@@ -1,9 +1,8 @@
 -- `taking::copy_message` meets its contract: the key, the first's body and the others' are laid one after another.
 -- Assumes nothing.
-use Prim.Native.Nat.{suc}
 use denote.Ref.{now}
 use lib.ListN.{length}
-use Rattle.cells.specs.Messages.{top}
+use Rattle.packet.specs.Numbers.{nextCounter, stepsMost}
 use Rattle.taking.proofs.Heads.{head-asked, head-told, head-key-room, head-body-room, head-ready, head-written}
 use borrow.Author.Needs.{needs}
 use Rattle.taking.proofs.copy_message.Statement.{statement}
@@ -29,8 +28,8 @@ put-key-requires c κs =
     let q = c .before .before .before .before .before .before .packet-in .ensures in
     let h = c .before .before .before .before .before .read .ensures .0 in
     let t = c .before .piece-in .ensures in (
-      head-asked suc top _ _ _ (g .args .n) _ (λ j. o .given j .fits) (g .pre .1 .0) r q h t,
-      head-key-room suc top _ _ _ (g .args .n) _ (λ j. o .given j .fits) (g .pre .1 .0) r q h t (g .pre .1 .1),
+      head-asked nextCounter stepsMost _ _ _ (g .args .n) _ (λ j. o .given j .fits) (g .pre .1 .0) r q h t,
+      head-key-room nextCounter stepsMost _ _ _ (g .args .n) _ (λ j. o .given j .fits) (g .pre .1 .0) r q h t (g .pre .1 .1),
     )
 
 put-body-requires : tie.Need-put-body-requires
@@ -44,7 +43,7 @@ put-body-requires c κs =
     let q = v .before .packet-in .ensures in
     let h = v .read .ensures .0 in
     let t = u .before .before .piece-in .ensures in
-    head-body-room suc top _ _ _ (g .args .n) _ (λ j. o .given j .fits) (g .pre .1 .0) r q h t (g .pre .1 .1) (u .put-key .ensures .0) (u .put-key .ensures .1)
+    head-body-room nextCounter stepsMost _ _ _ (g .args .n) _ (λ j. o .given j .fits) (g .pre .1 .0) r q h t (g .pre .1 .1) (u .put-key .ensures .0) (u .put-key .ensures .1)
 
 copy-rest-requires : tie.Need-copy-rest-requires
 copy-rest-requires c κs =
@@ -58,8 +57,8 @@ copy-rest-requires c κs =
     let b = c .before .before .before .put-body .ensures in (
       g .pre .0,
       (
-        head-asked suc top _ _ _ (g .args .n) _ (λ j. o .given j .fits) (g .pre .1 .0) r q h t,
-        head-ready suc top _ _ _ (g .args .n) _ (λ j. o .given j .fits) (g .pre .1 .0) r q h t (g .pre .1 .1) (k .0) (k .1) (b .0) (b .1),
+        head-asked nextCounter stepsMost _ _ _ (g .args .n) _ (λ j. o .given j .fits) (g .pre .1 .0) r q h t,
+        head-ready nextCounter stepsMost _ _ _ (g .args .n) _ (λ j. o .given j .fits) (g .pre .1 .0) r q h t (g .pre .1 .1) (k .0) (k .1) (b .0) (b .1),
       ),
     )
 
@@ -81,8 +80,8 @@ returns c =
     let k = v .put-key .ensures in
     let b = u .put-body .ensures in
     let e = c .before .before .copy-rest .ensures in (
-      head-told suc top _ _ _ (g .args .n) _ (λ j. o .given j .fits) (g .pre .1 .0) r q h t (e .0),
-      head-written suc top _ _ _ (g .args .n) _ (λ j. o .given j .fits) (g .pre .1 .0) r q h t (g .pre .1 .1) (k .0) (k .1) (b .0) (b .1) (e .1),
+      head-told nextCounter stepsMost _ _ _ (g .args .n) _ (λ j. o .given j .fits) (g .pre .1 .0) r q h t (e .0),
+      head-written nextCounter stepsMost _ _ _ (g .args .n) _ (λ j. o .given j .fits) (g .pre .1 .0) r q h t (g .pre .1 .1) (k .0) (k .1) (b .0) (b .1) (e .1),
     )
 
 pub copy-message-spec : {M : Type 1} → statement M

@@ -1,16 +1,16 @@
 -- `taking::pick_message` meets its contract. The loop's invariant: the cells passed open no complete message.
 -- Assumes nothing.
-use Prim.Native.Nat.{suc, _-_}
+use Prim.Native.Nat.{_-_}
 use denote.Ref.{now}
 use lib.ListN.{length}
-use Rattle.cells.specs.Messages.{top}
+use Rattle.packet.specs.Numbers.{nextCounter, stepsMost}
 use Rattle.taking.proofs.Picks.{Picking, picking-first, picking-turn, picking-found, picking-none}
 use borrow.Author.Needs.{needs}
 use Rattle.taking.proofs.pick_message.Statement.{statement}
 use Rattle.taking.proofs.pick_message.Tie as tie
 
 abbrev Inv-loop : tie.InvT-loop
-Inv-loop s store n zero chained heads links i₀ i = Picking suc top s (length zero) store n i
+Inv-loop s store n zero chained heads links i₀ i = Picking nextCounter stepsMost s (length zero) store n i
 
 abbrev μ-loop : tie.MeasureT-loop
 μ-loop s store n zero chained heads links i₀ i = n - i

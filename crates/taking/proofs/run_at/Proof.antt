@@ -1,11 +1,10 @@
 -- `taking::run_at` meets its contract: what is no held first opens nothing, and from a first its run is followed.
 -- Assumes nothing.
-use Prim.Native.Nat.{suc}
 use mathlib.Core.Path.{sym, _∙_}
 use denote.Ref.{now}
 use lib.ListN.{length}
 use borrow.Author.Tests.{not-true, not-false}
-use Rattle.cells.specs.Messages.{top}
+use Rattle.packet.specs.Numbers.{nextCounter, stepsMost}
 use Rattle.taking.proofs.Running.{run-none, run-other, run-inside, run-asked, run-most, run-first}
 use borrow.Author.Needs.{needs}
 use Rattle.taking.proofs.run_at.Statement.{statement}
@@ -40,7 +39,7 @@ sub-follow c =
     let v = u .before .before .before .before in
     let w = v .before .before .before in
     let o = v .before .before .shared-slice-known in
-    run-inside suc top _ _ _ (w .args .n) _ (v .row .ensures) (u .before .judge .ensures) (c .before .packet-in .ensures) (λ i. o .given i .fits)
+    run-inside nextCounter stepsMost _ _ _ (w .args .n) _ (v .row .ensures) (u .before .judge .ensures) (c .before .packet-in .ensures) (λ i. o .given i .fits)
     (sym (u .is-held .ensures) ∙ not-false _ (c .before .before .if2 .left))
 
 follow-requires : tie.Need-follow-requires
@@ -52,7 +51,7 @@ follow-requires c κs =
     let h = sym (c .before .before .before .is-held .ensures) ∙ not-false _ (c .before .before .if2 .left) in
     let o = c .before .before .before .before .before .before .before .before .before .shared-slice-known in (
       g .pre,
-      (run-asked suc top _ _ _ (g .args .n) _ r t p (λ i. o .given i .fits) h, run-most suc top _ _ _ (g .args .n) _ r t p (λ i. o .given i .fits) h),
+      (run-asked nextCounter stepsMost _ _ _ (g .args .n) _ r t p (λ i. o .given i .fits) h, run-most nextCounter stepsMost _ _ _ (g .args .n) _ r t p (λ i. o .given i .fits) h),
     )
 
 returns-3 : tie.Need-returns-3

@@ -10,7 +10,7 @@ next-sequence-count-requires c κs = search needs
 
 returns : tie.Need-returns
 unfolding afterPacket
-returns c = simp (c .next-sequence-count .ensures)
+returns c = simp (c .before .next-sequence-count .ensures)
 
 pub after-packet-spec : {M : Type 1} → statement M
 after-packet-spec = tie.close (tie.spec next-sequence-count-requires returns)

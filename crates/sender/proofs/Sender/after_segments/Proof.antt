@@ -5,14 +5,14 @@ use Rattle.sender.proofs.Moving.{moved-both}
 use Rattle.sender.proofs.Sender.after_segments.Statement.{statement}
 use Rattle.sender.proofs.Sender.after_segments.Tie as tie
 
-after-requires : tie.Need-after-requires
-after-requires c κs = search needs
+counter-after-requires : tie.Need-counter-after-requires
+counter-after-requires c κs = search needs
 
 sequence-count-after-requires : tie.Need-sequence-count-after-requires
 sequence-count-after-requires c κs = search needs
 
 returns : tie.Need-returns
-returns c = moved-both _ _ (c .sequence-count-after .ensures) (c .before .after .ensures)
+returns c = moved-both _ _ (c .sequence-count-after .ensures) (c .before .counter-after .ensures)
 
 pub after-segments-spec : {M : Type 1} → statement M
-after-segments-spec = tie.close (tie.spec after-requires sequence-count-after-requires returns)
+after-segments-spec = tie.close (tie.spec counter-after-requires sequence-count-after-requires returns)

@@ -1,6 +1,6 @@
 -- `clearing::clear` meets its contract. The loop's invariant: those of the cells passed are zero, and the others are as they were.
 -- Assumes nothing.
-use Prim.Native.Nat.{ℕ, suc, _-_}
+use Prim.Native.Nat.{ℕ, _-_}
 use mathlib.Core.List.{List}
 use mathlib.Core.Logic.{⊎-elim}
 use mathlib.Core.Path.{ap, sym, _∙_}
@@ -9,6 +9,7 @@ use denote.Ref.{now}
 use lib.ListN.{length}
 use Rattle.cells.specs.Rows.{cellOf}
 use Rattle.cells.specs.Order.{cellAt}
+use Rattle.packet.specs.Numbers.{nextCounter}
 use Rattle.cells.specs.Inner.{withinIn}
 use Rattle.taking.specs.Cleared.{zeroIf}
 use Rattle.taking.proofs.Clears.{Clearing, clearing-first, clearing-long, clearing-done, clearing-told, clearing-here, clearing-not}
@@ -18,7 +19,7 @@ use Rattle.taking.proofs.clearing.clear.Tie as tie
 
 abbrev Inv-loop : tie.InvT-loop
 Inv-loop s store₀ n zero key first steps z i₀ store i =
-    Clearing (λ j. zeroIf (length zero) (withinIn suc key (first .0) steps (cellAt s (length zero) store₀ j))) (length zero) n store₀ store i
+    Clearing (λ j. zeroIf (length zero) (withinIn nextCounter key (first .0) steps (cellAt s (length zero) store₀ j))) (length zero) n store₀ store i
 
 abbrev μ-loop : tie.MeasureT-loop
 μ-loop s store₀ n zero key first steps z i₀ store i = n - i
@@ -47,7 +48,7 @@ loop-again c =
     let h = c .before .before .before .before in
     let k = h .before .loop .inv in
     let Z = length (now (g .args .zero)) in
-    let e = sym (clearing-told (λ (r : List ℕ). withinIn suc (now (g .args .key)) (g .args .first .0) (g .args .steps) (cellOf (g .args .s) Z r))
+    let e = sym (clearing-told (λ (r : List ℕ). withinIn nextCounter (now (g .args .key)) (g .args .first .0) (g .args .steps) (cellOf (g .args .s) Z r))
     Z k (c .before .before .row .ensures) (c .before .is-within .ensures)) in
     ⊎-elim
     (λ w. clearing-here (now (g .args .zero)) k (h .loop-test .taken) (ap (zeroIf Z) (e ∙ w .0 .taken) ∙ ap some (sym (g .pre))) (w .5 ∙ w .2 .ensures))
