@@ -5,13 +5,15 @@ _orlyukan() {
     local word=${COMP_WORDS[COMP_CWORD]} before=${COMP_WORDS[COMP_CWORD - 1]} options='' name
     COMPREPLY=()
     if [ "$COMP_CWORD" -eq 1 ]; then
-        mapfile -t COMPREPLY < <(compgen -W 'join check salvage split package help --version' -- "$word")
+        mapfile -t COMPREPLY < <(compgen -W 'join check salvage split to-office from-office package help --version' -- "$word")
         return
     fi
     case ${COMP_WORDS[1]} in
     join) options='--force --json --profile --timestamp --salvage --list --picture --help --' ;;
     check) options='--json --profile --timestamp --salvage --help --' ;;
     salvage) options='--force --json --profile --timestamp --list --picture --help --' ;;
+    to-office) options='--force --json --profile --timestamp --encoding --help --' ;;
+    from-office) options='--force --json --profile --timestamp --type --apid --secondary-apid --qualifier --help --' ;;
     split | package) options='--force --help --' ;;
     *) return ;;
     esac
@@ -21,6 +23,8 @@ _orlyukan() {
         mapfile -t COMPREPLY < <(compgen -W 'varint fixed' -- "$word")
     elif [ -n "$options" ] && [ "$before" = --timestamp ]; then
         mapfile -t COMPREPLY < <(compgen -W '1 2 3 4 5 6 7 8 9 10 11 12 13 14 15 16' -- "$word")
+    elif [ -n "$options" ] && [[ $before == --@(encoding|type|apid|secondary-apid|qualifier) ]]; then
+        COMPREPLY=()
     elif [ -n "$options" ] && [ "${word:0:1}" = - ]; then
         mapfile -t COMPREPLY < <(compgen -W "$options" -- "$word")
     elif [ "${COMP_WORDS[1]}" = package ]; then

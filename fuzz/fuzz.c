@@ -1,7 +1,7 @@
 /*
  * A target for a coverage-guided fuzzer over the calls for C. The first octet of an input chooses what is done with the rest. Every
  * buffer is just as long as it is said to be, so that the address sanitizer sees any octet outside. Beside that the answers are held
- * to what SPEC ties together: a packet that reads writes back to the octet, a message that is cut comes out of the store as it
+ * to what SPEC ties together: a packet or PDU that reads writes back to the octet, a message that is cut comes out of the store as it
  * went in, a refusal changes nothing, a recording gives the messages that joining gives one packet at a time, and kept and skipped
  * entries cover a damaged one, however often salvaging stops.
  */
@@ -286,15 +286,48 @@ static void salvaging(struct rest in) {
     free(file), free(list);
 }
 
+/* a PDU: what reads writes back, and a refusal tells what it may */
+static void pdus(struct rest in) {
+    size_t length = in.left, at = 0;
+    uint8_t *pdu = octets(&in, &length), *out = malloc(length ? length : 1), *room = malloc(length ? length : 1);
+    uint64_t said = length < 23 ? 0 : 23 + ((uint64_t)pdu[19] << 24 | (uint64_t)pdu[20] << 16 | (uint64_t)pdu[21] << 8 | pdu[22]), parts[16];
+    struct orl_pdu_read_answer r;
+    struct orl_pdu_write_answer w;
+    struct orl_pdu_header h;
+    memset(&r, 0xaa, sizeof r);
+    orl_pdu_read(pdu, length, &r);
+    hold(r.off == (r.refusal == 5 ? said - length : r.refusal == 27 ? length - said : 0), "5 and 27 tell the octets missing or left over");
+    hold(r.refusal == 6 ? r.began >= 23 && r.began <= length : r.began == 0, "6 tells a place after the fixed part");
+    if (r.refusal != 0) {
+        hold(all_zero(&r, offsetof(struct orl_pdu_read_answer, off)), "a refused reading tells zeros");
+    } else {
+        hold(r.variable_length == length - 23 && r.body.place + r.body.length == length, "the body ends the PDU");
+        memcpy(&h, &r.sdu, 18 * 8);
+        h.priority = r.priority;
+        for (size_t i = 0; i < r.domain_count; i++) {
+            memcpy(room + at, pdu + r.domain[i].place, r.domain[i].length);
+            at += r.domain[i].length;
+            parts[i] = r.domain[i].length;
+        }
+        orl_pdu_write(&h, pdu + r.source.place, r.source.length, pdu + r.destination.place, r.destination.length, pdu + r.timestamp.place,
+                      r.timestamp.length, pdu + r.zone.place, r.zone.length, pdu + r.session_name.place, r.session_name.length, room, at,
+                      parts, r.domain_count, pdu + r.authentication.place, r.authentication.length, pdu + r.body.place, r.body.length, out,
+                      length, &w);
+        hold(w.refusal == 0 && w.length == length && w.header_length == r.body.place && memcmp(out, pdu, length) == 0, "what reads writes back");
+    }
+    free(pdu), free(out), free(room);
+}
+
 int LLVMFuzzerTestOneInput(const uint8_t *data, size_t size) {
     struct rest in = {data, size};
-    switch (number(&in, 1) % 6) {
+    switch (number(&in, 1) % 7) {
     case 0: reading(in); break;
     case 1: cutting(in); break;
     case 2: storing(in, 0); break;
     case 3: storing(in, 1); break;
     case 4: recording(in); break;
-    default: salvaging(in); break;
+    case 5: salvaging(in); break;
+    default: pdus(in); break;
     }
     return 0;
 }

@@ -1,6 +1,6 @@
 /*
- * Orlyukan for C and C++: reading, writing, cutting, storing and joining MAL messages in CCSDS Space Packets, and salvaging damaged
- * recordings of them.
+ * Orlyukan for C and C++: reading, writing, cutting, storing and joining MAL messages in CCSDS Space Packets, salvaging damaged
+ * recordings of them, reading and writing the survey office's PDUs, and carrying messages there and back.
  *
  * Link with libcapi.a, which `rt staticlib capi` writes for Linux on x86-64. The library keeps nothing between calls, allocates
  * nothing, reads and writes only the memory that it is lent, and always comes back.
@@ -55,18 +55,24 @@
  *   21  the output has too few octets
  *   22  a value to write that its field cannot have: too wide or out of range, the idle APID, given for a field that is absent, a
  *       timestamp that is not of T octets, a text above 65,535 octets, lengths of domain parts that do not add up to the domain
- *   23  orl_write: a packet above 65,542 octets; orl_cut_count and orl_cut_packet: a body above 1,048,576
+ *   23  orl_write: a packet above 65,542 octets; orl_cut_count and orl_cut_packet: a body above 1,048,576; orl_pdu_write and orl_to_pdu:
+ *       more than 4,294,967,295 octets after the fixed part
  *   24  cutting is needed, and with this P a packet has no room for one octet of body
  *   26  there is no packet with this number
  *   27  the slice is longer than the packet's length field says: off octets are left over
- *   28  a network zone, session name or domain part that is not well-formed UTF-8
+ *   28  a network zone, session name or domain part, in a PDU also a source id or destination id, that is not well-formed UTF-8
  *   29  the message would have more than 4,096 segments
- *   30  a network zone to write or to cut: it is withdrawn
+ *   30  a network zone to write, to cut or to carry back: it is withdrawn
+ *   33  orl_to_message: a source id, then a destination id, that is not the decimal digits of 0 to 255 without leading zeros
+ *   34  orl_to_pdu and orl_to_message: a timestamp, and T is not 6
+ *   35  orl_to_message: a QoS level above 3 or a session above 2
  *   40  orl_salvage: a state that can not be one: begin above place, or place after the file's end
  *
  * If several apply, the answer is the one that comes first: reading 15, 1 to 4, 5 or 27, then as the header is read from left to
  * right, 14; writing 15, 22, 30, 13, 28, 23, 12, 14, 21; cutting 15, 22, 30, 13, 28, 23, 12, 24, 29, 26, 21; arrival 15, 16, those
- * of reading, 17, 18, 19; taking 15, 16, 20, 21.
+ * of reading, 17, 18, 19; taking 15, 16, 20, 21; carrying to the office 15, 22, 1 to 4, the header's, 34, 23, 21; carrying back 15, 22,
+ * 1, 7, 8, 5 or 27, the PDU's fields, 35, 33, 34, 30, 12, 21; reading a PDU 1, 7, 8, 5 or 27, then its fields from left to right; writing
+ * one 22, 13, 28, 23, 21.
  *
  * What 5, 27 and 6 tell, in the answers of reading, arrival and joining
  *
@@ -407,6 +413,131 @@ struct orl_salvage_answer {
  */
 void orl_salvage(uint64_t t, uint64_t profile, const uint8_t *file, size_t file_length, uint64_t begin, uint64_t place,
                  uint64_t grant, uint64_t *list, size_t list_length, struct orl_salvage_answer *answer);
+
+/* ---- the survey office ---- */
+
+/*
+ * What stands in a PDU of the MAL TCP/IP binding. Places count from the PDU's first octet; source id and destination id are texts. The first
+ * domain_count of the sixteen places are those of the domain's parts, in their order.
+ */
+struct orl_pdu_read_answer {
+    uint64_t refusal;
+    uint64_t sdu;
+    uint64_t area;
+    uint64_t service;
+    uint64_t operation;
+    uint64_t area_version;
+    uint64_t error;
+    uint64_t qos;     /* 0 to 7 */
+    uint64_t session; /* 0 to 15 */
+    uint64_t transaction;
+    uint64_t has_source;
+    uint64_t has_destination;
+    uint64_t has_priority;
+    uint64_t has_timestamp;
+    uint64_t has_zone;
+    uint64_t has_session_name;
+    uint64_t has_domain;
+    uint64_t has_authentication;
+    uint64_t encoding_id;
+    struct orl_place source;
+    struct orl_place destination;
+    uint64_t priority;
+    struct orl_place timestamp;
+    struct orl_place zone;
+    struct orl_place session_name;
+    uint64_t domain_count;
+    struct orl_place domain[16];
+    struct orl_place authentication;
+    uint64_t variable_length; /* the octets after the fixed part, 23 octets, as the PDU says */
+    struct orl_place body;    /* of length 0 at the PDU's end if it is empty */
+    uint64_t off;             /* beside 5 the octets missing, beside 27 those left over, by the variable length */
+    uint64_t began;           /* beside 6 the place in the PDU where the unfinished field began */
+};
+
+/*
+ * Reads one whole PDU. No T and no profile: a timestamp has six octets, and lengths, counts and priority are Varints. 1 is fewer than 23
+ * octets, 7 a version number other than 1.
+ */
+void orl_pdu_read(const uint8_t *pdu, size_t pdu_length, struct orl_pdu_read_answer *answer);
+
+/* A PDU's header to write: all values but the texts. Presence flags as in orl_header. */
+struct orl_pdu_header {
+    uint64_t sdu;          /* SDU type, 0 to 21 */
+    uint64_t area;         /* 16 bits */
+    uint64_t service;      /* 16 bits */
+    uint64_t operation;    /* 16 bits */
+    uint64_t area_version; /* 8 bits */
+    uint64_t error;        /* 0 or 1 */
+    uint64_t qos;          /* QoS level, 0 to 7 */
+    uint64_t session;      /* 0 to 15 */
+    uint64_t transaction;  /* transaction id, 64 bits */
+    uint64_t has_source;
+    uint64_t has_destination;
+    uint64_t has_priority;
+    uint64_t has_timestamp;
+    uint64_t has_zone;
+    uint64_t has_session_name;
+    uint64_t has_domain;
+    uint64_t has_authentication;
+    uint64_t encoding_id; /* 8 bits */
+    uint64_t priority;    /* 32 bits */
+};
+
+struct orl_pdu_write_answer {
+    uint64_t refusal;       /* 22, 13, 28, 23 or 21 */
+    uint64_t length;        /* octets written, from the first of out on */
+    uint64_t header_length; /* those of them before the body */
+};
+
+/*
+ * Writes one PDU with the header, its texts and the body. Source id and destination id are UTF-8 as well; a timestamp has six octets; no
+ * text has another limit than 23, more than 4,294,967,295 octets after the fixed part. A network zone is written.
+ */
+void orl_pdu_write(const struct orl_pdu_header *header, const uint8_t *source, size_t source_length, const uint8_t *destination,
+                   size_t destination_length, const uint8_t *timestamp, size_t timestamp_length, const uint8_t *zone, size_t zone_length,
+                   const uint8_t *session_name, size_t session_name_length, const uint8_t *domain, size_t domain_length,
+                   const uint64_t *domain_lengths, size_t domain_count, const uint8_t *authentication, size_t authentication_length,
+                   const uint8_t *body, size_t body_length, uint8_t *out, size_t out_length, struct orl_pdu_write_answer *answer);
+
+struct orl_to_pdu_answer {
+    uint64_t refusal;       /* also 34 */
+    uint64_t length;        /* octets written, from the first of out on */
+    uint64_t header_length; /* those of them before the body */
+    uint64_t began;         /* beside 6 the place where the unfinished field began, counted from 0 at the message's third octet */
+};
+
+/*
+ * Carries a message, in the form that orl_take writes, to the office: writes one PDU of the MAL TCP/IP binding. An id is its decimal digits
+ * there. Packet type, APIDs and qualifier have no field in it. The body is carried as it is, so that encoding_id, 0 to 255, has to say
+ * what it is: 0 for four, two and eight octets a number, 1 for Varints, 2 for the split encoding.
+ */
+void orl_to_pdu(uint64_t t, uint64_t profile, const uint8_t *message, size_t message_length, uint64_t encoding_id, uint8_t *out,
+                size_t out_length, struct orl_to_pdu_answer *answer);
+
+/* What a PDU has no field for. */
+struct orl_route {
+    uint64_t packet_type;
+    uint64_t apid;
+    uint64_t secondary_apid;
+    uint64_t qualifier;
+};
+
+struct orl_to_message_answer {
+    uint64_t refusal;     /* also 33, 34 and 35 */
+    uint64_t H;
+    uint64_t B;
+    uint64_t encoding_id; /* what the PDU says of its body */
+    uint64_t off;         /* beside 5 the octets missing, beside 27 those left over, by the variable length */
+    uint64_t began;       /* beside 6 the place in the PDU where the unfinished field began */
+};
+
+/*
+ * Carries one PDU back: writes the message in the form that orl_take writes, with the values of route. A message that orl_to_pdu carried,
+ * without a network zone, comes back octet for octet if its own values are lent.
+ */
+void orl_to_message(uint64_t t, uint64_t profile, const uint8_t *pdu, size_t pdu_length, const struct orl_route *route, uint8_t *out,
+                    size_t out_length, struct orl_to_message_answer *answer);
 
 #ifdef __cplusplus
 }

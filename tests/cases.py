@@ -13,7 +13,9 @@ cutting are added figure 14 written, numbers one above what the type of their fi
 width, and headers with a zone, alone and beside every other fault. To those of the view are added views of no buffer, to those of a
 recording outputs just too short and just long enough. Where and why a recording stops is told by stop(), which knows marks and length
 fields and nothing else. A run of salvaging is a case for each of its calls; to those of salvaging are added small files with lists of any
-length, answered by the model, which must agree with the file too.
+length, answered by the model, which must agree with the file too. A case of reading a PDU tells its texts as octets: where they stand follows
+from their lengths, and the place beside 6 is that of tests/office.py, which must agree with the file on all else. To the cases of a PDU are
+added those of figure 14's, damaged as a packet is, and numbers too wide.
 """
 
 import itertools
@@ -23,10 +25,11 @@ import sys
 
 sys.dont_write_bytecode = True
 import model
+import office
 
 CRATE = pathlib.Path(__file__).resolve().parent.parent / "crates" / "vectors"
 # The change requests that have landed and have cases of their own, in the order in which they landed.
-LANDED = ("T-01", "T-04", "T-12", "T-10", "T-09", "T-08")
+LANDED = ("T-01", "T-04", "T-12", "T-10", "T-09", "T-08", "T-02")
 MOST_IN_PAIR = 255
 FIGURE_14 = bytes.fromhex("18 05 C0 00 00 14 00 00 01 00 02 00 03 01 20 06 00 07 00 00 00 00 00 00 00 09 00")
 
@@ -226,6 +229,68 @@ def salvage_line(row):
     return line([a["refusal"], a["tested"], len(a["entries"]), *state(a["state"]), int(a["done"]), *flat])
 
 
+PDU_NUMBERS = (
+    "sdu area service operation area_version error qos session transaction has_source has_destination has_priority has_timestamp "
+    "has_zone has_session_name has_domain has_authentication encoding_id"
+).split()
+PDU_TEXTS = "source destination timestamp zone session_name authentication".split()
+
+
+def pdu_values(given):
+    """A PDU's header in a case, with its texts as octets."""
+    return {name: octets(value) if isinstance(value, str) else value for name, value in given.items()}
+
+
+def pdu_places(h):
+    """Where the texts of a PDU stand, each with its length, by its header's values: the domain's parts too."""
+    at, places = 23, {name: [0, 0] for name in PDU_TEXTS} | {"domain": []}
+    for name in model.PRESENCE:
+        if not h["has_" + name]:
+            continue
+        if name == "priority":
+            at += len(office.varint(h[name]))
+        elif name == "domain":
+            at += len(office.varint(len(h["domain_lengths"])))
+            for length in h["domain_lengths"]:
+                at += 1 + len(office.varint(length))
+                places[name].append([at, length])
+                at += length
+        else:
+            at += 0 if name == "timestamp" else len(office.varint(len(h[name])))
+            places[name] = [at, len(h[name])]
+            at += len(h[name])
+    return places
+
+
+def pdu_model(pdu):
+    """What tests/office.py says of a PDU, as a case's answer, and beside 6 the place."""
+    nothing = {name: 0 for name in [*PDU_NUMBERS, "priority"]} | {name: b"" for name in [*PDU_TEXTS, "domain"]} | {"domain_lengths": []}
+    try:
+        h, at = office.pdu_read(pdu)
+        return {"refusal": 0, "header": h, "variable_length": len(pdu) - 23, "body": {"place": at, "length": len(pdu) - at}, "off": 0}, 0
+    except model.Refused as refused:
+        a = {"refusal": refused.told["refusal"], "header": nothing, "variable_length": 0, "body": {"place": 0, "length": 0}}
+        return a | {"off": refused.told["off"]}, refused.told["began"]
+
+
+def pdu_read_line(row):
+    """The line of an answer of reading a PDU."""
+    a, h = answer(row), pdu_values(answer(row)["header"])
+    places = pdu_places(h)
+    numbers = [a["refusal"], *[h[name] for name in PDU_NUMBERS], *places["source"], *places["destination"], h["priority"]]
+    numbers += places["timestamp"] + places["zone"] + places["session_name"] + [len(h["domain_lengths"])]
+    numbers += sum(places["domain"] + [[0, 0]] * (model.PARTS - len(places["domain"])), []) + places["authentication"]
+    return line(numbers + [a["variable_length"]] + part(a["body"]) + [a["off"], pdu_model(octets(row["pdu"]))[1]])
+
+
+def pdu_parts(row):
+    """The parts of a PDU to write."""
+    h = pdu_values(row["header"])
+    numbers = numbered([h[name] for name in [*PDU_NUMBERS, "priority"]])
+    texts = [h[name] for name in ("source", "timestamp", "zone", "session_name", "domain")]
+    return [numbers, *texts, numbered(h["domain_lengths"]), h["authentication"], octets(row["body"]), h["destination"]]
+
+
 def nothing(row):
     return b""
 
@@ -331,6 +396,19 @@ CALLS = {
         lambda row: [row["T"], profile(row), *state(row["state"]), row["grant"], lent(row)],
         lambda row: [octets(row["file"])],
         salvage_line,
+    ),
+    "pdu_read": Call(
+        15,
+        lambda row: [],
+        lambda row: [octets(row["pdu"])],
+        pdu_read_line,
+    ),
+    "pdu_write": Call(
+        16,
+        lambda row: [],
+        pdu_parts,
+        lambda row: line([answer(row)[name] for name in ("refusal", "length", "header_length")], out=octets(row["expect"]["out"])),
+        out=given_out,
     ),
     "count": Call(
         5,
@@ -675,6 +753,68 @@ def check_salvage(row):
         sys.exit(f"cases.py: tests/model.py disagrees on salvaging {row}")
 
 
+def check_pdu(row):
+    """The model agrees with the file."""
+    said = answer(row)
+    if pdu_model(octets(row["pdu"]))[0] != said | {"header": pdu_values(said["header"])}:
+        sys.exit(f"cases.py: tests/office.py disagrees on PDU {row['pdu']}")
+
+
+def check_pdu_write(row):
+    """The model agrees with the file."""
+    out = octets(row["out"])
+    told, after = pdu_written(pdu_values(row["header"]), octets(row["body"]), out)
+    if [answer(row)[name] for name in told] != list(told.values()) or after != octets(row["expect"]["out"]):
+        sys.exit(f"cases.py: tests/office.py disagrees on writing the PDU {row['header']}")
+
+
+def pdu_written(h, body, out):
+    """What tests/office.py says of writing a PDU, and the output after it."""
+    try:
+        length, header_length, after = office.pdu_write(h, body, out)
+        return {"refusal": 0, "length": length, "header_length": header_length}, after
+    except model.Refused as refused:
+        return {"refusal": refused.told["refusal"], "length": 0, "header_length": 0}, out
+
+
+PDU_14 = bytes.fromhex("20 00 01 00 02 00 03 01 10 00 00 00 00 00 00 00 09 00 05 00 00 00 00")
+PDU_ENDS = ENDS | {0x80: "033235357a", 0x40: "0037", 0x10: "010203040506"}
+
+
+def damaged_pdus():
+    """Figure 14's PDU with each octet changed to every other value, cut, and lengthened; with one presence flag and what may stand after it,
+    cut off after every octet, the variable length left or set right."""
+    for at, octet in enumerate(PDU_14):
+        for other in range(256):
+            if other != octet:
+                yield PDU_14[:at] + bytes([other]) + PDU_14[at + 1 :]
+    for size in range(len(PDU_14)):
+        yield PDU_14[:size]
+    for presence, end in PDU_ENDS.items():
+        whole = PDU_14[:17] + bytes([presence, 5]) + bytes(4) + bytes.fromhex(end)
+        for size in range(23, len(whole) + 1):
+            yield whole[:size]
+            yield whole[:19] + big(size - 23, 4) + whole[23:size]
+
+
+def pdu_read_rows():
+    for pdu in damaged_pdus():
+        yield {"pdu": pdu.hex(), "expect": {"answer": pdu_model(pdu)[0]}}
+
+
+PDU_HEADER_14 = {name: 0 for name in [*PDU_NUMBERS, "priority"]} | {name: "" for name in [*PDU_TEXTS, "domain"]} | {"domain_lengths": []}
+PDU_HEADER_14 |= {"area": 1, "service": 2, "operation": 3, "area_version": 1, "qos": 1, "transaction": 9, "encoding_id": 5}
+
+
+def pdu_write_rows():
+    """Figure 14's PDU written, and each number of its header at powers of two and the numbers just below them."""
+    for name in [*PDU_NUMBERS, "priority"]:
+        for value in sorted({(1 << bits) - less for bits in (1, 2, 3, 4, 5, 8, 16, 32, 64) for less in (0, 1)} - {1 << 64}):
+            header = PDU_HEADER_14 | {name: value}
+            told, after = pdu_written(pdu_values(header), b"tile", b"\xff" * 28)
+            yield {"header": header, "body": b"tile".hex(), "out": "ff*28", "expect": {"answer": told, "out": after.hex()}}
+
+
 def cases(vectors):
     """Every case: what it is counted under, its call and its row."""
     for name, call in CALLS.items():
@@ -707,6 +847,10 @@ def cases(vectors):
             yield "calls of salvage_run", CALLS["salvage"], row
     for row in list_rows():
         yield "lists for salvaging", CALLS["salvage"], row
+    for row in pdu_read_rows():
+        yield "figure 14's PDU damaged", CALLS["pdu_read"], row
+    for row in pdu_write_rows():
+        yield "figure 14's PDU written", CALLS["pdu_write"], row
 
 
 def main(arguments):
@@ -717,6 +861,10 @@ def main(arguments):
         check_model(row)
     for row in rows(vectors, "salvage"):
         check_salvage(row)
+    for row in rows(vectors, "pdu_read"):
+        check_pdu(row)
+    for row in rows(vectors, "pdu_write"):
+        check_pdu_write(row)
     stdin, stdout, counts = bytearray(), [], {}
     for name, call, row in cases(vectors):
         stdin.extend(call.encoded(row))

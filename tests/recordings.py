@@ -27,6 +27,7 @@ import model
 ROOT = pathlib.Path(__file__).resolve().parent.parent
 PROGRAM = ROOT / "target" / "bin" / "join_recording"
 SALVAGER = ROOT / "target" / "bin" / "salvage_recording"
+CARRIER = ROOT / "target" / "bin" / "carry_messages"
 MUTATED = 10000
 SALVAGED = 1000
 WINDOW = 524288

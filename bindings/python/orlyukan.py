@@ -1,5 +1,5 @@
-"""Orlyukan for Python: reading, writing, cutting, storing and joining MAL messages in CCSDS Space Packets, and salvaging damaged
-recordings of them.
+"""Orlyukan for Python: reading, writing, cutting, storing and joining MAL messages in CCSDS Space Packets, salvaging damaged
+recordings of them, reading and writing the survey office's PDUs, and carrying messages there and back.
 
 The work is done by the proved library, a shared object: the one that the environment variable ORLYUKAN_LIB names, else the one in
 target/native of the repository in which this file stands.
@@ -30,9 +30,13 @@ __all__ = [
     "join",
     "join_recording",
     "next_sequence_count",
+    "pdu_read",
+    "pdu_write",
     "read",
     "salvage",
     "take",
+    "to_message",
+    "to_pdu",
     "view",
     "write",
 ]
@@ -54,6 +58,14 @@ _READ = (
     " qualifier transaction has_source has_destination has_priority has_timestamp has_zone has_session_name has_domain"
     " has_authentication source destination counter priority"
 ).split()
+_TEXTS = ("timestamp", "zone", "session_name", "domain")
+
+# Those of a PDU.
+_PDU_NUMBERS = (
+    "sdu area service operation area_version error qos session transaction has_source has_destination has_priority has_timestamp"
+    " has_zone has_session_name has_domain has_authentication encoding_id priority"
+).split()
+_PDU_TEXTS = ("source", "destination", *_TEXTS)
 
 
 class Answer(types.SimpleNamespace):
@@ -115,6 +127,11 @@ def _settings(t, profile):
     return (_setting(t), _number(profile if _fits(profile) else _MOST))
 
 
+def _value(value):
+    """A number of a field. None outside 64 bits is in range, and neither is the largest, which is given in its place."""
+    return ctypes.c_uint64(value if _fits(value) else _MOST).value
+
+
 def _size(value):
     """A number that has no width of its own: one that is too wide is larger than all that it is compared with."""
     return _number(min(operator.index(value), _MOST))
@@ -140,16 +157,16 @@ def _apart(store, out):
         raise ValueError("the store and the output are one bytearray")
 
 
-def _header(header, others):
-    """The header as C takes it. If a number of it, or one of the others, is outside 64 bits, the packet type is out of range in its
+def _header(header, others, names=_NUMBERS, texts=_TEXTS):
+    """The header as C takes it. If a number of it, or one of the others, is outside 64 bits, the first is out of range in its
     place: the refusal is 22 either way."""
-    numbers = [_get(header, name) for name in _NUMBERS]
+    numbers = [_get(header, name) for name in names]
     lengths = list(_get(header, "domain_lengths"))
     if not all(map(_fits, [*numbers, *lengths, *others])):
-        numbers = [_MOST] + [0] * (len(_NUMBERS) - 1)
+        numbers = [_MOST] + [0] * (len(names) - 1)
         lengths = []
     words = [ctypes.byref((ctypes.c_uint64 * len(numbers))(*numbers))]
-    for name in ("timestamp", "zone", "session_name", "domain"):
+    for name in texts:
         words += _lent(_get(header, name))
     words += [(ctypes.c_uint64 * max(len(lengths), 1))(*lengths), ctypes.c_size_t(len(lengths))]
     return [*words, *_lent(_get(header, "authentication"))]
@@ -336,3 +353,54 @@ def salvage(t, file, begin, place, grant, free, *, profile=0):
         Answer(kind=_ENTRIES[numbers[k]], place=numbers[k + 1], length=numbers[k + 2]) for k in range(0, 3 * n[2], 3)
     ]
     return Answer(refusal=n[0], tested=n[1], entries=entries, begin=n[3], place=n[4], done=n[5] == 1)
+
+
+# The survey office.
+
+
+def pdu_read(pdu):
+    """Reads one PDU of the MAL TCP/IP binding: every value of its header, every place, the variable length and the body. Source id and
+    destination id are texts, told by their places."""
+    n = _run("pdu_read", 70, *_lent(pdu))
+    source, destination = _places(n[19:23])
+    timestamp, zone, session_name = _places(n[24:30])
+    return Answer(
+        refusal=n[0],
+        **dict(zip(_PDU_NUMBERS, n[1:19])),
+        source=source,
+        destination=destination,
+        priority=n[23],
+        timestamp=timestamp,
+        zone=zone,
+        session_name=session_name,
+        domain_count=n[30],
+        domain=_places(n[31 : 31 + 2 * _PARTS]),
+        authentication=_places(n[63:65])[0],
+        variable_length=n[65],
+        body=_places(n[66:68])[0],
+        off=n[68],
+        began=n[69],
+    )
+
+
+def pdu_write(header, body, out):
+    """Writes one PDU over the front of out: the octets it took, and those before the body."""
+    words = _header(header, (), _PDU_NUMBERS, _PDU_TEXTS)
+    n = _run("pdu_write", 3, *words, *_lent(body), *_changed(out))
+    return Answer(refusal=n[0], length=n[1], header_length=n[2])
+
+
+def to_pdu(t, message, encoding_id, out, *, profile=0):
+    """Carries a message, in the form that taking writes, to the office: one PDU in the front of out, its length, and the octets before the
+    body. The body is carried as it is; encoding_id says what it is."""
+    n = _run("to_pdu", 4, *_settings(t, profile), *_lent(message), _number(_value(encoding_id)), *_changed(out))
+    return Answer(refusal=n[0], length=n[1], header_length=n[2], began=n[3])
+
+
+def to_message(t, pdu, lent, out, *, profile=0):
+    """Carries a PDU back, with packet_type, apid, secondary_apid and qualifier of lent: the message in the front of out, H, B and the
+    encoding id."""
+    names = ("packet_type", "apid", "secondary_apid", "qualifier")
+    route = (ctypes.c_uint64 * 4)(*[_value(_get(lent, name)) for name in names])
+    n = _run("to_message", 6, *_settings(t, profile), *_lent(pdu), route, *_changed(out))
+    return Answer(refusal=n[0], H=n[1], B=n[2], encoding_id=n[3], off=n[4], began=n[5])

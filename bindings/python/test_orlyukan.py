@@ -14,13 +14,14 @@ sys.dont_write_bytecode = True
 ROOT = pathlib.Path(__file__).resolve().parent.parent.parent
 sys.path[:0] = [str(pathlib.Path(__file__).resolve().parent), str(ROOT / "tests")]
 import model
+import office
 import orlyukan
 
 VECTORS = pathlib.Path(os.environ.get("ORLYUKAN_VECTORS", ROOT.parent / "shared" / "vectors"))
 FIGURE_14 = bytes.fromhex("18 05 C0 00 00 14 00 00 01 00 02 00 03 01 20 06 00 07 00 00 00 00 00 00 00 09 00")
 HUGE = (-1, 2**64, 2**64 + 5, -(2**70), 2**200)
 # The change requests that have landed and have cases of their own, in the order in which they landed.
-LANDED = ("T-01", "T-04", "T-12", "T-10", "T-09", "T-08")
+LANDED = ("T-01", "T-04", "T-12", "T-10", "T-09", "T-08", "T-02")
 # The cases' names for what the calls name otherwise.
 NAMES = {"seq": "sequence_count", "c": "counter"}
 PRESENCE = "source destination priority timestamp zone session_name domain authentication".split()
@@ -56,6 +57,27 @@ def figure_14():
     values |= {"session": 0, "secondary_apid": 6, "qualifier": 7, "transaction": 9, "source": 0, "destination": 0, "priority": 0}
     values |= {"has_" + name: 0 for name in PRESENCE}
     return values | {"timestamp": b"", "zone": b"", "session_name": b"", "domain": b"", "domain_lengths": [], "authentication": b""}
+
+
+def pdu_values(given):
+    """A PDU's header in a case with its texts as octets."""
+    return {name: octets(value) if isinstance(value, str) else value for name, value in given.items()}
+
+
+def plain_pdu():
+    """The header of figure 14's PDU."""
+    values = {name: 0 for name in orlyukan._PDU_NUMBERS} | {name: b"" for name in (*orlyukan._PDU_TEXTS, "authentication")}
+    values |= {"area": 1, "service": 2, "operation": 3, "area_version": 1, "qos": 1, "transaction": 9, "encoding_id": 5}
+    return values | {"domain_lengths": []}
+
+
+def pdu_header(answer, pdu):
+    """The values that an answer of reading a PDU tells, texts as octets."""
+    text = lambda place: pdu[place.place :][: place.length]
+    values = {name: answer[name] for name in orlyukan._PDU_NUMBERS}
+    values |= {name: text(answer[name]) for name in (*orlyukan._PDU_TEXTS, "authentication") if name != "domain"}
+    parts = answer.domain[: answer.domain_count]
+    return values | {"domain": b"".join(map(text, parts)), "domain_lengths": [part.length for part in parts]}
 
 
 def told(answer):
@@ -176,6 +198,38 @@ class Cases(unittest.TestCase):
 
         self.each("program", run)
 
+    def test_pdu_read(self):
+        def run(case):
+            pdu = octets(case["pdu"])
+            answer = orlyukan.pdu_read(pdu)
+            self.assertEqual(pdu_values(case["expect"]["answer"]["header"]), pdu_header(answer, pdu))
+            return {name: told(answer[name]) for name in ("refusal", "variable_length", "body", "off")}, {}
+
+        self.each("pdu_read", run)
+
+    def test_pdu_write(self):
+        def run(case):
+            out = bytearray(octets(case["out"]))
+            return told(orlyukan.pdu_write(pdu_values(case["header"]), octets(case["body"]), out)), {"out": out}
+
+        self.each("pdu_write", run)
+
+    def test_to_pdu(self):
+        def run(case):
+            out = bytearray(octets(case["out"]))
+            answer = orlyukan.to_pdu(case["T"], octets(case["message"]), case["encoding_id"], out, **profile(case))
+            return told(answer), {"out": out}
+
+        self.each("to_pdu", run)
+
+    def test_to_message(self):
+        def run(case):
+            out = bytearray(octets(case["out"]))
+            answer = told(orlyukan.to_message(case["T"], octets(case["pdu"]), case["lent"], out, **profile(case)))
+            return {name: value for name, value in answer.items() if name != "began"}, {"out": out}
+
+        self.each("to_message", run)
+
     def test_salvage(self):
         def run(case):
             state = begin_place(case["state"])
@@ -213,7 +267,7 @@ class Names(unittest.TestCase):
     def test_calls(self):
         calls = re.findall(r"^void orl_(\w+)\(", self.text, re.MULTILINE)
         self.assertEqual(sorted(orlyukan.__all__), sorted(calls))
-        self.assertEqual(len(calls), 14)
+        self.assertEqual(len(calls), 18)
 
     def test_answers(self):
         store, out, sender, head = bytearray(1024), bytearray(64), {"sequence_count": 7, "counter": 5}, figure_14()
@@ -230,12 +284,17 @@ class Names(unittest.TestCase):
             "in_order_answer": orlyukan.in_order(8, store),
             "join_recording_answer": orlyukan.join_recording(b"", out),
             "salvage_answer": orlyukan.salvage(8, b"", 0, 0, 0, 0),
+            "pdu_read_answer": orlyukan.pdu_read(b""),
+            "pdu_write_answer": orlyukan.pdu_write(plain_pdu(), b"", out),
+            "to_pdu_answer": orlyukan.to_pdu(8, b"", 0, out),
+            "to_message_answer": orlyukan.to_message(8, b"", dict.fromkeys(("packet_type", "apid", "secondary_apid", "qualifier"), 0), out),
         }
         for struct, answer in answers.items():
             self.assertEqual(list(vars(answer)), self.fields(struct), struct)
         self.assertEqual(list(vars(answers["read_answer"].body)), self.fields("place"))
         self.assertEqual(list(vars(answers["after_answer"].sender)), self.fields("sender"))
         self.assertEqual(orlyukan._NUMBERS, self.fields("header"))
+        self.assertEqual(orlyukan._PDU_NUMBERS, self.fields("pdu_header"))
 
     def test_every_field(self):
         """One packet with every field but a zone, each of another value, written and read back, each compared by its name."""
@@ -255,6 +314,141 @@ class Names(unittest.TestCase):
         for name, text in (texts | {"body": b"tile"}).items():
             self.assertEqual(out[answer[name].place :][: answer[name].length], text, name)
         self.assertEqual([out[part.place :][: part.length] for part in answer.domain], parts)
+
+
+class Office(unittest.TestCase):
+    """Carrying to the office and back."""
+
+    message = bytes.fromhex("18 05 00 00 01 00 02 00 03 01 20 06 00 07 00 00 00 00 00 00 00 09 00")
+    pdu = bytes.fromhex("20 00 01 00 02 00 03 01 10 00 00 00 00 00 00 00 09 00 05 00 00 00 00")
+    lent = {"packet_type": 1, "apid": 5, "secondary_apid": 6, "qualifier": 7}
+
+    def test_figure_14(self):
+        """Figure 14 there and back, with a body above what cutting takes."""
+        for body in (b"", b"tile", bytes(3 * 2**20)):
+            out, back = bytearray(23 + len(body)), bytearray(23 + len(body))
+            answer = orlyukan.to_pdu(8, self.message + body, 5, out)
+            self.assertEqual((answer.refusal, answer.length, answer.header_length), (0, 23 + len(body), 23))
+            self.assertEqual(out, self.pdu[:19] + len(body).to_bytes(4, "big") + body)
+            answer = orlyukan.to_message(8, out, self.lent, back)
+            self.assertEqual((answer.refusal, answer.H, answer.B, answer.encoding_id), (0, 21, len(body), 5))
+            self.assertEqual(back, self.message + body)
+
+    def test_short_and_long(self):
+        """PDUs of 0 to 23 octets, and variable lengths up to the largest on a slice that is short."""
+        for length in range(23):
+            self.assertEqual(orlyukan.to_message(8, self.pdu[:length], self.lent, bytearray(64)).refusal, 1)
+        for length in (1, 2**31, 2**32 - 1):
+            answer = orlyukan.to_message(8, self.pdu[:19] + length.to_bytes(4, "big"), self.lent, bytearray(64))
+            self.assertEqual((answer.refusal, answer.off), (5, length))
+
+    def test_ids(self):
+        for text, refusal in ((b"0", 0), (b"255", 0), (b"", 33), (b"007", 33), (b"+1", 33), (b"256", 33), (b"1" * 100, 33), (b"maltcp://a", 33)):
+            pdu = self.pdu[:17] + b"\x80\x05" + (len(text) + 1).to_bytes(4, "big") + bytes([len(text)]) + text
+            self.assertEqual(orlyukan.to_message(8, pdu, self.lent, bytearray(64)).refusal, refusal, text)
+
+    def damaged(self, chance, octets):
+        """A few octets changed, put in or left out, or the end cut off."""
+        made = bytearray(octets)
+        for _ in range(chance.randint(0, 3)):
+            at = chance.randint(0, len(made))
+            put = [chance.choice((0, 1, 2, 48, 50, 128, 255))] if chance.random() < 0.7 else []
+            made[at : at + chance.randint(0, 1)] = put
+        return bytes(made[: chance.choice((len(made), len(made), chance.randint(0, len(made))))])
+
+    def test_against_model(self):
+        """Damaged messages and PDUs, the library beside the model; and what crossed comes back."""
+        chance, crossed = random.Random(23), 0
+        fields = bytes.fromhex("0c fd 0a 01 02 03 04 05 06 02 61 62 02 01 01 63 01 02 64 65 03 01 02 03") + b"tile"
+        full = self.message[:-1] + b"\xf7" + fields
+        for _ in range(4000):
+            message, out = self.damaged(chance, chance.choice((self.message + b"tile", full))), bytearray(chance.choice((0, 40, 90)))
+            t, profile, encoding_id = chance.choice((6, 6, 6, 8, 0)), chance.choice((0, 0, 0, 1)), chance.choice((0, 2, 255, 256))
+            before = bytes(out)
+            answer = orlyukan.to_pdu(t, message, encoding_id, out, profile=profile)
+            try:
+                length, header_length, after = office.to_pdu(t, message, encoding_id, before, profile)
+                said = {"refusal": 0, "length": length, "header_length": header_length, "began": 0}
+            except model.Refused as refused:
+                said, after = {"refusal": refused.told["refusal"], "length": 0, "header_length": 0, "began": refused.told["began"]}, before
+            self.assertEqual((told(answer), bytes(out)), (said, after), message.hex())
+            pdu = self.damaged(chance, out[: answer.length]) if chance.random() < 0.5 else bytes(out[: answer.length])
+            lent = self.lent
+            if answer.refusal == 0 and pdu == out[: answer.length]:
+                first, second = message[0] * 256 + message[1], message[10] * 256 + message[11]
+                lent = {"packet_type": first >> 12 & 1, "apid": first & 2047, "secondary_apid": second & 2047}
+                lent |= {"qualifier": message[12] * 256 + message[13]}
+            back = bytearray(len(message) + 9)
+            answer = orlyukan.to_message(t, pdu, lent, back, profile=profile)
+            try:
+                h, b, encoding, after = office.to_message(t, pdu, lent, bytes(len(back)), profile)
+                said = {"refusal": 0, "H": h, "B": b, "encoding_id": encoding, "off": 0}
+            except model.Refused as refused:
+                said = {"refusal": refused.told["refusal"], "H": 0, "B": 0, "encoding_id": 0, "off": refused.told["off"]}
+                after = bytes(len(back))
+            self.assertEqual(({name: answer[name] for name in said}, bytes(back)), (said, after), pdu.hex())
+            if lent is not self.lent and answer.refusal == 0:
+                self.assertEqual(back[: len(message)], message)
+                crossed += 1
+        self.assertGreater(crossed, 100)
+
+    def test_pdu_figure_14(self):
+        """Figure 14's PDU read and written, with a body; every place beside the end of the fixed part."""
+        for body in (b"", b"tile"):
+            pdu, out = self.pdu[:19] + len(body).to_bytes(4, "big") + body, bytearray(b"\xff" * 30)
+            answer = orlyukan.pdu_read(pdu)
+            self.assertEqual(pdu_header(answer, pdu), plain_pdu())
+            self.assertEqual((answer.refusal, answer.variable_length, told(answer.body)), (0, len(body), {"place": 23, "length": len(body)}))
+            written = {"refusal": 0, "length": len(pdu), "header_length": 23}
+            self.assertEqual(told(orlyukan.pdu_write(plain_pdu(), body, out)), written)
+            self.assertEqual(out, pdu + b"\xff" * (30 - len(pdu)))
+
+    def test_pdus_against_model(self):
+        """Damaged PDUs read, the library beside the model; what was read is written, octet for octet."""
+        chance, kept = random.Random(29), 0
+        fields = bytes.fromhex("03 32 35 35 01 37 fd 0a 01 02 03 04 05 06 02 61 62 01 7a 02 01 01 63 01 02 64 65 03 01 02 03") + b"tile"
+        full = self.pdu[:8] + b"\xf9" + self.pdu[9:17] + b"\xff\x05" + len(fields).to_bytes(4, "big") + fields
+        for _ in range(4000):
+            pdu = self.damaged(chance, chance.choice((full, full, self.pdu)))
+            if chance.random() < 0.7 and len(pdu) > 23:
+                pdu = pdu[:19] + (len(pdu) - 23).to_bytes(4, "big") + pdu[23:]
+            answer, out = orlyukan.pdu_read(pdu), bytearray(len(pdu) + 1)
+            try:
+                said, at = office.pdu_read(pdu)
+            except model.Refused as refused:
+                told_by = {name: refused.told[name] for name in ("refusal", "off", "began")}
+                self.assertEqual({name: answer[name] for name in told_by}, told_by, pdu.hex())
+                self.assertFalse(any(pdu_header(answer, pdu).values()) or any(vars(answer.body).values()) or answer.variable_length)
+                continue
+            self.assertEqual((pdu_header(answer, pdu), told(answer.body)), (said, {"place": at, "length": len(pdu) - at}), pdu.hex())
+            self.assertEqual((answer.refusal, answer.variable_length, answer.off, answer.began), (0, len(pdu) - 23, 0, 0))
+            written = {"refusal": 0, "length": len(pdu), "header_length": at}
+            self.assertEqual(told(orlyukan.pdu_write(said, pdu[at:], out)), written)
+            self.assertEqual(out, pdu + b"\0")
+            kept += 1
+        self.assertGreater(kept, 500)
+
+    def test_pdu_values(self):
+        """Each number of a PDU's header one above the type of its field, and of any size: 22, and nothing is written."""
+        for name in orlyukan._PDU_NUMBERS:
+            for value in (*HUGE, 2**64 - 1, 2**32, 2**16, 2**8, 2):
+                out = bytearray(64)
+                values = plain_pdu() | {name: value}
+                try:
+                    if not all(0 <= number < 2**64 for number in values.values() if isinstance(number, int)):
+                        raise model.Refused(22)
+                    length, header_length, after = office.pdu_write(values, b"tile", bytes(64))
+                    said = {"refusal": 0, "length": length, "header_length": header_length}
+                except model.Refused as refused:
+                    said, after = {"refusal": refused.told["refusal"], "length": 0, "header_length": 0}, bytes(64)
+                self.assertEqual((told(orlyukan.pdu_write(values, b"tile", out)), bytes(out)), (said, after), (name, value))
+
+    def test_huge(self):
+        for huge in HUGE:
+            self.assertEqual(orlyukan.pdu_write(plain_pdu() | {"domain_lengths": [huge]}, b"", bytearray(64)).refusal, 22)
+            self.assertEqual(orlyukan.to_pdu(8, self.message, huge, bytearray(64)).refusal, 22)
+            for name in self.lent:
+                self.assertEqual(orlyukan.to_message(8, self.pdu, self.lent | {name: huge}, bytearray(64)).refusal, 22)
 
 
 class Numbers(unittest.TestCase):

@@ -483,6 +483,109 @@ static void salvaging(void) {
     expect("T first", a.refusal, 15);
 }
 
+/* Figure 14 as a message to the office and back; an id that is no digits, and lent values out of range. */
+static void office(void) {
+    static const uint8_t pdu[23] = {0x20, 0, 1, 0, 2, 0, 3, 1, 0x10, 0, 0, 0, 0, 0, 0, 0, 9, 0, 5, 0, 0, 0, 0};
+    static const uint8_t zeros[27] = {0x20, 0, 1, 0, 2, 0, 3, 1, 0x10, 0, 0, 0, 0, 0, 0, 0, 9, 0x80, 5, 0, 0, 0, 4, 3, '0', '0', '7'};
+    const struct orl_route route = {1, 5, 6, 7};
+    const struct orl_route idle = {1, 2047, 6, 7};
+    uint8_t message[23], out[24], back[24];
+    struct orl_to_pdu_answer a;
+    struct orl_to_message_answer b;
+    memcpy(message, figure_14, 2);
+    memcpy(message + 2, figure_14 + 6, 21);
+    memset(out, 77, sizeof out);
+    memset(back, 77, sizeof back);
+    orl_to_pdu(8, ORL_VARINT, message, 23, 5, out, 24, &a);
+    expect("carried to the office", a.refusal, 0);
+    expect("the PDU's octets", a.length, 23);
+    expect("those before the body", a.header_length, 23);
+    expect("the PDU", memcmp(out, pdu, 23) != 0, 0);
+    expect("the rest of the output", out[23], 77);
+    orl_to_message(8, ORL_VARINT, out, 23, &route, back, 24, &b);
+    expect("carried back", b.refusal, 0);
+    expect("its H", b.H, 21);
+    expect("its B", b.B, 0);
+    expect("its encoding id", b.encoding_id, 5);
+    expect("the message", memcmp(back, message, 23) != 0, 0);
+    expect("the rest of that output", back[23], 77);
+    orl_to_pdu(8, ORL_VARINT, message, 5, 5, out, 24, &a);
+    expect("a message that ends", a.refusal, 6);
+    expect("in the field that began", a.began, 3);
+    orl_to_pdu(8, ORL_VARINT, message, 1, 256, out, 24, &a);
+    expect("an encoding id too wide, before all that is read", a.refusal, 22);
+    orl_to_message(8, ORL_VARINT, zeros, 27, &route, back, 24, &b);
+    expect("leading zeros", b.refusal, 33);
+    orl_to_message(8, ORL_VARINT, zeros, 26, &route, back, 24, &b);
+    expect("a PDU that is too short", b.refusal, 5);
+    expect("by so many octets", b.off, 1);
+    orl_to_message(8, ORL_VARINT, zeros, 0, &idle, back, 24, &b);
+    expect("the idle APID lent, before all that is read", b.refusal, 22);
+}
+
+/* Every field of a PDU, each of another value, read and written; then a PDU that ends, one that is too long, and a number too wide. */
+static void pdus(void) {
+    static const uint8_t pdu[] = {0x31, 0x11, 0x12, 0x21, 0x22, 0x31, 0x32, 0x41, 0xDB, 0x61, 0x62, 0x63, 0x64, 0x65, 0x66, 0x67, 0x68, 0xFF, 0x53,
+                                  0,    0,    0,    37,   1,    '7',  2,    '8',  '9',  0xAC, 2,    1,    2,    3,    4,    5,    6,    2,    'z',
+                                  'o',  3,    's',  'e',  's',  2,    1,    1,    'd',  1,    2,    'e',  'f',  4,    9,    8,    7,    6,    'b',
+                                  'o',  'd',  'y'};
+    static const uint64_t lengths[2] = {1, 2};
+    struct orl_pdu_header h = {17, 0x1112, 0x2122, 0x3132, 0x41, 1, 5, 11, 0x6162636465666768u, 1, 1, 1, 1, 1, 1, 1, 1, 0x53, 300};
+    uint8_t out[sizeof pdu + 1];
+    struct orl_pdu_read_answer r;
+    struct orl_pdu_write_answer w;
+    memset(out, 77, sizeof out);
+    orl_pdu_write(&h, pdu + 24, 1, pdu + 26, 2, pdu + 30, 6, pdu + 37, 2, pdu + 40, 3, (const uint8_t *)"def", 3, lengths, 2, pdu + 52, 4,
+                  pdu + 56, 4, out, sizeof out, &w);
+    expect("a PDU is written", w.refusal, 0);
+    expect("its octets", w.length, sizeof pdu);
+    expect("those before the body", w.header_length, 56);
+    expect_octets("the PDU", out, pdu, sizeof pdu);
+    expect("the rest of the output", out[sizeof pdu], 77);
+    orl_pdu_read(pdu, sizeof pdu, &r);
+    expect("a PDU is read", r.refusal, 0);
+    expect("SDU type", r.sdu, 17);
+    expect("area", r.area, 0x1112);
+    expect("service", r.service, 0x2122);
+    expect("operation", r.operation, 0x3132);
+    expect("area version", r.area_version, 0x41);
+    expect("error", r.error, 1);
+    expect("QoS level", r.qos, 5);
+    expect("session", r.session, 11);
+    expect("transaction id", r.transaction, 0x6162636465666768u);
+    expect("present", r.has_source & r.has_destination & r.has_priority & r.has_timestamp, 1);
+    expect("present too", r.has_zone & r.has_session_name & r.has_domain & r.has_authentication, 1);
+    expect("encoding id", r.encoding_id, 0x53);
+    expect("source", r.source.place * 100 + r.source.length, 2401);
+    expect("destination", r.destination.place * 100 + r.destination.length, 2602);
+    expect("priority", r.priority, 300);
+    expect("timestamp", r.timestamp.place * 100 + r.timestamp.length, 3006);
+    expect("zone", r.zone.place * 100 + r.zone.length, 3702);
+    expect("session name", r.session_name.place * 100 + r.session_name.length, 4003);
+    expect("domain count", r.domain_count, 2);
+    expect("first part", r.domain[0].place * 100 + r.domain[0].length, 4601);
+    expect("second part", r.domain[1].place * 100 + r.domain[1].length, 4902);
+    expect("no third part", r.domain[2].place + r.domain[2].length, 0);
+    expect("authentication", r.authentication.place * 100 + r.authentication.length, 5204);
+    expect("variable length", r.variable_length, 37);
+    expect("body", r.body.place * 100 + r.body.length, 5604);
+    orl_pdu_read(pdu, sizeof pdu - 1, &r);
+    expect("a PDU that ends", r.refusal, 5);
+    expect("by so many octets", r.off, 1);
+    orl_pdu_read(out, sizeof out, &r);
+    expect("a PDU that is too long", r.refusal, 27);
+    expect("by so many", r.off, 1);
+    memset(out, 77, sizeof out);
+    h.area = 65536;
+    orl_pdu_write(&h, pdu, 0, pdu, 0, pdu, 0, pdu, 0, pdu, 0, pdu, 0, lengths, 0, pdu, 0, pdu, 0, out, sizeof out, &w);
+    expect("an area too wide", w.refusal, 22);
+    expect("nothing is told", w.length + w.header_length, 0);
+    h.area = (uint64_t)1 << 32;
+    orl_pdu_write(&h, pdu, 0, pdu, 0, pdu, 0, pdu, 0, pdu, 0, pdu, 0, lengths, 0, pdu, 0, pdu, 0, out, sizeof out, &w);
+    expect("an area that would be 0 if it were cut", w.refusal, 22);
+    expect("nothing is written", out[0], 77);
+}
+
 int main(void) {
     reading();
     refusals();
@@ -498,5 +601,7 @@ int main(void) {
     recording();
     fixed();
     salvaging();
+    office();
+    pdus();
     return told("calls");
 }

@@ -178,6 +178,92 @@ FIELD(orl_salvage_answer, place, 4, 1);
 FIELD(orl_salvage_answer, done, 5, 1);
 WHOLE(orl_salvage_answer, 6);
 
+/* readNumbers of a PDU */
+FIELD(orl_pdu_read_answer, refusal, 0, 1);
+FIELD(orl_pdu_read_answer, sdu, 1, 1);
+FIELD(orl_pdu_read_answer, area, 2, 1);
+FIELD(orl_pdu_read_answer, service, 3, 1);
+FIELD(orl_pdu_read_answer, operation, 4, 1);
+FIELD(orl_pdu_read_answer, area_version, 5, 1);
+FIELD(orl_pdu_read_answer, error, 6, 1);
+FIELD(orl_pdu_read_answer, qos, 7, 1);
+FIELD(orl_pdu_read_answer, session, 8, 1);
+FIELD(orl_pdu_read_answer, transaction, 9, 1);
+FIELD(orl_pdu_read_answer, has_source, 10, 1);
+FIELD(orl_pdu_read_answer, has_destination, 11, 1);
+FIELD(orl_pdu_read_answer, has_priority, 12, 1);
+FIELD(orl_pdu_read_answer, has_timestamp, 13, 1);
+FIELD(orl_pdu_read_answer, has_zone, 14, 1);
+FIELD(orl_pdu_read_answer, has_session_name, 15, 1);
+FIELD(orl_pdu_read_answer, has_domain, 16, 1);
+FIELD(orl_pdu_read_answer, has_authentication, 17, 1);
+FIELD(orl_pdu_read_answer, encoding_id, 18, 1);
+FIELD(orl_pdu_read_answer, source, 19, 2);
+FIELD(orl_pdu_read_answer, destination, 21, 2);
+FIELD(orl_pdu_read_answer, priority, 23, 1);
+FIELD(orl_pdu_read_answer, timestamp, 24, 2);
+FIELD(orl_pdu_read_answer, zone, 26, 2);
+FIELD(orl_pdu_read_answer, session_name, 28, 2);
+FIELD(orl_pdu_read_answer, domain_count, 30, 1);
+FIELD(orl_pdu_read_answer, domain, 31, 32);
+FIELD(orl_pdu_read_answer, authentication, 63, 2);
+FIELD(orl_pdu_read_answer, variable_length, 65, 1);
+FIELD(orl_pdu_read_answer, body, 66, 2);
+FIELD(orl_pdu_read_answer, off, 68, 1);
+FIELD(orl_pdu_read_answer, began, 69, 1);
+WHOLE(orl_pdu_read_answer, 70);
+
+/* valuesOf of a PDU */
+FIELD(orl_pdu_header, sdu, 0, 1);
+FIELD(orl_pdu_header, area, 1, 1);
+FIELD(orl_pdu_header, service, 2, 1);
+FIELD(orl_pdu_header, operation, 3, 1);
+FIELD(orl_pdu_header, area_version, 4, 1);
+FIELD(orl_pdu_header, error, 5, 1);
+FIELD(orl_pdu_header, qos, 6, 1);
+FIELD(orl_pdu_header, session, 7, 1);
+FIELD(orl_pdu_header, transaction, 8, 1);
+FIELD(orl_pdu_header, has_source, 9, 1);
+FIELD(orl_pdu_header, has_destination, 10, 1);
+FIELD(orl_pdu_header, has_priority, 11, 1);
+FIELD(orl_pdu_header, has_timestamp, 12, 1);
+FIELD(orl_pdu_header, has_zone, 13, 1);
+FIELD(orl_pdu_header, has_session_name, 14, 1);
+FIELD(orl_pdu_header, has_domain, 15, 1);
+FIELD(orl_pdu_header, has_authentication, 16, 1);
+FIELD(orl_pdu_header, encoding_id, 17, 1);
+FIELD(orl_pdu_header, priority, 18, 1);
+WHOLE(orl_pdu_header, 19);
+
+/* writeNumbers of a PDU */
+FIELD(orl_pdu_write_answer, refusal, 0, 1);
+FIELD(orl_pdu_write_answer, length, 1, 1);
+FIELD(orl_pdu_write_answer, header_length, 2, 1);
+WHOLE(orl_pdu_write_answer, 3);
+
+/* writtenNumbers of the office */
+FIELD(orl_to_pdu_answer, refusal, 0, 1);
+FIELD(orl_to_pdu_answer, length, 1, 1);
+FIELD(orl_to_pdu_answer, header_length, 2, 1);
+FIELD(orl_to_pdu_answer, began, 3, 1);
+WHOLE(orl_to_pdu_answer, 4);
+
+/* routeOf of the office */
+FIELD(orl_route, packet_type, 0, 1);
+FIELD(orl_route, apid, 1, 1);
+FIELD(orl_route, secondary_apid, 2, 1);
+FIELD(orl_route, qualifier, 3, 1);
+WHOLE(orl_route, 4);
+
+/* carriedNumbers */
+FIELD(orl_to_message_answer, refusal, 0, 1);
+FIELD(orl_to_message_answer, H, 1, 1);
+FIELD(orl_to_message_answer, B, 2, 1);
+FIELD(orl_to_message_answer, encoding_id, 3, 1);
+FIELD(orl_to_message_answer, off, 4, 1);
+FIELD(orl_to_message_answer, began, 5, 1);
+WHOLE(orl_to_message_answer, 6);
+
 #undef FIELD
 #undef WHOLE
 

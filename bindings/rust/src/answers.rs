@@ -3,7 +3,8 @@
 use crate::header::{Apid, SecondaryApid, SegmentCounter, Sender, SequenceCount};
 
 /// A refusal: its number of SPEC's table, and what it tells. `off` is beside 5 how many octets are missing, beside 27 how many are left
-/// over; `began` is beside 6 the place in the secondary header where the unfinished field began. What is not told is 0.
+/// over; `began` is beside 6 the place in the secondary header, or in a PDU that was read, where the unfinished field began.
+/// What is not told is 0.
 #[derive(Clone, Copy, Debug, Default, PartialEq, Eq)]
 pub struct Refusal {
     pub number: u64,
@@ -17,7 +18,7 @@ impl std::fmt::Display for Refusal {
         match self.number {
             5 => write!(f, ": octets missing: {}", self.off),
             27 => write!(f, ": octets left over: {}", self.off),
-            6 => write!(f, ": the packet ends in the field at octet {} of its secondary header", self.began),
+            6 => write!(f, ": the field that began at octet {} is not whole", self.began),
             _ => Ok(()),
         }
     }

@@ -1,5 +1,5 @@
-//! Orlyukan for Rust: reading, writing, cutting, storing and joining MAL messages in CCSDS Space Packets, and salvaging damaged
-//! recordings of them.
+//! Orlyukan for Rust: reading, writing, cutting, storing and joining MAL messages in CCSDS Space Packets, salvaging damaged recordings
+//! of them, reading and writing the survey office's PDUs, and carrying messages there and back.
 //!
 //! The work is done by the proved library, whose promises stand beside its source. These wrappers see to what a caller of C must
 //! see to alone: pointers that are valid, lengths that are true, buffers that do not overlap. Each call answers a plain struct whose
@@ -13,6 +13,8 @@
 mod answers;
 mod codec;
 mod header;
+mod office;
+mod pdu;
 pub mod raw;
 mod recording;
 mod salvage;
@@ -21,6 +23,8 @@ mod store;
 pub use answers::{Answer, Arrived, Cut, CutPacket, Joined, Kind, Order, Place, Reading, Refusal, Taken, Which, Written};
 pub use codec::{after_packet, after_segment, cut_count, cut_packet, next_sequence_count, read, write};
 pub use header::{Apid, Header, SecondaryApid, SegmentCounter, Sender, SequenceCount, Settings, FIXED, VARINT};
+pub use office::{to_message, to_pdu, Returned, Route, Sent};
+pub use pdu::{pdu_read, pdu_write, PduHeader, PduReading, PduWritten};
 pub use recording::{join_recording, Recording, Stop};
 pub use salvage::{salvage, Entry, Salvaged};
 pub use store::{arrive, in_order, join, take, view};

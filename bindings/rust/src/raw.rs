@@ -1,6 +1,7 @@
 //! The calls of C as they stand in `include/orlyukan.h`. The wrappers beside this module are the ones to use.
 
 use crate::answers::{Place, Reading};
+use crate::pdu::{PduReading, PduWritten};
 
 /// How lengths, counts and priorities are written.
 pub const ORL_VARINT: u64 = 0;
@@ -150,6 +151,63 @@ pub struct RawSalvaged {
     pub done: u64,
 }
 
+/// The answer of [`orl_to_pdu`]: octets written, those before the body, and the place beside 6.
+#[repr(C)]
+#[derive(Clone, Copy, Debug, Default, PartialEq, Eq)]
+pub struct RawToPdu {
+    pub refusal: u64,
+    pub length: u64,
+    pub header_length: u64,
+    pub began: u64,
+}
+
+/// What a PDU has no field for.
+#[repr(C)]
+#[derive(Clone, Copy, Debug, Default, PartialEq, Eq)]
+pub struct RawRoute {
+    pub packet_type: u64,
+    pub apid: u64,
+    pub secondary_apid: u64,
+    pub qualifier: u64,
+}
+
+/// The answer of [`orl_to_message`]: H, B, the encoding id, and what a refusal of reading tells.
+#[repr(C)]
+#[derive(Clone, Copy, Debug, Default, PartialEq, Eq)]
+pub struct RawToMessage {
+    pub refusal: u64,
+    pub h: u64,
+    pub b: u64,
+    pub encoding_id: u64,
+    pub off: u64,
+    pub began: u64,
+}
+
+/// The numbers of a PDU's header to write.
+#[repr(C)]
+#[derive(Clone, Copy, Debug, Default, PartialEq, Eq)]
+pub struct RawPduHeader {
+    pub sdu: u64,
+    pub area: u64,
+    pub service: u64,
+    pub operation: u64,
+    pub area_version: u64,
+    pub error: u64,
+    pub qos: u64,
+    pub session: u64,
+    pub transaction: u64,
+    pub has_source: u64,
+    pub has_destination: u64,
+    pub has_priority: u64,
+    pub has_timestamp: u64,
+    pub has_zone: u64,
+    pub has_session_name: u64,
+    pub has_domain: u64,
+    pub has_authentication: u64,
+    pub encoding_id: u64,
+    pub priority: u64,
+}
+
 /// A lent slice, for the calls that take many.
 type P = *const u8;
 type M = *mut u8;
@@ -185,4 +243,13 @@ extern "C" {
         answer: *mut RawRecording);
     pub fn orl_salvage(t: u64, profile: u64, file: P, file_length: usize, begin: u64, place: u64, grant: u64, list: *mut u64,
         list_length: usize, answer: *mut RawSalvaged);
+    pub fn orl_pdu_read(pdu: P, pdu_length: usize, answer: *mut PduReading);
+    pub fn orl_pdu_write(header: *const RawPduHeader, source: P, source_length: usize, destination: P, destination_length: usize,
+        timestamp: P, timestamp_length: usize, zone: P, zone_length: usize, session_name: P, session_name_length: usize,
+        domain: P, domain_length: usize, domain_lengths: *const u64, domain_count: usize, authentication: P,
+        authentication_length: usize, body: P, body_length: usize, out: M, out_length: usize, answer: *mut PduWritten);
+    pub fn orl_to_pdu(t: u64, profile: u64, message: P, message_length: usize, encoding_id: u64, out: M, out_length: usize,
+        answer: *mut RawToPdu);
+    pub fn orl_to_message(t: u64, profile: u64, pdu: P, pdu_length: usize, route: *const RawRoute, out: M, out_length: usize,
+        answer: *mut RawToMessage);
 }

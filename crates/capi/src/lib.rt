@@ -1,8 +1,10 @@
 // The calls for programs in other languages. `include/orlyukan.h` declares them for C and says what each number means.
 //
-// Each export hands its numbers and slices to a call of crate `flat`, or in `stored` of `flat_store`, and puts what it answers into
-// the lent array, the refusal first.
+// Each export hands its numbers and slices to a call of crate `flat`, in `stored` of `flat_store`, in `office` of `flat_office` and in `pdus` of
+// `flat_pdu`, and puts what it answers into the lent array, the refusal first.
 // A slice is a pointer and a length, an array is one pointer; no struct goes by value and no reference comes back.
+mod office;
+mod pdus;
 mod stored;
 
 ghost use mathlib.Core.Path.{_≡_};

@@ -80,7 +80,7 @@ module _ (s : Settings) (has : Present) (p : List ℕ) (v : Reading) {lim : ℕ}
         walk = λ j. ap (λ (x : Step Texts). x .walk) texts-is ∙ ie .walk j;
         same =
             λ j.
-            texts-laid _ l m1 m2 m3 m4 m (ia .same za) (ib .same zb) (ic .same zc) (id .same zd) (ie .same j)
+            texts-laid _ l 28 m1 m2 m3 m4 m (ia .same za) (ib .same zb) (ic .same zc) (id .same zd) (ie .same j)
             ∙ ap (λ (x : Step Texts). sets l 28 (textNumbers (x .value))) (sym texts-is);
       }
 

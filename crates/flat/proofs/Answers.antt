@@ -1,7 +1,7 @@
 -- The pieces of reading's answer, laid one after the other, are its numbers from the first to the last.
 -- Assumes nothing.
 use Prim.Native.Nat.{ℕ, _+_}
-use mathlib.Core.Path.{_≡_, ap, sym, _∙_}
+use mathlib.Core.Path.{_≡_, refl, ap, sym, _∙_}
 use mathlib.Core.List.{List, [], _∷_, _++_, append-assoc, append-nil}
 use native.Mathlib.Omega.{arith}
 use lib.ListN.{length, length-append, set}
@@ -14,21 +14,35 @@ use Rattle.flat.specs.Told.{primaryNumbers, nameNumbers, routingNumbers,
 use Rattle.flat.proofs.Placing.{places-length}
 
 -- a list laid over another of its length is what is left
-sets-all : (l x : List ℕ) → length x ≡ length l → sets l 0 x ≡ x
+pub sets-all : (l x : List ℕ) → length x ≡ length l → sets l 0 x ≡ x
 sets-all l x e =
     let k : 0 + length x ≡ length l = omega (arith, e) in
     sets-eq x l 0 (omega (arith, e)) ∙ rw (k, drop-length l, append-nil x)
 
-module _ (t : Texts) (l m1 m2 m3 m4 m5 : List ℕ) where
+-- one list laid behind another
+pub then-laid :
+    (l : List ℕ) (at k : ℕ) (x y m n : List ℕ) → m ≡ sets l at x → k ≡ at + length x → n ≡ sets m k y → n ≡ sets l at (x ++ y)
+then-laid l at k x y m n e f g = g ∙ rw (e, f) (sets-append l at x y)
+
+module _ (t : Texts) (l : List ℕ) (at : ℕ) (m1 m2 m3 m4 m5 : List ℕ) where
   pub texts-laid :
-      m1 ≡ sets l 28 (placeNumbers (t .timestamp)) → m2 ≡ sets m1 30 (placeNumbers (t .zone)) →
-      m3 ≡ sets m2 32 (placeNumbers (t .«session_name»)) → m4 ≡ sets (set m3 34 (t .count)) 35 (placesTo 16 (t .parts)) →
-      m5 ≡ sets m4 67 (placeNumbers (t .authentication)) → m5 ≡ sets l 28 (textNumbers t)
+      m1 ≡ sets l at (placeNumbers (t .timestamp)) → m2 ≡ sets m1 (at + 2) (placeNumbers (t .zone)) →
+      m3 ≡ sets m2 (at + 4) (placeNumbers (t .«session_name»)) → m4 ≡ sets (set m3 (at + 6) (t .count)) (at + 7) (placesTo 16 (t .parts)) →
+      m5 ≡ sets m4 (at + 39) (placeNumbers (t .authentication)) → m5 ≡ sets l at (textNumbers t)
   texts-laid e1 e2 e3 e4 e5 =
-      let x = placesTo 16 (t .parts) in
-      let y = placeNumbers (t .authentication) in
-      let k : sets m4 67 y ≡ sets m4 (35 + length x) y = rw (places-length 16 (t .parts)) in
-      e5 ∙ k ∙ rw (e4, e3, e2, e1) (sets-append _ 35 x y)
+      let a = placeNumbers (t .timestamp) in
+      let b = placeNumbers (t .zone) in
+      let c = placeNumbers (t .«session_name») in
+      let d = placesTo 16 (t .parts) in
+      let n : List ℕ = t .count ∷ [] in
+      let s2 = then-laid l at (at + 2) a b m1 m2 e1 refl e2 in
+      let s3 = then-laid l at (at + 4) (a ++ b) c m2 m3 s2 refl e3 in
+      let s4 = then-laid l at (at + 6) (a ++ b ++ c) n m3 (set m3 (at + 6) (t .count)) s3 refl refl in
+      let s5 = then-laid l at (at + 7) (a ++ b ++ c ++ n) d (set m3 (at + 6) (t .count)) m4 s4 refl e4 in
+      let h = length-append (a ++ b ++ c ++ n) d in
+      let j = places-length 16 (t .parts) in
+      let k : at + 39 ≡ at + length (a ++ b ++ c ++ n ++ d) = omega (arith, h, j) in
+      then-laid l at (at + 39) (a ++ b ++ c ++ n ++ d) (placeNumbers (t .authentication)) m4 m5 s5 k e5
 
 -- the numbers before the texts
 abbrev front : Header → List ℕ
@@ -37,7 +51,7 @@ front h =
     ++ (primaryNumbers (h .primary)
     ++ (nameNumbers (h .fixed) ++ (routingNumbers (h .fixed) ++ (presentNumbers (h .has) ++ idsNumbers (h .ids)))))
 
-texts-length : (t : Texts) → length (textNumbers t) ≡ 41
+pub texts-length : (t : Texts) → length (textNumbers t) ≡ 41
 texts-length t =
     let a = length-append (placesTo 16 (t .parts)) (placeNumbers (t .authentication)) in
     let b = places-length 16 (t .parts) in

@@ -1,7 +1,7 @@
 -- The values that plain numbers stand for, and which numbers fit. A number above what its field's type holds does not fit, and is
 -- refused by 22 before anything is made narrower. T, P, i and a body's length are any numbers of 64 bits, and so is a text's length.
 -- Assumes nothing: these are definitions.
-use Prim.Native.Nat.{ℕ, zero, suc}
+use Prim.Native.Nat.{ℕ, zero, suc, _+_}
 use mathlib.Core.Bool.{Bool, true, false}
 use mathlib.Core.List.{List, [], _∷_}
 use lib.Dec.{leb, eqb}
@@ -33,18 +33,22 @@ headerWidths =
 abbrev pub headerFits : List ℕ → Bool
 headerFits l = fitsTo 24 l headerWidths
 
-unfoldable pub presentOf : List ℕ → Present
-presentOf l =
+-- eight presence flags, from place k on
+abbrev pub presentFrom : ℕ → List ℕ → Present
+presentFrom k l =
     record {
-      source = eqb (numberAt l 13) 1;
-      destination = eqb (numberAt l 14) 1;
-      priority = eqb (numberAt l 15) 1;
-      timestamp = eqb (numberAt l 16) 1;
-      zone = eqb (numberAt l 17) 1;
-      «session_name» = eqb (numberAt l 18) 1;
-      domain = eqb (numberAt l 19) 1;
-      authentication = eqb (numberAt l 20) 1;
+      source = eqb (numberAt l k) 1;
+      destination = eqb (numberAt l (k + 1)) 1;
+      priority = eqb (numberAt l (k + 2)) 1;
+      timestamp = eqb (numberAt l (k + 3)) 1;
+      zone = eqb (numberAt l (k + 4)) 1;
+      «session_name» = eqb (numberAt l (k + 5)) 1;
+      domain = eqb (numberAt l (k + 6)) 1;
+      authentication = eqb (numberAt l (k + 7)) 1;
     }
+
+unfoldable pub presentOf : List ℕ → Present
+presentOf l = presentFrom 13 l
 
 unfoldable pub headerOf : List ℕ → HeaderValues
 headerOf l =

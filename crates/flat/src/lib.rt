@@ -208,7 +208,7 @@ pub fn read(t: u64, profile: u64, packet: &[u8]) -> [u64; READ]
 // ---- numbers to values
 
 // Whether each number is at most the width beside it.
-fn fits(list: &[u64], widths: &[u64]) -> bool
+pub fn fits(list: &[u64], widths: &[u64]) -> bool
     requires { ⌜ length (now widths) ≤ length (now list) ⌝ }
     ensures { λ r. ⌜ r ≡ fitsTo (length (now (widths .entry))) (now (list .entry)) (now (widths .entry)) ⌝ }
 {

@@ -29,13 +29,17 @@ use Rattle.pdu.specs.declared.Header.{Header as PduHeader}
 use Rattle.pdu.specs.declared.Written.{Written as PduWritten}
 use Rattle.pdu.proofs.read.Reads as pdu-reads
 use Rattle.pdu.proofs.write.Reads as pdu-writes
+use Rattle.carry.specs.declared.Carried.{Carried}
+use Rattle.carry.proofs.to_pdu.Reads as there
+use Rattle.carry.proofs.to_message.Reads as back
 use Rattle.numbers.specs.Lists.{Numbered, ofReading, ofArrival, ofTaking, ofJoining, ofRecording, ofSalvage, ofWriting, ofCount, ofCutting}
-use Rattle.numbers.specs.Lists.{ofPduReading, ofPduWriting}
+use Rattle.numbers.specs.Lists.{ofPduReading, ofPduWriting, ofToPdu, ofToMessage}
 use Rattle.numbers.proofs.Reading.{reading}
 use Rattle.numbers.proofs.Sending.{writing, count, cutting}
 use Rattle.numbers.proofs.Store.{arrival, taking, join, all}
 use Rattle.numbers.proofs.Salvaging.{salvaging, salvaging-part}
 use Rattle.numbers.proofs.Pdus.{pdu-reading, pdu-writing}
+use Rattle.numbers.proofs.Carrying.{to-pdu, to-message}
 
 pub read-numbered : (κs : L.Lfts 1) (a : _) (r : _) (x : _) → reads.Post κs a r x → Numbered ofReading (r .refusal .number)
 read-numbered κs a r x k = subst (λ (h : Header). Numbered ofReading (h .refusal .number)) (sym (k .0)) (reading _ _)
@@ -77,3 +81,9 @@ pdu-read-numbered κs a r x k = subst (λ (h : PduHeader). Numbered ofPduReading
 pub pdu-write-numbered : (κs : L.Lfts 10) (a : _) (r : _) (x : _) → pdu-writes.Post κs a r x → Numbered ofPduWriting (r .refusal .number)
 pdu-write-numbered κs a r x k =
     subst (λ (h : PduWritten). Numbered ofPduWriting (h .refusal .number)) (sym (k .0)) (pdu-writing _ _ _ _ _ _)
+
+pub to-pdu-numbered : (κs : L.Lfts 2) (a : _) (r : _) (x : _) → there.Post κs a r x → Numbered ofToPdu (r .refusal .number)
+to-pdu-numbered κs a r x k = subst (λ (h : PduWritten). Numbered ofToPdu (h .refusal .number)) (sym (k .0 .0)) (to-pdu _ _ _ _)
+
+pub to-message-numbered : (κs : L.Lfts 2) (a : _) (r : _) (x : _) → back.Post κs a r x → Numbered ofToMessage (r .refusal .number)
+to-message-numbered κs a r x k = subst (λ (h : Carried). Numbered ofToMessage (h .refusal .number)) (sym (k .0 .0)) (to-message _ _ _ _)

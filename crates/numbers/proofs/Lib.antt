@@ -4,4 +4,5 @@ pub mod Sending
 pub mod Store
 pub mod Salvaging
 pub mod Pdus
+pub mod Carrying
 pub mod Calls

@@ -22,13 +22,13 @@ module _ (l : List ℕ) where
   abbrev Ok : Tested → Type 0
   Ok r = List·Memᴰ (r .number) l
 
-  unless-ok : (b : Bool) (k : ℕ) (r : Tested) → has l k ≡ true → Ok r → Ok (unless b k r)
+  pub unless-ok : (b : Bool) (k : ℕ) (r : Tested) → has l k ≡ true → Ok r → Ok (unless b k r)
   unless-ok b k r e h = unless-has (λ (n : ℕ). List·Memᴰ n l) b k r (among l k e) h
 
-  all-ok : (bs : List Bool) (k : ℕ) (r : Tested) → has l k ≡ true → Ok r → Ok (unlessAll bs k r)
+  pub all-ok : (bs : List Bool) (k : ℕ) (r : Tested) → has l k ≡ true → Ok r → Ok (unlessAll bs k r)
   all-ok bs k r e h = all-has (λ (n : ℕ). List·Memᴰ n l) bs k r (among l k e) h
 
-  settings-ok : (s : Settings) (r : Tested) → has l 15 ≡ true → Ok r → Ok (settingsTest s r)
+  pub settings-ok : (s : Settings) (r : Tested) → has l 15 ≡ true → Ok r → Ok (settingsTest s r)
   unfolding settingsTest
   settings-ok s r e h = unless-ok _ 15 _ e (unless-ok _ 15 _ e (unless-ok _ 15 r e h))
 

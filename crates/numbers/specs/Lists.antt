@@ -57,3 +57,12 @@ ofPduReading = 1 ∷ 7 ∷ 8 ∷ 5 ∷ 27 ∷ 6 ∷ 10 ∷ 11 ∷ 13 ∷ 28 ∷ 
 -- and writing one
 abbrev pub ofPduWriting : List ℕ
 ofPduWriting = 22 ∷ 13 ∷ 28 ∷ 23 ∷ 21 ∷ []
+
+-- a message carried to the office: the settings, the encoding id, the message's reading with its fields from left to right, 34, and what
+-- the PDU's writer adds
+abbrev pub ofToPdu : List ℕ
+ofToPdu = 15 ∷ 22 ∷ 1 ∷ 2 ∷ 3 ∷ 4 ∷ 12 ∷ 6 ∷ 10 ∷ 7 ∷ 8 ∷ 9 ∷ 11 ∷ 13 ∷ 28 ∷ 34 ∷ 23 ∷ 21 ∷ []
+
+-- and a PDU carried back: the settings, the lent values, the PDU's reading, what a packet has not, the header's limit, the output
+abbrev pub ofToMessage : List ℕ
+ofToMessage = 15 ∷ 22 ∷ ofPduReading ++ (35 ∷ 33 ∷ 34 ∷ 30 ∷ 12 ∷ 21 ∷ [])

@@ -163,10 +163,10 @@ struct Routing {
     qualifier: u16,
 }
 
-struct FixedStep {
-    walk: Walk,
-    fixed: Fixed,
-    has: Present,
+pub struct FixedStep {
+    pub walk: Walk,
+    pub fixed: Fixed,
+    pub has: Present,
 }
 
 struct Octet {
@@ -184,9 +184,9 @@ struct Counter {
     value: SegmentCounter,
 }
 
-struct IdsStep {
-    walk: Walk,
-    ids: Ids,
+pub struct IdsStep {
+    pub walk: Walk,
+    pub ids: Ids,
 }
 
 pub struct TextsStep {
@@ -363,7 +363,7 @@ pub fn flags_of(f: u8) -> Present
 }
 
 // The whole fixed part.
-fn read_fixed(b: Bound, p: &[u8], w: Walk) -> FixedStep
+pub fn read_fixed(b: Bound, p: &[u8], w: Walk) -> FixedStep
     ensures { λ r. ⌜ r ≡ fixedStep b (now (p .entry)) (ofWalk w) ⌝ }
 {
     let n = read_names(b, p, w);
@@ -427,7 +427,7 @@ fn segmented(p: &[u8]) -> bool
 }
 
 // Source id, destination id, segment counter, priority.
-fn read_ids(s: Settings, b: Bound, segment: bool, has: Present, p: &[u8], w: Walk) -> IdsStep
+pub fn read_ids(s: Settings, b: Bound, segment: bool, has: Present, p: &[u8], w: Walk) -> IdsStep
     ensures { λ r. ⌜ r ≡ asIds (idsOf s b segment has (now (p .entry)) (ofWalk w)) ⌝ }
 {
     let a = octet_if(has.source, b, p, w);
@@ -530,7 +530,7 @@ fn refusal_of(p: &[u8], w: Walk) -> Refusal
 }
 
 // What a refusal answers beside it: zeros.
-fn refused_header(refusal: Refusal) -> Header
+pub fn refused_header(refusal: Refusal) -> Header
     ensures { λ r. ⌜ r ≡ refusedHeader refusal ⌝ }
 {
     let none = Place { at: 0, length: 0 };

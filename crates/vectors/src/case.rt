@@ -93,6 +93,13 @@ pub fn sender(s: &[u8]) -> [u64; flat::SENDER] {
     n
 }
 
+// The numbers of a PDU's header.
+pub fn pdu_values(s: &[u8]) -> [u64; flat_pdu::VALUES] {
+    let mut n = [0u64; flat_pdu::VALUES];
+    list(s, 1, &mut n);
+    n
+}
+
 // Number k.
 pub fn number(s: &[u8], k: u8) -> u64 {
     octets::be64(part(s, 0), 8 * (k as usize))

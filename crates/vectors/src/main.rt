@@ -11,11 +11,12 @@
 // a view the octets of its part; then the store, a bar and the output, as they are after the call. Octets are in hex, two or more equal ones as `xx*n,`. Where
 // there is no such call the line has no numbers. The run ends with the input, or at a case that is too long for the buffer.
 //
-// Module case reads a case, print writes; the others have the calls, most of them by way of `flat` and `flat_store`,
+// Module case reads a case, print writes; the others have the calls, most of them by way of `flat`, `flat_store` and `flat_pdu`,
 // whose answers are lists of numbers. A new call is a function beside the others, and a line of the function here that has its buffers.
 mod case;
 mod joins;
 mod packets;
+mod pdus;
 mod print;
 mod recordings;
 mod stores;
@@ -53,6 +54,10 @@ const TEXT: u64 = 13;
 
 const SALVAGE: u64 = 14;
 
+const PDU_READ: u64 = 15;
+
+const PDU_WRITE: u64 = 16;
+
 // How many parts a domain has at most.
 const LENGTHS: usize = 384;
 
@@ -84,6 +89,9 @@ fn run_reads(tag: u64, c: &[u8]) {
     if tag == SALVAGE {
         recordings::salvage(c);
     }
+    if tag == PDU_READ {
+        pdus::read(c);
+    }
 }
 
 // Writing and cutting.
@@ -101,6 +109,10 @@ fn run_writes(tag: u64, c: &[u8], out: &mut [u8]) {
     }
     if tag == PACKET {
         packets::packet(c, lengths, out);
+        return;
+    }
+    if tag == PDU_WRITE {
+        pdus::write(c, lengths, out);
     }
 }
 

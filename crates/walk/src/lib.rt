@@ -120,6 +120,15 @@ pub const REFUSED_MANY_SEGMENTS: u8 = 29;
 // A network zone to write: it is withdrawn.
 pub const REFUSED_WITHDRAWN: u8 = 30;
 
+// An id of a PDU that is not the decimal digits, without leading zeros, of 0 to 255.
+pub const REFUSED_ID: u8 = 33;
+
+// A timestamp that a PDU has no room for: T is not 6.
+pub const REFUSED_TIMESTAMP: u8 = 34;
+
+// A QoS level or a session of a PDU that a packet has not.
+pub const REFUSED_RANGE: u8 = 35;
+
 // A state of salvaging that can not be one.
 pub const REFUSED_STATE: u8 = 40;
 

@@ -402,7 +402,7 @@ fn put_primary(out: &mut [u8], v: HeaderValues, o: PacketValues, n: usize) -> us
     octets::lay_number(out, b, 2, n as u64)
 }
 
-fn put_names(out: &mut [u8], at: usize, v: HeaderValues) -> usize
+pub fn put_names(out: &mut [u8], at: usize, v: HeaderValues) -> usize
     ensures { λ r. ⌜ Lays (laid (now (out .entry)) at) (namePieces v) (now (out .exit)) r ⌝ }
 {
     let a = octets::lay_number(out, at, 1, v.sdu as u64);
@@ -425,7 +425,7 @@ pub fn present_octet(has: Present) -> u64
         + octets::bit_of(has.authentication)
 }
 
-fn put_routing(out: &mut [u8], at: usize, v: HeaderValues) -> usize
+pub fn put_routing(out: &mut [u8], at: usize, v: HeaderValues) -> usize
     ensures { λ r. ⌜ Lays (laid (now (out .entry)) at) (routingPieces v) (now (out .exit)) r ⌝ }
 {
     let secondary_apid = v.secondary_apid;
@@ -449,7 +449,7 @@ fn wide_if(there: bool, out: &mut [u8], at: usize, n: usize, x: u64) -> usize
 }
 
 // Source id, destination id, segment counter.
-fn put_front(out: &mut [u8], at: usize, v: HeaderValues, o: PacketValues) -> usize
+pub fn put_front(out: &mut [u8], at: usize, v: HeaderValues, o: PacketValues) -> usize
     ensures { λ r. ⌜ Lays (laid (now (out .entry)) at) (frontPieces v o) (now (out .exit)) r ⌝ }
 {
     let has = v.has;

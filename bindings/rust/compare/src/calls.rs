@@ -2,8 +2,8 @@
 
 use crate::told;
 use orlyukan::{
-    Arrived, Cut, CutPacket, Entry, Header, Joined, Order, Reading, Recording, Refusal, Salvaged, SegmentCounter, Sender,
-    SequenceCount, Settings, Taken, Which, Written,
+    Arrived, Cut, CutPacket, Entry, Header, Joined, Order, Reading, Recording, Refusal, Returned, Route, Salvaged,
+    SegmentCounter, Sender, Sent, SequenceCount, Settings, Taken, Which, Written,
 };
 
 /// The values of a packet beside its header's.
@@ -40,6 +40,8 @@ pub trait Calls {
     fn view<'a>(&self, packet: &'a [u8], joined: &'a [u8], which: Which, place: u64, length: u64) -> &'a [u8];
     fn join_recording(&self, s: Settings, recording: &[u8], out: &mut [u8]) -> Recording;
     fn salvage(&self, s: Settings, file: &[u8], begin: u64, place: u64, grant: u64, list: &mut [Entry]) -> Salvaged;
+    fn to_pdu(&self, s: Settings, message: &[u8], encoding_id: u64, out: &mut [u8]) -> Sent;
+    fn to_message(&self, s: Settings, pdu: &[u8], route: Route, out: &mut [u8]) -> Returned;
 }
 
 /// The proved library, through its wrappers.
@@ -113,6 +115,14 @@ impl Calls for Library {
 
     fn salvage(&self, s: Settings, file: &[u8], begin: u64, place: u64, grant: u64, list: &mut [Entry]) -> Salvaged {
         orlyukan::salvage(s, file, begin, place, grant, list)
+    }
+
+    fn to_pdu(&self, s: Settings, message: &[u8], encoding_id: u64, out: &mut [u8]) -> Sent {
+        orlyukan::to_pdu(s, message, encoding_id, out)
+    }
+
+    fn to_message(&self, s: Settings, pdu: &[u8], route: Route, out: &mut [u8]) -> Returned {
+        orlyukan::to_message(s, pdu, route, out)
     }
 }
 
@@ -211,5 +221,13 @@ impl Calls for Model {
 
     fn salvage(&self, s: Settings, file: &[u8], begin: u64, place: u64, grant: u64, list: &mut [Entry]) -> Salvaged {
         told::salvaged(file.len(), list, model::salvage(told::settings(s), file, begin, place, grant, list.len()))
+    }
+
+    fn to_pdu(&self, s: Settings, message: &[u8], encoding_id: u64, out: &mut [u8]) -> Sent {
+        told::sent(model::to_pdu(told::settings(s), message, encoding_id, out))
+    }
+
+    fn to_message(&self, s: Settings, pdu: &[u8], route: Route, out: &mut [u8]) -> Returned {
+        told::returned(model::to_message(told::settings(s), pdu, told::route(route), out))
     }
 }

@@ -5,12 +5,12 @@ use std::{env, fs, path::PathBuf};
 use crate::calls::Numbers;
 use crate::json::{parse, Json};
 use orlyukan::{
-    raw, Apid, Arrived, Cut, CutPacket, Entry, Header, Joined, Kind, Place, Reading, Salvaged, SecondaryApid,
-    SegmentCounter, Sender, SequenceCount, Settings, Taken, Which, Written, VARINT,
+    raw, Apid, Arrived, Cut, CutPacket, Entry, Header, Joined, Kind, Place, Reading, Route, Salvaged, SecondaryApid,
+    SegmentCounter, Sender, Sent, SequenceCount, Settings, Taken, Which, Written, VARINT,
 };
 
 /// The change requests that have landed and have cases of their own, in the order in which they landed.
-const LANDED: [&str; 6] = ["T-01", "T-04", "T-12", "T-10", "T-09", "T-08"];
+const LANDED: [&str; 7] = ["T-01", "T-04", "T-12", "T-10", "T-09", "T-08", "T-02"];
 
 /// The cases of a call, from the latest folder that has some, or nothing, with a word, if the folder is missing.
 pub fn load(call: &str) -> Option<Vec<Json>> {
@@ -238,4 +238,19 @@ pub fn entry(json: &Json) -> Entry {
 pub fn salvaged(json: &Json, refusal: u64, entries: u64) -> Salvaged {
     let (begin, place) = state(json.get("state"));
     Salvaged { refusal, tested: json.number("tested"), entries, begin, place, done: json.flag("done") }
+}
+
+pub fn sent(answer: &Json) -> Sent {
+    let n = |name| answer.number(name);
+    Sent { refusal: n("refusal"), length: n("length"), header_length: n("header_length"), began: n("began") }
+}
+
+pub fn route(lent: &Json) -> Route {
+    let n = |name| lent.number(name);
+    Route {
+        packet_type: n("packet_type"),
+        apid: Apid(n("apid")),
+        secondary_apid: SecondaryApid(n("secondary_apid")),
+        qualifier: n("qualifier"),
+    }
 }

@@ -2,8 +2,8 @@
 
 use model::Refusal;
 use orlyukan::{
-    Apid, Arrived, Cut, CutPacket, Entry, Header, Joined, Kind, Order, Place, Reading, Recording, Salvaged,
-    SecondaryApid, SegmentCounter, Sender, SequenceCount, Settings, Stop, Taken, Which, Written,
+    Apid, Arrived, Cut, CutPacket, Entry, Header, Joined, Kind, Order, Place, Reading, Recording, Returned, Route, Salvaged,
+    SecondaryApid, SegmentCounter, Sender, Sent, SequenceCount, Settings, Stop, Taken, Which, Written,
 };
 
 pub fn settings(s: Settings) -> model::Settings {
@@ -196,5 +196,23 @@ pub fn salvaged(octets: usize, list: &mut [Entry], answer: Result<model::Salvage
         begin: s.begin as u64,
         place: s.place as u64,
         done: s.begin == octets && s.place == octets,
+    }
+}
+
+pub fn route(r: Route) -> model::Route {
+    model::Route { packet_type: r.packet_type, apid: r.apid.0, secondary_apid: r.secondary_apid.0, qualifier: r.qualifier }
+}
+
+pub fn sent(answer: Result<(usize, usize), model::Told>) -> Sent {
+    match answer {
+        Ok((length, header)) => Sent { length: length as u64, header_length: header as u64, ..Sent::default() },
+        Err(told) => Sent { refusal: told.number.into(), began: told.began, ..Sent::default() },
+    }
+}
+
+pub fn returned(answer: Result<(usize, usize, u8), model::Told>) -> Returned {
+    match answer {
+        Ok((h, b, encoding)) => Returned { h: h as u64, b: b as u64, encoding_id: encoding.into(), ..Returned::default() },
+        Err(told) => Returned { refusal: told.number.into(), off: told.off, began: told.began, ..Returned::default() },
     }
 }

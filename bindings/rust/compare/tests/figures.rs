@@ -114,7 +114,7 @@ fn refusals() {
     assert_eq!(refused(&[&FIGURE_14[..], &[0]].concat()), "refusal 27: octets left over: 1");
     let mut cut_off = FIGURE_14[..15].to_vec();
     cut_off[5] = 8;
-    assert_eq!(refused(&cut_off), "refusal 6: the packet ends in the field at octet 8 of its secondary header");
+    assert_eq!(refused(&cut_off), "refusal 6: the field that began at octet 8 is not whole");
     assert_eq!(Library.read(8.into(), &cut_off).refused(), Refusal { number: 6, off: 0, began: 8 });
     assert_eq!(refused(&[]), "refusal 1");
 }

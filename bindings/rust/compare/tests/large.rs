@@ -70,7 +70,9 @@ fn one_message_fills_it() {
 fn round_the_end() {
     const TOP: u64 = u32::MAX as u64;
     let mut r = Random::new(43);
-    for (first, last, refusal) in [(TOP, 0, 0), (0, TOP, 20), (0, 1, 0), (TOP - 1, TOP, 0), (TOP, 1, 20), (1, 0, 20), (TOP, TOP - 1, 20)] {
+    for (first, last, refusal) in
+        [(TOP, 0, 0), (0, TOP, 20), (0, 1, 0), (TOP - 1, TOP, 0), (TOP, 1, 20), (1, 0, 20), (TOP, TOP - 1, 20)]
+    {
         let given = store(3, &[segment(9, 2, last)]);
         assert_eq!(both("two segments", &given, &segment(9, 1, first), 100), (0, refusal), "{first} and {last}");
     }

@@ -3,6 +3,7 @@
 const HEADER: &str = include_str!("../../../../include/orlyukan.h");
 const RAW: &str = include_str!("../../src/raw.rs");
 const ANSWERS: &str = include_str!("../../src/answers.rs");
+const PDU: &str = include_str!("../../src/pdu.rs");
 const ALL: &str = include_str!("../../src/lib.rs");
 
 /// The lines between the one that begins so and the next that begins as a closing brace.
@@ -35,6 +36,10 @@ fn fields() {
         ("orl_join_answer", "RawJoined"),
         ("orl_join_recording_answer", "RawRecording"),
         ("orl_salvage_answer", "RawSalvaged"),
+        ("orl_pdu_header", "RawPduHeader"),
+        ("orl_to_pdu_answer", "RawToPdu"),
+        ("orl_route", "RawRoute"),
+        ("orl_to_message_answer", "RawToMessage"),
     ] {
         assert!(of_c(c).len() > 1 && of_c(c) == of_rust(RAW, rust), "{c}: {:?}", of_rust(RAW, rust));
     }
@@ -51,6 +56,9 @@ fn fields() {
     ] {
         assert!(of_c(c).len() > 1 && of_c(c) == of_rust(ANSWERS, rust), "{c}: {:?}", of_rust(ANSWERS, rust));
     }
+    for (c, rust) in [("orl_pdu_read_answer", "PduReading"), ("orl_pdu_write_answer", "PduWritten")] {
+        assert!(of_c(c).len() > 1 && of_c(c) == of_rust(PDU, rust), "{c}: {:?}", of_rust(PDU, rust));
+    }
 }
 
 #[test]
@@ -65,7 +73,7 @@ fn calls() {
         assert!(handed_on.split(' ').any(|word| word == wrapped), "{wrapped} is not handed on");
         count += 1;
     }
-    assert_eq!(count, 14);
+    assert_eq!(count, 18);
 }
 
 /// The profiles, what an arrival comes to, which buffer holds a body, why a recording stopped, the kinds of an entry.

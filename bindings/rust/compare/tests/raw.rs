@@ -252,7 +252,8 @@ fn lists() {
 /// The wrappers tell a sender as it is.
 #[test]
 fn wrapped_senders() {
-    let sender = |sequence_count, counter| Sender { sequence_count: SequenceCount(sequence_count), counter: SegmentCounter(counter) };
+    let sender =
+        |sequence_count, counter| Sender { sequence_count: SequenceCount(sequence_count), counter: SegmentCounter(counter) };
     let refused = orlyukan::Refusal { number: 22, ..orlyukan::Refusal::default() };
     assert_eq!(orlyukan::next_sequence_count(SequenceCount(0)), Ok(SequenceCount(1)));
     assert_eq!(orlyukan::next_sequence_count(SequenceCount(16_383)), Ok(SequenceCount(0)));

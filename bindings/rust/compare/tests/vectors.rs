@@ -157,6 +157,32 @@ fn salvage_run() {
     });
 }
 
+#[test]
+fn to_pdu() {
+    each("to_pdu", |program, case, expect| {
+        let mut out = case.octets("out");
+        let answer = program.to_pdu(cases::settings(case), &case.octets("message"), case.number("encoding_id"), &mut out);
+        assert_eq!(answer, cases::sent(expect.get("answer")), "{}: {case:?}", program.name());
+        assert_eq!(out, expect.octets("out"), "{}: {case:?}", program.name());
+    });
+}
+
+#[test]
+fn to_message() {
+    each("to_message", |program, case, expect| {
+        let (mut out, said) = (case.octets("out"), expect.get("answer"));
+        let answer = program.to_message(cases::settings(case), &case.octets("pdu"), cases::route(case.get("lent")), &mut out);
+        let told = [answer.refusal, answer.h, answer.b, answer.encoding_id, answer.off];
+        assert_eq!(
+            told,
+            ["refusal", "H", "B", "encoding_id", "off"].map(|name| said.number(name)),
+            "{}: {case:?}",
+            program.name()
+        );
+        assert_eq!(out, expect.octets("out"), "{}: {case:?}", program.name());
+    });
+}
+
 /// The Varint alone has no call of the library: the model's, on which its reading and writing stand.
 #[test]
 fn varint_read() {

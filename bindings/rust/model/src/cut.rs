@@ -2,7 +2,9 @@
 
 use crate::values::{hold, refusal, Refusal, Sender, Settings, Tested, Values};
 use crate::write::{header_size, lay, test_values, Sequence, Writer};
-use crate::{CONTINUATION, COUNTERS, FIRST, HEADER_LIMIT, LAST, PACKET_LIMIT, PRIMARY, SEGMENTS_LIMIT, SEQUENCE_COUNTS, UNSEGMENTED};
+use crate::{
+    CONTINUATION, COUNTERS, FIRST, HEADER_LIMIT, LAST, PACKET_LIMIT, PRIMARY, SEGMENTS_LIMIT, SEQUENCE_COUNTS, UNSEGMENTED,
+};
 
 /// The largest message body.
 const BODY_LIMIT: u64 = 1_048_576;

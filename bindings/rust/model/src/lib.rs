@@ -6,6 +6,7 @@
 mod cut;
 mod hash;
 mod join;
+mod office;
 mod read;
 mod recording;
 mod salvage;
@@ -18,6 +19,7 @@ mod write;
 
 pub use cut::{count, packet};
 pub use join::{join, view, Joined, Which};
+pub use office::{to_message, to_pdu, Route, Told};
 pub use read::{read, Reading, Span};
 pub use recording::{join_recording, join_recording_into, recording_end, Stop};
 pub use salvage::{salvage, Listed, Salvaged};

@@ -26,7 +26,7 @@ put-place-requires-4 c κs = search needs
 returns : tie.Need-returns
 returns c =
     let g = c .before .before .before .before .before .before in
-    texts-laid (g .before .before .before .before .before .args .texts) (g .before .before .before .before .before .args .answer .now) _ _ _ _ _
+    texts-laid (g .before .before .before .before .before .args .texts) (g .before .before .before .before .before .args .answer .now) 28 _ _ _ _ _
     (g .before .before .put-place .ensures)
     (g .put-place2 .ensures)
     (c .before .before .before .before .put-place3 .ensures)

@@ -1,0 +1,16 @@
+pub mod DigitLaws
+pub mod Joined
+pub mod Parts
+pub mod Only
+pub mod Whole
+pub mod Made
+pub mod Written
+pub mod Sent
+pub mod Returned
+pub mod Formats
+pub mod There
+pub mod Back
+pub mod Journey
+pub mod Silent
+pub mod Calls
+pub mod Figures
