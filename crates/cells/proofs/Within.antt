@@ -112,7 +112,9 @@ module _ (s : Settings) (r z k : List ℕ) (first steps : ℕ) (o : Octets r) wh
       pub within-not : toldHeld (t .content) ≡ false → false ≡ withinIn nextCounter k first steps here
       within-not h = unless-held (λ there. absurd (not-held (judged-at s (length z) r et there .0) h))
 
-      pub within-same : {a b : Bool} → toldHeld (t .content) ≡ true → a ≡ reaches nextCounter steps first n → a ≡ true → b ≡ alike k (keyIn x (t .at)) → b ≡ withinIn nextCounter k first steps here
+      pub within-same :
+          {a b : Bool} → toldHeld (t .content) ≡ true → a ≡ reaches nextCounter steps first n → a ≡ true → b ≡ alike k (keyIn x (t .at)) →
+          b ≡ withinIn nextCounter k first steps here
       within-same one ea in-it eb =
           let there = judged-one s (length z) r et one in
           let a : Asked s p (t .at) =

@@ -81,9 +81,8 @@ module _ (s : Settings) (bound : Bound) (p : List ℕ) where
 
   sdu-cut : Cut bound p (sduF bound p) (λ x. wide 1 x ∷ [])
   sdu-cut =
-      let tests =
-      tested-cut bound p (tested-cut bound p (wide-cut bound p 1) (λ w. ltb (octetAt p (w .at)) 32) 7 (λ x. (x < 256) × (ltb x 32 ≡ true)) (λ x t. t .0)) (λ w. ltb (octetAt p (w .at) % 32) 22) 8
-      (firstOctet bound p .Fit) (λ x t. t .0) in
+      let version = tested-cut bound p (wide-cut bound p 1) (λ w. ltb (octetAt p (w .at)) 32) 7 (λ x. (x < 256) × (ltb x 32 ≡ true)) (λ x t. t .0) in
+      let tests = tested-cut bound p version (λ w. ltb (octetAt p (w .at) % 32) 22) 8 (firstOctet bound p .Fit) (λ x t. t .0) in
       formed-cut bound p tests (wide 1) (λ x. x ≤ 21) (λ x. refl) (λ x t l. sdu-fit bound p x t .0)
 
   packed-cut : Cut bound p (packedF bound p) (λ x. wide 2 (word x) ∷ [])

@@ -108,8 +108,8 @@ full =
 
 pub full-octets :
     octetsOf two full
-    ≡ 0x0F ∷ 0xFE ∷ 0x7F ∷ 0xFF ∷ 0 ∷ 43 ∷ 21 ∷ 255 ∷ 255 ∷ 0 ∷ 0 ∷ 1 ∷ 2 ∷ 255 ∷ 0xF7 ∷ 0xFF ∷ 0 ∷ 1 ∷ 255 ∷ 255 ∷ 255 ∷ 255 ∷ 255 ∷ 255 ∷ 255 ∷ 255
-    ∷ 255
+    ≡ 0x0F ∷ 0xFE ∷ 0x7F ∷ 0xFF ∷ 0 ∷ 43 ∷ 21 ∷ 255 ∷ 255 ∷ 0 ∷ 0 ∷ 1 ∷ 2 ∷ 255 ∷ 0xF7 ∷ 0xFF ∷ 0 ∷ 1
+    ∷ 255 ∷ 255 ∷ 255 ∷ 255 ∷ 255 ∷ 255 ∷ 255 ∷ 255 ∷ 255
     ∷ 255 ∷ 1 ∷ 255 ∷ 255 ∷ 255 ∷ 255 ∷ 0xAC ∷ 2 ∷ 1 ∷ 2 ∷ 1 ∷ 65 ∷ 0 ∷ 2 ∷ 1 ∷ 1 ∷ 66 ∷ 1 ∷ 0 ∷ 2 ∷ 255 ∷ 0 ∷ 7 ∷ []
 unfolding octetsOf identification dataOctets secondaryOctets fixedOctets presence frontOctets counterOctets backOctets wide uintegerOctets blobOctets
     textOctets partOctets joined domainOctets write varintOctets

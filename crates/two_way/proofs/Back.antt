@@ -160,7 +160,8 @@ module _ (old : Bool) (s : Settings) (v : HeaderValues) (o : PacketValues) (t : 
       givenPacket v o t body ≡ givenPacket v′ o′ t′ body′
   writes-apart v′ o′ t′ body′ out′ k j e =
       one-value s (givenPacket v o t body) (givenPacket v′ o′ t′ body′) (k .range) (j .range)
-      (sym (written-is old s v o t body out (accepts old s v o t body (length out) k)) ∙ e ∙ written-is old s v′ o′ t′ body′ out′ (accepts old s v′ o′ t′ body′ (length out′) j))
+      (sym (written-is old s v o t body out (accepts old s v o t body (length out) k)) ∙ e
+      ∙ written-is old s v′ o′ t′ body′ out′ (accepts old s v′ o′ t′ body′ (length out′) j))
 
 -- and no two different headers, values of a packet, texts or bodies are
 pub writes-one :
