@@ -40,8 +40,8 @@ module _ (s : Settings) (b : Bound) (p : List ℕ) (w : Reading) {t : Text} (e :
   pub text-refused : (t .walk .refused ≡ 0 → ⊥) → t ≡ asText (text s b p w)
   unfolding text
   text-refused h =
-      let g : going (blob s b p w .walk) ≡ false = ap (λ (x : Text). eqb (x .walk .refused) 0) (sym e) ∙ ne-eqb (t .walk .refused) 0 h in
-      e ∙ ap (λ (x : Reading). asText (record { walk = x; value = blob s b p w .value })) (sym (check-refused _ 28 (blob s b p w .walk) g))
+      let g : going (blob s b p w .walk) ≡ false = ap (λ (x : Text). eqb (x .walk .refused) 0) (sym e) ∙ ne-eqb _ 0 h in
+      e ∙ ap (λ (x : Reading). asText (record { walk = x; value = blob s b p w .value })) (sym (check-refused _ 28 _ g))
 
   -- the content is tested
   module _ {ok : Bool} (o : ok ≡ isText (stretch p (t .place .at) (t .place .length))) where
@@ -51,15 +51,15 @@ module _ (s : Settings) (b : Bound) (p : List ℕ) (w : Reading) {t : Text} (e :
     pub text-held : ok ≡ true → t ≡ asText (text s b p w)
     unfolding text
     text-held h =
-        e ∙ ap (λ (x : Reading). asText (record { walk = x; value = blob s b p w .value })) (sym (check-ok _ 28 (blob s b p w .walk) (tests true h)))
+        e ∙ ap (λ (x : Reading). asText (record { walk = x; value = blob s b p w .value })) (sym (check-ok _ 28 _ (tests true h)))
 
     pub text-fails :
         ok ≡ false → t .walk .refused ≡ 0 → {v : Walk} → v ≡ asWalk (refused (t .walk .at) 28) →
         record { walk = v; place = t .place } ≡ asText (text s b p w)
     unfolding text
     text-fails h z {v} c =
-        let g : going (blob s b p w .walk) ≡ true = ap (λ (x : Text). eqb (x .walk .refused) 0) (sym e) ∙ eq-eqb (t .walk .refused) 0 z in
-        let f = check-fails (isText (contentAt p (blob s b p w .value))) 28 (blob s b p w .walk) g (tests false h) in
+        let g : going (blob s b p w .walk) ≡ true = ap (λ (x : Text). eqb (x .walk .refused) 0) (sym e) ∙ eq-eqb _ 0 z in
+        let f = check-fails _ 28 (blob s b p w .walk) g (tests false h) in
         ap (λ (x : Walk). record { walk = x; place = t .place }) c
         ∙ ap (λ (x : Text). record { walk = asWalk (refused (x .walk .at) 28); place = x .place }) e
         ∙ ap (λ (x : Reading). asText (record { walk = x; value = blob s b p w .value })) (sym f)
@@ -99,7 +99,7 @@ module _ {x ns : List ℕ} {flag : Bool} {from k : ℕ} (p : Judged x ns flag fr
             rw (add-one k)
             (p .all
             ∙ ap (λ (y : List (List ℕ)). both flag (allText y)) (split-more x ns from k (p .inside) h e)
-            ∙ both-assoc flag (isText (take (end - from) (drop from x))) (allText (split (drop (suc k) ns) (drop end x))));
+            ∙ both-assoc flag _ _);
       }
 
   pub judged-done : length ns ≤ k → flag ≡ allText (split ns x)
@@ -115,4 +115,4 @@ pub single-parts : (ns x : List ℕ) → allSingle x ≡ true → true ≡ allTe
 unfolding split allText
 single-parts [] x h = refl
 single-parts (n ∷ ns) x h =
-    rw (is-text (take n x) .1 (single-text (take n x) (single-take n x h))) (single-parts ns (drop n x) (single-drop n x h))
+    rw (is-text _ .1 (single-text _ (single-take n x h))) (single-parts ns _ (single-drop n x h))

@@ -15,11 +15,11 @@ use Rattle.fields.proofs.Written.{length-split, split-more}
 
 pub text-long : (s : Settings) (x : List ℕ) → length (textOctets s x) ≡ length (uintegerOctets s (length x)) + length x
 unfolding textOctets blobOctets
-text-long s x = length-append (uintegerOctets s (length x)) x
+text-long s x = length-append (uintegerOctets s _) x
 
 pub blob-long : (s : Settings) (x : List ℕ) → length (blobOctets s x) ≡ length (uintegerOctets s (length x)) + length x
 unfolding blobOctets
-blob-long s x = length-append (uintegerOctets s (length x)) x
+blob-long s x = length-append (uintegerOctets s _) x
 
 part-long : (s : Settings) (x : List ℕ) → length (partOctets s x) ≡ 1 + (length (uintegerOctets s (length x)) + length x)
 unfolding partOctets
@@ -40,7 +40,8 @@ pub record Sizing (top : ℕ) (s : Settings) (x ns : List ℕ) (size from k : �
   pub told : size ≡ cappedTo top done
   pub all : length (domainOctets s (split ns x)) ≡ done + length (joined (partOctets s) (split (drop k ns) (drop from x)))
 
-pub sizing-first : (top : ℕ) (s : Settings) (x ns : List ℕ) {n size : ℕ} → n ≡ length (uintegerOctets s (length ns)) → size ≡ cappedTo top (0 + n) → Sizing top s x ns size 0 0
+pub sizing-first : (top : ℕ) (s : Settings) (x ns : List ℕ) {n size : ℕ} → n ≡ length (uintegerOctets s (length ns)) → size ≡ cappedTo top (0 + n) → Sizing top
+    s x ns size 0 0
 unfolding domainOctets
 sizing-first top s x ns {n} {size} e h =
     record {
@@ -49,7 +50,7 @@ sizing-first top s x ns {n} {size} e h =
       done = n;
       told = omega arith;
       all =
-          length-append (uintegerOctets s (length (split ns x))) (joined (partOctets s) (split ns x))
+          length-append (uintegerOctets s _) (joined _ _)
           ∙ ap (λ (j : ℕ). length (uintegerOctets s j) + length (joined (partOctets s) (split ns x))) (length-split ns x)
           ∙ ap (λ (j : ℕ). j + length (joined (partOctets s) (split ns x))) (sym e);
     }
@@ -73,10 +74,10 @@ module _ {top : ℕ} {s : Settings} {x ns : List ℕ} {size from k : ℕ} (p : S
       let i : end ≤ length x = omega (arith, p .inside) in
       let g : from ≤ end = omega arith in
       let j : from + (end - from) ≡ end = omega arith in
-      let pl : length (take (end - from) (drop from x)) ≡ end - from = part-length x from (end - from) (omega arith) in
+      let pl : length (take (end - from) (drop from x)) ≡ end - from = part-length x from _ (omega arith) in
       let sp = split-more x ns from k (p .inside) h e in
       let w : length (partOctets s (take (end - from) (drop from x))) ≡ 1 + (length (uintegerOctets s (end - from)) + (end - from)) =
-      part-long s (take (end - from) (drop from x)) ∙ ap (λ (n : ℕ). 1 + (length (uintegerOctets s n) + n)) pl in
+      part-long s _ ∙ ap (λ (n : ℕ). 1 + (length (uintegerOctets s n) + n)) pl in
       let a =
       p .all
       ∙ ap (λ (y : List (List ℕ)). p .done + length (joined (partOctets s) y)) sp

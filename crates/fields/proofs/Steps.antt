@@ -22,10 +22,10 @@ module _ (s : Settings) (b : Bound) (p : List ℕ) (w : Reading) {n : UInteger} 
   unfolding domain
   domain-parts h =
       let d : uinteger s b p w ≡ ofNumber n = ap ofNumber (sym e) in
-      simp (d, le-leb (n .value) partsMost h)
+      simp (d, le-leb _ partsMost h)
 
   pub domain-many : partsMost < n .value → domain s b p w ≡ record { walk = check false 13 (ofWalk (n .walk)); value = noParts 0 }
   unfolding domain
   domain-many h =
       let d : uinteger s b p w ≡ ofNumber n = ap ofNumber (sym e) in
-      simp (d, lt-leb (n .value) partsMost h)
+      simp (d, lt-leb _ partsMost h)

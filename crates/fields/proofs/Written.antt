@@ -28,13 +28,13 @@ module _ (l k : List ℕ) (at n : ℕ) {r : Wrote} (e : r ≡ putOf l at n) (f :
   fits-done : at + length (write n) ≤ length l → (r ≡ Done (at + length (write n))) × (k ≡ sets l at (write n))
   unfolding putOf written
   fits-done h =
-      let t = le-leb (at + length (write n)) (length l) h in
+      let t = le-leb _ _ h in
       (e ∙ rw (t, putOf), f ∙ rw (t, written))
 
   not-full : length l < at + length (write n) → (r ≡ Full) × (k ≡ l)
   unfolding putOf written
   not-full h =
-      let t = lt-leb (at + length (write n)) (length l) h in
+      let t = lt-leb _ _ h in
       (e ∙ rw (t, putOf), f ∙ rw (t, written))
 
   pub number-done : {next : ℕ} → r ≡ Done next → Lays (laid l at) (write n ∷ []) k next
@@ -47,7 +47,7 @@ module _ (l k : List ℕ) (at n : ℕ) {r : Wrote} (e : r ≡ putOf l at n) (f :
       let y : next ≡ at + length (write n) = cc in
       let m = lay-fits (write n) (laid l at) h in
       record { place = y ∙ ap (λ (x : Laid). x .at) (sym m); octets = g .1 ∙ ap (λ (x : Laid). x .list) (sym m) })
-      (below-or (length l) (at + length (write n)))
+      (below-or _ _)
 
   pub number-full : r ≡ Full → Lays (laid l at) (write n ∷ []) k at
   unfolding layAll
@@ -55,10 +55,10 @@ module _ (l k : List ℕ) (at n : ℕ) {r : Wrote} (e : r ≡ putOf l at n) (f :
       ⊎-elim
       (λ h.
       let g = not-full h in
-      let m = lay-not (write n) (laid l at) h in
+      let m = lay-not (write n) _ h in
       record { place = ap (λ (x : Laid). x .at) (sym m); octets = g .1 ∙ ap (λ (x : Laid). x .list) (sym m) })
       (λ h. let g = fits-done h in let z : _≡_ {A = ℕ} 0 1 = cc in absurd (omega arith))
-      (below-or (length l) (at + length (write n)))
+      (below-or _ _)
 
 -- ---- the parts of a domain
 
@@ -70,7 +70,7 @@ unfolding split
 split-more x ns from k i h {end} e =
     let t : take (end - from) (drop from x) ≡ take (getD ns k 0) (drop from x) =
     ap (λ (j : ℕ). take (j - from) (drop from x)) e ∙ next-part x from (getD ns k 0) i in
-    let d : drop end x ≡ drop (getD ns k 0) (drop from x) = ap (λ (j : ℕ). drop j x) e ∙ rest-part x from (getD ns k 0) i in
+    let d : drop end x ≡ drop (getD ns k 0) (drop from x) = ap (λ (j : ℕ). drop j x) e ∙ rest-part x from _ i in
     ap (λ (y : List ℕ). split y (drop from x)) (drop-cons ns k 0 h)
     ∙ ap₂ (λ (a b : List ℕ). a ∷ split (drop (suc k) ns) b) (sym t) (sym d)
 
@@ -101,15 +101,15 @@ module _ {s : Settings} {l : List ℕ} {at : ℕ} {x ns m : List ℕ} {next from
         inside = omega (arith, e, parting-inside (getD ns k 0));
         most = omega arith;
         long = ln ∙ p .long;
-        done = p .done ++ partPieces s (take (end - from) (drop from x));
+        done = p .done ++ partPieces s _;
         lays = lays-both (p .lays) b;
         all =
             rw (add-one k)
             (p .all
             ∙ ap (λ (y : List (List ℕ)). p .done ++ partsPieces s y) sp
             ∙ sym
-            (append-assoc (p .done) (partPieces s (take (end - from) (drop from x)))
-            (partsPieces s (split (drop (suc k) ns) (drop end x)))));
+            (append-assoc (p .done) _
+            _));
       }
 
   pub parting-done : length ns ≤ k → Lays (laid l at) (partsPieces s (split ns x)) m next
@@ -122,4 +122,4 @@ module _ {s : Settings} {l : List ℕ} {at : ℕ} {x ns m : List ℕ} {next from
 pub length-split : (ns x : List ℕ) → length (split ns x) ≡ length ns
 unfolding split
 length-split [] x = refl
-length-split (n ∷ ns) x = ap suc (length-split ns (drop n x))
+length-split (n ∷ ns) x = ap suc (length-split ns _)

@@ -10,7 +10,7 @@ use Rattle.fields.proofs.is_text_at.Statement.{statement}
 use Rattle.fields.proofs.is_text_at.Tie as tie
 
 returns : tie.Need-returns
-returns c = let g = c .before .before .args in past-text (g .p .now) (g .at) (g .n) (c .if1 .taken)
+returns c = let g = c .before .before .args in past-text _ (g .at) (g .n) (c .if1 .taken)
 
 within-requires : tie.Need-within-requires
 within-requires c κs = search needs
@@ -32,7 +32,7 @@ returns-2 c =
     let h = c .before .before .before in
     let g = h .before .before .args in
     let l = h .if1 .left in
-    c .is-text .ensures ∙ ap isText (part-at (g .p .now) (g .at) (g .n) (omega arith) (c .before .before .within .ensures))
+    c .is-text .ensures ∙ ap isText (part-at _ (g .at) (g .n) (omega arith) (c .before .before .within .ensures))
 
 pub is-text-at-spec : {M : Type 1} → statement M
 is-text-at-spec =

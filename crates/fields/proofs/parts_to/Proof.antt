@@ -65,7 +65,7 @@ unfolding partsTo
 loop-again c =
     let l = c .before .before .before .before in
     let g = l .before .before .before .before .args in
-    (search needs, rw add-one (turn (g .s) (g .b) (now (g .p)) (l .loop .k) (l .loop .inv .1) (c .before .before .read-part .ensures)))
+    (search needs, rw add-one (turn (g .s) (g .b) _ _ (l .loop .inv .1) (c .before .before .read-part .ensures)))
 
 returns : tie.Need-returns Inv-loop μ-loop
 returns c = cc (le-antisymm (c .before .loop .inv .0) (c .loop-test .left))

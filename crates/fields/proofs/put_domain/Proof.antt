@@ -19,8 +19,8 @@ same-length c = search needs
 
 returns : tie.Need-returns
 unfolding domainPieces
-returns c = rw (length-split (now (c .before .before .before .before .before .before .before .before .before .before .before .args .lengths))
-    (now (c .before .before .before .before .before .before .before .before .before .before .before .args .x)))
+returns c = rw (length-split _
+    _)
     (lays-both (c .before .before .before .before .before .before .put-uinteger .ensures) (c .before .before .put-parts .ensures))
 
 pub put-domain-spec : {M : Type 1} → statement M

@@ -38,7 +38,8 @@ part-put-part-end : tie.Need-part-put-part-end Inv-loop μ-loop
 part-put-part-end c =
     let h = parting-inside (c .before .before .before .before .loop .inv)
     (getD (c .before .before .before .before .before .before .before .before .args .lengths .now) (c .before .before .before .before .loop .k) 0) in
-    let i : c .before .within .result ≤ length (c .before .before .before .before .before .before .before .before .args .x .now) = omega (arith, c .before .within .ensures) in
+    let i : c .before .within .result ≤ length (c .before .before .before .before .before .before .before .before .args .x .now) =
+    omega (arith, c .before .within .ensures) in
     search needs
 
 put-part-requires : tie.Need-put-part-requires Inv-loop μ-loop
@@ -51,8 +52,10 @@ loop-less : tie.Need-loop-less Inv-loop μ-loop
 loop-less c = search needs
 
 loop-again : tie.Need-loop-again Inv-loop μ-loop
-loop-again c = parting-turn (c .before .before .before .before .before .before .before .before .loop .inv)
-    (c .before .before .before .before .before .before .before .loop-test .taken) (c .before .before .before .before .before .within .ensures)
+loop-again c =
+    let g = c .before .before .before .before .before in
+    parting-turn (g .before .before .before .loop .inv)
+    (g .before .before .loop-test .taken) (g .within .ensures)
     (c .before .before .put-part .kept .1 .0) (c .before .before .put-part .ensures)
 
 same-length : tie.Need-same-length Inv-loop μ-loop

@@ -18,13 +18,16 @@ same-length : tie.Need-same-length
 same-length c = search needs
 
 returns : tie.Need-returns
-returns c = number-done _ _ _ _ (c .before .before .before .before .before .put .ensures .0) (c .before .before .before .before .before .put .ensures .1) (c .before .next .given .1)
+returns c =
+    let g = c .before .before .before .before .before .put .ensures in
+    number-done _ _ _ _ (g .0) (g .1) (c .before .next .given .1)
 
 same-length-2 : tie.Need-same-length-2
 same-length-2 c = search needs
 
 returns-2 : tie.Need-returns-2
-returns-2 c = number-full _ _ _ _ (c .before .before .before .before .put .ensures .0) (c .before .before .before .before .put .ensures .1) (c .enum-told .given .1)
+returns-2 c =
+    number-full _ _ _ _ (c .before .before .before .before .put .ensures .0) (c .before .before .before .before .put .ensures .1) (c .enum-told .given .1)
 
 pub put-varint-spec : {M : Type 1} → statement M
 put-varint-spec =

@@ -24,7 +24,13 @@ returns : tie.Need-returns
 unfolding part markedText
 returns c =
     let g = c .before .before .before in
-    simp (c .field-from .ensures, g .read-text .ensures, g .before .check .ensures, g .before .before .octets .ensures, g .before .before .before .octet .ensures)
+    simp (
+      c .field-from .ensures,
+      g .read-text .ensures,
+      g .before .check .ensures,
+      g .before .before .octets .ensures,
+      g .before .before .before .octet .ensures,
+    )
 
 pub read-part-spec : {M : Type 1} → statement M
 read-part-spec =

@@ -43,7 +43,7 @@ cast-t19 : tie.Need-cast-t19
 cast-t19 c =
     let call = c .before .before .before .before in
     let entry = call .before .before .before .before .before .before .before in
-    let g = number-got (entry .args .b) (now (entry .args .p)) (ofWalk (entry .args .w)) (call .before .before .before .before-bound .ensures)
+    let g = number-got (entry .args .b) _ (ofWalk (entry .args .w)) (call .before .before .before .before-bound .ensures)
     (call .read32 .ensures) (c .before .before .v .given .1) in
     let known = call .before .before .before .before .before .before .shared-slice-known in
     omega (arith, number-small (entry .args .b .end) (now (entry .args .p)) (entry .args .w .at) _ _ (λ i. known .given i .fits) g .value-top)
@@ -65,7 +65,7 @@ unfolding varintStep
 returns-2 c =
     let call = c .before .before .before .before in
     let entry = call .before .before .before .before .before .before .before in
-    let t = number-told (entry .args .b) (now (entry .args .p)) (ofWalk (entry .args .w)) (call .before .before .before .before-bound .ensures)
+    let t = number-told (entry .args .b) _ _ (call .before .before .before .before-bound .ensures)
     (call .read32 .ensures) (c .before .before .v .given .1) (call .before .before .before .before .if1 .left) in
     simp (c .goes .ensures, t)
 
@@ -74,7 +74,7 @@ unfolding varintStep
 returns-3 c =
     let call = c .before .before .before in
     let entry = call .before .before .before .before .before .before .before in
-    let t = number-told (entry .args .b) (now (entry .args .p)) (ofWalk (entry .args .w)) (call .before .before .before .before-bound .ensures)
+    let t = number-told (entry .args .b) _ _ (call .before .before .before .before-bound .ensures)
     (call .read32 .ensures) (c .before .enum-told .given .1) (call .before .before .before .before .if1 .left) in
     simp (c .refused .ensures, call .before .before .end-refusal .ensures, t)
 
@@ -83,7 +83,7 @@ unfolding varintStep
 returns-4 c =
     let call = c .before .before .before in
     let entry = call .before .before .before .before .before .before .before in
-    let t = number-told (entry .args .b) (now (entry .args .p)) (ofWalk (entry .args .w)) (call .before .before .before .before-bound .ensures)
+    let t = number-told (entry .args .b) _ _ (call .before .before .before .before-bound .ensures)
     (call .read32 .ensures) (c .before .enum-told2 .given .1) (call .before .before .before .before .if1 .left) in
     simp (c .refused2 .ensures, t)
 

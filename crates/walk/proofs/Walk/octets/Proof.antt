@@ -44,7 +44,8 @@ returns-4 c =
     let g = c .before .before .before .before .before .before in
     c .refused3 .ensures
     ∙ ap asWalk
-    (sym (octets-ends _ _ _ _ (eq-eqb _ _ (g .if1 .left)) (omega (arith, c .before .before .before .before .if2 .left, c .before .before .if3 .left)) (omega arith)))
+    (sym (octets-ends _ _ _ _ (eq-eqb _ _ (g .if1 .left)) (omega (arith, c .before .before .before .before .if2 .left, c .before .before .if3 .left))
+    (omega arith)))
 
 add-goes : tie.Need-add-goes
 add-goes c = search needs
@@ -57,7 +58,8 @@ returns-5 c =
     let g = c .before .before .before .before .before .before in
     c .goes .ensures
     ∙ ap asWalk
-    (sym (octets-goes _ _ _ _ (eq-eqb _ _ (g .if1 .left)) (omega (arith, c .before .before .before .before .if2 .left, c .before .before .if3 .left)) (omega arith)))
+    (sym (octets-goes _ _ _ _ (eq-eqb _ _ (g .if1 .left)) (omega (arith, c .before .before .before .before .if2 .left, c .before .before .if3 .left))
+    (omega arith)))
 
 pub octets-spec : {M : Type 1} → statement M
 octets-spec =
