@@ -1,7 +1,7 @@
 // The calls for programs in other languages. `include/orlyukan.h` declares them for C and says what each number means.
 //
-// Each export hands its numbers and slices to a call of crate `flat`, in `stored` of `flat_store`, in `office` of `flat_office` and in `pdus` of
-// `flat_pdu`, and puts what it answers into the lent array, the refusal first.
+// Each export hands its numbers and slices to a call of crate `flat`, or of `filling` or `laying` for what goes a short way; in `stored` of
+// `flat_store`, in `office` of `flat_office` and in `pdus` of `flat_pdu`; and puts what it answers into the lent array, the refusal first.
 // A slice is a pointer and a length, an array is one pointer; no struct goes by value and no reference comes back.
 mod office;
 mod pdus;
@@ -55,7 +55,7 @@ pub extern "C" fn orl_write(
         (now (answer .exit) ≡ writeNumbers s (now (header .entry)) x flags «sequence_count» counter (now (body .entry)) (length (now (out .entry))))
         × (now (out .exit) ≡ writeOut s (now (header .entry)) x flags «sequence_count» counter (now (body .entry)) (now (out .entry)))) ⌝ }
 {
-    *answer = flat::write(
+    *answer = laying::write(
         t,
         profile,
         header,
@@ -110,7 +110,7 @@ pub extern "C" fn orl_cut_count(
         (lent (now (timestamp .entry)) (now (zone .entry)) (now (name .entry)) (now (domain .entry)) (now (lengths .entry))
         (now (authentication .entry))) body (now (sender .entry)) ⌝ }
 {
-    *answer = flat::cut_count(
+    *answer = laying::cut_count(
         t,
         profile,
         p,
@@ -150,7 +150,7 @@ pub extern "C" fn orl_cut_packet(
         (now (answer .exit) ≡ packetNumbers s p (now (header .entry)) x (now (body .entry)) (now (sender .entry)) i (length (now (out .entry))))
         × (now (out .exit) ≡ packetOut s p (now (header .entry)) x (now (body .entry)) (now (sender .entry)) i (now (out .entry)))) ⌝ }
 {
-    *answer = flat::cut_packet(
+    *answer = laying::cut_packet(
         t,
         profile,
         p,

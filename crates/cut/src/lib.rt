@@ -62,11 +62,11 @@ pub struct Cut {
 }
 
 // A message's plan: whether one packet is enough, the body octets of a packet if it is not, and how many packets.
-struct Plan {
-    tested: Tested,
-    single: bool,
-    chunk: usize,
-    count: usize,
+pub struct Plan {
+    pub tested: Tested,
+    pub single: bool,
+    pub chunk: usize,
+    pub count: usize,
 }
 
 // ---- the plan
@@ -149,7 +149,7 @@ fn header_of(single: bool, h: usize) -> usize
 }
 
 // 23, 12, 24, 29, and the numbers that they are judged on.
-fn plan_of(p: usize, h: usize, b: usize, r: Tested) -> Plan
+pub fn plan_of(p: usize, h: usize, b: usize, r: Tested) -> Plan
     ensures { λ q. ⌜ q ≡ planOf p h b r ⌝ }
 {
     let single = write::packet_size(h, b) <= p;
@@ -206,7 +206,7 @@ fn flags_at(single: bool, count: usize, i: usize) -> u8
 }
 
 // Where the part of packet i begins.
-fn from_of(single: bool, chunk: usize, i: usize, b: usize) -> usize
+pub fn from_of(single: bool, chunk: usize, i: usize, b: usize) -> usize
     ensures { λ r. ⌜ r ≡ fromOf single chunk i b ⌝ }
 {
     if single {
@@ -216,7 +216,7 @@ fn from_of(single: bool, chunk: usize, i: usize, b: usize) -> usize
 }
 
 // Where it ends.
-fn to_of(single: bool, from: usize, chunk: usize, b: usize) -> usize
+pub fn to_of(single: bool, from: usize, chunk: usize, b: usize) -> usize
     ensures { λ r. ⌜ r ≡ toOf single from chunk b ⌝ }
 {
     if single {
@@ -226,7 +226,7 @@ fn to_of(single: bool, from: usize, chunk: usize, b: usize) -> usize
 }
 
 // The values of packet i.
-fn values_at(single: bool, count: usize, sender: Sender, i: usize) -> PacketValues
+pub fn values_at(single: bool, count: usize, sender: Sender, i: usize) -> PacketValues
     ensures { λ r. ⌜ r ≡ valuesOf single count sender i ⌝ }
 {
     let first = sender.sequence_count;
@@ -241,7 +241,7 @@ fn values_at(single: bool, count: usize, sender: Sender, i: usize) -> PacketValu
 }
 
 // How a message of n packets is sent.
-fn sent_as(single: bool, n: usize) -> Sent
+pub fn sent_as(single: bool, n: usize) -> Sent
     ensures { λ r. ⌜ r ≡ pick single Whole (Segments n) ⌝ }
 {
     if single {

@@ -298,8 +298,8 @@ fn sender_fits(d: &[u64; SENDER]) -> bool
     fits(d, &widths)
 }
 
-// The sender, whose numbers fit.
-fn sender_of(d: &[u64; SENDER]) -> Sender
+// The sender, whose numbers fit. Inner: crate `laying` uses it too.
+pub fn sender_of(d: &[u64; SENDER]) -> Sender
     requires { ⌜ senderFits (now d) ≡ true ⌝ }
     ensures { λ r. ⌜ r ≡ senderOf (now (d .entry)) ⌝ }
 {

@@ -178,6 +178,33 @@ fn write() {
     tally.close(&[12, 13, 14, 15, 21, 22, 23, 28, 30], CASES);
 }
 
+/// Texts about the longest whose length is one octet, of single octets and not, with the room for the packet and one octet less: what is
+/// written the short way and what goes the long way.
+#[test]
+fn write_texts_about_one_octet() {
+    for (profile, flags) in [(0, 0), (0, 3), (1, 0), (1, 3)] {
+        let s = Settings { t: 8, profile };
+        let n = Numbers { flags, sequence_count: SequenceCount(16_383), counter: SegmentCounter(u64::from(flags == 0)) };
+        for text in [0, 1, 31, 126, 127, 128, 200].map(|length| vec![b'a'; length]).into_iter().chain([b"na\xc3\xafve".to_vec(), b"\xff".to_vec()]) {
+            for field in 0..3 {
+                let mut owned = Owned::default();
+                match field {
+                    0 => (owned.n.has_session_name, owned.session_name) = (1, text.clone()),
+                    1 => (owned.n.has_domain, owned.domain_lengths, owned.domain) = (1, vec![text.len() as u64, 0], text.clone()),
+                    _ => (owned.n.has_authentication, owned.authentication) = (1, text.clone()),
+                }
+                let size = owned.h(s).unwrap_or(40) + 6 + if flags == 3 { 0 } else { 4 } + 5;
+                for room in [size - 1, size, size + 9] {
+                    let (mut ours, mut theirs) = (vec![0x5a; room], vec![0x5a; room]);
+                    let answer = Library.write(s, &owned.header(), n, b"5 oct", &mut ours);
+                    assert_eq!(answer, Model.write(s, &owned.header(), n, b"5 oct", &mut theirs), "{s:?}, {n:?}, room {room}, {owned:?}");
+                    assert_eq!(ours, theirs, "{s:?}, {n:?}, room {room}, {owned:?}");
+                }
+            }
+        }
+    }
+}
+
 /// A message to cut: the settings, P, header, the body's length and the sender, near the edges where answers change.
 struct Message {
     s: Settings,

@@ -1,0 +1,41 @@
+-- `laying::two` meets its contract.
+-- Assumes nothing.
+use Rattle.laying.proofs.Pieces.{wide-two}
+use Rattle.laying.proofs.two.Statement.{statement}
+use Rattle.laying.proofs.two.Tie as tie
+use borrow.Author.Needs.{needs}
+use lib.ListN.{length-set}
+use native.Mathlib.Omega.{arith}
+
+cast-out : tie.Need-cast-out
+cast-out c = search needs
+
+slice-write-out : tie.Need-slice-write-out
+slice-write-out c = search needs
+
+cast-out-2 : tie.Need-cast-out-2
+cast-out-2 c = search needs
+
+add-out : tie.Need-add-out
+add-out c = search needs
+
+slice-write-out-2 : tie.Need-slice-write-out-2
+slice-write-out-2 c = simp length-set (omega arith)
+
+same-length : tie.Need-same-length
+same-length c = search needs
+
+returns : tie.Need-returns
+returns c = wide-two _ _ _
+
+pub two-spec : {M : Type 1} → statement M
+two-spec =
+    tie.close
+    (tie.spec
+    cast-out
+    slice-write-out
+    cast-out-2
+    add-out
+    slice-write-out-2
+    same-length
+    returns)
