@@ -9,8 +9,8 @@ _orlyukan() {
         return
     fi
     case ${COMP_WORDS[1]} in
-    join) options='--force --json --profile --timestamp --salvage --list --picture --help --' ;;
-    check) options='--json --profile --timestamp --salvage --help --' ;;
+    join) options='--force --json --profile --timestamp --cells --salvage --list --picture --help --' ;;
+    check) options='--json --profile --timestamp --cells --salvage --help --' ;;
     salvage) options='--force --json --profile --timestamp --list --picture --help --' ;;
     to-office) options='--force --json --profile --timestamp --encoding --help --' ;;
     from-office) options='--force --json --profile --timestamp --type --apid --secondary-apid --qualifier --help --' ;;
@@ -23,7 +23,7 @@ _orlyukan() {
         mapfile -t COMPREPLY < <(compgen -W 'varint fixed' -- "$word")
     elif [ -n "$options" ] && [ "$before" = --timestamp ]; then
         mapfile -t COMPREPLY < <(compgen -W '1 2 3 4 5 6 7 8 9 10 11 12 13 14 15 16' -- "$word")
-    elif [ -n "$options" ] && [[ $before == --@(encoding|type|apid|secondary-apid|qualifier) ]]; then
+    elif [ -n "$options" ] && [[ $before == --@(cells|encoding|type|apid|secondary-apid|qualifier) ]]; then
         COMPREPLY=()
     elif [ -n "$options" ] && [ "${word:0:1}" = - ]; then
         mapfile -t COMPREPLY < <(compgen -W "$options" -- "$word")

@@ -181,6 +181,9 @@ static void cutting(struct rest in) {
         orl_take(t, profile, store, 64 * CELL, joined, 64 * CELL, &k);
         hold(k.refusal == 0 && k.B == length && k.counter == sender.counter, "a message that was cut is complete");
         hold(memcmp(joined + 2 + k.H, body, length) == 0, "it comes out as it went in");
+        struct orl_forget_answer f;
+        orl_forget(t, profile, store, 64 * CELL, 0, &f);
+        hold(f.refusal == 0, "its record is forgotten");
         hold(store[0] == 0 && memcmp(store, store + 1, 64 * CELL - 1) == 0, "its cells are free again");
     }
     for (int i = 0; i < 5; i++) free(held[i]);
@@ -196,7 +199,7 @@ static void storing(struct rest in, int joins) {
     for (size_t i = 0; i < cells; i++) {
         size_t length = number(&in, 2) % 1100;
         uint8_t *held = octets(&in, &length);
-        if (length > 0) memcpy(store + i * CELL, "MS", 2);
+        if (length > 0) memcpy(store + i * CELL, length % 2 ? "MS" : "MT", 2);
         memcpy(store + i * CELL + 2, held, length > CELL - 2 ? CELL - 2 : length);
         free(held);
     }
@@ -222,6 +225,9 @@ static void storing(struct rest in, int joins) {
         hold(order.refusal == 0 || a.refusal == order.refusal, "15 and 16 come first");
         orl_take(t, profile, store, size, out, room, &k);
         hold(k.refusal == 0 || memcmp(out, out_before, room) == 0, "a refused taking leaves the output");
+        struct orl_forget_answer f;
+        orl_forget(t, profile, store, size, length % 7, &f);
+        hold(order.refusal == 0 || f.refusal == order.refusal, "15 and 16 come first");
     }
     uint64_t refusal = order.refusal;
     orl_in_order(t, profile, store, size, &order);
@@ -242,6 +248,11 @@ static void recording(struct rest in) {
         struct orl_join_answer j = {0};
         if (size > length - at - 2) break;
         if (size <= 32768) orl_join(8, profile, store, 32 * CELL, octet + at + 2, size, joined, MOST, &j);
+        for (uint64_t i = 0; i < 32 && j.refusal == 19; i++) {
+            struct orl_forget_answer f;
+            orl_forget(8, profile, store, 32 * CELL, i, &f);
+            if (f.refusal == 0) orl_join(8, profile, store, 32 * CELL, octet + at + 2, size, joined, MOST, &j);
+        }
         if (size <= 32768 && j.refusal == 0) {
             size_t makes = j.which == ORL_PACKET ? size - 4 : 2 + j.H + j.B;
             if (j.which == ORL_PACKET) memcpy(joined, octet + at + 2, 2), memcpy(joined + 2, octet + at + 8, size - 6);

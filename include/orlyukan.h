@@ -50,7 +50,7 @@
  *   16  the store is not in order
  *   17  a segment of more than 1,022 octets does not go into a cell
  *   18  another segment with this key and counter is held, and it differs
- *   19  every cell is held
+ *   19  no cell is free
  *   20  no message is complete
  *   21  the output has too few octets
  *   22  a value to write that its field cannot have: too wide or out of range, the idle APID, given for a field that is absent, a
@@ -63,6 +63,7 @@
  *   28  a network zone, session name or domain part, in a PDU also a source id or destination id, that is not well-formed UTF-8
  *   29  the message would have more than 4,096 segments
  *   30  a network zone to write, to cut or to carry back: it is withdrawn
+ *   31  orl_forget: the number names no cell with the record of a message that was taken
  *   33  orl_to_message: a source id, then a destination id, that is not the decimal digits of 0 to 255 without leading zeros
  *   34  orl_to_pdu and orl_to_message: a timestamp, and T is not 6
  *   35  orl_to_message: a QoS level above 3 or a session above 2
@@ -70,9 +71,9 @@
  *
  * If several apply, the answer is the one that comes first: reading 15, 1 to 4, 5 or 27, then as the header is read from left to
  * right, 14; writing 15, 22, 30, 13, 28, 23, 12, 14, 21; cutting 15, 22, 30, 13, 28, 23, 12, 24, 29, 26, 21; arrival 15, 16, those
- * of reading, 17, 18, 19; taking 15, 16, 20, 21; carrying to the office 15, 22, 1 to 4, the header's, 34, 23, 21; carrying back 15, 22,
- * 1, 7, 8, 5 or 27, the PDU's fields, 35, 33, 34, 30, 12, 21; reading a PDU 1, 7, 8, 5 or 27, then its fields from left to right; writing
- * one 22, 13, 28, 23, 21.
+ * of reading, 17, 18, 19; taking 15, 16, 20, 21; forgetting 15, 16, 31; carrying to the office 15, 22, 1 to 4, the header's, 34, 23, 21;
+ * carrying back 15, 22, 1, 7, 8, 5 or 27, the PDU's fields, 35, 33, 34, 30, 12, 21; reading a PDU 1, 7, 8, 5 or 27, then its fields from
+ * left to right; writing one 22, 13, 28, 23, 21.
  *
  * What 5, 27 and 6 tell, in the answers of reading, arrival and joining
  *
@@ -284,17 +285,19 @@ void orl_cut_packet(uint64_t t, uint64_t profile, uint64_t p, const struct orl_h
 /*
  * A store is memory of the caller's: 1 to 4,096 cells of 1,024 octets. All zeros is an empty one. Its contents belong to the
  * calls below; the caller keeps them between calls and may save and restore them. Each call tests first that the store is in
- * order.
+ * order. A cell is free, or holds a segment, or has the record of a message that was taken, by which late repeats of its segments
+ * are known. A record keeps its cell until it is forgotten: without orl_forget, n cells hand out at most n messages.
  */
 
 /* What an arrival comes to. */
 #define ORL_WHOLE 1  /* an unsegmented packet: the store is not touched */
 #define ORL_STORED 2 /* a new segment, now in the lowest free cell */
 #define ORL_HELD 3   /* a segment that is held already: the store is not touched */
+#define ORL_TAKEN 4  /* a segment of a message that was taken, whatever its body: the store is not touched */
 
 struct orl_arrive_answer {
     uint64_t refusal;
-    uint64_t kind;  /* one of the three above */
+    uint64_t kind;  /* one of the four above */
     uint64_t off;   /* beside 5 and 27 */
     uint64_t began; /* beside 6 */
 };
@@ -312,10 +315,21 @@ struct orl_take_answer {
 
 /*
  * Takes out of the store the complete message whose first segment lies in the lowest cell. Into out go the first two octets of
- * its packets, the H octets of the header, and the B octets of the body; its cells become free.
+ * its packets, the H octets of the header, and the B octets of the body. The first's cell gets the record of the message, its other
+ * cells become free.
  */
 void orl_take(uint64_t t, uint64_t profile, uint8_t *store, size_t store_length, uint8_t *out, size_t out_length,
               struct orl_take_answer *answer);
+
+struct orl_forget_answer {
+    uint64_t refusal; /* 15, 16 or 31 */
+};
+
+/*
+ * Forgets the record of a message that was taken: the cell with this number, counted from 0, becomes free. A repeat of one of the
+ * message's segments is a new segment from then on. A number that is not below the count of cells, of any size, is 31.
+ */
+void orl_forget(uint64_t t, uint64_t profile, uint8_t *store, size_t store_length, uint64_t number, struct orl_forget_answer *answer);
 
 /* Which buffer holds a body. */
 #define ORL_NOTHING 0
@@ -335,8 +349,8 @@ struct orl_join_answer {
 };
 
 /*
- * A packet arrives, and if it did not come whole, a message is taken out. If arrival refuses, nothing has changed. If
- * taking refuses (20 or 21), the segment that arrived stays in the store. For a packet that came whole, out is not touched and
+ * A packet arrives, and if it did not come whole, a message is taken out, also after ORL_HELD and ORL_TAKEN. If arrival refuses,
+ * nothing has changed. If taking refuses (20 or 21), a segment that was stored stays in the store. For a packet that came whole, out is not touched and
  * may be empty.
  */
 void orl_join(uint64_t t, uint64_t profile, uint8_t *store, size_t store_length, const uint8_t *packet, size_t packet_length,
@@ -380,7 +394,8 @@ struct orl_join_recording_answer {
 /*
  * Joins a recording that is in hand whole, with a store of 32 cells of its own: packets, each after the mark 4D 50. For each
  * message out gets 4D 4D, a length of four octets, and what taking writes, and for a packet that came whole likewise. Refused
- * packets and those above 32,768 octets are passed over. T 8 and ORL_VARINT are usual.
+ * packets and those above 32,768 octets are passed over. If no cell is free, the record in the lowest cell that has one is forgotten,
+ * and the packet is joined again. T 8 and ORL_VARINT are usual.
  */
 void orl_join_recording(uint64_t t, uint64_t profile, const uint8_t *recording, size_t recording_length, uint8_t *out,
                         size_t out_length, struct orl_join_recording_answer *answer);

@@ -15,7 +15,8 @@ recording outputs just too short and just long enough. Where and why a recording
 fields and nothing else. A run of salvaging is a case for each of its calls; to those of salvaging are added small files with lists of any
 length, answered by the model, which must agree with the file too. A case of reading a PDU tells its texts as octets: where they stand follows
 from their lengths, and the place beside 6 is that of tests/office.py, which must agree with the file on all else. To the cases of a PDU are
-added those of figure 14's, damaged as a packet is, and numbers too wide.
+added those of figure 14's, damaged as a packet is, and numbers too wide. To those of the store are added records of taken messages, alone and
+beside segments, answered by tests/store.py, which must agree with the files on every case of a store and of a recording.
 """
 
 import itertools
@@ -26,10 +27,11 @@ import sys
 sys.dont_write_bytecode = True
 import model
 import office
+import store as stores
 
 CRATE = pathlib.Path(__file__).resolve().parent.parent / "crates" / "vectors"
 # The change requests that have landed and have cases of their own, in the order in which they landed.
-LANDED = ("T-01", "T-04", "T-12", "T-10", "T-09", "T-08", "T-02")
+LANDED = ("T-01", "T-04", "T-12", "T-10", "T-09", "T-08", "T-02", "T-06")
 MOST_IN_PAIR = 255
 FIGURE_14 = bytes.fromhex("18 05 C0 00 00 14 00 00 01 00 02 00 03 01 20 06 00 07 00 00 00 00 00 00 00 09 00")
 
@@ -158,7 +160,7 @@ def profile(row):
     return row.get("profile", model.VARINT)
 
 
-KINDS = ["", "whole", "stored", "held"]
+KINDS = ["", "whole", "stored", "held", "taken"]
 TAKEN = "refusal H B c".split()
 WHICH = ["", "packet", "joined"]
 
@@ -372,6 +374,13 @@ CALLS = {
         store=given_store,
         out=given_out,
     ),
+    "forget": Call(
+        17,
+        lambda row: [row["T"], profile(row), row["number"]],
+        lambda row: [],
+        lambda row: line([answer(row)["refusal"]], octets(row["expect"]["store"])),
+        store=given_store,
+    ),
     "view": Call(
         11,
         lambda row: [WHICH.index(row["which"]), row["place"], row["length"]],
@@ -507,14 +516,14 @@ def unknown_rows():
     nothing_told = {"refusal": 15, "off": 0, "began": 0, "H": 0, "B": 0, "c": 0, "kind": "", "which": "", "place": 0, "length": 0}
     after = {"answer": nothing_told, "store": cell, "out": OUT_14}
     for profile in UNKNOWN:
-        asked = {"T": 8, "profile": profile, "packet": figure, "store": cell, "out": OUT_14}
+        asked = {"T": 8, "profile": profile, "packet": figure, "store": cell, "out": OUT_14, "number": 0}
         yield CALLS["read"], asked | {"expect": {"answer": model.read(8, FIGURE_14, profile)}}
         yield CALLS["write"], write_row({"profile": profile}, 15)
         yield CALLS["write"], write_row({"profile": profile, "apid": 1 << 16}, 15)
         for call in ("count", "packet"):
             yield CALLS[call], cut_row({}, {"seq": 5, "counter": 7}, 32, 15) | {"profile": profile}
             yield CALLS[call], cut_row({}, {"seq": 1 << 16, "counter": 7}, 32, 15) | {"profile": profile}
-        for call in ("in_order", "arrive", "take", "join"):
+        for call in ("in_order", "arrive", "take", "join", "forget"):
             yield CALLS[call], asked | {"expect": after}
         yield CALLS["program"], {"T": 8, "profile": profile, "stream": "4d50" + figure, "expect": {"answer": {"refusal": 15}}}
 
@@ -538,7 +547,7 @@ def first_pods_rows():
     stream = first_pods()
     for t, profile in ((6, model.FIXED), (8, model.FIXED), (6, model.VARINT), (8, model.VARINT), (0, model.FIXED), (17, model.VARINT)):
         refusal = 0 if 1 <= t <= 16 else 15
-        out = b"" if refusal else bytes(model.Joining(stream, t, profile).output)
+        out = b"" if refusal else bytes(stores.Joining(stream, t, profile).output)
         told = {"answer": {"refusal": refusal}, "out": out.hex()}
         yield {"T": t, "profile": profile, "stream": stream.hex(), "expect": told}
 
@@ -681,13 +690,54 @@ def taking_figure():
     body = bytes(range(38))
     cells = [b"MS" + segment(2, 1, 8, body[33:]), b"", b"MS" + segment(1, 0, 7, body[:33])]
     store = b"".join(cell.ljust(1024, b"\0") for cell in cells)
+    left = bytes(2048) + record(7, 8)
     written = FIGURE_14[:2] + FIGURE_14[6:] + body
     for long in (60, 61, 70):
         out = b"\xff" * long
         told = {"refusal": 21, "H": 0, "B": 0, "c": 0} if long < 61 else {"refusal": 0, "H": 21, "B": 38, "c": 7}
-        after = {"store": store, "out": out} if long < 61 else {"store": bytes(3072), "out": written + out[61:]}
+        after = {"store": store, "out": out} if long < 61 else {"store": left, "out": written + out[61:]}
         row = {"T": 8, "store": store.hex(), "out": out.hex()}
         yield CALLS["take"], row | {"expect": {"answer": told} | {name: s.hex() for name, s in after.items()}}
+
+
+def record(first, last, head=FIGURE_14[6:]):
+    """A cell with the record of a message of figure 14's header."""
+    return (b"MT" + FIGURE_14[:2] + head + big(first, 4) + big(last, 4)).ljust(1024, b"\0")
+
+
+def record_stores():
+    """Records of figure 14's header: ranges of each length and round the end, beside segments outside and inside them; two records; longer
+    headers; and octets changed."""
+    top, free = (1 << 32) - 1, bytes(1024)
+    for first, last in ((1, 3), (0, 1), (top, 0), (top - 1, 2), (7, 7 + 4095), (top, 4094), (2, 2), (3, 1), (0, 4096), (0, top), (top, 4095)):
+        yield record(first, last)
+        yield record(first, last) + free
+        for counter in (first, last, (first - 1) % (1 << 32), (last + 1) % (1 << 32)):
+            yield record(first, last) + (b"MS" + segment(0, 5, counter, b"x")).ljust(1024, b"\0") + free
+    yield record(1, 4) + record(2, 9) + free
+    yield record(1, 4) + record(1, 4)
+    yield record(1, 4, FIGURE_14[6:25] + b"\x0a\0") + (b"MS" + segment(0, 5, 2, b"x")).ljust(1024, b"\0")
+    for size in (250, 251, 252, 253, 254):
+        yield record(1, 2, FIGURE_14[6:26] + b"\1" + bytes([(size - 23) % 128 + 128, (size - 23) // 128]) + bytes(size - 23)) + free
+    for at in (0, 1, 2, 3, 4, 11, 23, 24, 25, 29, 33, 1023):
+        for other in (0, 1, 2, 0x53, 0x54, 0x80, 0xFF):
+            made = bytearray(record(1, 2))
+            made[at] = other
+            yield bytes(made) + free
+
+
+def record_rows():
+    """What each call on a store answers of these, by the model."""
+    for octets_held in record_stores():
+        row = {"T": 8, "store": octets_held.hex()}
+        yield CALLS["in_order"], row | {"expect": {"answer": stores.in_order(8, octets_held)}}
+        for number in (0, 1, 2, 3, 1 << 32, (1 << 64) - 1):
+            told, after = stores.forget(8, octets_held, number)
+            yield CALLS["forget"], row | {"number": number, "expect": {"answer": told, "store": after.hex()}}
+        for flags, counter, body in ((1, 1, b"x"), (2, 2, b"late"), (0, 0, bytes(5000)), (1, 4, bytes(1000)), (0, (1 << 32) - 1, b"x")):
+            packet = segment(flags, 9, counter, body)
+            told, after = stores.arrive(8, octets_held, packet)
+            yield CALLS["arrive"], row | {"packet": packet.hex(), "expect": {"answer": told, "store": after.hex()}}
 
 
 def short_rows():
@@ -741,6 +791,20 @@ def check_model(row):
     got = model.read(row["T"], octets(row["packet"]), profile(row))
     if got != {name: value for name, value in answer(row).items() if name in got}:
         sys.exit(f"cases.py: tests/model.py disagrees on T {row['T']}, packet {row['packet']}")
+
+
+def check_stores(vectors):
+    """The model agrees with the files of the store's calls and of a recording."""
+    for row in rows(vectors, "program"):
+        if stores.Joining(octets(row["stream"])).output != octets(row["expect"]["out"]):
+            sys.exit(f"cases.py: tests/store.py disagrees on the recording {row['stream']}")
+    for name, call in (("in_order", stores.in_order), ("arrive", stores.arrive), ("take", stores.take), ("join", stores.join), ("forget", stores.forget)):
+        for row in rows(vectors, name):
+            given = [octets(row[lent]) for lent in ("store", "packet", "out") if lent in row] + ([row["number"]] if name == "forget" else [])
+            got = call(row["T"], *given, profile(row))
+            buffers = [octets(row["expect"][lent]) for lent in ("store", "out") if lent in row["expect"]]
+            if (got if name != "in_order" else (got,)) != (answer(row), *buffers):
+                sys.exit(f"cases.py: tests/store.py disagrees on {name} of {row['store']}")
 
 
 def check_salvage(row):
@@ -840,6 +904,8 @@ def cases(vectors):
         yield "zones to write", call, row
     for row in view_rows():
         yield "views of no buffer", CALLS["view"], row
+    for call, row in record_rows():
+        yield "records of taken messages", call, row
     for row in short_rows():
         yield "outputs for a recording", CALLS["program"], row
     for run in rows(vectors, "salvage_run"):
@@ -859,6 +925,7 @@ def main(arguments):
     vectors = pathlib.Path(arguments[0])
     for row in rows(vectors, "read"):
         check_model(row)
+    check_stores(vectors)
     for row in rows(vectors, "salvage"):
         check_salvage(row)
     for row in rows(vectors, "pdu_read"):

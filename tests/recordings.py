@@ -4,7 +4,7 @@
 First the cases of VECTORS_DIR/program.jsonl, each a whole recording and what it must give (VECTORS_DIR is ../shared/vectors beside this
 repository unless it is named; where there is none, they are left out). Then MUTATED recordings made from the samples by a fixed seed:
 octets changed, parts cut out, repeated, moved and put into another sample, packets resized and given other transaction ids. The
-program must end by itself, in time, write what tests/model.py writes, and count what it counts. Then the salvaging program over
+program must end by itself, in time, write what tests/store.py writes, and count what it counts. Then the salvaging program over
 SALVAGED of these, with more torn places, some between longer stretches of noise than its window holds: its list must be the model's,
 cover the recording exactly, and its packets must be the kept ones. The programs must have been built (`./orlyukan join` and
 `./orlyukan salvage`, or `rt check join_recording salvage_recording`).
@@ -23,6 +23,7 @@ import tempfile
 sys.dont_write_bytecode = True
 import cases
 import model
+import store as stores
 
 ROOT = pathlib.Path(__file__).resolve().parent.parent
 PROGRAM = ROOT / "target" / "bin" / "join_recording"
@@ -47,12 +48,12 @@ def words(program=PROGRAM):
     return [tools / "bin" / "qemu-x86_64", tools / "lib" / "ld-linux-x86-64.so.2", "--library-path", tools / "lib", program]
 
 
-STOPS = (model.ENDED, model.UNMARKED, model.TORN)
+STOPS = (stores.ENDED, stores.UNMARKED, stores.TORN)
 
 
 def segment_lines(cells):
     """The line of each held cell: the lowest cell of its key, whose message it is of, and which segment it is."""
-    held = [(number, cell) for number, cell in enumerate(cells) if cell]
+    held = [(number, cell) for number, cell in enumerate(cells) if isinstance(cell, stores.Segment)]
     for _, cell in held:
         key = cell.key
         lowest = next(number for number, other in held if other.key == key)
@@ -65,10 +66,10 @@ def findings(joining):
     """What the program must find in a recording, but for the octets that it read."""
     lines = [f"packets {joining.seen}", f"whole {joining.whole}", f"joined {joining.joined}", f"kept {joining.kept}"]
     lines += [f"long {joining.passed}", f"segments {joining.segments}", f"keys {joining.keys}", f"written {len(joining.output)}"]
-    lines += [f"refused {sum(joining.refused.values())}", f"used {joining.place}"]
+    lines += [f"refused {sum(joining.refused.values())}", f"used {joining.place}", f"late {joining.late}", f"forgot {joining.forgot}"]
     lines += [f"refusal {number} {joining.refused[number]}" for number in sorted(joining.refused)]
     lines += ["began {} {}".format(*joining.most_began())] if joining.began else []
-    return lines + [*segment_lines(joining.cells), f"stop {STOPS.index(joining.stop) + 1}", "done"]
+    return lines + [*segment_lines(joining.store.cells), f"stop {STOPS.index(joining.stop) + 1}", "done"]
 
 
 def fault(stream):
@@ -79,7 +80,7 @@ def fault(stream):
         return f"it did not end within {SECONDS} s"
     if ran.returncode != 0:
         return f"it ended with status {ran.returncode}"
-    joining = model.Joining(stream)
+    joining = stores.Joining(stream)
     if ran.stdout != joining.output:
         return "it wrote something else than the model"
     said = [line for line in ran.stderr.decode("ascii").splitlines() if not line.startswith("read ")]
@@ -186,8 +187,8 @@ def vectors(folder):
     """The whole recordings of the cases, each held to the output that its case gives."""
     for row in cases.rows(folder, "program"):
         stream, out = cases.octets(row["stream"]), cases.octets(row["expect"]["out"])
-        if model.Joining(stream).output != out:
-            sys.exit("recordings.py: tests/model.py disagrees with a case of program.jsonl")
+        if stores.Joining(stream).output != out:
+            sys.exit("recordings.py: tests/store.py disagrees with a case of program.jsonl")
         yield stream
 
 

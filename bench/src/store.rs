@@ -1,4 +1,4 @@
-//! Arrival and taking.
+//! Arrival, the order of a store, and taking.
 
 use std::hint::black_box;
 
@@ -74,6 +74,69 @@ fn arrivals(cells: usize, wanted: &str) -> [Times; 3] {
     [half, full, near]
 }
 
+/// Whose messages the records of a store are of.
+#[derive(Clone, Copy)]
+enum Taken {
+    /// Each of another key, with sixteen counters.
+    Many,
+    /// All of one key, with 4,095 counters each, one after the other: between two of them one counter is left.
+    One,
+}
+
+impl Taken {
+    fn name(self) -> &'static str {
+        match self {
+            Taken::Many => "half records of many keys",
+            Taken::One => "half records of one key, 4,095 counters each",
+        }
+    }
+
+    /// The transaction id, the first counter and the last of record k; the counter after the last is in no record.
+    fn range(self, k: u32) -> (u64, u32, u32) {
+        match self {
+            Taken::Many => (1000 + u64::from(k), 0, 15),
+            Taken::One => (9, k << 12, (k << 12) + 4094),
+        }
+    }
+
+    /// A store with records in half its cells and a segment just after each in the others, in turn.
+    fn store(self, cells: usize) -> Vec<u8> {
+        let mut filled = vec![];
+        for k in 0..cells as u32 / 2 {
+            let (transaction, first, last) = self.range(k);
+            let after = packet(&plain(transaction), 0, 0, u64::from(last) + 1, LARGEST);
+            let record = [b"MT", &after[..2], &after[6..27], &first.to_be_bytes(), &last.to_be_bytes()].concat();
+            filled.extend(record);
+            filled.resize((2 * k as usize + 1) * CELL, 0);
+            filled.extend(store(1, &[after]));
+        }
+        filled
+    }
+}
+
+/// The order of a full store with records, and an arrival of the last segment of the record in its last cell but one.
+fn records(cells: usize, taken: Taken) -> [Times; 2] {
+    let (mut ours, mut theirs) = (taken.store(cells), taken.store(cells));
+    let order = both(
+        &mut || {
+            let order = orlyukan::in_order(T, black_box(&ours));
+            order.refusal + order.cells
+        },
+        &mut || match model::in_order(T, black_box(&theirs)) {
+            Ok(order) => order.cells as u64,
+            Err(model::Refusal { number, .. }) => number.into(),
+        },
+    );
+    line("in_order", &format!("{cells} cells, full, {}", taken.name()), order, "-");
+    let (transaction, _, last) = taken.range(cells as u32 / 2 - 1);
+    let late = packet(&plain(transaction), 2, 0, last.into(), LARGEST);
+    let arrive = both(&mut || kind(orlyukan::arrive(T, black_box(&mut ours), black_box(&late))), &mut || {
+        model_kind(model::arrive(T, black_box(&mut theirs), black_box(&late)))
+    });
+    line("arrive", &format!("{cells} cells, full, {}, a late repeat", taken.name()), arrive, "-");
+    [order, arrive]
+}
+
 struct Buffers {
     given: Vec<u8>,
     store: Vec<u8>,
@@ -106,8 +169,18 @@ pub fn run() {
     take(32, 32);
     take(4096, 4096);
     for (name, (middle, large)) in ["half full", "full", "near keys"].iter().zip(middle.iter().zip(&large)) {
-        let (ours, model) = (large.ours / middle.ours, large.model / middle.model);
-        let times = format!("{} over {}", shown(large.ours), shown(middle.ours));
-        println!("| arrive | {name}: time at 4,096 cells over time at 256 | {ours:.1} ({times}) | {model:.1} | | at most 24 |");
+        growth("arrive", name, middle, large);
     }
+    for taken in [Taken::Many, Taken::One] {
+        let (middle, large) = (records(256, taken), records(4096, taken));
+        growth("in_order", taken.name(), &middle[0], &large[0]);
+        growth("arrive", taken.name(), &middle[1], &large[1]);
+    }
+}
+
+/// The line of how a time grows with the cells.
+fn growth(call: &str, name: &str, middle: &Times, large: &Times) {
+    let (ours, model) = (large.ours / middle.ours, large.model / middle.model);
+    let times = format!("{} over {}", shown(large.ours), shown(middle.ours));
+    println!("| {call} | {name}: time at 4,096 cells over time at 256 | {ours:.1} ({times}) | {model:.1} | | at most 24 |");
 }

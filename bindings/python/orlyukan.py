@@ -26,6 +26,7 @@ __all__ = [
     "arrive",
     "cut_count",
     "cut_packet",
+    "forget",
     "in_order",
     "join",
     "join_recording",
@@ -43,7 +44,7 @@ __all__ = [
 
 _MOST = 2**64 - 1
 _PARTS = 16
-_KINDS = ("", "whole", "stored", "held")
+_KINDS = ("", "whole", "stored", "held", "taken")
 _WHICH = ("", "packet", "joined")
 _STOPS = ("", "ended", "unmarked", "torn")
 _ENTRIES = ("skipped", "kept")
@@ -293,17 +294,24 @@ def in_order(t, store, *, profile=0):
 
 
 def arrive(t, store, packet, *, profile=0):
-    """Takes a packet into the store: 'whole', 'stored' or 'held'."""
+    """Takes a packet into the store: 'whole', 'stored', 'held', or 'taken' for a late repeat, a segment of a message that was taken."""
     n = _run("arrive", 4, *_settings(t, profile), *_changed(store), *_lent(packet))
     return Answer(refusal=n[0], kind=_KINDS[n[1]], off=n[2], began=n[3])
 
 
 def take(t, store, out, *, profile=0):
     """Takes the complete message with its first in the lowest cell out of the store, into the front of out: the octets of its
-    header and its body, and its first segment's counter."""
+    header and its body, and its first segment's counter. A record of it stays in that cell, by which late repeats of its segments are
+    known."""
     _apart(store, out)
     n = _run("take", 4, *_settings(t, profile), *_changed(store), *_changed(out))
     return Answer(refusal=n[0], H=n[1], B=n[2], counter=n[3])
+
+
+def forget(t, store, number, *, profile=0):
+    """Forgets the record of a message that was taken, by the number of its cell from 0, which is free then: 31 if the cell has none."""
+    n = _run("forget", 1, *_settings(t, profile), *_changed(store), _number(number if _fits(number) else _MOST))
+    return Answer(refusal=n[0])
 
 
 def join(t, store, packet, out, *, profile=0):
@@ -330,7 +338,8 @@ def view(packet, joined, which, place, length):
 def join_recording(recording, out, *, t=8, profile=0):
     """Joins a recording into the front of out, which has at least as many octets (else 21), with 32 cells: the octets written, the place in
     the recording where it stopped, and why. 'ended' says that all of it was read; 'unmarked' that other octets than a mark follow;
-    'torn' that a mark, or the packet after it, is not whole."""
+    'torn' that a mark, or the packet after it, is not whole. If no cell is free, the record of a taken message in the lowest cell is
+    forgotten."""
     n = _run("join_recording", 4, *_settings(t, profile), *_lent(recording), *_changed(out))
     return Answer(refusal=n[0], written=n[1], place=n[2], stop=_STOPS[n[3]])
 

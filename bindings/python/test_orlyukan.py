@@ -16,12 +16,13 @@ sys.path[:0] = [str(pathlib.Path(__file__).resolve().parent), str(ROOT / "tests"
 import model
 import office
 import orlyukan
+import store as stores
 
 VECTORS = pathlib.Path(os.environ.get("ORLYUKAN_VECTORS", ROOT.parent / "shared" / "vectors"))
 FIGURE_14 = bytes.fromhex("18 05 C0 00 00 14 00 00 01 00 02 00 03 01 20 06 00 07 00 00 00 00 00 00 00 09 00")
 HUGE = (-1, 2**64, 2**64 + 5, -(2**70), 2**200)
 # The change requests that have landed and have cases of their own, in the order in which they landed.
-LANDED = ("T-01", "T-04", "T-12", "T-10", "T-09", "T-08", "T-02")
+LANDED = ("T-01", "T-04", "T-12", "T-10", "T-09", "T-08", "T-02", "T-06")
 # The cases' names for what the calls name otherwise.
 NAMES = {"seq": "sequence_count", "c": "counter"}
 PRESENCE = "source destination priority timestamp zone session_name domain authentication".split()
@@ -173,6 +174,13 @@ class Cases(unittest.TestCase):
 
         self.each("take", run)
 
+    def test_forget(self):
+        def run(case):
+            store = bytearray(octets(case["store"]))
+            return told(orlyukan.forget(case["T"], store, case["number"], **profile(case))), {"store": store}
+
+        self.each("forget", run)
+
     def test_join(self):
         def run(case):
             store, out = bytearray(octets(case["store"])), bytearray(octets(case["out"]))
@@ -267,7 +275,7 @@ class Names(unittest.TestCase):
     def test_calls(self):
         calls = re.findall(r"^void orl_(\w+)\(", self.text, re.MULTILINE)
         self.assertEqual(sorted(orlyukan.__all__), sorted(calls))
-        self.assertEqual(len(calls), 18)
+        self.assertEqual(len(calls), 19)
 
     def test_answers(self):
         store, out, sender, head = bytearray(1024), bytearray(64), {"sequence_count": 7, "counter": 5}, figure_14()
@@ -280,6 +288,7 @@ class Names(unittest.TestCase):
             "cut_packet_answer": orlyukan.cut_packet(8, 64, head, b"12345", sender, 0, out),
             "arrive_answer": orlyukan.arrive(8, store, FIGURE_14),
             "take_answer": orlyukan.take(8, store, out),
+            "forget_answer": orlyukan.forget(8, store, 0),
             "join_answer": orlyukan.join(8, store, FIGURE_14, out),
             "in_order_answer": orlyukan.in_order(8, store),
             "join_recording_answer": orlyukan.join_recording(b"", out),
@@ -535,6 +544,7 @@ class Numbers(unittest.TestCase):
             self.assertEqual(orlyukan.write(huge, figure_14(), 3, 0, 0, b"", bytearray(30)).refusal, 15)
             self.assertEqual(orlyukan.arrive(huge, bytearray(1024), FIGURE_14).refusal, 15)
             self.assertEqual(orlyukan.take(huge, bytearray(1024), bytearray(30)).refusal, 15)
+            self.assertEqual(orlyukan.forget(huge, bytearray(1024), 0).refusal, 15)
             self.assertEqual(orlyukan.join(huge, bytearray(1024), FIGURE_14, bytearray(30)).refusal, 15)
             self.assertEqual(orlyukan.in_order(huge, bytearray(1024)).refusal, 15)
             self.assertEqual(orlyukan.join_recording(b"", bytearray(), t=huge).refusal, 15)
@@ -555,6 +565,7 @@ class Numbers(unittest.TestCase):
                 orlyukan.in_order(8, store, profile=unknown),
                 orlyukan.arrive(8, store, FIGURE_14, profile=unknown),
                 orlyukan.take(8, store, out, profile=unknown),
+                orlyukan.forget(8, store, 0, profile=unknown),
                 orlyukan.join(8, store, FIGURE_14, out, profile=unknown),
                 orlyukan.join_recording(b"", out, profile=unknown),
                 orlyukan.salvage(8, b"a", 0, 0, 1, 2, profile=unknown),
@@ -678,6 +689,8 @@ class Buffers(unittest.TestCase):
             self.assertEqual(told(orlyukan.arrive(8, store, packet[:size])), {"refusal": 0, "kind": kind, "off": 0, "began": 0})
         self.assertEqual(told(orlyukan.take(8, store, out)), {"refusal": 0, "H": 21, "B": 38, "counter": 3})
         self.assertEqual(out[23:61], body)
+        self.assertEqual((store[:4], store[25:33], store[1024:]), (b"MT\x18\x05", b"\0\0\0\3\0\0\0\4", bytes(1024)))
+        self.assertEqual(told(orlyukan.forget(8, store, 0)), {"refusal": 0})
         self.assertEqual(store, bytes(2048))
 
     def test_refused_words(self):
@@ -688,6 +701,8 @@ class Buffers(unittest.TestCase):
             orlyukan.join(8, same, FIGURE_14, same)
         with self.assertRaises(TypeError):
             orlyukan.arrive(8, bytes(1024), FIGURE_14)
+        with self.assertRaises(TypeError):
+            orlyukan.forget(8, bytes(1024), 0)
         with self.assertRaises(TypeError):
             orlyukan.read(8.0, FIGURE_14)
         with self.assertRaises(TypeError):
@@ -702,6 +717,126 @@ class Buffers(unittest.TestCase):
         self.assertEqual(orlyukan.arrive(8, bytearray(), FIGURE_14).refusal, 16)
         self.assertEqual(orlyukan.join(8, bytearray(1024), FIGURE_14, bytearray()).which, "packet")
         self.assertEqual(orlyukan.view(b"", b"", "", 0, 0), b"")
+
+
+class Late(unittest.TestCase):
+    """Taken messages and their late repeats: docs/DECISIONS.md, S13 to S17, J1 and P5, each by its smallest input, the library beside the model."""
+
+    head = FIGURE_14[6:]
+
+    def segment(self, flags, counter, body=b"x"):
+        data = self.head + counter.to_bytes(4, "big") + body
+        return FIGURE_14[:2] + bytes([flags << 6, 0]) + (len(data) - 1).to_bytes(2, "big") + data
+
+    def record(self, first, last, head=head):
+        return (b"MT" + FIGURE_14[:2] + head + first.to_bytes(4, "big") + last.to_bytes(4, "big")).ljust(1024, b"\0")
+
+    def cell(self, packet=b""):
+        return (b"MS" + packet if packet else b"").ljust(1024, b"\0")
+
+    def in_order(self, *cells):
+        given = b"".join(cells)
+        refusal = orlyukan.in_order(8, given).refusal
+        self.assertEqual(refusal, stores.in_order(8, given)["refusal"])
+        return refusal == 0
+
+    def arrives(self, packet, *cells):
+        given = b"".join(cells)
+        after = bytearray(given)
+        answer = told(orlyukan.arrive(8, after, packet))
+        self.assertEqual((answer, bytes(after)), stores.arrive(8, given, packet))
+        return answer["refusal"] or answer["kind"]
+
+    def forgets(self, number, *cells):
+        """What forgetting answers; on success all cells but this one are as they were."""
+        given = bytearray(b"".join(cells))
+        refusal = orlyukan.forget(8, given, number).refusal
+        must = [bytes(1024) if refusal == 0 and k == number else cell for k, cell in enumerate(cells)]
+        self.assertEqual(given, b"".join(must))
+        return refusal
+
+    def test_record(self):
+        """The first's cell has the record, the other is free, and no cell beside them changes."""
+        store = bytearray(self.cell(self.segment(2, 2)) + self.cell(self.segment(1, 1)) + self.cell())
+        self.assertEqual(orlyukan.take(8, store, bytearray(100)).refusal, 0)
+        self.assertEqual(store, self.cell() + self.record(1, 2) + self.cell())
+
+    def test_whatever_the_body(self):
+        record, free = self.record(1, 3), self.cell()
+        for packet, must in (
+            (self.segment(1, 1), "taken"),
+            (self.segment(1, 2), "taken"),
+            (self.segment(2, 3), "taken"),
+            (self.segment(0, 0), "stored"),
+            (self.segment(1, 4), "stored"),
+            (self.segment(1, 1, bytes(5000)), "taken"),
+            (self.segment(1, 4, bytes(5000)), 17),
+            (self.segment(1, 1, b""), 14),
+            (FIGURE_14, "whole"),
+        ):
+            self.assertEqual(self.arrives(packet, record, free), must, packet.hex())
+
+    def test_full(self):
+        """Taken comes before 19, and a cell with a record is not free."""
+        self.assertEqual(self.arrives(self.segment(1, 2), self.record(1, 3)), "taken")
+        self.assertEqual(self.arrives(self.segment(1, 4), self.record(1, 3)), 19)
+
+    def test_joining(self):
+        """After a late repeat another message that is complete comes out."""
+        store = bytearray(self.record(1, 2) + self.cell(self.segment(1, 5, b"five")) + self.cell(self.segment(2, 6, b"six")))
+        out = bytearray(100)
+        answer = orlyukan.join(8, store, self.segment(1, 1), out)
+        self.assertEqual((answer.refusal, answer.counter, answer.B), (0, 5, 7))
+        self.assertEqual(store, self.record(1, 2) + self.record(5, 6) + self.cell())
+
+    def test_order(self):
+        top, other = 4294967295, self.head[:-2] + b"\x0a\0"
+        for cells, must in (
+            ((self.record(1, 2), self.record(1, 2)), True),
+            ((self.record(1, 4), self.record(2, 9)), True),
+            ((self.record(1, 3), self.cell(self.segment(0, 4))), True),
+            ((self.record(1, 3), self.cell(self.segment(0, 0))), True),
+            *(((self.record(1, 3), self.cell(self.segment(0, counter))), False) for counter in (1, 2, 3)),
+            ((self.record(1, 3, other), self.cell(self.segment(0, 2))), True),
+            ((self.record(top, 0),), True),
+            ((self.record(top, 0), self.cell(self.segment(1, 0))), False),
+            ((self.record(0, 4095),), True),
+            ((self.record(0, 4096),), False),
+            ((self.record(0, top),), False),
+            ((self.record(2, 2),), False),
+            ((self.record(2, 1),), False),
+            ((self.record(1, 2)[:-1] + b"\1",), False),
+            ((b"MT".ljust(1024, b"\0"),), False),
+        ):
+            self.assertEqual(self.in_order(*cells), must, b"".join(cells).hex())
+
+    def test_header(self):
+        """A record's header is judged with a counter: one of 252 octets passes, one of 253 does not. So is its identification."""
+        for size, must in ((252, True), (253, False)):
+            texts = size - 21 - 2
+            head = self.head[:-1] + b"\1" + bytes([texts % 128 + 128, texts // 128]) + bytes(texts)
+            self.assertEqual(self.in_order(self.record(1, 2, head)), must, size)
+        for first in (b"\x38\5", b"\x10\5", b"\x1f\xff"):
+            self.assertFalse(self.in_order(b"MT" + first + self.record(1, 2)[4:]))
+        self.assertTrue(self.in_order(b"MT" + b"\x08\5" + self.record(1, 2)[4:]))
+
+    def test_forgetting(self):
+        cells = (self.record(1, 2), self.cell(), self.cell(self.segment(1, 7)))
+        for number, must in ((0, 0), (1, 31), (2, 31), (3, 31), (2**32, 31), (2**64 - 1, 31), *((huge, 31) for huge in HUGE)):
+            self.assertEqual(self.forgets(number, *cells), must, number)
+        self.assertEqual(self.forgets(0, self.record(2, 1)), 16)
+
+    def test_program(self):
+        """Forty messages one after another come out. A late repeat of one whose record is forgotten makes a second one: in a full store that
+        of a message that went out shortly before."""
+        message = lambda n: b"".join(b"MP" + self.segment(flags, 2 * n + k, b"tile") for k, flags in enumerate((1, 2)))
+        once = b"".join(map(message, range(40)))
+        for more, count in ((b"", 40), (message(2), 40), (message(38), 41), (message(39), 40)):
+            recording = once + more
+            out = bytearray(len(recording))
+            answer = orlyukan.join_recording(recording, out)
+            self.assertEqual(out[: answer.written], stores.Joining(recording).output)
+            self.assertEqual(answer.written, count * (6 + 2 + 21 + 8))
 
 
 class Recordings(unittest.TestCase):

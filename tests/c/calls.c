@@ -273,9 +273,18 @@ static void cutting(void) {
     expect("packet 0 to 63 octets", packet(0, out, 63, &length), 21);
 }
 
-/* Figure 8's two packets through a store of two cells, and what comes out (figure 13). */
+/* What forgetting a cell of a store of two answers. */
+static uint64_t forget(uint8_t *store, uint64_t number) {
+    struct orl_forget_answer f = {77};
+    orl_forget(8, ORL_VARINT, store, 2048, number, &f);
+    return f.refusal;
+}
+
+/* Figure 8's two packets through a store of two cells, and what comes out (figure 13). Its record knows them when they come again, until it
+ * is forgotten. */
 static void storing(void) {
-    static uint8_t store[2048];
+    static const uint8_t record[] = {0x4D, 0x54, 0x18, 0x05}, counters[] = {0, 0, 0, 5, 0, 0, 0, 6};
+    static uint8_t store[2048], zeros[2048];
     uint8_t first[64], last[64], out[61];
     size_t first_length = 0, last_length = 0;
     struct orl_arrive_answer a;
@@ -302,6 +311,29 @@ static void storing(void) {
     orl_in_order(8, ORL_VARINT, store, sizeof store, &o);
     expect("in order", o.refusal, 0);
     expect("cells", o.cells, 2);
+    expect_octets("the last's cell is free", store, zeros, 1024);
+    expect_octets("the first's has the record", store + 1024, record, 4);
+    expect_octets("with the header", store + 1028, figure_14 + 6, 21);
+    expect_octets("with both counters", store + 1049, counters, 8);
+    expect_octets("and zeros", store + 1057, zeros, 991);
+    orl_arrive(8, ORL_VARINT, store, sizeof store, last, last_length, &a);
+    expect("the last comes late", a.refusal, 0);
+    expect("taken", a.kind, ORL_TAKEN);
+    orl_join(8, ORL_VARINT, store, sizeof store, first, first_length, out, sizeof out, &j);
+    expect("the first comes late", j.refusal, 20);
+    expect_octets("nothing is stored", store, zeros, 1024);
+    expect("a free cell", forget(store, 0), 31);
+    expect("no cell", forget(store, 2), 31);
+    expect("no cell by far", forget(store, UINT64_MAX), 31);
+    expect("a cell's number and 2 to the 32nd", forget(store, 4294967297u), 31);
+    expect("the record", forget(store, 1), 0);
+    expect_octets("all cells are free", store, zeros, 2048);
+    expect("it is forgotten", forget(store, 1), 31);
+    orl_arrive(8, ORL_VARINT, store, sizeof store, last, last_length, &a);
+    expect("a new segment", a.kind, ORL_STORED);
+    expect("a held cell", forget(store, 0), 31);
+    store[1023] = 1;
+    expect("not in order", forget(store, 0), 16);
 }
 
 /* A packet that comes whole: its body stands where it stood, and nothing is told of a message that was taken. */
@@ -413,6 +445,7 @@ static void fixed(void) {
     for (uint64_t profile = UINT64_MAX; profile > 1; profile /= 2) {
         struct orl_arrive_answer a;
         struct orl_take_answer t;
+        struct orl_forget_answer f;
         struct orl_join_answer j;
         struct orl_in_order_answer o;
         struct orl_join_recording_answer m;
@@ -426,11 +459,12 @@ static void fixed(void) {
                        sizeof out, &p);
         orl_arrive(8, profile, store, sizeof store, figure_14, 27, &a);
         orl_take(8, profile, store, sizeof store, out, sizeof out, &t);
+        orl_forget(8, profile, store, sizeof store, 0, &f);
         orl_join(8, profile, store, sizeof store, figure_14, 27, out, sizeof out, &j);
         orl_in_order(8, profile, store, sizeof store, &o);
         orl_join_recording(8, profile, none, 0, out, sizeof out, &m);
-        const uint64_t refusals[9] = {r.refusal, w.refusal, c.refusal, p.refusal, a.refusal, t.refusal, j.refusal, o.refusal, m.refusal};
-        for (int i = 0; i < 9; i++) expect("a profile that there is not", refusals[i], 15);
+        const uint64_t refusals[10] = {r.refusal, w.refusal, c.refusal, p.refusal, a.refusal, t.refusal, f.refusal, j.refusal, o.refusal, m.refusal};
+        for (int i = 0; i < 10; i++) expect("a profile that there is not", refusals[i], 15);
     }
 }
 

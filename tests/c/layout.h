@@ -139,6 +139,10 @@ FIELD(orl_take_answer, B, 2, 1);
 FIELD(orl_take_answer, counter, 3, 1);
 WHOLE(orl_take_answer, 4);
 
+/* forgetNumbers */
+FIELD(orl_forget_answer, refusal, 0, 1);
+WHOLE(orl_forget_answer, 1);
+
 /* joinNumbers */
 FIELD(orl_join_answer, refusal, 0, 1);
 FIELD(orl_join_answer, which, 1, 1);

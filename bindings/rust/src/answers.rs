@@ -127,6 +127,8 @@ pub enum Kind {
     Whole,
     Stored,
     Held,
+    /// Of a message that was taken before: a late repeat.
+    Taken,
 }
 
 /// An arrival's answer; no kind on a refusal.
@@ -145,6 +147,12 @@ pub struct Taken {
     pub h: u64,
     pub b: u64,
     pub counter: SegmentCounter,
+}
+
+/// A forgetting's answer: nothing beside the refusal.
+#[derive(Clone, Copy, Debug, Default, PartialEq, Eq)]
+pub struct Forgot {
+    pub refusal: u64,
 }
 
 /// Which buffer holds a body.
@@ -187,7 +195,7 @@ macro_rules! answers {
     };
 }
 
-answers!(Written, Cut, CutPacket, Taken, Order);
+answers!(Written, Cut, CutPacket, Taken, Forgot, Order);
 
 /// The answers of the calls that read a packet.
 macro_rules! reading_answers {

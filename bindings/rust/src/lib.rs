@@ -20,14 +20,16 @@ mod recording;
 mod salvage;
 mod store;
 
-pub use answers::{Answer, Arrived, Cut, CutPacket, Joined, Kind, Order, Place, Reading, Refusal, Taken, Which, Written};
+pub use answers::{
+    Answer, Arrived, Cut, CutPacket, Forgot, Joined, Kind, Order, Place, Reading, Refusal, Taken, Which, Written,
+};
 pub use codec::{after_packet, after_segment, cut_count, cut_packet, next_sequence_count, read, write};
 pub use header::{Apid, Header, SecondaryApid, SegmentCounter, Sender, SequenceCount, Settings, FIXED, VARINT};
 pub use office::{to_message, to_pdu, Returned, Route, Sent};
 pub use pdu::{pdu_read, pdu_write, PduHeader, PduReading, PduWritten};
 pub use recording::{join_recording, Recording, Stop};
 pub use salvage::{salvage, Entry, Salvaged};
-pub use store::{arrive, in_order, join, take, view};
+pub use store::{arrive, forget, in_order, join, take, view};
 
 /// The octets of a cell of the store, and the most cells it may have.
 pub const CELL: usize = 1024;

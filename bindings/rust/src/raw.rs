@@ -11,6 +11,7 @@ pub const ORL_FIXED: u64 = 1;
 pub const ORL_WHOLE: u64 = 1;
 pub const ORL_STORED: u64 = 2;
 pub const ORL_HELD: u64 = 3;
+pub const ORL_TAKEN: u64 = 4;
 
 /// Which buffer holds a body.
 pub const ORL_NOTHING: u64 = 0;
@@ -87,6 +88,13 @@ pub struct RawCut {
     pub refusal: u64,
     pub number: u64,
     pub sender: RawSender,
+}
+
+/// The answer of [`orl_forget`].
+#[repr(C)]
+#[derive(Clone, Copy, Debug, Default, PartialEq, Eq)]
+pub struct RawForgot {
+    pub refusal: u64,
 }
 
 /// The answer of [`orl_arrive`].
@@ -234,6 +242,7 @@ extern "C" {
         answer: *mut RawArrived);
     pub fn orl_take(t: u64, profile: u64, store: M, store_length: usize, out: M, out_length: usize,
         answer: *mut RawTaken);
+    pub fn orl_forget(t: u64, profile: u64, store: M, store_length: usize, number: u64, answer: *mut RawForgot);
     pub fn orl_join(t: u64, profile: u64, store: M, store_length: usize, packet: P, packet_length: usize, out: M, out_length: usize,
         answer: *mut RawJoined);
     pub fn orl_view(packet: P, packet_length: usize, joined: P, joined_length: usize, which: u64, place: u64, length: u64,

@@ -1,8 +1,8 @@
-//! The store: arrival, taking, joining, and the view of a body.
+//! The store: arrival, taking, forgetting, joining, and the view of a body.
 
-use crate::answers::{Arrived, Joined, Kind, Order, Taken, Which};
+use crate::answers::{Arrived, Forgot, Joined, Kind, Order, Taken, Which};
 use crate::header::{SegmentCounter, Settings};
-use crate::raw::{self, RawArrived, RawJoined, RawNumber, RawTaken, RawView};
+use crate::raw::{self, RawArrived, RawForgot, RawJoined, RawNumber, RawTaken, RawView};
 
 /// Takes a packet into the store.
 pub fn arrive(settings: impl Into<Settings>, store: &mut [u8], packet: &[u8]) -> Arrived {
@@ -14,18 +14,30 @@ pub fn arrive(settings: impl Into<Settings>, store: &mut [u8], packet: &[u8]) ->
         raw::ORL_WHOLE => Some(Kind::Whole),
         raw::ORL_STORED => Some(Kind::Stored),
         raw::ORL_HELD => Some(Kind::Held),
+        raw::ORL_TAKEN => Some(Kind::Taken),
         _ => None,
     };
     Arrived { refusal: answer.refusal, kind, off: answer.off, began: answer.began }
 }
 
-/// Takes the complete message with its first in the lowest cell out of the store, into the front of `out`.
+/// Takes the complete message with its first in the lowest cell out of the store, into the front of `out`. A record of it stays in that
+/// cell, by which late repeats of its segments are known.
 pub fn take(settings: impl Into<Settings>, store: &mut [u8], out: &mut [u8]) -> Taken {
     let mut answer = RawTaken::default();
     let s = settings.into();
     // SAFETY: each slice's pointer is valid for its length; store and output are each lent to us alone.
     unsafe { raw::orl_take(s.t, s.profile, store.as_mut_ptr(), store.len(), out.as_mut_ptr(), out.len(), &mut answer) };
     Taken { refusal: answer.refusal, h: answer.h, b: answer.b, counter: SegmentCounter(answer.counter) }
+}
+
+/// Forgets the record of a message that was taken, by the number of its cell from 0, which is free then; refused with 31 if the cell has
+/// no such record.
+pub fn forget(settings: impl Into<Settings>, store: &mut [u8], number: u64) -> Forgot {
+    let mut answer = RawForgot::default();
+    let s = settings.into();
+    // SAFETY: the slice's pointer is valid for its length; the store is lent to us alone.
+    unsafe { raw::orl_forget(s.t, s.profile, store.as_mut_ptr(), store.len(), number, &mut answer) };
+    Forgot { refusal: answer.refusal }
 }
 
 /// Arrival, and if the packet did not come whole, taking.

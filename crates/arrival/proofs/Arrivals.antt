@@ -10,7 +10,7 @@ use native.Mathlib.Omega.{arith}
 use lib.ListN.{length, drop, length-take, length-drop}
 use lib.Seq.{sets}
 use lib.Dec.{leb, eqb}
-use borrow.Author.Tests.{le-leb, lt-leb, leb-true, leb-false, eq-eqb, ne-eqb, eqb-true, eqb-false}
+use borrow.Author.Tests.{le-leb, lt-leb, leb-true, eq-eqb, ne-eqb, eqb-true, eqb-false, not-true, not-false}
 use Rattle.octets.specs.Octets.{pick, Octets, octetAt, part, alike}
 use Rattle.octets.proofs.Lists.{alike-true, bool}
 use Rattle.walk.specs.declared.Settings.{Settings}
@@ -21,14 +21,15 @@ use Rattle.packet.specs.Key.{keyOf}
 use Rattle.cells.specs.Segments.{Seg, segOf, sameRest, both}
 use Rattle.cells.specs.Rows.{rowAt, zeroRow, heldRow, packetIn}
 use Rattle.cells.specs.Inner.{Asked}
-use Rattle.cells.specs.Order.{isFree, lowest, cellAt, foundIn}
+use Rattle.cells.specs.Order.{isFree, lowest, cellAt, foundIn, untakenTo}
 use Rattle.cells.proofs.Scans.{free-is}
 use Rattle.cells.proofs.Held.{flags-same, both-true}
 use Rattle.cells.proofs.Laid.{held-laid}
-use Rattle.arrival.specs.Arriving.{whole, stored, again, refused, placed, beside, lowestFree, segmentArrived, arrivedIn, storeWith}
+use Rattle.arrival.specs.Arriving.{Arrived, whole, stored, again, late, refused, placed, beside, lowestFree}
+use Rattle.arrival.specs.Arriving.{segmentArrived, segmentCame, arrivedIn, storeWith}
 use Rattle.cells.specs.declared.messages.Piece.{Piece}
 use Rattle.cells.specs.Pieces.{segIn, pieceOf}
-use Rattle.arrival.specs.Inner.{segWith, segmentFits, unstoredOf}
+use Rattle.arrival.specs.Inner.{segWith, isSegment, unstoredOf, unplacedOf}
 use Rattle.cells.proofs.Looks.{lowest-holds, lowest-same, look-found, look-none}
 use Rattle.cells.proofs.Found.{found-held}
 
@@ -148,66 +149,72 @@ module _ (s : Settings) (Z : ℕ) (st p : List ℕ) (n : ℕ) {h : Header} (e : 
       pub packet-asked : Octets p → Asked s p (h .body .at)
       packet-asked o = record { octets = o; accepted = fine; segment = packet-segment; body = ap (λ (x : Header). x .body .at) e }
 
-      pub packet-long : Z < 2 + length p → arrivedIn s Z st n p ≡ refused (refusal 17)
-      unfolding arrivedIn
-      packet-long l = rw (eq-eqb r 0 fine, packet-segment, lt-leb (2 + length p) Z l) refl
-
-      pub packet-fits :
-          2 + length p ≤ Z →
-          segmentArrived s Z st n (segWith s p (h .primary .flags) (h .body .at) (h .body .length) (h .ids .counter .0)) ≡ arrivedIn s Z st n p
+      pub packet-came :
+          segmentCame s Z st n (segWith s p (h .primary .flags) (h .body .at) (h .body .length) (h .ids .counter .0)) (length p) ≡ arrivedIn s Z st n p
       unfolding arrivedIn segWith segOf
-      packet-fits l =
-          ap (λ (x : Header). segmentArrived s Z st n (segWith s p (x .primary .flags) (x .body .at) (x .body .length) (x .ids .counter .0))) e
-          ∙ sym (rw (eq-eqb r 0 fine, packet-segment, le-leb (2 + length p) Z l) refl)
+      packet-came =
+          ap (λ (x : Header). segmentCame s Z st n (segWith s p (x .primary .flags) (x .body .at) (x .body .length) (x .ids .counter .0)) (length p)) e
+          ∙ sym (rw (eq-eqb r 0 fine, packet-segment) refl)
 
--- ---- a packet, as the code tells a segment that fits a cell from any other
+-- ---- a segment, by whether a record covers it and whether it fits a cell
 
-not-true : (b : Bool) → not b ≡ true → b ≡ false
-not-true false e = refl
-not-true true e = absurd (let z : _≡_ {A = ℕ} 0 1 = cc in omega arith)
+module _ (s : Settings) (Z : ℕ) (st : List ℕ) (n : ℕ) (t : Seg) (long : ℕ) {u b : Bool} (eu : u ≡ untakenTo s Z st n (t .key) (t .counter))
+    (eb : b ≡ both u (leb (2 + long) Z)) where
+  tests : b ≡ true → (u ≡ true) × (leb (2 + long) Z ≡ true)
+  tests y = both-true u (leb (2 + long) Z) (sym eb ∙ y)
 
-not-false : (b : Bool) → not b ≡ false → b ≡ true
-not-false true e = refl
-not-false false e = absurd (let z : _≡_ {A = ℕ} 0 1 = cc in omega arith)
+  pub came-fits : b ≡ true → 2 + long ≤ Z
+  came-fits y = leb-true (2 + long) Z (tests y .1)
+
+  pub came-placed : b ≡ true → segmentArrived s Z st n t ≡ segmentCame s Z st n t long
+  unfolding segmentCame
+  came-placed y = rw (sym eu ∙ tests y .0, tests y .1) refl
+
+  -- taken comes before 17
+  pub came-unplaced : b ≡ false → unplacedOf u ≡ segmentCame s Z st n t long
+  unfolding segmentCame
+  came-unplaced y = go u (leb (2 + long) Z) (sym eb ∙ y) ∙ ap (λ (v : Bool). by v (leb (2 + long) Z)) eu
+    where
+      by : Bool → Bool → Arrived
+      by v f = pick v (pick f (segmentArrived s Z st n t) (refused (refusal 17))) late
+
+      go : (v f : Bool) → both v f ≡ false → unplacedOf v ≡ by v f
+      go true true e = absurd (let z : _≡_ {A = ℕ} 0 1 = cc in omega arith)
+      go true false e = refl
+      go false f e = refl
+
+pub unplaced-store : (u : Bool) (Z : ℕ) (st p : List ℕ) → st ≡ storeWith Z st p (unplacedOf u)
+unfolding storeWith
+unplaced-store true Z st p = refl
+unplaced-store false Z st p = refl
+
+-- ---- a packet, as the code tells a segment from any other
 
 module _ (h : Header) where
   abbrev number : ℕ
   number = h .refusal .number
 
-  abbrev flags : ℕ
-  flags = h .primary .flags
-
   pub unstored-bad : (number ≡ 0 → ⊥) → refused (h .refusal) ≡ unstoredOf h
   unfolding unstoredOf
   unstored-bad bad = rw (ne-eqb number 0 bad) refl
 
-  module _ (ok : number ≡ 0) where
-    pub unstored-whole : flags ≡ 3 → whole ≡ unstoredOf h
-    unfolding unstoredOf
-    unstored-whole f = rw (eq-eqb number 0 ok, eq-eqb flags 3 f) refl
-
-    pub unstored-long : (flags ≡ 3 → ⊥) → refused (refusal 17) ≡ unstoredOf h
-    unfolding unstoredOf
-    unstored-long f = rw (eq-eqb number 0 ok, ne-eqb flags 3 f) refl
+  pub unstored-whole : number ≡ 0 → whole ≡ unstoredOf h
+  unfolding unstoredOf
+  unstored-whole ok = rw (eq-eqb number 0 ok) refl
 
   -- it leaves the store as it is
   pub unstored-store : (Z : ℕ) (st p : List ℕ) → st ≡ storeWith Z st p (unstoredOf h)
   unfolding unstoredOf storeWith
-  unstored-store Z st p = go (eqb number 0) (eqb flags 3)
+  unstored-store Z st p = go (eqb number 0)
     where
-      go : (a b : Bool) → st ≡ storeWith Z st p (pick a (pick b whole (refused (refusal 17))) (refused (h .refusal)))
-      go true true = refl
-      go true false = refl
-      go false b = refl
+      go : (a : Bool) → st ≡ storeWith Z st p (pick a whole (refused (h .refusal)))
+      go true = refl
+      go false = refl
 
-module _ (s : Settings) (Z : ℕ) (st p : List ℕ) (n : ℕ) {h : Header} (e : h ≡ readPacket s p) {b : Bool} (eb : b ≡ segmentFits h (length p) Z) where
+module _ (s : Settings) (Z : ℕ) (st p : List ℕ) (n : ℕ) {h : Header} (e : h ≡ readPacket s p) {b : Bool} (eb : b ≡ isSegment h) where
   module _ (y : not b ≡ false) where
-    tests : (both (eqb (h .refusal .number) 0) (not (eqb (h .primary .flags) 3)) ≡ true) × (leb (2 + length p) Z ≡ true)
-    tests = both-true (both (eqb (h .refusal .number) 0) (not (eqb (h .primary .flags) 3))) (leb (2 + length p) Z)
-        (sym eb ∙ not-false b y)
-
     first-tests : (eqb (h .refusal .number) 0 ≡ true) × (not (eqb (h .primary .flags) 3) ≡ true)
-    first-tests = both-true (eqb (h .refusal .number) 0) (not (eqb (h .primary .flags) 3)) (tests .0)
+    first-tests = both-true (eqb (h .refusal .number) 0) (not (eqb (h .primary .flags) 3)) (sym eb ∙ not-false b y)
 
     ok : h .refusal .number ≡ 0
     ok = eqb-true (h .refusal .number) 0 (first-tests .0)
@@ -218,12 +225,9 @@ module _ (s : Settings) (Z : ℕ) (st p : List ℕ) (n : ℕ) {h : Header} (e : 
     pub told-asked : Octets p → Asked s p (h .body .at)
     told-asked = packet-asked s Z st p n e ok more
 
-    pub told-fits : 2 + length p ≤ Z
-    told-fits = leb-true (2 + length p) Z (tests .1)
-
     pub told-segment :
-        segmentArrived s Z st n (segWith s p (h .primary .flags) (h .body .at) (h .body .length) (h .ids .counter .0)) ≡ arrivedIn s Z st n p
-    told-segment = packet-fits s Z st p n e ok more told-fits
+        segmentCame s Z st n (segWith s p (h .primary .flags) (h .body .at) (h .body .length) (h .ids .counter .0)) (length p) ≡ arrivedIn s Z st n p
+    told-segment = packet-came s Z st p n e ok more
 
   -- any other packet
   pub told-other : not b ≡ true → unstoredOf h ≡ arrivedIn s Z st n p
@@ -236,8 +240,8 @@ module _ (s : Settings) (Z : ℕ) (st p : List ℕ) (n : ℕ) {h : Header} (e : 
       accepted g =
           let ok = eqb-true (h .refusal .number) 0 g in
           ⊎-elim
-          (λ f. let d = eqb-true (h .primary .flags) 3 f in sym (unstored-whole h ok d) ∙ sym (packet-whole s Z st p n e ok d))
-          (λ f. let d = eqb-false (h .primary .flags) 3 f in
-          let l : leb (2 + length p) Z ≡ false = sym (rw (g, f) at eb) ∙ not-true b x in
-          sym (unstored-long h ok d) ∙ sym (packet-long s Z st p n e ok d (leb-false (2 + length p) Z l)))
+          (λ f. let d = eqb-true (h .primary .flags) 3 f in sym (unstored-whole h ok) ∙ sym (packet-whole s Z st p n e ok d))
+          (λ f.
+          let w : true ≡ false = sym (eb ∙ ap₂ (λ (a c : Bool). both a (not c)) g f) ∙ not-true b x in
+          let z : _≡_ {A = ℕ} 0 1 = cc in absurd (omega arith))
           (bool (eqb (h .primary .flags) 3))

@@ -12,15 +12,16 @@ use lib.Seq.{length-sets}
 use Rattle.walk.specs.declared.Settings.{Settings}
 use Rattle.walk.specs.Walk.{begun, refusal}
 use Rattle.cells.specs.Segments.{Seg, carries}
-use Rattle.cells.specs.Rows.{held, heldRow}
-use Rattle.cells.specs.Order.{isSound, carriesIn, cellAt, countIn, inOrder, gate}
+use Rattle.cells.specs.Rows.{held, taken, heldRow}
+use Rattle.cells.specs.Order.{isSound, carriesIn, covers, cellAt, countIn, inOrder, gate}
 use Rattle.cells.proofs.Gate.{through-tells, open-true}
 use Rattle.cells.proofs.Lowest.{same-or}
 use Rattle.cells.proofs.Listed.{among-below}
 use Rattle.cells.proofs.Looking.{look-none}
 use Rattle.cells.proofs.Distinct.{Apart, carries-yes}
+use Rattle.cells.proofs.Covered.{Missed, Clear, untaken-missed}
 use Rattle.cells.proofs.StoreOrder.{cells-inside, Ordered, order-tells, order-same}
-use Rattle.arrival.specs.Arriving.{Arrived, whole, stored, again, refused, arrivedIn, arrived, storeWith}
+use Rattle.arrival.specs.Arriving.{Arrived, whole, stored, again, late, refused, arrivedIn, arrived, storeWith}
 use Rattle.arrival.proofs.After.{segment, Stored, not-refused, stored-tells, cell-kept, cell-stored}
 
 pub arrive-long : (Z : ℕ) (st p : List ℕ) (a : Arrived) → length (storeWith Z st p a) ≡ length st
@@ -28,6 +29,7 @@ unfolding storeWith
 arrive-long Z st p whole = refl
 arrive-long Z st p (stored i) = length-sets st (i * Z) (heldRow Z p)
 arrive-long Z st p again = refl
+arrive-long Z st p late = refl
 arrive-long Z st p (refused k) = refl
 
 module _ (s : Settings) (Z : ℕ) (st p : List ℕ) where
@@ -83,6 +85,23 @@ module _ (s : Settings) (Z : ℕ) (st p : List ℕ) where
             absurd (other j t l (sym (kept j c) ∙ a) (ap (λ (y : Seg). y .key) v ∙ sym p′) (ap (λ (y : Seg). y .counter) v ∙ sym q))
         go (inr c) (inr d) = o .apart j k t u l m (sym (kept j c) ∙ a) (sym (kept k d) ∙ b) p′ q
 
+    -- no record covers the new one
+    stored-clear : Clear s Z x (countIn Z st)
+    stored-clear j k t g l m a b = go (same-or j i) (same-or k i)
+      where
+        missed : Missed s Z st (countIn Z st) (segment s p .key) (segment s p .counter)
+        missed = untaken-missed s Z st (countIn Z st) (segment s p .key) (segment s p .counter) (h .untaken)
+
+        go : (j ≡ i) ⊎ (j ≢ i) → (k ≡ i) ⊎ (k ≢ i) → covers (t .key) (t .counter) g ≡ false
+        go y (inl d) =
+            let e : held (segment s p) ≡ taken g = sym there ∙ ap (cellAt s Z x) (sym d) ∙ b in
+            let z : _≡_ {A = ℕ} 0 1 = cc in absurd (omega arith)
+        go (inl c) (inr d) =
+            let e : held (segment s p) ≡ held t = sym there ∙ ap (cellAt s Z x) (sym c) ∙ a in
+            let v : segment s p ≡ t = cc e in
+            ap (λ (y : Seg). covers (y .key) (y .counter) g) (sym v) ∙ missed k g m (sym (kept k d) ∙ b)
+        go (inr c) (inr d) = o .clear j k t g l m (sym (kept j c) ∙ a) (sym (kept k d) ∙ b)
+
   -- S-9: a store in order is in order after an arrival
   pub arrive-keeps : inOrder s Z st ≡ true → inOrder s Z (storeWith Z st p (arrived s Z st p)) ≡ true
   unfolding storeWith
@@ -94,5 +113,7 @@ module _ (s : Settings) (Z : ℕ) (st p : List ℕ) where
           let o = order-tells s Z st w in
           let d = arrived-tells i e .1 .1 in
           order-same s Z st (storeWith Z st p (stored i)) (arrive-long Z st p (stored i)) o (stored-sound o i d) (stored-apart o i d)
+          (stored-clear o i d)
       go again e = w
+      go late e = w
       go (refused k) e = w

@@ -1,6 +1,7 @@
 -- A packet arrives at a store.
--- SPEC S-7: an unsegmented packet is told as whole; a new segment takes the lowest free cell; one that is there already is held, room
--- or not. The tests in their order: 15, 16, reading's, whole, 17, held, 18, 19. Reading's refusal is told whole (R-10).
+-- SPEC S-7: an unsegmented packet is told as whole; a segment that lies in a taken range, whatever its flags and body, as taken; a new
+-- segment goes to the lowest free cell; one that is there already is held, room or not. The tests in their order: 15, 16, reading's, whole,
+-- taken, 17, held, 18, 19. Reading's refusal is told whole (R-10).
 -- Assumes nothing: these are definitions.
 use Prim.Native.Nat.{ℕ, _+_, _*_}
 use mathlib.Core.List.{List}
@@ -15,14 +16,15 @@ use Rattle.walk.specs.Walk.{refusal}
 use Rattle.packet.specs.Reading.{readPacket, segmented}
 use Rattle.cells.specs.Segments.{Seg, segOf, sameRest}
 use Rattle.cells.specs.Rows.{heldRow}
-use Rattle.cells.specs.Order.{isFree, lowest, cellAt, countIn, gate, through}
+use Rattle.cells.specs.Order.{isFree, lowest, cellAt, untakenTo, countIn, gate, through}
 use Rattle.cells.specs.Messages.{cellsOf, look}
 
--- what an arrival comes to: a new segment with the cell it goes to
+-- what an arrival comes to: a new segment with the cell it goes to; one that is held already; one of a message that was taken
 pub data Arrived : Type 0 where
   whole : Arrived
   stored : ℕ → Arrived
   again : Arrived
+  late : Arrived
   refused : Refusal → Arrived
 
 -- the cell that a new segment goes to, of n: 19 if none is free
@@ -41,13 +43,18 @@ lowestFree s Z st n = lowest (λ i. isFree (cellAt s Z st i)) n 0
 unfoldable pub segmentArrived : Settings → ℕ → List ℕ → ℕ → Seg → Arrived
 segmentArrived s Z st n t = beside (look (cellsOf s Z st n) (t .key) (t .counter)) t (placed n (lowestFree s Z st n))
 
+-- a segment whose packet has so many octets: no record covers it, and it fits a cell
+unfoldable pub segmentCame : Settings → ℕ → List ℕ → ℕ → Seg → ℕ → Arrived
+segmentCame s Z st n t long =
+    pick (untakenTo s Z st n (t .key) (t .counter))
+    (pick (leb (2 + long) Z) (segmentArrived s Z st n t) (refused (refusal 17)))
+    late
+
 -- a packet at a store that is in order
 unfoldable pub arrivedIn : Settings → ℕ → List ℕ → ℕ → List ℕ → Arrived
 arrivedIn s Z st n p =
     pick (eqb (readPacket s p .refusal .number) 0)
-    (pick (segmented p)
-    (pick (leb (2 + length p) Z) (segmentArrived s Z st n (segOf p (readPacket s p))) (refused (refusal 17)))
-    whole)
+    (pick (segmented p) (segmentCame s Z st n (segOf p (readPacket s p)) (length p)) whole)
     (refused (readPacket s p .refusal))
 
 -- a packet at any octets
@@ -59,4 +66,5 @@ unfoldable pub storeWith : ℕ → List ℕ → List ℕ → Arrived → List �
 storeWith Z st p whole = st
 storeWith Z st p (stored i) = sets st (i * Z) (heldRow Z p)
 storeWith Z st p again = st
+storeWith Z st p late = st
 storeWith Z st p (refused k) = st

@@ -1,4 +1,4 @@
-// Arrival at the store: what a packet comes to, and the cell that a new segment goes to.
+// Arrival at the store: what a packet comes to, and the cell that a new segment goes to. One of a message that was taken goes to none.
 //
 // The store is any octets here, and the size of a cell is that of the zero cell lent: settings and the store's order are tested by
 // `store::arrive`, or by whoever keeps a store in order.
@@ -12,11 +12,12 @@ ghost use Rattle.walk.specs.Walk.{refusal as refusalOf};
 ghost use Rattle.packet.specs.Reading.{readPacket};
 ghost use Rattle.packet.specs.Key.{keyOf};
 ghost use Rattle.cells.specs.Order.{lowest, foundIn};
+ghost use Rattle.cells.specs.Inner.{Asked};
 ghost use Rattle.cells.specs.Chains.{bucketAt, Chained};
 ghost use Rattle.cells.specs.Pieces.{segIn};
-ghost use Rattle.arrival.specs.Arriving.{refused as refusedBy, placed, segmentArrived, arrivedIn, storeWith};
+ghost use Rattle.arrival.specs.Arriving.{refused as refusedBy, placed, segmentArrived, segmentCame, arrivedIn, storeWith};
 ghost use Rattle.arrival.specs.Told.{arrivalOf};
-ghost use Rattle.arrival.specs.Inner.{segWith, segmentFits, unstoredOf};
+ghost use Rattle.arrival.specs.Inner.{segWith, isSegment, unstoredOf, unplacedOf};
 use packet::Header;
 use packet::UNSEGMENTED;
 use walk::REFUSED_CELL;
@@ -30,6 +31,7 @@ pub enum Kind {
     Whole,
     Stored,
     Held,
+    Taken,
 }
 
 pub enum Arrival {
@@ -69,14 +71,13 @@ fn store_new(store: &mut [u8], n: usize, zero: &[u8], p: &[u8]) -> Arrival
     Arrival::Answer(Kind::Stored)
 }
 
-// Whether a packet is a segment that fits a cell, by what reading answered of it.
-fn is_segment(h: Header, p: &[u8], zero: &[u8]) -> bool
-    ensures { λ r. ⌜ r ≡ segmentFits h (length (now (p .entry))) (length (now (zero .entry))) ⌝ }
+// Whether a packet is a segment, by what reading answered of it.
+fn is_segment(h: Header) -> bool
+    ensures { λ r. ⌜ r ≡ isSegment h ⌝ }
 {
     let refusal = h.refusal;
     let primary = h.primary;
-    let segment = octets::both(refusal.number == 0, primary.flags != UNSEGMENTED);
-    octets::both(segment, 2 + p.len() <= zero.len())
+    octets::both(refusal.number == 0, primary.flags != UNSEGMENTED)
 }
 
 // What any other packet comes to, whatever the store holds.
@@ -84,14 +85,20 @@ fn unstored(h: Header) -> Arrival
     ensures { λ r. ⌜ r ≡ arrivalOf (unstoredOf h) ⌝ }
 {
     let refusal = h.refusal;
-    let primary = h.primary;
     if refusal.number != 0 {
         return Arrival::Refused(refusal);
     }
-    if primary.flags == UNSEGMENTED {
-        return Arrival::Answer(Kind::Whole);
+    Arrival::Answer(Kind::Whole)
+}
+
+// What a segment comes to that a record covers, or that does not fit a cell: taken comes first.
+fn unplaced(untaken: bool) -> Arrival
+    ensures { λ r. ⌜ r ≡ arrivalOf (unplacedOf untaken) ⌝ }
+{
+    if untaken {
+        return refused(REFUSED_CELL);
     }
-    refused(REFUSED_CELL)
+    Arrival::Answer(Kind::Taken)
 }
 
 // A segment that fits a cell, with what reading answered of it, at the first n cells, told the lowest that holds its key and counter: n
@@ -132,6 +139,35 @@ fn store_found(
     refused(REFUSED_CONTRADICTS)
 }
 
+// A segment, with what reading answered of it, at the first n cells, told the lowest that holds its key and counter.
+fn store_segment(
+    s: Settings,
+    store: &mut [u8],
+    n: usize,
+    zero: &[u8],
+    p: &[u8],
+    h: Header,
+    j: usize,
+) -> Arrival
+    requires { ⌜ now zero ≡ zeroRow (length (now zero)) ⌝ }
+    requires { ⌜ Asked s (now p) (h .body .at) ⌝ }
+    requires { ⌜ j ≡ foundIn s (length (now zero)) (now store) n (keyOf (now p) (readPacket s (now p))) (h .ids .counter .0) ⌝ }
+    ensures { λ r. ⌜ r ≡ arrivalOf (segmentCame s (length (now (zero .entry))) (now (store .entry)) n
+        (segWith s (now (p .entry)) (h .primary .flags) (h .body .at) (h .body .length) (h .ids .counter .0)) (length (now (p .entry)))) ⌝ }
+    ensures { λ r. ⌜ now (store .exit) ≡ storeWith (length (now (zero .entry))) (now (store .entry)) (now (p .entry))
+        (segmentCame s (length (now (zero .entry))) (now (store .entry)) n
+        (segWith s (now (p .entry)) (h .primary .flags) (h .body .at) (h .body .length) (h .ids .counter .0)) (length (now (p .entry)))) ⌝ }
+{
+    let body = h.body;
+    let ids = h.ids;
+    let untaken = cells::is_untaken(s, store, n, zero, p, body.at, ids.counter);
+    let fits = 2 + p.len() <= zero.len();
+    if octets::both(untaken, fits) {
+        return store_found(s, store, n, zero, p, h, j);
+    }
+    unplaced(untaken)
+}
+
 // A packet, with what reading answered of it, at the first n cells of any octets, beside a zero cell.
 pub fn arrive_in(
     s: Settings,
@@ -147,13 +183,13 @@ pub fn arrive_in(
     ensures { λ r. ⌜ now (store .exit) ≡ storeWith (length (now (zero .entry))) (now (store .entry)) (now (p .entry))
         (arrivedIn s (length (now (zero .entry))) (now (store .entry)) n (now (p .entry))) ⌝ }
 {
-    if !is_segment(h, p, zero) {
+    if !is_segment(h) {
         return unstored(h);
     }
     let body = h.body;
     let ids = h.ids;
     let j = cells::find(s, store, n, zero, p, body.at, ids.counter);
-    store_found(s, store, n, zero, p, h, j)
+    store_segment(s, store, n, zero, p, h, j)
 }
 
 // The same by chains that lead through these cells; the packet is read here.
@@ -173,7 +209,7 @@ pub fn arrive_by(
         (arrivedIn s (length (now (zero .entry))) (now (store .entry)) n (now (p .entry))) ⌝ }
 {
     let h = packet::read(s, p);
-    if !is_segment(h, p, zero) {
+    if !is_segment(h) {
         return unstored(h);
     }
     let body = h.body;
@@ -190,5 +226,5 @@ pub fn arrive_by(
         heads,
         links,
     );
-    store_found(s, store, n, zero, p, h, j)
+    store_segment(s, store, n, zero, p, h, j)
 }

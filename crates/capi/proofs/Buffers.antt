@@ -16,6 +16,7 @@ use Rattle.capi.proofs.orl_cut_count.Kinds as cut-count-kinds
 use Rattle.capi.proofs.orl_cut_packet.Kinds as cut-packet-kinds
 use Rattle.capi.proofs.stored.orl_arrive.Kinds as arrive-kinds
 use Rattle.capi.proofs.stored.orl_take.Kinds as take-kinds
+use Rattle.capi.proofs.stored.orl_forget.Kinds as forget-kinds
 use Rattle.capi.proofs.stored.orl_join.Kinds as join-kinds
 use Rattle.capi.proofs.stored.orl_view.Kinds as view-kinds
 use Rattle.capi.proofs.stored.orl_in_order.Kinds as in-order-kinds
@@ -72,6 +73,13 @@ take-output κs x = now (x .1 .1 .1 .0)
 
 abbrev pub take-answer : (κs : L.Lfts 3) → AtExit (endedOf 3 take-kinds.ps take-kinds.r) κs → List ℕ
 take-answer κs x = now (x .1 .1 .1 .1 .0)
+
+-- `orl_forget`
+abbrev pub forget-store : (κs : L.Lfts 2) → AtExit (endedOf 2 forget-kinds.ps forget-kinds.r) κs → List ℕ
+forget-store κs x = now (x .1 .1 .0)
+
+abbrev pub forget-answer : (κs : L.Lfts 2) → AtExit (endedOf 2 forget-kinds.ps forget-kinds.r) κs → List ℕ
+forget-answer κs x = now (x .1 .1 .1 .1 .0)
 
 -- `orl_join`
 abbrev pub join-store : (κs : L.Lfts 4) → AtExit (endedOf 4 join-kinds.ps join-kinds.r) κs → List ℕ

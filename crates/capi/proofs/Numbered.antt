@@ -19,15 +19,15 @@ use Rattle.flat.specs.Answers.{nextNumbers, writeFits, writeNumbers, afterPacke
 use Rattle.cells.specs.Order.{cellSize, gate}
 use Rattle.flat_store.specs.Numbers.{orderNumbers}
 use Rattle.flat_store.specs.Views.{insideNumbers, viewNumbers}
-use Rattle.numbers.specs.Lists.{Numbered, ofReading, ofArrival, ofTaking, ofJoining, ofRecording, ofSalvage, ofOrder, ofWidths, ofWriting, ofCount, ofCutting}
+use Rattle.numbers.specs.Lists.{Numbered, ofReading, ofArrival, ofTaking, ofForgetting, ofJoining, ofRecording, ofSalvage, ofOrder, ofWidths, ofWriting, ofCount, ofCutting}
 use Rattle.format.proofs.Refusals.{picked}
 use Rattle.numbers.proofs.Among.{among}
 use Rattle.numbers.proofs.Reading.{reading}
 use Rattle.numbers.proofs.Sending.{writing, write-wide, count, count-wide, cutting, cut-wide}
-use Rattle.numbers.proofs.Store.{arrival, taking, join, order, all}
+use Rattle.numbers.proofs.Store.{arrival, taking, forgetting, join, order, all}
 use Rattle.numbers.proofs.Salvaging.{salvaging}
 use Rattle.capi.proofs.Buffers.{next-answer, read-answer, write-answer, after-packet-answer, after-segment-answer, cut-count-answer, cut-packet-answer}
-use Rattle.capi.proofs.Buffers.{arrive-answer, take-answer, join-answer, view-answer, in-order-answer, recording-answer, salvage-answer}
+use Rattle.capi.proofs.Buffers.{arrive-answer, take-answer, forget-answer, join-answer, view-answer, in-order-answer, recording-answer, salvage-answer}
 use Rattle.capi.proofs.orl_next_sequence_count.Reads as nexts
 use Rattle.capi.proofs.orl_read.Reads as reads
 use Rattle.capi.proofs.orl_write.Reads as writes
@@ -37,6 +37,7 @@ use Rattle.capi.proofs.orl_cut_count.Reads as counts
 use Rattle.capi.proofs.orl_cut_packet.Reads as cuts
 use Rattle.capi.proofs.stored.orl_arrive.Reads as arrives
 use Rattle.capi.proofs.stored.orl_take.Reads as takes
+use Rattle.capi.proofs.stored.orl_forget.Reads as forgets
 use Rattle.capi.proofs.stored.orl_join.Reads as joins
 use Rattle.capi.proofs.stored.orl_view.Reads as views
 use Rattle.capi.proofs.stored.orl_in_order.Reads as orders
@@ -131,6 +132,9 @@ arrive-numbered κs a r x k = subst (Refuses ofArrival) (sym (k .0)) (arrival _ 
 
 pub take-numbered : (κs : L.Lfts 3) (a : _) (r : _) (x : _) → takes.Post κs a r x → Refuses ofTaking (take-answer κs x)
 take-numbered κs a r x k = subst (Refuses ofTaking) (sym (k .0)) (taking _ _ _ _)
+
+pub forget-numbered : (κs : L.Lfts 2) (a : _) (r : _) (x : _) → forgets.Post κs a r x → Refuses ofForgetting (forget-answer κs x)
+forget-numbered κs a r x k = subst (Refuses ofForgetting) (sym (k .0)) (forgetting _ _ _ _)
 
 pub join-numbered : (κs : L.Lfts 4) (a : _) (r : _) (x : _) → joins.Post κs a r x → Refuses ofJoining (join-answer κs x)
 join-numbered κs a r x k = subst (Refuses ofJoining) (sym (k .0)) (join _ _ _ _ _)

@@ -4,9 +4,10 @@
 use mathlib.Core.Path.{_≡_, sym, _∙_}
 use contract.Lifetimes as L
 use Rattle.capi.proofs.Buffers.{arrive-answer, arrive-store, take-answer, take-output, take-store, join-answer, join-output, join-store, view-answer}
-use Rattle.capi.proofs.Buffers.{in-order-answer, recording-answer, recording-output, salvage-answer, salvage-list}
+use Rattle.capi.proofs.Buffers.{forget-answer, forget-store, in-order-answer, recording-answer, recording-output, salvage-answer, salvage-list}
 use Rattle.capi.proofs.stored.orl_arrive.Reads as arrives
 use Rattle.capi.proofs.stored.orl_take.Reads as takes
+use Rattle.capi.proofs.stored.orl_forget.Reads as forgets
 use Rattle.capi.proofs.stored.orl_join.Reads as joins
 use Rattle.capi.proofs.stored.orl_view.Reads as views
 use Rattle.capi.proofs.stored.orl_in_order.Reads as orders
@@ -36,6 +37,16 @@ take-same-output κs a r q s t k j = k .1 .0 ∙ sym (j .1 .0)
 pub take-same-store :
     (κs : L.Lfts 3) (a : _) (r q : _) (s t : _) → takes.Post κs a r s → takes.Post κs a q t → take-store κs s ≡ take-store κs t
 take-same-store κs a r q s t k j = k .1 .1 ∙ sym (j .1 .1)
+
+-- ---- forgetting
+
+pub forget-same-answer :
+    (κs : L.Lfts 2) (a : _) (r q : _) (s t : _) → forgets.Post κs a r s → forgets.Post κs a q t → forget-answer κs s ≡ forget-answer κs t
+forget-same-answer κs a r q s t k j = k .0 ∙ sym (j .0)
+
+pub forget-same-store :
+    (κs : L.Lfts 2) (a : _) (r q : _) (s t : _) → forgets.Post κs a r s → forgets.Post κs a q t → forget-store κs s ≡ forget-store κs t
+forget-same-store κs a r q s t k j = k .1 ∙ sym (j .1)
 
 -- ---- joining
 

@@ -1,15 +1,16 @@
-// The store's half: arrival, taking, joining, the view, the order of a store, a whole recording, and salvaging a damaged one.
+// The store's half: arrival, taking, forgetting, joining, the view, the order of a store, a whole recording, and salvaging a damaged one.
 ghost use mathlib.Core.Path.{_≡_};
 ghost use lib.ListN.{length};
 ghost use Rattle.cells.specs.Order.{countIn, cellSize};
 ghost use Rattle.arrival.specs.Arriving.{arrived, storeWith};
 ghost use Rattle.taking.specs.Taking.{took, outWith, storeLess};
+ghost use Rattle.taking.specs.Forgetting.{forgot, storeForgotten};
 ghost use Rattle.join.specs.Joining.{joining, storeJoined, outJoined};
 ghost use Rattle.recording.specs.Ending.{recordedOf, outRecorded};
 ghost use Rattle.salvage.specs.Listing.{stop};
 ghost use Rattle.salvage.specs.Calling.{salvaged, listAfter};
 ghost use Rattle.walk.specs.Walk.{settingsOf};
-ghost use Rattle.flat_store.specs.Numbers.{arriveNumbers, takeNumbers, joinNumbers, orderNumbers};
+ghost use Rattle.flat_store.specs.Numbers.{arriveNumbers, takeNumbers, forgetNumbers, joinNumbers, orderNumbers};
 ghost use Rattle.flat_store.specs.Views.{viewNumbers};
 ghost use Rattle.flat_store.specs.Recordings.{recordedNumbers, salvagedNumbers};
 
@@ -44,6 +45,21 @@ pub extern "C" fn orl_take(
         (took (settingsOf t profile) cellSize (now (store .entry)) (length (now (out .entry)))) ⌝ }
 {
     *answer = flat_store::take(t, profile, store, out);
+}
+
+// A taken record is forgotten.
+#[no_mangle]
+pub extern "C" fn orl_forget(
+    t: u64,
+    profile: u64,
+    store: &mut [u8],
+    number: u64,
+    answer: &mut [u64; 1],
+)
+    ensures { λ r. ⌜ now (answer .exit) ≡ forgetNumbers (forgot (settingsOf t profile) cellSize (now (store .entry)) number) ⌝ }
+    ensures { λ r. ⌜ now (store .exit) ≡ storeForgotten (settingsOf t profile) cellSize (now (store .entry)) number ⌝ }
+{
+    *answer = flat_store::forget(t, profile, store, number);
 }
 
 // A packet is joined.

@@ -10,15 +10,15 @@ use native.Mathlib.Omega.{arith}
 use lib.ListN.{length}
 use lib.Dec.{eqb, leb}
 use borrow.Author.Tests.{eqb-true, leb-true, eq-eqb, ne-eqb}
-use Rattle.octets.specs.Octets.{Octets, octetAt, number, alike}
+use Rattle.octets.specs.Octets.{pick, Octets, octetAt, number, alike}
 use Rattle.octets.proofs.Has.{octets-part}
 use Rattle.octets.proofs.Lists.{bool, pick-false, alike-true}
 use Rattle.walk.specs.declared.Settings.{Settings}
 use Rattle.packet.specs.Reading.{readPacket, segmented}
 use Rattle.packet.specs.Key.{keyOf}
 use Rattle.cells.specs.Segments.{Seg, segOf, carries, both}
-use Rattle.cells.specs.Rows.{free, held, broken, segmentIn, bySegment, zeroRow, heldRow, packetIn, mayHold, holds, cellOf}
-use Rattle.cells.specs.Order.{isSound, carriesIn}
+use Rattle.cells.specs.Rows.{Range, free, held, taken, broken, segmentIn, bySegment, zeroRow, heldRow, packetIn, mayHold, holds, records, rangeOf, cellOf}
+use Rattle.cells.specs.Order.{carriesIn}
 use Rattle.cells.specs.declared.Judged.{Judged}
 use Rattle.cells.specs.Inner.{placeIn, counterIn, spansAlike, bodyIn, judgedOf, toldHeld, Asked}
 use Rattle.cells.proofs.CellSegments.{held-not, judged-none}
@@ -27,7 +27,7 @@ use Rattle.cells.proofs.Counters.{counter-told}
 use Rattle.cells.proofs.SameKeys.{keys-same}
 use Rattle.cells.proofs.Transactions.{spans-transaction}
 
--- what a row that is sound and not free holds
+-- what a row that holds a segment is
 pub record Holding (s : Settings) (Z : ℕ) (r : List ℕ) : Type 0 where
   pub accepted : readPacket s (packetIn r) .refusal .number ≡ 0
   pub segment : segmented (packetIn r) ≡ true
@@ -43,9 +43,15 @@ held-cell : (s : Settings) (Z : ℕ) (r : List ℕ) → alike r (zeroRow Z) ≡ 
 unfolding cellOf
 held-cell s Z r a b = rw (a, b) refl
 
-broken-cell : (s : Settings) (Z : ℕ) (r : List ℕ) → alike r (zeroRow Z) ≡ false → holds s Z r ≡ false → cellOf s Z r ≡ broken
+-- one that is neither free nor held: a record, or broken
+rest-cell :
+    (s : Settings) (Z : ℕ) (r : List ℕ) → alike r (zeroRow Z) ≡ false → holds s Z r ≡ false → cellOf s Z r ≡ pick (records s Z r) (taken (rangeOf s r)) broken
 unfolding cellOf
-broken-cell s Z r a b = rw (a, b) refl
+rest-cell s Z r a b = rw (a, b) refl
+
+rest-none : (b : Bool) (g : Range) → segmentIn (pick b (taken g) broken) ≡ none
+rest-none true g = refl
+rest-none false g = refl
 
 made : (s : Settings) (Z : ℕ) (r : List ℕ) → alike r (zeroRow Z) ≡ false → holds s Z r ≡ true → Holding s Z r
 unfolding holds mayHold
@@ -61,21 +67,12 @@ made s Z r a b =
       fits = leb-true (2 + length (packetIn r)) Z (y .0);
     }
 
-pub holding : (s : Settings) (Z : ℕ) (r : List ℕ) → isSound (cellOf s Z r) ≡ true → alike r (zeroRow Z) ≡ false → Holding s Z r
-holding s Z r g a = ⊎-elim yes-it no-it (bool (holds s Z r))
-  where
-    yes-it : holds s Z r ≡ true → Holding s Z r
-    yes-it b = made s Z r a b
-
-    no-it : holds s Z r ≡ false → Holding s Z r
-    no-it b = let e : isSound broken ≡ true = ap isSound (sym (broken-cell s Z r a b)) ∙ g in let z : _≡_ {A = ℕ} 0 1 = cc in absurd (omega arith)
-
 -- a row holds a segment, or none
 pub kinds : (s : Settings) (Z : ℕ) (r : List ℕ) → Holding s Z r ⊎ (segmentIn (cellOf s Z r) ≡ none)
 kinds s Z r =
     ⊎-elim
     (λ a. inr (ap segmentIn (free-cell s Z r a)))
-    (λ a. ⊎-elim (λ b. inl (made s Z r a b)) (λ b. inr (ap segmentIn (broken-cell s Z r a b))) (bool (holds s Z r)))
+    (λ a. ⊎-elim (λ b. inl (made s Z r a b)) (λ b. inr (ap segmentIn (rest-cell s Z r a b) ∙ rest-none (records s Z r) (rangeOf s r))) (bool (holds s Z r)))
     (bool (alike r (zeroRow Z)))
 
 pub held-is : (s : Settings) (Z : ℕ) (r : List ℕ) (t : Seg) → cellOf s Z r ≡ held t → Holding s Z r

@@ -64,4 +64,8 @@ module _ (s : Settings) (Z n : ℕ) where
               let z : free ≡ held t = sym (empty-cell i (omega (arith, empty-count))) ∙ a in
               let y : _≡_ {A = ℕ} 0 1 = cc z in
               absurd (omega arith);
+          clear = λ i j t g h l a b.
+              let z : free ≡ held t = sym (empty-cell i (omega (arith, empty-count))) ∙ a in
+              let y : _≡_ {A = ℕ} 0 1 = cc z in
+              absurd (omega arith);
         })

@@ -19,7 +19,7 @@ use Rattle.packet.specs.Key.{keyOf}
 use Rattle.cells.specs.declared.Judged.{Judged}
 use Rattle.cells.specs.Segments.{segOf, both}
 use Rattle.cells.specs.Rows.{Cell, segmentIn, bySegment, rowAt, packetIn, cellOf}
-use Rattle.cells.specs.Order.{cellsMost, carriesIn, cellAt, newTo, newAt, foundIn}
+use Rattle.cells.specs.Order.{cellsMost, carriesIn, cellAt, newTo, newAt, foundIn, untakenTo, untakenIn}
 use Rattle.cells.specs.Inner.{counterIn, bodyIn, judgedOf, toldHeld, bodyAt, Asked}
 use Rattle.cells.specs.Chains.{chainsAll, bucketOf, keyIn, bucketIn, bucketAt, Chained}
 use Rattle.cells.proofs.Carries.{Holding, judged-one, judged-at, held-counter}
@@ -68,6 +68,9 @@ module _ (s : Settings) (st : List ℕ) (Z i : ℕ) (o : Octets st) {body-at : �
     pub none-apart : (a : Bool) → a ≡ both a (newAt s Z st i (cellAt s Z st i))
     none-apart a = sym (both-yes a) ∙ ap (both a) (sym none-true)
 
+    pub none-untaken : (n : ℕ) → true ≡ untakenIn s Z st n (cellAt s Z st i)
+    none-untaken n = sym (ap (bySegment true (λ t. untakenTo s Z st n (t .key) (t .counter))) no-segment)
+
     -- it is on no chain
     pub none-off : {H L : List ℕ} → Chained (bucketAt s Z st) H L i → i < cellsMost → Chained (bucketAt s Z st) H L (i + 1)
     unfolding bucketAt
@@ -100,6 +103,13 @@ module _ (s : Settings) (st : List ℕ) (Z i : ℕ) (o : Octets st) {body-at : �
         e
         ∙ ap (both a)
         (ap₂ (λ (x : List ℕ) (n : ℕ). newTo s Z st i x n) key-is counter-is ∙ sym (ap (newAt s Z st i) (held-there .cell)))
+
+    pub some-untaken : (n : ℕ) {b : Bool} → b ≡ untakenTo s Z st n (keyOf q (readPacket s q)) c → b ≡ untakenIn s Z st n (cellAt s Z st i)
+    unfolding segOf
+    some-untaken n e =
+        e
+        ∙ ap₂ (λ (x : List ℕ) (m : ℕ). untakenTo s Z st n x m) key-is counter-is
+        ∙ sym (ap (untakenIn s Z st n) (held-there .cell))
 
     -- its chain is the one that was walked
     chain-is : bucketOf (keyIn q body-at) c ≡ bucketAt s Z st i

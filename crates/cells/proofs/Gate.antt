@@ -17,7 +17,7 @@ use Rattle.walk.specs.declared.Refusal.{Refusal}
 use Rattle.walk.specs.Walk.{Reading, goes, refused, going, begun, check, refusal}
 use Rattle.walk.specs.Inner.{asWalk}
 use Rattle.cells.specs.Segments.{both}
-use Rattle.cells.specs.Order.{cellsMost, lengthFits, countIn, sound as allSound, distinct, inOrder, gate, through}
+use Rattle.cells.specs.Order.{cellsMost, lengthFits, countIn, sound as allSound, distinct, untaken, inOrder, gate, through}
 use Rattle.cells.proofs.Held.{both-true}
 use Rattle.cells.specs.declared.opening.Opened.{Opened}
 use Rattle.cells.specs.Opening.{openedOf}
@@ -33,15 +33,24 @@ module _ (s : Settings) (Z : ℕ) (st : List ℕ) where
     pub most : countIn Z st ≤ cellsMost
     pub sound : allSound s Z st (countIn Z st) ≡ true
     pub apart : distinct s Z st (countIn Z st) ≡ true
+    pub clear : untaken s Z st (countIn Z st) ≡ true
 
   pub order-has : inOrder s Z st ≡ true → Ordered
   unfolding inOrder lengthFits
   order-has e =
-      let a = both-true (lengthFits Z (length st)) (both (allSound s Z st (countIn Z st)) (distinct s Z st (countIn Z st))) e in
+      let n = countIn Z st in
+      let a = both-true (lengthFits Z (length st)) (both (allSound s Z st n) (both (distinct s Z st n) (untaken s Z st n))) e in
       let b = both-true (eqb (length st % Z) 0) (both (leb 1 (countIn Z st)) (leb (countIn Z st) cellsMost)) (a .0) in
       let d = both-true (leb 1 (countIn Z st)) (leb (countIn Z st) cellsMost) (b .1) in
-      let c = both-true (allSound s Z st (countIn Z st)) (distinct s Z st (countIn Z st)) (a .1) in
-      record { least = leb-true 1 (countIn Z st) (d .0); most = leb-true (countIn Z st) cellsMost (d .1); sound = c .0; apart = c .1 }
+      let c = both-true (allSound s Z st n) (both (distinct s Z st n) (untaken s Z st n)) (a .1) in
+      let f = both-true (distinct s Z st n) (untaken s Z st n) (c .1) in
+      record {
+        least = leb-true 1 (countIn Z st) (d .0);
+        most = leb-true (countIn Z st) cellsMost (d .1);
+        sound = c .0;
+        apart = f .0;
+        clear = f .1;
+      }
 
   -- ---- what is tested first
 

@@ -11,7 +11,7 @@ use lib.ListN.{length, take, drop, replicate, length-append, length-replicate, l
 use lib.Seq.{take-all, take-nil}
 use lib.Dec.{leb, eqb}
 use borrow.Author.Tests.{le-leb, leb-true, eq-eqb, ne-eqb, eqb-true, eqb-false}
-use Rattle.octets.specs.Octets.{octetAt, part, number, roomOf, alike}
+use Rattle.octets.specs.Octets.{pick, octetAt, part, number, roomOf, alike}
 use Rattle.octets.proofs.Lists.{bool, below-or, alike-true}
 use Rattle.walk.specs.declared.Settings.{Settings}
 use Rattle.packet.specs.declared.Header.{Header}
@@ -20,8 +20,8 @@ use Rattle.format.proofs.Start.{answer}
 use Rattle.cells.specs.declared.Content.the-variants.{Free, Held, Broken}
 use Rattle.cells.specs.declared.Judged.{Judged}
 use Rattle.cells.specs.Segments.{segOf, both}
-use Rattle.cells.specs.Rows.{zeroRow, heldRow, packetIn, mayHold, holds, cellOf}
-use Rattle.cells.specs.Inner.{heldRowTest, bodyIn, judgedOf, placeIn}
+use Rattle.cells.specs.Rows.{taken, broken, zeroRow, heldRow, packetIn, mayHold, holds, records, rangeOf, cellOf}
+use Rattle.cells.specs.Inner.{markedTest, bodyIn, judgedOf, placeIn}
 
 pub both-true : (a b : Bool) → both a b ≡ true → (a ≡ true) × (b ≡ true)
 both-true true b e = (refl, e)
@@ -60,16 +60,21 @@ tail-same q k n Z e =
     (ap (λ (y : List ℕ). alike y (take k q ++ zeroRow n)) (begins k q)
     ∙ alike-prefix (take k q) (drop (length (take k q)) q) (zeroRow n))
 
-pub row-same : (Z k : ℕ) (r : List ℕ) → length r ≡ Z → heldRowTest r (2 + length (part r 2 k)) (zeroRow Z) ≡ alike r (heldRow Z (part r 2 k))
-unfolding heldRowTest alike
-row-same Z k [] e = refl
-row-same Z k (x ∷ []) e = refl
-row-same Z k (x ∷ y ∷ q) e =
+-- a mark, told its second octet, octets and zeros
+abbrev pub markedRow : ℕ → ℕ → List ℕ → List ℕ
+markedRow m Z p = 0x4d ∷ m ∷ p ++ replicate (Z - (2 + length p)) 0
+
+pub row-same :
+    (m Z k : ℕ) (r : List ℕ) → eqb 0 m ≡ false → length r ≡ Z → markedTest m r (2 + length (part r 2 k)) (zeroRow Z) ≡ alike r (markedRow m Z (part r 2 k))
+unfolding markedTest alike
+row-same m Z k [] o e = refl
+row-same m Z k (x ∷ []) o e = rw o refl
+row-same m Z k (x ∷ y ∷ q) o e =
     let l : length (zeroRow Z) ≡ Z = length-replicate Z 0 in
-    let m : suc (suc (length q)) ≡ length (zeroRow Z) = e ∙ sym l in
+    let t : suc (suc (length q)) ≡ length (zeroRow Z) = e ∙ sym l in
     let n : 2 + length (take k q) ≡ suc (suc (length (take k q))) = omega arith in
-    rw (eq-eqb (suc (suc (length q))) (length (zeroRow Z)) m, drop-zeros (2 + length (take k q)) Z, n)
-    (ap (λ (b : Bool). both (eqb x 77) (both (eqb y 83) b))
+    rw (eq-eqb (suc (suc (length q))) (length (zeroRow Z)) t, drop-zeros (2 + length (take k q)) Z, n)
+    (ap (λ (b : Bool). both (eqb x 77) (both (eqb y m) b))
     (tail-same q k (Z - suc (suc (length (take k q)))) Z (ap (λ (j : ℕ). Z - j) (sym n))))
 
 -- ---- a held cell
@@ -95,7 +100,7 @@ part-fits Z k r e h = omega (arith, length-take k (drop 2 r), length-drop 2 r)
 
 -- what is told of a held row, by its packet's header
 abbrev noted : Header → Judged
-noted h = record { content = Held; at = h .body .at; counter = h .ids .counter }
+noted h = record { content = Held; at = h .body .at; counter = h .ids .counter; header = 0 }
 
 nothing : (a b c d : Bool) → c ≡ false → both a (both b (both c d)) ≡ false
 nothing true true c d e = rw e refl
@@ -113,11 +118,11 @@ module _ (s : Settings) (Z : ℕ) (r : List ℕ) where
 
   abbrev tested : Bool
   tested =
-      both (heldRowTest r (2 + length p) (zeroRow Z)) (both (eqb (readPacket s p .refusal .number) 0) (not (eqb (readPacket s p .primary .flags) 3)))
+      both (markedTest 0x53 r (2 + length p) (zeroRow Z)) (both (eqb (readPacket s p .refusal .number) 0) (not (eqb (readPacket s p .primary .flags) 3)))
 
   -- a row of another length is none that holds a packet
   other-test : (length r ≡ Z → ⊥) → tested ≡ false
-  unfolding heldRowTest
+  unfolding markedTest
   other-test h =
       ap
       (λ (x : Bool). both x (both (eqb (readPacket s p .refusal .number) 0) (not (eqb (readPacket s p .primary .flags) 3))))
@@ -137,7 +142,7 @@ module _ (s : Settings) (Z : ℕ) (r : List ℕ) where
   own-length : length r ≡ Z → tested ≡ holds s Z r
   unfolding holds mayHold
   own-length long =
-      rw (row-same Z (number 2 r 6 + 7) r long)
+      rw (row-same 0x53 Z (number 2 r 6 + 7) r refl long)
       (⊎-elim
       (λ a.
       let e = alike-true r (heldRow Z p) a in
@@ -155,7 +160,7 @@ module _ (s : Settings) (Z : ℕ) (r : List ℕ) where
       (bool (eqb (length r) Z))
 
   -- what the row is
-  pub judged-free : alike r (zeroRow Z) ≡ true → record { content = Free; at = 0; counter = record { 0 = 0 } } ≡ judgedOf (bodyIn s r) (cellOf s Z r)
+  pub judged-free : alike r (zeroRow Z) ≡ true → record { content = Free; at = 0; counter = record { 0 = 0 }; header = 0 } ≡ judgedOf (bodyIn s r) (cellOf s Z r)
   unfolding cellOf
   judged-free e = rw e refl
 
@@ -164,9 +169,16 @@ module _ (s : Settings) (Z : ℕ) (r : List ℕ) where
     unfolding cellOf segOf
     judged-held e = rw (no, e) refl
 
-    pub judged-broken : holds s Z r ≡ false → record { content = Broken; at = 0; counter = record { 0 = 0 } } ≡ judgedOf (bodyIn s r) (cellOf s Z r)
+    pub judged-broken :
+        holds s Z r ≡ false → records s Z r ≡ false →
+        record { content = Broken; at = 0; counter = record { 0 = 0 }; header = 0 } ≡ judgedOf (bodyIn s r) (cellOf s Z r)
     unfolding cellOf
-    judged-broken e = rw (no, e) refl
+    judged-broken e f = rw (no, e, f) refl
+
+    pub judged-record :
+        holds s Z r ≡ false → judgedOf (bodyIn s r) (pick (records s Z r) (taken (rangeOf s r)) broken) ≡ judgedOf (bodyIn s r) (cellOf s Z r)
+    unfolding cellOf
+    judged-record e = rw (no, e) refl
 
 -- ---- as the code has it
 
@@ -190,11 +202,11 @@ pub part-room : (r : List ℕ) (k : ℕ) {n : ℕ} → n ≡ length (part r 2 k)
 part-room r k e h = omega (arith, length-take k (drop 2 r), length-drop 2 r)
 
 module _ (s : Settings) (r z : List ℕ) (ez : z ≡ zeroRow (length z)) where
-  pub told-free : {b : Bool} → b ≡ alike r z → b ≡ true → record { content = Free; at = 0; counter = record { 0 = 0 } } ≡ judgedOf (bodyIn s r) (cellOf s (length z) r)
+  pub told-free : {b : Bool} → b ≡ alike r z → b ≡ true → record { content = Free; at = 0; counter = record { 0 = 0 }; header = 0 } ≡ judgedOf (bodyIn s r) (cellOf s (length z) r)
   told-free e t = judged-free s (length z) r (ap (alike r) (sym ez) ∙ sym e ∙ t)
 
   module _ {b m t : Bool} {p : List ℕ} {h : Header} (eb : b ≡ alike r z) (no : b ≡ false) (ep : p ≡ part r 2 (number 2 r 6 + 7)) (eh : h ≡ readPacket s p)
-      (em : m ≡ heldRowTest r (2 + length p) z) (et : t ≡ both m (both (eqb (h .refusal .number) 0) (not (eqb (h .primary .flags) 3)))) where
+      (em : m ≡ markedTest 0x53 r (2 + length p) z) (et : t ≡ both m (both (eqb (h .refusal .number) 0) (not (eqb (h .primary .flags) 3)))) where
     row-free : alike r (zeroRow (length z)) ≡ false
     row-free = ap (alike r) (sym ez) ∙ sym eb ∙ no
 
@@ -203,10 +215,10 @@ module _ (s : Settings) (r z : List ℕ) (ez : z ≡ zeroRow (length z)) where
         et
         ∙ ap (λ (g : Header). both m (both (eqb (g .refusal .number) 0) (not (eqb (g .primary .flags) 3)))) eh
         ∙ ap (λ (x : Bool). both x (both (eqb (readPacket s p .refusal .number) 0) (not (eqb (readPacket s p .primary .flags) 3))))
-        (em ∙ ap (heldRowTest r (2 + length p)) ez)
+        (em ∙ ap (markedTest 0x53 r (2 + length p)) ez)
         ∙ ap
         (λ (y : List ℕ).
-        both (heldRowTest r (2 + length y) (zeroRow (length z)))
+        both (markedTest 0x53 r (2 + length y) (zeroRow (length z)))
         (both (eqb (readPacket s y .refusal .number) 0) (not (eqb (readPacket s y .primary .flags) 3))))
         ep
         ∙ holds-same s (length z) r
@@ -214,8 +226,8 @@ module _ (s : Settings) (r z : List ℕ) (ez : z ≡ zeroRow (length z)) where
     pub told-held : t ≡ true → noted h ≡ judgedOf (bodyIn s r) (cellOf s (length z) r)
     told-held e = ap noted (eh ∙ ap (readPacket s) ep) ∙ judged-held s (length z) r row-free (sym row-holds ∙ e)
 
-    pub told-broken : t ≡ false → record { content = Broken; at = 0; counter = record { 0 = 0 } } ≡ judgedOf (bodyIn s r) (cellOf s (length z) r)
-    told-broken e = judged-broken s (length z) r row-free (sym row-holds ∙ e)
+    pub told-broken : t ≡ false → records s (length z) r ≡ false → record { content = Broken; at = 0; counter = record { 0 = 0 }; header = 0 } ≡ judgedOf (bodyIn s r) (cellOf s (length z) r)
+    told-broken e f = judged-broken s (length z) r row-free (sym row-holds ∙ e) f
 
 -- a counter's place is one of three
 pub place-least : (p : List ℕ) → (27 ≤ placeIn p) × (placeIn p ≤ 29)

@@ -22,6 +22,16 @@ pub mod Reaches
 pub mod Within
 pub mod CellSegments
 pub mod Distinct
+pub mod Firsts
+pub mod Spans
+pub mod Records
+pub mod ReadsBack
+pub mod Covering
+pub mod Passing
+pub mod Blocks
+pub mod Nearby
+pub mod Ranges
+pub mod Covered
 pub mod Empty
 pub mod Found
 pub mod HeldRow

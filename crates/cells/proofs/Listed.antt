@@ -7,7 +7,7 @@ use mathlib.Core.Bool.{Bool, true, false}
 use mathlib.Core.List.{_∷_, map}
 use native.Mathlib.Omega.{arith}
 use Rattle.octets.proofs.Lists.{bool, below-or}
-use Rattle.cells.specs.Rows.{Cell, free, held, broken}
+use Rattle.cells.specs.Rows.{Cell, free, held, taken, broken}
 use Rattle.cells.specs.Order.{isFree, lowest}
 use Rattle.cells.specs.Messages.{listed}
 
@@ -98,4 +98,5 @@ module _ (f : ℕ → Bool) where
 pub is-free : (c : Cell) → isFree c ≡ true → c ≡ free
 is-free free e = refl
 is-free (held t) e = let z : _≡_ {A = ℕ} 0 1 = cc in absurd (omega arith)
+is-free (taken g) e = let z : _≡_ {A = ℕ} 0 1 = cc in absurd (omega arith)
 is-free broken e = let z : _≡_ {A = ℕ} 0 1 = cc in absurd (omega arith)

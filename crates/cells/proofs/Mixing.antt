@@ -44,20 +44,22 @@ unfolding mixed
 mixed-append m [] b = refl
 mixed-append m (x ∷ a) b = mixed-append (mixIn m x) a b
 
-pub bucket-told :
-    (q : List ℕ) (body-at c : ℕ) {a f t r : ℕ} → a ≡ mixed mixStart (part q 0 2) → f ≡ mixed a (part q 6 (placeIn q - 6)) →
-    t ≡ mixed f (part q (placeIn q + 4) (body-at - (placeIn q + 4))) → r ≡ chainIn (mixIn t c) → r ≡ bucketOf (keyIn q body-at) c
-unfolding bucketOf keyIn
-bucket-told q body-at c {a} {f} {t} ea ef et er =
+pub key-mixed :
+    (q : List ℕ) (body-at : ℕ) {a f t : ℕ} → a ≡ mixed mixStart (part q 0 2) → f ≡ mixed a (part q 6 (placeIn q - 6)) →
+    t ≡ mixed f (part q (placeIn q + 4) (body-at - (placeIn q + 4))) → t ≡ mixed mixStart (keyIn q body-at)
+unfolding keyIn
+key-mixed q body-at {a} {f} {t} ea ef et =
     let u : List ℕ = part q 0 2 in
     let v : List ℕ = part q 6 (placeIn q - 6) in
     let w : List ℕ = part q (placeIn q + 4) (body-at - (placeIn q + 4)) in
-    let e : t ≡ mixed mixStart (u ++ (v ++ w)) =
     et
     ∙ ap (λ (n : ℕ). mixed n w) (ef ∙ ap (λ (n : ℕ). mixed n v) ea)
     ∙ sym (mixed-append (mixed mixStart u) v w)
-    ∙ sym (mixed-append mixStart u (v ++ w)) in
-    er ∙ ap (λ (n : ℕ). chainIn (mixIn n c)) e
+    ∙ sym (mixed-append mixStart u (v ++ w))
+
+pub bucket-told : (k : List ℕ) (c : ℕ) {m r : ℕ} → m ≡ mixed mixStart k → r ≡ chainIn (mixIn m c) → r ≡ bucketOf k c
+unfolding bucketOf
+bucket-told k c em er = er ∙ ap (λ (n : ℕ). chainIn (mixIn n c)) em
 
 -- it is one of the chains
 pub bucket-low : (k : List ℕ) (c : ℕ) → bucketOf k c < chainsAll

@@ -13,7 +13,7 @@ use Rattle.octets.specs.Octets.{pick}
 use Rattle.octets.proofs.Lists.{bool}
 use Rattle.walk.specs.declared.Settings.{Settings}
 use Rattle.cells.specs.Segments.{both}
-use Rattle.cells.specs.Order.{cellsMost, lengthFits, countIn, sound, distinct, inOrder}
+use Rattle.cells.specs.Order.{cellsMost, lengthFits, countIn, sound, distinct, untaken, inOrder}
 use Rattle.cells.proofs.Held.{both-true}
 
 -- where the length fits there are cells, and not too many
@@ -29,9 +29,12 @@ fits-most Z k e =
     let a = both-true (eqb (k % Z) 0) (both (leb 1 (k / Z)) (leb (k / Z) cellsMost)) e in
     leb-true (k / Z) cellsMost (both-true (leb 1 (k / Z)) (leb (k / Z) cellsMost) (a .1) .1)
 
+-- the three tests on the cells
+abbrev cells-right : Settings → ℕ → List ℕ → ℕ → Bool
+cells-right s Z st n = both (sound s Z st n) (both (distinct s Z st n) (untaken s Z st n))
+
 -- the order from the length and the cells
-order-told : (s : Settings) (Z : ℕ) (st : List ℕ) {a b : Bool} → lengthFits Z (length st) ≡ a → both (sound s Z st (countIn Z st)) (distinct s Z st (countIn Z st)) ≡ b →
-    inOrder s Z st ≡ both a b
+order-told : (s : Settings) (Z : ℕ) (st : List ℕ) {a b : Bool} → lengthFits Z (length st) ≡ a → cells-right s Z st (countIn Z st) ≡ b → inOrder s Z st ≡ both a b
 unfolding inOrder
 order-told s Z st e f = rw (e, f) refl
 
@@ -55,14 +58,14 @@ module _ (s : Settings) (Z : ℕ) (st : List ℕ) {n : ℕ} (en : n ≡ pick (le
   cells-most h = rw (fitting h .1) (fits-most Z (length st) (fitting h .0))
 
   -- the cells tell the rest
-  module _ (h : n ≡ 0 → ⊥) {a b : Bool} (ea : a ≡ sound s Z st n) (eb : b ≡ distinct s Z st n) where
-    cells-told : {c : Bool} → both a b ≡ c → inOrder s Z st ≡ c
+  module _ (h : n ≡ 0 → ⊥) {a b d : Bool} (ea : a ≡ sound s Z st n) (eb : b ≡ distinct s Z st n) (ed : d ≡ untaken s Z st n) where
+    cells-told : {c : Bool} → both a (both b d) ≡ c → inOrder s Z st ≡ c
     cells-told f =
         order-told s Z st (fitting h .0)
-        (ap (λ (k : ℕ). both (sound s Z st k) (distinct s Z st k)) (sym (fitting h .1)) ∙ sym (ap₂ both ea eb) ∙ f)
+        (ap (cells-right s Z st) (sym (fitting h .1)) ∙ sym (ap₂ both ea (ap₂ both eb ed)) ∙ f)
 
-    pub order-fault : both a b ≡ false → 0 ≡ pick (inOrder s Z st) (countIn Z st) 0
+    pub order-fault : both a (both b d) ≡ false → 0 ≡ pick (inOrder s Z st) (countIn Z st) 0
     order-fault f = sym (ap (λ (x : Bool). pick x (countIn Z st) 0) (cells-told f))
 
-    pub order-held : both a b ≡ true → n ≡ pick (inOrder s Z st) (countIn Z st) 0
+    pub order-held : both a (both b d) ≡ true → n ≡ pick (inOrder s Z st) (countIn Z st) 0
     order-held f = fitting h .1 ∙ sym (ap (λ (x : Bool). pick x (countIn Z st) 0) (cells-told f))

@@ -12,7 +12,7 @@ use Rattle.octets.specs.Octets.{pick, most32}
 use Rattle.octets.proofs.Lists.{below-or}
 use Rattle.packet.specs.Numbers.{nextCounter}
 use Rattle.packet.proofs.Rounds.{next-round, next-on}
-use Rattle.cells.specs.Inner.{reaches}
+use Rattle.cells.specs.Segments.{reaches}
 use Rattle.cells.proofs.Lowest.{same-or}
 
 -- there already, and one step less to go

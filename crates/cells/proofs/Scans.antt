@@ -16,7 +16,7 @@ use Rattle.octets.proofs.Has.{part-length}
 use Rattle.walk.specs.declared.Settings.{Settings}
 use Rattle.packet.specs.Reading.{readPacket}
 use Rattle.cells.specs.Segments.{Seg, segOf}
-use Rattle.cells.specs.Rows.{free, held, broken, rowAt, zeroRow, packetIn, holds, cellOf}
+use Rattle.cells.specs.Rows.{Range, free, held, taken, broken, rowAt, zeroRow, packetIn, holds, records, rangeOf, cellOf}
 use Rattle.cells.specs.Order.{isFree, lowest, lengthFits, cellsMost}
 
 -- a row inside the store has its whole length
@@ -25,14 +25,15 @@ row-long Z n i st h l =
     let k : suc i ≤ n = h in
     part-length st (i * Z) Z (omega (arith, mul-le-mul-right Z k, suc-mul i Z))
 
-told : (a b : Bool) (t : Seg) → isFree (pick a free (pick b (held t) broken)) ≡ a
-told true b t = refl
-told false true t = refl
-told false false t = refl
+told : (a b c : Bool) (t : Seg) (g : Range) → isFree (pick a free (pick b (held t) (pick c (taken g) broken))) ≡ a
+told true b c t g = refl
+told false true c t g = refl
+told false false true t g = refl
+told false false false t g = refl
 
 pub free-is : (s : Settings) (Z : ℕ) (r : List ℕ) → isFree (cellOf s Z r) ≡ alike r (zeroRow Z)
 unfolding cellOf
-free-is s Z r = told (alike r (zeroRow Z)) (holds s Z r) (segOf (packetIn r) (readPacket s (packetIn r)))
+free-is s Z r = told (alike r (zeroRow Z)) (holds s Z r) (records s Z r) (segOf (packetIn r) (readPacket s (packetIn r))) (rangeOf s r)
 
 -- ---- the lowest
 

@@ -1,4 +1,4 @@
--- The pass that judges each cell: whether those passed are all free or held, and the table of where their bodies begin.
+-- The pass that judges each cell: whether those passed are all free, held or records, and the table of where their bodies begin.
 -- Assumes nothing.
 use Prim.Native.Nat.{ℕ, _+_, _≤_, _<_}
 use mathlib.Core.Path.{_≡_, refl, ap, ap₂, _∙_}
@@ -12,7 +12,7 @@ use Rattle.octets.specs.Octets.{Octets}
 use Rattle.walk.specs.declared.Settings.{Settings}
 use Rattle.cells.specs.declared.Judged.{Judged}
 use Rattle.cells.specs.Segments.{both}
-use Rattle.cells.specs.Rows.{Cell, free, held, broken, rowAt, cellOf}
+use Rattle.cells.specs.Rows.{Cell, free, held, taken, broken, rowAt, cellOf}
 use Rattle.cells.specs.Order.{isSound, cellAt, allTo, sound}
 use Rattle.cells.specs.Inner.{bodyIn, judgedOf, toldSound, bodiesTo}
 use Rattle.cells.proofs.Bodies.{body-judged, body-top}
@@ -20,6 +20,7 @@ use Rattle.cells.proofs.Bodies.{body-judged, body-top}
 sound-told : (at : ℕ) (d : Cell) → toldSound (judgedOf at d .content) ≡ isSound d
 sound-told at free = refl
 sound-told at (held t) = refl
+sound-told at (taken g) = refl
 sound-told at broken = refl
 
 pub record Sounding (s : Settings) (Z : ℕ) (st : List ℕ) (n : ℕ) (first table : List ℕ) (a : Bool) (i : ℕ) : Type 0 where

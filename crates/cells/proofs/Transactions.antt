@@ -22,7 +22,7 @@ use Rattle.cells.specs.Chains.{keyIn}
 use Rattle.cells.proofs.Held.{both-true, place-least}
 
 -- the same octets, the same number
-numbers-same : (n : ℕ) (p q : List ℕ) (at from : ℕ) → ((k : ℕ) → k < n → octetAt p (at + k) ≡ octetAt q (from + k)) → number n p at ≡ number n q from
+pub numbers-same : (n : ℕ) (p q : List ℕ) (at from : ℕ) → ((k : ℕ) → k < n → octetAt p (at + k) ≡ octetAt q (from + k)) → number n p at ≡ number n q from
 unfolding number
 numbers-same zero p q at from h = refl
 numbers-same (suc n) p q at from h =

@@ -17,9 +17,9 @@ use Rattle.packet.specs.Reading.{readPacket}
 use Rattle.packet.specs.Key.{keyOf}
 use Rattle.packet.specs.Numbers.{nextCounter}
 use Rattle.cells.specs.declared.Judged.{Judged}
-use Rattle.cells.specs.Segments.{segOf, both}
+use Rattle.cells.specs.Segments.{segOf, both, reaches}
 use Rattle.cells.specs.Rows.{Cell, packetIn, cellOf, bySegment}
-use Rattle.cells.specs.Inner.{placeIn, counterIn, bodyIn, judgedOf, toldHeld, reaches, withinIn, Asked, within}
+use Rattle.cells.specs.Inner.{placeIn, counterIn, bodyIn, judgedOf, toldHeld, withinIn, Asked, within}
 use Rattle.cells.specs.Chains.{keyIn}
 use Rattle.cells.proofs.Carries.{Holding, not-held, judged-one, judged-at, held-counter, kinds}
 use Rattle.cells.proofs.Mixing.{key-asked}

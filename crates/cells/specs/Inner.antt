@@ -10,17 +10,17 @@ use Rattle.octets.specs.Octets.{pick, Octets, octetAt, part, number, alike}
 use Rattle.walk.specs.declared.Settings.{Settings}
 use Rattle.packet.specs.Format.{primarySize, fixedSize, counterWidth}
 use Rattle.packet.specs.Reading.{readPacket, segmented}
-use Rattle.cells.specs.Segments.{Seg, both}
+use Rattle.cells.specs.Segments.{Seg, both, reaches}
 use Rattle.cells.specs.declared.Content.{Content}
-use Rattle.cells.specs.declared.Content.the-variants.{Free, Held, Broken}
+use Rattle.cells.specs.declared.Content.the-variants.{Free, Held, Taken, Broken}
 use Rattle.cells.specs.declared.Judged.{Judged}
-use Rattle.cells.specs.Rows.{Cell, free, held, broken, segmentIn, bySegment, markFirst, markSecond, rowAt, packetIn}
+use Rattle.cells.specs.Rows.{Cell, free, held, taken, broken, segmentIn, bySegment, markFirst, rowAt, packetIn}
 use Rattle.cells.specs.Order.{cellAt}
 
--- a row begins with the mark, and from n on is as the zero cell
-unfoldable pub heldRowTest : List ℕ → ℕ → List ℕ → Bool
-heldRowTest r n z =
-    both (eqb (octetAt r 0) markFirst) (both (eqb (octetAt r 1) markSecond) (both (eqb (length r) (length z)) (alike (drop n r) (drop n z))))
+-- a row begins with a mark, told its second octet, and from n on is as the zero cell
+unfoldable pub markedTest : ℕ → List ℕ → ℕ → List ℕ → Bool
+markedTest m r n z =
+    both (eqb (octetAt r 0) markFirst) (both (eqb (octetAt r 1) m) (both (eqb (length r) (length z)) (alike (drop n r) (drop n z))))
 
 -- places in a packet: the secondary header, its presence octet, and what comes after that
 abbrev pub secondaryAt : ℕ
@@ -52,32 +52,41 @@ spansAlike p at-p q at-q =
 abbrev pub bodyIn : Settings → List ℕ → ℕ
 bodyIn s r = readPacket s (packetIn r) .body .at
 
--- what is told of a cell, with the place of its body
+-- what is told of a cell, with the place of its body, and of a record how long its header is
 abbrev pub judgedOf : ℕ → Cell → Judged
-judgedOf at free = record { content = Free; at = 0; counter = record { 0 = 0 } }
-judgedOf at (held t) = record { content = Held; at = at; counter = record { 0 = t .counter } }
-judgedOf at broken = record { content = Broken; at = 0; counter = record { 0 = 0 } }
+judgedOf at free = record { content = Free; at = 0; counter = record { 0 = 0 }; header = 0 }
+judgedOf at (held t) = record { content = Held; at = at; counter = record { 0 = t .counter }; header = 0 }
+judgedOf at (taken g) = record { content = Taken; at = 0; counter = record { 0 = 0 }; header = length (g .key) - 2 }
+judgedOf at broken = record { content = Broken; at = 0; counter = record { 0 = 0 }; header = 0 }
 
--- what is told of a cell tells whether it holds a segment, and whether it is free or holds one
+-- what is told of a row with a record's mark: a record, with the length of its header, or broken
+abbrev pub recordedOf : Bool → ℕ → Judged
+recordedOf true h = record { content = Taken; at = 0; counter = record { 0 = 0 }; header = h }
+recordedOf false h = record { content = Broken; at = 0; counter = record { 0 = 0 }; header = 0 }
+
+-- what is told of a cell tells whether it holds a segment, whether it is a record, and whether it is either or free
 abbrev pub toldHeld : Content → Bool
 toldHeld Free = false
 toldHeld Held = true
+toldHeld Taken = false
 toldHeld Broken = false
+
+abbrev pub toldTaken : Content → Bool
+toldTaken Free = false
+toldTaken Held = false
+toldTaken Taken = true
+toldTaken Broken = false
 
 abbrev pub toldSound : Content → Bool
 toldSound Free = true
 toldSound Held = true
+toldSound Taken = true
 toldSound Broken = false
 
 module _ (next : ℕ → ℕ) where
-  -- the counter x is c or one of m steps after it
-  unfoldable pub reaches : ℕ → ℕ → ℕ → Bool
-  reaches zero c x = eqb c x
-  reaches (suc m) c x = let r = reaches m (next c) x in pick (eqb c x) true r
-
   -- the segment has this key, and its counter is c or one of m steps after it; and a cell that holds such a one
   abbrev pub within : List ℕ → ℕ → ℕ → Seg → Bool
-  within k c m t = both (reaches m c (t .counter)) (alike k (t .key))
+  within k c m t = both (reaches next m c (t .counter)) (alike k (t .key))
 
   abbrev pub withinIn : List ℕ → ℕ → ℕ → Cell → Bool
   withinIn k c m x = bySegment false (within k c m) (segmentIn x)

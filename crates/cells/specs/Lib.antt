@@ -3,6 +3,7 @@ pub mod Rows
 pub mod Order
 pub mod Inner
 pub mod Chains
+pub mod Blocks
 pub mod Pieces
 pub mod Messages
 pub mod Opening

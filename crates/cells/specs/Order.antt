@@ -1,16 +1,17 @@
 -- A store in order, and searches in it.
--- SPEC S-6: a whole number of cells, each free or held, and no key and counter twice.
+-- SPEC S-6: a whole number of cells, each free, held or a taken record, no key and counter twice, and no held segment in a taken range.
 -- Assumes nothing: these are definitions.
 use Prim.Native.Nat.{ℕ, zero, suc, _/_, _%_}
 use mathlib.Core.List.{List}
 use mathlib.Core.Bool.{Bool, true, false, not}
 use lib.ListN.{length}
 use lib.Dec.{leb, eqb}
-use Rattle.octets.specs.Octets.{pick}
 use Rattle.walk.specs.declared.Settings.{Settings}
 use Rattle.walk.specs.Walk.{begun}
-use Rattle.cells.specs.Segments.{carries, both}
-use Rattle.cells.specs.Rows.{Cell, free, held, broken, segmentIn, bySegment, rowAt, cellOf}
+use Rattle.cells.specs.Segments.{carries, both, reaches}
+use Rattle.octets.specs.Octets.{pick, alike}
+use Rattle.packet.specs.Numbers.{nextCounter}
+use Rattle.cells.specs.Rows.{Range, Cell, free, held, taken, broken, segmentIn, bySegment, rangeIn, byRange, rowAt, cellOf}
 
 -- SPEC N-10: 1,024 octets a cell
 abbrev pub cellSize : ℕ
@@ -31,16 +32,25 @@ countIn Z st = length st / Z
 abbrev pub isFree : Cell → Bool
 isFree free = true
 isFree (held t) = false
+isFree (taken g) = false
 isFree broken = false
 
 abbrev pub isSound : Cell → Bool
 isSound free = true
 isSound (held t) = true
+isSound (taken g) = true
 isSound broken = false
 
 -- the cell holds a segment of this key and counter
 abbrev pub carriesIn : List ℕ → ℕ → Cell → Bool
 carriesIn k c x = bySegment false (carries k c) (segmentIn x)
+
+-- SPEC S-16: the range of a taken message has this key and counter; and so has the record in a cell
+unfoldable pub covers : List ℕ → ℕ → Range → Bool
+covers k c g = both (reaches nextCounter (g .steps) (g .first) c) (alike k (g .key))
+
+abbrev pub coversIn : List ℕ → ℕ → Cell → Bool
+coversIn k c x = byRange false (covers k c) (rangeIn x)
 
 -- the lowest of n numbers, from i on, of which a test holds: n + i if there is none
 unfoldable pub lowest : (ℕ → Bool) → ℕ → ℕ → ℕ
@@ -70,8 +80,22 @@ distinct s Z st n = allTo (λ i. newAt s Z st i (cellAt s Z st i)) n
 unfoldable pub sound : Settings → ℕ → List ℕ → ℕ → Bool
 sound s Z st n = allTo (λ i. isSound (cellAt s Z st i)) n
 
+-- no record in the first n cells covers this key and counter
+unfoldable pub untakenTo : Settings → ℕ → List ℕ → ℕ → List ℕ → ℕ → Bool
+untakenTo s Z st n k c = allTo (λ j. not (coversIn k c (cellAt s Z st j))) n
+
+-- nor those of the segment in a cell
+abbrev pub untakenIn : Settings → ℕ → List ℕ → ℕ → Cell → Bool
+untakenIn s Z st n x = bySegment true (λ t. untakenTo s Z st n (t .key) (t .counter)) (segmentIn x)
+
+-- no segment in the first n cells lies in the range of a record there
+unfoldable pub untaken : Settings → ℕ → List ℕ → ℕ → Bool
+untaken s Z st n = allTo (λ i. untakenIn s Z st n (cellAt s Z st i)) n
+
 unfoldable pub inOrder : Settings → ℕ → List ℕ → Bool
-inOrder s Z st = both (lengthFits Z (length st)) (both (sound s Z st (countIn Z st)) (distinct s Z st (countIn Z st)))
+inOrder s Z st =
+    both (lengthFits Z (length st))
+    (both (sound s Z st (countIn Z st)) (both (distinct s Z st (countIn Z st)) (untaken s Z st (countIn Z st))))
 
 -- what every call on a store tests before anything else: 15, then 16; 0 if both pass
 unfoldable pub gate : Settings → ℕ → List ℕ → ℕ

@@ -1,6 +1,7 @@
 // The store's cells: what stands in each, and the searches that the order, arrival and taking are made of.
 //
 //   held   4D 53 | a segmented packet as it arrived | zeros
+//   taken  4D 54 | identification | secondary header without its counter | first counter | last counter | zeros
 //   free   zeros
 //
 // Every function takes any octets. The zero cell is lent as a slice, and its length is the cell size Z.
@@ -9,24 +10,28 @@
 // chooses the chain, `heads` has the highest cell of each chain and `links` the next lower one of each cell; 0 is none, and cell i is i + 1.
 pub mod messages;
 pub mod opening;
+mod untaken;
 
 ghost use mathlib.Core.Path.{_≡_};
 ghost use Prim.Native.Nat.{_+_, _*_, _/_, _≤_, _<_};
-ghost use lib.ListN.{length, getD, drop, set};
+ghost use lib.ListN.{length, getD, take, drop, set};
 ghost use lib.Seq.{sets};
 ghost use mathlib.Core.List.{_∷_};
-ghost use Rattle.octets.specs.Octets.{pick, part, alike};
+ghost use Rattle.octets.specs.Octets.{pick, part, number, alike};
 ghost use lib.Dec.{eqb};
-ghost use Rattle.cells.specs.Segments.{both};
-ghost use Rattle.cells.specs.Rows.{rowAt, zeroRow, cellOf, markFirst, markSecond, markSize, packetIn};
-ghost use Rattle.cells.specs.Inner.{heldRowTest, judgedOf, toldHeld, toldSound, bodyIn, placeIn, counterIn, spansAlike, reaches};
+ghost use Rattle.cells.specs.Segments.{both, reaches};
+ghost use Rattle.cells.specs.Rows.{rowAt, zeroRow, cellOf, markFirst, markSecond, markSize, packetIn, firstIn, records, stepsBetween};
+ghost use Rattle.cells.specs.Inner.{markedTest, judgedOf, recordedOf, toldHeld, toldTaken, toldSound, bodyIn, placeIn, counterIn, spansAlike};
 ghost use Rattle.cells.specs.Inner.{withinIn, Asked, bodyAt, bodiesTo, Bodies};
 ghost use mathlib.Core.Bool.{true};
+ghost use Rattle.packet.specs.Format.{primarySize, counterWidth, headerMost};
 ghost use Rattle.packet.specs.Reading.{readPacket};
 ghost use Rattle.packet.specs.Key.{keyOf};
 ghost use Rattle.packet.specs.Numbers.{nextCounter};
 ghost use Rattle.cells.specs.Order.{cellsMost, lowest, lengthFits, sound, cellAt, carriesIn, newTo, newAt, distinct, inOrder, countIn, foundIn, cellSize};
-ghost use Rattle.cells.specs.Chains.{mixIn, mixed, chainIn, bucketOf, keyIn, chainsAll, bucketAt, Chained};
+ghost use Rattle.cells.specs.Order.{coversIn, untakenTo, untaken};
+ghost use Rattle.cells.specs.Chains.{mixIn, mixed, mixStart, chainIn, bucketOf, keyIn, chainsAll, bucketAt, Chained};
+use packet::Header;
 use packet::SegmentCounter;
 use packet::UNSEGMENTED;
 use walk::Settings;
@@ -57,6 +62,9 @@ const MARK_SECOND: u8 = 0x53;
 
 pub const MARK_SIZE: usize = 2;
 
+// The second octet of the mark of a record, the first being the same.
+pub const MARK_TAKEN: u8 = 0x54;
+
 // The octets of a packet's identification.
 pub const IDENTIFICATION: usize = 2;
 
@@ -71,6 +79,27 @@ const OPTIONAL_AT: usize = packet::PRIMARY + packet::FIXED;
 const TRANSACTION_PLACE: usize = 18;
 
 const TRANSACTION_IN_KEY: usize = IDENTIFICATION + TRANSACTION_PLACE - SECONDARY_AT;
+
+// Where the header stands in a record, its presence octet, and the transaction id.
+const HEADER_AT: usize = MARK_SIZE + IDENTIFICATION;
+
+const PRESENCE_IN_RECORD: usize = HEADER_AT + packet::FIXED - 1;
+
+const TRANSACTION_IN_RECORD: usize = MARK_SIZE + TRANSACTION_IN_KEY;
+
+// How much lower than the body in a segment the counters stand in a record with its key.
+const COUNTERS_BEFORE_BODY: usize = SECONDARY_AT + packet::COUNTER - HEADER_AT;
+
+// The most octets of a header, with a counter; and of a record that is read as a packet: a counter is put back.
+const HEADER_MOST: usize = 256;
+
+const FIRST_MOST: usize = packet::PRIMARY + packet::COUNTER + HEADER_MOST;
+
+// The flags of a first segment beside sequence count 0.
+const FIRST_FLAGS: u64 = 0x4000;
+
+// The most steps from the first segment of a message to its last.
+const STEPS_MOST: u32 = packet::SEGMENTS_MOST as u32 - 1;
 
 // The octets of cell i, as far as they are there.
 pub fn row(store: &[u8], z: usize, i: usize) -> &[u8]
@@ -152,29 +181,31 @@ fn tail(x: &[u8], n: usize) -> &[u8]
     &x[from..to]
 }
 
-// Whether a row begins with the mark, and from n on is as the zero cell.
-fn is_held_row(row: &[u8], n: usize, zero: &[u8]) -> bool
-    ensures { λ r. ⌜ r ≡ heldRowTest (now (row .entry)) n (now (zero .entry)) ⌝ }
+// Whether a row begins with a mark, told its second octet, and from n on is as the zero cell.
+fn is_marked(row: &[u8], mark: u8, n: usize, zero: &[u8]) -> bool
+    ensures { λ r. ⌜ r ≡ markedTest mark (now (row .entry)) n (now (zero .entry)) ⌝ }
 {
     let first = octets::octet(row, 0) == MARK_FIRST;
-    let second = octets::octet(row, 1) == MARK_SECOND;
+    let second = octets::octet(row, 1) == mark;
     let long = row.len() == zero.len();
     let rest = octets::same(tail(row, n), tail(zero, n));
     octets::both(first, octets::both(second, octets::both(long, rest)))
 }
 
-// What stands in a cell: zeros, a segment, or neither.
+// What stands in a cell: zeros, a segment, the record of a message that was taken, or none of these.
 pub enum Content {
     Free,
     Held,
+    Taken,
     Broken,
 }
 
-// What a row is; of a held one where the body begins, and the segment counter.
+// What a row is; of a held one where the body begins, and the segment counter; of a record how long its header is.
 pub struct Judged {
     pub content: Content,
     pub at: usize,
     pub counter: SegmentCounter,
+    pub header: usize,
 }
 
 // Whether a row that was judged holds a segment.
@@ -185,11 +216,25 @@ pub fn is_held(t: Judged) -> bool
     match content {
         Content::Free => false,
         Content::Held => true,
+        Content::Taken => false,
         Content::Broken => false,
     }
 }
 
-// Whether it is free or holds one.
+// Whether it is a record.
+pub fn is_taken(t: Judged) -> bool
+    ensures { λ r. ⌜ r ≡ toldTaken (t .content) ⌝ }
+{
+    let content = t.content;
+    match content {
+        Content::Free => false,
+        Content::Held => false,
+        Content::Taken => true,
+        Content::Broken => false,
+    }
+}
+
+// Whether it is free, holds one or is a record.
 fn is_sound(t: Judged) -> bool
     ensures { λ r. ⌜ r ≡ toldSound (t .content) ⌝ }
 {
@@ -197,6 +242,7 @@ fn is_sound(t: Judged) -> bool
     match content {
         Content::Free => true,
         Content::Held => true,
+        Content::Taken => true,
         Content::Broken => false,
     }
 }
@@ -211,6 +257,104 @@ fn is_free(row: &[u8], zero: &[u8]) -> bool
     octets::same(row, zero)
 }
 
+// A record read as a packet, into a lent slice: a first segment of its identification and header, a counter of zeros put back, and some of
+// what comes after. How many octets it has.
+fn first_in(row: &[u8], out: &mut [u8]) -> usize
+    requires { ⌜ primarySize + counterWidth + headerMost ≤ length (now out) ⌝ }
+    ensures { λ r. ⌜ r ≤ length (now (out .exit)) ⌝ }
+    ensures { λ r. ⌜ take r (now (out .exit)) ≡ firstIn (now (row .entry)) ⌝ }
+{
+    let f = octets::octet(row, PRESENCE_IN_RECORD);
+    let fore = packet::FIXED + (f / 128 % 2) as usize + (f / 64 % 2) as usize;
+    let ids = span(row, MARK_SIZE, IDENTIFICATION);
+    let before = span(row, HEADER_AT, fore);
+    let after = span(row, HEADER_AT + fore, HEADER_MOST - fore);
+    let long = before.len() + packet::COUNTER + after.len();
+    let a = octets::lay(out, 0, ids);
+    let b = octets::lay_number(out, a, 2, FIRST_FLAGS);
+    let c = octets::lay_number(out, b, 2, (long - 1) as u64);
+    let d = octets::lay(out, c, before);
+    let e = octets::lay_number(out, d, packet::COUNTER, 0);
+    octets::lay(out, e, after)
+}
+
+// What reading answers of it.
+fn read_record(s: Settings, row: &[u8]) -> Header
+    ensures { λ r. ⌜ r ≡ readPacket s (firstIn (now (row .entry))) ⌝ }
+{
+    let mut out = [0u8; FIRST_MOST];
+    let n = first_in(row, &mut out);
+    packet::read(s, &out[0..n])
+}
+
+// How many steps lead from one counter to another, round the end too.
+fn steps_between(c: SegmentCounter, d: SegmentCounter) -> u32
+    ensures { λ r. ⌜ r ≡ stepsBetween (c .0) (d .0) ⌝ }
+{
+    if c.0 <= d.0 {
+        return d.0 - c.0;
+    }
+    u32::MAX - c.0 + d.0 + 1
+}
+
+// The counter at a place of a row, and how many steps lead from it to the one after it.
+struct Run {
+    first: SegmentCounter,
+    steps: u32,
+}
+
+fn run_at(row: &[u8], at: usize) -> Run
+    requires { ⌜ at ≤ markSize + 2 + headerMost ⌝ }
+    ensures { λ r. ⌜ r .first .0 ≡ number counterWidth (now (row .entry)) at ⌝ }
+    ensures { λ r. ⌜ r .steps ≡ stepsBetween (number counterWidth (now (row .entry)) at) (number counterWidth (now (row .entry)) (at + counterWidth)) ⌝ }
+{
+    let first = SegmentCounter(octets::be32(row, at));
+    let last = SegmentCounter(octets::be32(row, at + packet::COUNTER));
+    Run {
+        first: first,
+        steps: steps_between(first, last),
+    }
+}
+
+// What is told of a row with a record's mark: a record, with the length of its header, or broken.
+fn recorded(whole: bool, header: usize) -> Judged
+    ensures { λ r. ⌜ r ≡ recordedOf whole header ⌝ }
+{
+    if whole {
+        return Judged {
+            content: Content::Taken,
+            at: 0,
+            counter: SegmentCounter(0),
+            header: header,
+        };
+    }
+    Judged {
+        content: Content::Broken,
+        at: 0,
+        counter: SegmentCounter(0),
+        header: 0,
+    }
+}
+
+// Whether a row with a record's mark is a record, by one reading of it.
+fn judge_record(s: Settings, row: &[u8], zero: &[u8]) -> Judged
+    requires { ⌜ now zero ≡ zeroRow (length (now zero)) ⌝ }
+    ensures { λ r. ⌜ r ≡ recordedOf (records s (length (now (zero .entry))) (now (row .entry))) (readPacket s (firstIn (now (row .entry))) .h) ⌝ }
+{
+    let h = read_record(s, row);
+    let refusal = h.refusal;
+    if refusal.number != 0 {
+        return recorded(false, 0);
+    }
+    let at = HEADER_AT + h.h;
+    let run = run_at(row, at);
+    let end = at + packet::COUNTER + packet::COUNTER;
+    let marked = is_marked(row, MARK_TAKEN, end, zero);
+    let fits = end <= zero.len();
+    let steps = octets::both(1 <= run.steps, run.steps <= STEPS_MOST);
+    recorded(octets::both(marked, octets::both(fits, steps)), h.h)
+}
+
 // What a row is, beside a zero cell, by one reading of its packet. A row of another length is broken.
 pub fn judge(s: Settings, row: &[u8], zero: &[u8]) -> Judged
     requires { ⌜ now zero ≡ zeroRow (length (now zero)) ⌝ }
@@ -221,7 +365,11 @@ pub fn judge(s: Settings, row: &[u8], zero: &[u8]) -> Judged
             content: Content::Free,
             at: 0,
             counter: SegmentCounter(0),
+            header: 0,
         };
+    }
+    if octets::octet(row, 1) == MARK_TAKEN {
+        return judge_record(s, row, zero);
     }
     let p = packet_in(row);
     let h = packet::read(s, p);
@@ -230,7 +378,7 @@ pub fn judge(s: Settings, row: &[u8], zero: &[u8]) -> Judged
     let body = h.body;
     let ids = h.ids;
     let counter = ids.counter;
-    let marked = is_held_row(row, MARK_SIZE + p.len(), zero);
+    let marked = is_marked(row, MARK_SECOND, MARK_SIZE + p.len(), zero);
     if octets::both(
         marked,
         octets::both(refusal.number == 0, primary.flags != UNSEGMENTED),
@@ -239,12 +387,14 @@ pub fn judge(s: Settings, row: &[u8], zero: &[u8]) -> Judged
             content: Content::Held,
             at: body.at,
             counter: counter,
+            header: 0,
         };
     }
     Judged {
         content: Content::Broken,
         at: 0,
         counter: SegmentCounter(0),
+        header: 0,
     }
 }
 
@@ -402,6 +552,63 @@ pub fn find(
     n
 }
 
+// Whether a cell is a record that covers the key of the one that is looked for, and the counter. The cheap tests come first: the row is
+// judged only if the transaction id agrees and the counter is reached, where the counters stand after a key as long as this one.
+fn covers_at(
+    s: Settings,
+    row: &[u8],
+    zero: &[u8],
+    q: &[u8],
+    body_at: usize,
+    c: SegmentCounter,
+) -> bool
+    requires { ⌜ now zero ≡ zeroRow (length (now zero)) ⌝ }
+    requires { ⌜ Asked s (now q) «body_at» ⌝ }
+    ensures { λ r. ⌜ r ≡ coversIn (keyOf (now (q .entry)) (readPacket s (now (q .entry)))) (c .0)
+        (cellOf s (length (now (zero .entry))) (now (row .entry))) ⌝ }
+{
+    if octets::octet(row, 1) != MARK_TAKEN {
+        return false;
+    }
+    if octets::be64(row, TRANSACTION_IN_RECORD) != octets::be64(q, TRANSACTION_PLACE) {
+        return false;
+    }
+    let run = run_at(row, octets::less(body_at, COUNTERS_BEFORE_BODY));
+    if !is_reached(run.first, run.steps, c) {
+        return false;
+    }
+    let t = judge(s, row, zero);
+    if !is_taken(t) {
+        return false;
+    }
+    is_key(span(row, MARK_SIZE, IDENTIFICATION + t.header), q, body_at)
+}
+
+// Whether no record in the first n cells covers the key and counter of the one that is looked for.
+pub fn is_untaken(
+    s: Settings,
+    store: &[u8],
+    n: usize,
+    zero: &[u8],
+    q: &[u8],
+    body_at: usize,
+    c: SegmentCounter,
+) -> bool
+    requires { ⌜ now zero ≡ zeroRow (length (now zero)) ⌝ }
+    requires { ⌜ Asked s (now q) «body_at» ⌝ }
+    ensures { λ r. ⌜ r ≡ untakenTo s (length (now (zero .entry))) (now (store .entry)) n (keyOf (now (q .entry)) (readPacket s (now (q .entry)))) (c .0) ⌝ }
+{
+    let z = zero.len();
+    let mut j: usize = 0;
+    while j < n {
+        if covers_at(s, row(store, z, j), zero, q, body_at, c) {
+            return false;
+        }
+        j += 1;
+    }
+    true
+}
+
 // Whether the packets of two segments, with what reading answered of them, have the same flags and body.
 pub fn same_rest(
     p: &[u8],
@@ -459,22 +666,28 @@ fn chain(m: u32, c: SegmentCounter) -> usize
     (x / MIX_HALF + x) % CHAINS
 }
 
-// The chain of the key of a segment, told where its body begins, beside a counter.
-pub fn bucket(q: &[u8], body_at: usize, c: SegmentCounter) -> usize
-    ensures { λ r. ⌜ r ≡ bucketOf (keyIn (now (q .entry)) «body_at») (c .0) ⌝ }
+// The key of a segment mixed, told where its body begins.
+fn mix_key(q: &[u8], body_at: usize) -> u32
+    ensures { λ r. ⌜ r ≡ mixed mixStart (keyIn (now (q .entry)) «body_at») ⌝ }
 {
     let d = counter_place(q);
     let ids = mix(MIX_START, span(q, 0, IDENTIFICATION));
     let fore = mix(ids, span(q, SECONDARY_AT, d - SECONDARY_AT));
-    let aft = mix(
+    mix(
         fore,
         span(
             q,
             d + packet::COUNTER,
             octets::less(body_at, d + packet::COUNTER),
         ),
-    );
-    chain(aft, c)
+    )
+}
+
+// The chain of the key of a segment, told where its body begins, beside a counter.
+pub fn bucket(q: &[u8], body_at: usize, c: SegmentCounter) -> usize
+    ensures { λ r. ⌜ r ≡ bucketOf (keyIn (now (q .entry)) «body_at») (c .0) ⌝ }
+{
+    chain(mix_key(q, body_at), c)
 }
 
 // The same as `find` by a walk along chain b, which is that of the key and counter: links lead down, so the last one met is the lowest.
@@ -572,7 +785,7 @@ fn is_new(
     false
 }
 
-// Whether the first n cells are all free or held, by one reading of each. The table then tells where the body of each segment begins, so
+// Whether the first n cells are all free, held or records, by one reading of each. The table then tells where the body of each segment begins, so
 // that its key is found again without a reading.
 pub fn sound_by(
     s: Settings,
@@ -598,7 +811,7 @@ pub fn sound_by(
 }
 
 // Cell i beside those below it, told where the body of its segment begins: whether they are apart. A held one goes onto its chain; one
-// that is free or broken is on none. Once two are not apart no search is made any more.
+// that holds none is on none. Once two are not apart no search is made any more.
 fn enter(
     s: Settings,
     store: &[u8],
@@ -655,13 +868,14 @@ pub fn distinct_by(
     apart
 }
 
-// Whether cells are all free or held, and whether no two of them have equal key and counter.
+// Whether cells are all sound, whether no two of them have equal key and counter, and whether no segment lies in the range of a record.
 pub struct Orderly {
     pub sound: bool,
     pub distinct: bool,
+    pub untaken: bool,
 }
 
-// The two tests one after the other, by one table of where the bodies begin.
+// The three tests one after the other, by one table of where the bodies begin.
 pub fn order_by(
     s: Settings,
     store: &[u8],
@@ -675,14 +889,17 @@ pub fn order_by(
     requires { ⌜ Chained (bucketAt s (length (now zero)) (now store)) (now heads) (now links) 0 ⌝ }
     ensures { λ r. ⌜ r .sound ≡ sound s (length (now (zero .entry))) (now (store .entry)) n ⌝ }
     ensures { λ r. ⌜ r .distinct ≡ distinct s (length (now (zero .entry))) (now (store .entry)) n ⌝ }
+    ensures { λ r. ⌜ r .untaken ≡ untaken s (length (now (zero .entry))) (now (store .entry)) n ⌝ }
     ensures { λ r. ⌜ Chained (bucketAt s (length (now (zero .entry))) (now (store .entry))) (now (heads .exit)) (now (links .exit)) n ⌝ }
 {
     let mut bodies = [0u16; CELLS_MOST];
     let sound = sound_by(s, store, n, zero, &mut bodies);
     let distinct = distinct_by(s, store, n, zero, &bodies, heads, links);
+    let untaken = untaken::untaken_by(s, store, n, zero, &bodies);
     Orderly {
         sound: sound,
         distinct: distinct,
+        untaken: untaken,
     }
 }
 
@@ -704,7 +921,7 @@ pub fn in_order_by(
         return 0;
     }
     let o = order_by(s, store, n, zero, heads, links);
-    if octets::both(o.sound, o.distinct) {
+    if octets::both(o.sound, octets::both(o.distinct, o.untaken)) {
         return n;
     }
     0

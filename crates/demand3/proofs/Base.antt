@@ -16,13 +16,14 @@ use Rattle.cells.specs.Messages.{Run, middle, last}
 use Rattle.sender.specs.Sending.{stepsOf}
 use Rattle.sender.proofs.Stepping.{no-return}
 use Rattle.demand3.specs.Complete.{Held}
-use Rattle.demand3.specs.Traffic.{Sent, stepsIn, runOf, segmentsOf, Event, arrives, empty, after, OneOf, Stray, Traffic}
+use Rattle.demand3.specs.Traffic.{Sent, stepsIn, runOf, segmentsOf, Event, arrives, takes, empty, after, OneOf, Stray, Traffic}
 use Rattle.demand3.specs.Promise.{Original, fresh, Given}
-use Rattle.demand3.specs.Base.{Traffic01, Given01, Demand3·01, Soundness01, Genuine01}
+use Rattle.demand3.specs.Base.{Traffic01, Given01, Demand3·01, Soundness01, Genuine01, Recorded01}
 use Rattle.demand3.proofs.Links.{Mem, roleIn, Linked, linked-at, opened-key, sent-opened, sent-key, sent-start, sent-length}
 use Rattle.demand3.proofs.Finds.{picked-held}
 use Rattle.demand3.proofs.Takings.{taken-picked, held-after, held-empty}
 use Rattle.demand3.proofs.Demand.{demand3, soundness}
+use Rattle.demand3.proofs.Outs.{recorded-out}
 
 -- ---- no counter comes twice
 
@@ -120,6 +121,10 @@ demand3·01 cells ms before since g m h a u =
 pub soundness01 : Soundness01
 soundness01 cells ms before since tr m h a =
     soundness nextCounter stepsMost next-injective cells ms before since (traffic-of ms (before ++ since) tr) m h a
+
+pub recorded01 : Recorded01
+recorded01 cells ms before since long r tr m h e i u =
+    recorded-out nextCounter stepsMost next-injective cells ms before since long r (traffic-of ms (before ++ takes long ∷ since) tr) m h e i u
 
 pub genuine01 : Genuine01
 unfolding after

@@ -12,9 +12,10 @@ use Rattle.cells.specs.Segments.{Seg, carries}
 use Rattle.cells.specs.Rows.{Cell}
 use Rattle.cells.specs.Messages.{first, Run, segments, look, restFrom, among, or}
 use Rattle.cells.proofs.Distinct.{carries-yes, carries-true}
-use Rattle.demand3.specs.Cells.{put, hasFree, clear}
+use Rattle.demand3.specs.Cells.{put, hasFree, clear, forgotten}
 use Rattle.demand3.specs.Complete.{Held, Single}
 use Rattle.demand3.proofs.Looks.{carries-no, look-held, look-at, look-same, put-same, put-other, put-full, put-held, clear-kept, clear-held}
+use Rattle.demand3.proofs.Forgets.{look-forgotten, forgotten-single}
 use Rattle.demand3.proofs.Links.{Mem, roleIn, first-middle, first-last, Opened, linked-key, linked-first, opened-key, opened-before}
 use Rattle.demand3.proofs.Finds.{Only, Joint, link-inv, look-own, rest-linked, rest-only, Found}
 
@@ -51,10 +52,10 @@ among-carried us t u e h = let p = carries-true (t .key) (t .counter) u h in amo
 
 -- ---- no two cells have equal key and counter
 
-pub clear-single : (us : List Seg) (cs : List Cell) → Single cs → Single (clear us cs)
-clear-single us cs s t h =
-    let w = clear-held us cs t h in
-    clear-kept us cs (t .key) (t .counter) (λ u e. among-carried us t u (w .1) e) ∙ s t (w .0)
+pub clear-single : (r : Run) (cs : List Cell) → Single cs → Single (clear r cs)
+clear-single r cs s t h =
+    let w = clear-held r cs t h in
+    clear-kept r cs (t .key) (t .counter) (λ u e. among-carried (segments r) t u (w .1) e) ∙ s t (w .0)
 
 put-single-free : (cs : List Cell) (t : Seg) → hasFree cs ≡ true → look cs (t .key) (t .counter) ≡ none → Single cs → Single (put cs t)
 put-single-free cs t f n s u h = go (put-held cs t u h)
@@ -106,14 +107,21 @@ put-beside own cs t n g b = record { single = put-single cs t n (b .single); onl
             d ∙ g u m (ap (λ (x : Seg). x .key) (sym d) ∙ sym (p .0)) (ap (λ (x : Seg). x .counter) (sym d) ∙ sym (p .1))
         go (inr h) = b .only u v m (look-at cs (p .0) (p .1) ∙ b .single v h)
 
-pub clear-beside : (own : Run) (us : List Seg) (cs : List Cell) → Beside own cs → Beside own (clear us cs)
-clear-beside own us cs b = record { single = clear-single us cs (b .single); only = just }
+pub clear-beside : (own r : Run) (cs : List Cell) → Beside own cs → Beside own (clear r cs)
+clear-beside own r cs b = record { single = clear-single r cs (b .single); only = just }
   where
-    just : Only (clear us cs) (segments own)
+    just : Only (clear r cs) (segments own)
     just t u m e =
-        let w = look-held (clear us cs) (t .key) (t .counter) u e in
+        let w = look-held (clear r cs) (t .key) (t .counter) u e in
         let p = carries-true (t .key) (t .counter) u (w .1) in
-        b .only t u m (look-at cs (p .0) (p .1) ∙ b .single u (clear-held us cs u (w .0) .0))
+        b .only t u m (look-at cs (p .0) (p .1) ∙ b .single u (clear-held r cs u (w .0) .0))
+
+pub forgotten-beside : (own : Run) (i : ℕ) (cs : List Cell) → Beside own cs → Beside own (forgotten i cs)
+forgotten-beside own i cs b =
+    record {
+      single = forgotten-single i cs (b .single);
+      only = λ t u m e. b .only t u m (sym (look-forgotten i cs (t .key) (t .counter)) ∙ e);
+    }
 
 -- ---- a run that the store finds, beside a message
 

@@ -1,8 +1,8 @@
--- From the generated contracts of the public calls to the steps of demand 3 (J-9): what `store::arrive`, `store::take` and `join::join`
--- leave is the store and the output after the call, and they answer what it comes to; what `cut::count` answers and `cut::packet`
+-- From the generated contracts of the public calls to the steps of demand 3 (J-9): what `store::arrive`, `store::take`, `store::forget` and
+-- `join::join` leave is the store and the output after the call, and they answer what it comes to; what `cut::count` answers and `cut::packet`
 -- writes, or the old cutter, are a message's count and its packets. So where demand 3 says that a call hands out a message, its answer and its output do.
 -- Assumes nothing.
-use Prim.Native.Nat.{ℕ, zero, suc, _+_, _-_}
+use Prim.Native.Nat.{ℕ, zero, suc, _+_, _-_, _<_}
 use mathlib.Core.Path.{_≡_, refl, ap, sym, _∙_}
 use mathlib.Core.Logic.{_⊎_, inl, inr}
 use mathlib.Core.Bool.{Bool, true, false}
@@ -10,7 +10,6 @@ use mathlib.Core.Option.{Option, none, some, Option·map, Option·some-injective
 use mathlib.Core.List.{List, _++_}
 use native.Mathlib.Omega.{arith}
 use contract.Lifetimes as L
-use denote.Ref.{now}
 use lib.ListN.{length, take, drop}
 use lib.Dec.{leb}
 use Rattle.octets.specs.Octets.{pick}
@@ -18,6 +17,8 @@ use Rattle.walk.specs.declared.Settings.{Settings}
 use Rattle.walk.specs.declared.Refusal.{Refusal}
 use Rattle.walk.specs.Walk.{refusal}
 use Rattle.packet.specs.Numbers.{nextCounter, stepsMost}
+use Rattle.packet.specs.Reading.{readPacket, segmented}
+use Rattle.cells.specs.Segments.{segOf}
 use Rattle.sender.specs.declared.Sender.{Sender}
 use Rattle.write.specs.declared.HeaderValues.{HeaderValues}
 use Rattle.write.specs.Given.{Lent}
@@ -31,23 +32,27 @@ use Rattle.cut.proofs.packet_by.Reads as cut-bys
 use Rattle.fewest.proofs.Calls.{packet-wrote, packet-by-wrote}
 use Rattle.cells.specs.Order.{countIn, cellSize, gate}
 use Rattle.cells.specs.Messages.{Run, cellsOf, picked}
-use Rattle.arrival.specs.Arriving.{Arrived, whole, stored, again, refused, arrived, storeWith}
+use Rattle.arrival.specs.Arriving.{Arrived, whole, stored, again, late, refused, arrived, storeWith}
+use Rattle.arrival.specs.declared.Arrival.the-variants.{Answer}
+use Rattle.arrival.specs.declared.Kind.the-variants.{Taken as Repeated}
 use Rattle.taking.specs.Taking.{Took, message, unable, writing, drawn, tookIn, took}
+use Rattle.taking.specs.Forgetting.{forgot}
 use Rattle.taking.specs.declared.Taken.{Taken}
 use Rattle.arrival.specs.Told.{arrivalOf}
 use Rattle.taking.specs.Told.{takenOf}
 use Rattle.taking.proofs.Checked.{took-open, took-shut}
-use Rattle.store.proofs.Arguments.{arrive-call, arrive-store, take-call, take-store, take-output}
+use Rattle.store.proofs.Arguments.{arrive-call, arrive-store, take-call, take-store, take-output, forget-call, forget-store}
 use Rattle.store.proofs.arrive.Reads as arrives
 use Rattle.store.proofs.take.Reads as takes
+use Rattle.store.proofs.forget.Reads as forgets
 use Rattle.join.specs.Joining.{Joining, inPacket, unjoined, bodyFrom, tookAs, joinedBy, joining as joined}
 use Rattle.join.specs.Told.{taken, joinedOf}
 use Rattle.join.proofs.Arguments.{join-call, join-store, join-output}
 use Rattle.join.proofs.join.Reads as joins
-use Rattle.demand3.specs.Calls.{arrival, taking, joining, goesOn, storeBy, tookBy, outBy}
-use Rattle.demand3.specs.Sendings.{Sending, wholeBody, identificationOf, headerOf, headerSize, bodySize, startOf}
+use Rattle.demand3.specs.Calls.{arrival, taking, joining, forgetting, goesOn, storeBy, tookBy, outBy}
+use Rattle.demand3.specs.Sendings.{Sending, wholeBody, identificationOf, headerOf, headerSize, bodySize, startOf, manyOf, keyIn, counterIn}
 use Rattle.demand3.specs.Cutter.{Cutting, countOf, packetOf}
-use Rattle.demand3.specs.Whole.{Delivers}
+use Rattle.demand3.specs.Whole.{Delivers, Out}
 
 -- `store::arrive`
 pub arrive-answers : (κs : L.Lfts 2) (a : _) (r : _) (x : _) → arrives.Post κs a r x →
@@ -58,6 +63,28 @@ pub arrive-steps : (κs : L.Lfts 2) (a : _) (r : _) (x : _) → arrives.Post κs
     arrive-store κs x ≡ storeBy (arrive-call κs a .settings) cellSize (arrive-call κs a .store) (arrival (arrive-call κs a .packet))
 unfolding storeBy
 arrive-steps κs a r x k = k .1
+
+-- a segment with the key and a counter of a message that is out is answered "taken", and leaves the store as it was
+pub arrive-out : (κs : L.Lfts 2) (a : _) (r : _) (x : _) → arrives.Post κs a r x → (n : ℕ) (m : Sending) →
+    Out (arrive-call κs a .settings) cellSize n m (arrive-call κs a .store) →
+    readPacket (arrive-call κs a .settings) (arrive-call κs a .packet) .refusal .number ≡ 0 → segmented (arrive-call κs a .packet) ≡ true →
+    segOf (arrive-call κs a .packet) (readPacket (arrive-call κs a .settings) (arrive-call κs a .packet)) .key ≡ keyIn (arrive-call κs a .settings) m →
+    (i : ℕ) → i < manyOf (arrive-call κs a .settings) m →
+    segOf (arrive-call κs a .packet) (readPacket (arrive-call κs a .settings) (arrive-call κs a .packet)) .counter ≡ counterIn (arrive-call κs a .settings) m i →
+    (r ≡ Answer Repeated) × (arrive-store κs x ≡ arrive-call κs a .store)
+arrive-out κs a r x k n m o ok seg key i l c =
+    let v = o .repeats (arrive-call κs a .packet) ok seg key i l c in
+    (arrive-answers κs a r x k ∙ ap arrivalOf (v .0), k .1 ∙ v .1)
+
+-- `store::forget`
+pub forget-answers : (κs : L.Lfts 1) (a : _) (r : _) (x : _) → forgets.Post κs a r x →
+    r ≡ refusal (forgot (forget-call κs a .settings) cellSize (forget-call κs a .store) (forget-call κs a .number))
+forget-answers κs a r x k = k .0
+
+pub forget-steps : (κs : L.Lfts 1) (a : _) (r : _) (x : _) → forgets.Post κs a r x →
+    forget-store κs x ≡ storeBy (forget-call κs a .settings) cellSize (forget-call κs a .store) (forgetting (forget-call κs a .number))
+unfolding storeBy
+forget-steps κs a r x k = k .1
 
 -- ---- a joining in the words of its definition
 
@@ -77,6 +104,7 @@ module _ (s : Settings) (Z : ℕ) (st out p : List ℕ) where
       by whole g = let z : _≡_ {A = ℕ} 0 1 = cc in absurd (omega arith)
       by (stored i) g = ap tookAs (Option·some-injective (took s Z (storeWith Z st p (stored i)) (length out)) t g)
       by again g = ap tookAs (Option·some-injective (took s Z (storeWith Z st p again) (length out)) t g)
+      by late g = ap tookAs (Option·some-injective (took s Z (storeWith Z st p late) (length out)) t g)
       by (refused k) g = let z : _≡_ {A = ℕ} 0 1 = cc in absurd (omega arith)
 
   -- where there is none, to what its arrival does
@@ -89,6 +117,7 @@ module _ (s : Settings) (Z : ℕ) (st out p : List ℕ) where
       by whole g = inl (refl, refl)
       by (stored i) g = let z : _≡_ {A = ℕ} 0 1 = cc in absurd (omega arith)
       by again g = let z : _≡_ {A = ℕ} 0 1 = cc in absurd (omega arith)
+      by late g = let z : _≡_ {A = ℕ} 0 1 = cc in absurd (omega arith)
       by (refused k) g = inr (k, refl, refl)
 
 -- `store::take`
@@ -167,6 +196,7 @@ joined-tells s Z st p out x z = by (arrived s Z st p)
     by (stored i) g =
         let u = storeWith Z st p (stored i) in of (took s Z u (length out)) (took-not s Z u (length out)) g
     by again g = let u = storeWith Z st p again in of (took s Z u (length out)) (took-not s Z u (length out)) g
+    by late g = let u = storeWith Z st p late in of (took s Z u (length out)) (took-not s Z u (length out)) g
     by (refused k) g = let y : _≡_ {A = ℕ} 0 1 = cc in absurd (omega arith)
 
 module _ (s : Settings) (m : Sending) where

@@ -1,35 +1,42 @@
 -- What demand 3 over octets presupposes is what demand 3 over cells does of the events: the messages, the arrivals, the room, a
--- message untaken and told anew.
+-- message untaken and told anew, its record not forgotten.
 -- Assumes nothing.
-use Prim.Native.Nat.{ℕ, _+_, _≤_, _<_}
+use Prim.Native.Nat.{ℕ, _+_, _*_, _≤_, _<_}
 use mathlib.Core.Path.{_≡_, ap, sym, _∙_, subst}
 use mathlib.Core.Logic.{_≢_, _⊎_, inl, inr}
-use mathlib.Core.Bool.{Bool}
+use mathlib.Core.Bool.{not}
 use mathlib.Core.Option.{some}
-use mathlib.Core.List.{List, [], _∷_, _++_, map, append-assoc, append-nil, List·Memᴰ, Memᴰ·map, Memᴰ·of-map}
+use mathlib.Core.List.{List, [], _∷_, _++_, map, append-nil, List·Memᴰ, Memᴰ·map, Memᴰ·of-map}
 use native.Mathlib.Omega.{arith}
 use lib.ListN.{length}
 use Rattle.walk.specs.declared.Settings.{Settings}
 use Rattle.packet.specs.Numbers.{nextCounter, stepsMost}
 use Rattle.octets.specs.Octets.{most32}
 use Rattle.cells.specs.Segments.{Seg, segOf}
-use Rattle.cells.specs.Rows.{Cell}
+use Rattle.cells.specs.Rows.{Cell, taken}
+use Rattle.cells.specs.Order.{cellAt, untakenTo}
 use Rattle.cells.specs.Messages.{cellsOf, look}
 use Rattle.taking.specs.Taking.{message}
-use Rattle.demand3.specs.Cells.{hasFree}
+use Rattle.demand3.specs.Cells.{hasFree, rangeBy, recorded}
 use Rattle.cells.proofs.Empty.{empty-cells, empty-count, empty-order}
-use Rattle.demand3.specs.Traffic.{Sent, segmentsOf, Event, arrives, takes, empty, takenFrom, after, OneOf, Room as CellRoom, stepsIn}
-use Rattle.demand3.specs.Promise.{Anew as CellAnew, fresh as cell-fresh, retaken as cell-retaken, Untaken as CellUntaken, AllCame as CellAllCame}
+use Rattle.demand3.specs.Traffic.{Sent, runOf, segmentsOf, Event, arrives, takes, forgets, empty, takenFrom, after, OneOf, Room as CellRoom, stepsIn}
+use Rattle.demand3.specs.Promise.{Anew as CellAnew, fresh as cell-fresh, forgot as cell-forgot, Untaken as CellUntaken, AllCame as CellAllCame}
+use Rattle.demand3.specs.Promise.{RecordAt as CellRecordAt, Remembered as CellRemembered}
 use Rattle.demand3.specs.Base.{Traffic01}
-use Rattle.demand3.specs.Calls.{Call, Handed, outOf, storeAfter, tookBy}
-use Rattle.demand3.specs.Sendings.{Sending, ReadsAs, manyOf, segmentAt, keyIn, IsCut}
-use Rattle.demand3.specs.Presupposed.{AllCame, MayCome, own, unsegmented, malformed, over-long, other-keyed, Traffic, Untaken, InUse, emptyStore, storeBehind, Anew, fresh, retaken, Room}
+use Rattle.demand3.specs.Calls.{Call, forgetting, Handed, Plain, outOf, storeBy, storeAfter, tookBy}
+use Rattle.demand3.specs.Sendings.{Sending, ReadsAs, manyOf, segmentAt, keyIn, stepsTo, rangeSent, IsCut}
+use Rattle.demand3.specs.Presupposed.{AllCame, MayCome, own, unsegmented, malformed, over-long, other-keyed, Traffic, Untaken, InUse, emptyStore, storeBehind, Room}
+use Rattle.demand3.specs.Presupposed.{RecordAt, Remembered, Anew, fresh, forgot}
 use Rattle.demand3.proofs.Keeps.{after-append}
+use Rattle.demand3.proofs.Plain.{plain-left, plain-at}
+use Rattle.join.proofs.Plain.{zeros-octets}
 use Rattle.demand3.proofs.ReadAs.{own-fits, start-fits}
-use Rattle.demand3.proofs.Sents.{sentOf, own-in, in-own, short}
+use Rattle.demand3.proofs.Sents.{sentOf, own-in, in-own, short, end-is}
+use Rattle.demand3.proofs.Links.{sent-key, sent-start, sent-length}
+use Rattle.demand3.proofs.Marked.{untaken-is, listed-get, listed-past}
 use Rattle.demand3.proofs.Steps.{eventOf, event-reads, reads-event, settings-go, Kept}
-use Rattle.demand3.proofs.Events.{before, drawing, eventsIn, events-append, events-one, by-arrives, by-takes, origin}
-use Rattle.demand3.proofs.Simulates.{took-by, by-took, run-keeps, run-cells, handed-in, in-handed}
+use Rattle.demand3.proofs.Events.{before, eventsIn, events-append, by-arrives, by-takes, by-forgets, origin}
+use Rattle.demand3.proofs.Simulates.{took-by, run-keeps, run-cells, handed-in, in-handed}
 
 -- the empty store
 pub begins : (s : Settings) (Z n : ℕ) → 1 ≤ Z → InUse s n → Kept s Z n (emptyStore Z n)
@@ -38,6 +45,7 @@ begins s Z n one u =
       settings = settings-go s (u .settings);
       order = empty-order s Z n one (u .some) (u .most);
       count = empty-count s Z n one;
+      octets = zeros-octets (n * Z);
     }
 
 -- ---- the messages and the arrivals
@@ -134,40 +142,87 @@ module _ (s : Settings) (Z : ℕ) (ms : List Sending) where
 
 module _ (s : Settings) (Z n : ℕ) where
   -- none of the calls takes the message: none of the events does
-  pub untaken-of : (m : Sending) (st : List ℕ) (cs : List Call) → Kept s Z n st → Untaken s Z m st cs →
+  pub untaken-of : (m : Sending) (st : List ℕ) (cs : List Call) → Kept s Z n st → Plain cs → Untaken s Z m st cs →
       CellUntaken nextCounter stepsMost (sentOf s m) (cellsOf s Z st n) (eventsIn s Z st cs)
-  untaken-of m st cs k u p q long r e t i =
+  untaken-of m st cs k pl u p q long r e t i =
       let o = origin s Z cs st p (takes long) q e in
+      let f = plain-at cs (o .earlier) (o .others) (o .call) (o .place) pl in
       let x = storeAfter s Z st (o .earlier) in
-      let kx = run-keeps s Z n (o .earlier) st k in
+      let kx = run-keeps s Z n (o .earlier) st k (f .0) in
       let b = by-takes s Z x (o .call) long (o .ahead) (o .behind) (o .its) in
       let c : after nextCounter stepsMost (cellsOf s Z st n) p ≡ after nextCounter stepsMost (cellsOf s Z x n) (before s Z (o .call)) =
       ap (after nextCounter stepsMost (cellsOf s Z st n)) (o .before-it ∙ ap (λ (l : List Event). eventsIn s Z st (o .earlier) ++ l) (b .0))
       ∙ after-append nextCounter stepsMost (cellsOf s Z st n) (eventsIn s Z st (o .earlier)) (before s Z (o .call))
-      ∙ ap (λ (l : List Cell). after nextCounter stepsMost l (before s Z (o .call))) (sym (run-cells s Z n (o .earlier) st k)) in
+      ∙ ap (λ (l : List Cell). after nextCounter stepsMost l (before s Z (o .call))) (sym (run-cells s Z n (o .earlier) st k (f .0))) in
       let d : tookBy s Z x (o .call) ≡ some (message r) =
-      took-by s Z n x kx (o .call) (b .1)
+      took-by s Z n x kx (o .call) (f .1) (b .1)
       ∙ ap (λ (l : List Cell). some (takenFrom nextCounter stepsMost l (length (outOf (o .call))))) (sym c)
       ∙ ap (λ (y : ℕ). some (takenFrom nextCounter stepsMost (after nextCounter stepsMost (cellsOf s Z st n) p) y)) (b .2)
       ∙ ap some t in
       u (o .earlier) (o .others) (o .call) (o .place) (r, d, i)
+
+  -- ---- records
+
+  module _ (m : Sending) (c : IsCut s Z m) where
+    -- its record is that of its run
+    pub range-is : rangeBy (runOf nextCounter (sentOf s m)) ≡ rangeSent s m
+    range-is =
+        λ i. record {
+          key = sent-key nextCounter (sentOf s m) i;
+          first = sent-start nextCounter (sentOf s m) i;
+          steps = steps-are i;
+        }
+      where
+        steps-are : length (runOf nextCounter (sentOf s m) .rest) ≡ stepsTo s m
+        steps-are = sent-length nextCounter (sentOf s m) ∙ end-is s Z m c
+
+    pub record-of : (st : List ℕ) (i : ℕ) → RecordAt s Z n m st i → CellRecordAt nextCounter stepsMost (sentOf s m) (cellsOf s Z st n) i
+    record-of st i r =
+        listed-get (cellAt s Z st) n 0 i i (let e : i ≡ 0 + i = omega arith in e) (r .0) ∙ r .1 ∙ ap taken (sym range-is)
+
+    pub of-record : (st : List ℕ) (i : ℕ) → CellRecordAt nextCounter stepsMost (sentOf s m) (cellsOf s Z st n) i → RecordAt s Z n m st i
+    of-record st i e =
+        let l : i < n = listed-past (cellAt s Z st) n 0 i (rangeBy (runOf nextCounter (sentOf s m))) e in
+        (l, sym (listed-get (cellAt s Z st) n 0 i i (let d : i ≡ 0 + i = omega arith in d) l) ∙ e ∙ ap taken range-is)
+
+    -- none of the calls forgets it: none of the events does
+    pub remembered-of : (st : List ℕ) (cs : List Call) → Kept s Z n st → Plain cs → Remembered s Z n m st cs →
+        CellRemembered nextCounter stepsMost (sentOf s m) (cellsOf s Z st n) (eventsIn s Z st cs)
+    remembered-of st cs k pl u p q i e r =
+        let o = origin s Z cs st p (forgets i) q e in
+        let b = by-forgets s Z (storeAfter s Z st (o .earlier)) (o .call) i (o .ahead) (o .behind) (o .its) in
+        let d : after nextCounter stepsMost (cellsOf s Z st n) p ≡ cellsOf s Z (storeAfter s Z st (o .earlier)) n =
+        ap (after nextCounter stepsMost (cellsOf s Z st n))
+        (o .before-it ∙ ap (λ (l : List Event). eventsIn s Z st (o .earlier) ++ l) (b .0) ∙ append-nil (eventsIn s Z st (o .earlier)))
+        ∙ sym (run-cells s Z n (o .earlier) st k (plain-at cs (o .earlier) (o .others) (o .call) (o .place) pl .0)) in
+        u (o .earlier) (o .others) i (o .place ∙ ap (λ (x : Call). o .earlier ++ x ∷ o .others) (b .1))
+        (of-record (storeAfter s Z st (o .earlier)) i (subst (λ (l : List Cell). CellRecordAt nextCounter stepsMost (sentOf s m) l i) d r))
+
+    -- and the other way
+    pub of-remembered : (st : List ℕ) (cs : List Call) → Kept s Z n st → Plain cs →
+        CellRemembered nextCounter stepsMost (sentOf s m) (cellsOf s Z st n) (eventsIn s Z st cs) → Remembered s Z n m st cs
+    unfolding eventsIn
+    of-remembered st cs k pl u x y i e r =
+        u (eventsIn s Z st x) (eventsIn s Z (storeBy s Z (storeAfter s Z st x) (forgetting i)) y) i
+        (ap (eventsIn s Z st) e ∙ events-append s Z x (forgetting i ∷ y) st)
+        (subst (λ (l : List Cell). CellRecordAt nextCounter stepsMost (sentOf s m) l i) (run-cells s Z n x st k (plain-at cs x y (forgetting i) e pl .0)) (record-of (storeAfter s Z st x) i r))
 
   module _ (one : 1 ≤ Z) (z : InUse s n) where
     abbrev zeros : List ℕ
     zeros = emptyStore Z n
 
     -- the cells after calls from the empty store on
-    pub behind-cells : (cs : List Call) → cellsOf s Z (storeBehind s Z n cs) n ≡ after nextCounter stepsMost (empty n) (eventsIn s Z zeros cs)
-    behind-cells cs =
-        run-cells s Z n cs zeros (begins s Z n one z)
+    pub behind-cells : (cs : List Call) → Plain cs → cellsOf s Z (storeBehind s Z n cs) n ≡ after nextCounter stepsMost (empty n) (eventsIn s Z zeros cs)
+    behind-cells cs o =
+        run-cells s Z n cs zeros (begins s Z n one z) o
         ∙ ap (λ (l : List Cell). after nextCounter stepsMost l (eventsIn s Z zeros cs)) (empty-cells s Z n)
 
-    pub behind-keeps : (cs : List Call) → Kept s Z n (storeBehind s Z n cs)
-    behind-keeps cs = run-keeps s Z n cs zeros (begins s Z n one z)
+    pub behind-keeps : (cs : List Call) → Plain cs → Kept s Z n (storeBehind s Z n cs)
+    behind-keeps cs o = run-keeps s Z n cs zeros (begins s Z n one z) o
 
-    pub room-of : (cs : List Call) → Room s Z n cs → CellRoom nextCounter stepsMost (empty n) (eventsIn s Z zeros cs)
+    pub room-of : (cs : List Call) → Plain cs → Room s Z n cs → CellRoom nextCounter stepsMost (empty n) (eventsIn s Z zeros cs)
     unfolding segOf
-    room-of cs g p q t e new =
+    room-of cs pl g p q t e out new =
         let o = origin s Z cs zeros p (arrives t) q e in
         let b = by-arrives s Z (storeBehind s Z n (o .earlier)) (o .call) t (o .ahead) (o .behind) (o .its) in
         let v = b .1 in
@@ -175,32 +230,26 @@ module _ (s : Settings) (Z n : ℕ) where
         let c : after nextCounter stepsMost (empty n) p ≡ cellsOf s Z (storeBehind s Z n (o .earlier)) n =
         ap (after nextCounter stepsMost (empty n))
         (o .before-it ∙ ap (λ (l : List Event). eventsIn s Z zeros (o .earlier) ++ l) (b .0) ∙ append-nil (eventsIn s Z zeros (o .earlier)))
-        ∙ sym (behind-cells (o .earlier)) in
+        ∙ sym (behind-cells (o .earlier) (plain-at cs (o .earlier) (o .others) (o .call) (o .place) pl .0)) in
         let f =
         g (o .earlier) (o .others) (o .call) (v .0) (o .place) (v .1) (r .0 .accepted) (r .0 .segmented) (r .1)
+        (ap (λ (x : Seg). untakenTo s Z (storeBehind s Z n (o .earlier)) n (x .key) (x .counter)) (r .0 .segment)
+        ∙ untaken-is s Z (storeBehind s Z n (o .earlier)) n (t .key) (t .counter)
+        ∙ ap not (ap (λ (l : List Cell). recorded nextCounter l (t .key) (t .counter)) (sym c) ∙ out))
         (ap (λ (x : Seg). look (cellsOf s Z (storeBehind s Z n (o .earlier)) n) (x .key) (x .counter)) (r .0 .segment)
         ∙ ap (λ (l : List Cell). look l (t .key) (t .counter)) (sym c)
         ∙ new) in
         ap hasFree c ∙ f
 
     -- a message told anew by the calls is told anew by the events
-    pub anew-of : (m : Sending) (cs : List Call) → Anew s Z n m cs → CellAnew nextCounter stepsMost n (sentOf s m) (eventsIn s Z zeros cs)
+    pub anew-of : (m : Sending) → IsCut s Z m → (cs : List Call) → Plain cs → Anew s Z n m cs →
+        CellAnew nextCounter stepsMost n (sentOf s m) (eventsIn s Z zeros cs)
     unfolding eventsIn
-    anew-of m cs fresh = cell-fresh
-    anew-of m cs (retaken x c t) =
-        let st = storeBehind s Z n x in
-        let k = behind-keeps x in
-        let b = by-took s Z st c (t .0) (t .1) in
-        let e : takenFrom nextCounter stepsMost (after nextCounter stepsMost (cellsOf s Z st n) (before s Z c)) (length (outOf c)) ≡ message (t .0) =
-        cc (sym (took-by s Z n st k c (b .0)) ∙ t .1) in
-        let a : after nextCounter stepsMost (cellsOf s Z st n) (before s Z c) ≡ after nextCounter stepsMost (empty n) (eventsIn s Z zeros x ++ before s Z c) =
-        ap (λ (l : List Cell). after nextCounter stepsMost l (before s Z c)) (behind-cells x)
-        ∙ sym (after-append nextCounter stepsMost (empty n) (eventsIn s Z zeros x) (before s Z c)) in
-        let d : eventsIn s Z zeros (x ++ c ∷ []) ≡ (eventsIn s Z zeros x ++ before s Z c) ++ takes (length (outOf c)) ∷ [] =
-        events-append s Z x (c ∷ []) zeros
-        ∙ ap (λ (l : List Event). eventsIn s Z zeros x ++ l)
-        (events-one s Z st c ∙ ap (λ (y : Bool). before s Z c ++ drawing s Z y c) (b .0))
-        ∙ sym (append-assoc (eventsIn s Z zeros x) (before s Z c) (takes (length (outOf c)) ∷ [])) in
+    anew-of m c cs pl fresh = cell-fresh
+    anew-of m c cs pl (forgot x i r) =
         subst (CellAnew nextCounter stepsMost n (sentOf s m)) (sym d)
-        (cell-retaken (eventsIn s Z zeros x ++ before s Z c) (length (outOf c)) (t .0)
-        (ap (λ (l : List Cell). takenFrom nextCounter stepsMost l (length (outOf c))) (sym a) ∙ e) (t .2))
+        (cell-forgot (eventsIn s Z zeros x) i
+        (subst (λ (l : List Cell). CellRecordAt nextCounter stepsMost (sentOf s m) l i) (behind-cells x (plain-left x (forgetting i ∷ []) pl)) (record-of m c (storeBehind s Z n x) i r)))
+      where
+        d : eventsIn s Z zeros (x ++ forgetting i ∷ []) ≡ eventsIn s Z zeros x ++ forgets i ∷ []
+        d = events-append s Z x (forgetting i ∷ []) zeros

@@ -3,7 +3,7 @@
 -- Assumes nothing.
 use Prim.Native.Nat.{ℕ, zero, suc, _+_, _≤_}
 use mathlib.Core.Path.{_≡_, refl, ap, sym, _∙_}
-use mathlib.Core.Logic.{inr}
+use mathlib.Core.Logic.{inl, inr}
 use mathlib.Core.Option.{some}
 use mathlib.Core.List.{List, [], _∷_, List·Memᴰ·head, List·Memᴰ·tail}
 use native.Mathlib.Omega.{arith}
@@ -17,21 +17,23 @@ use Rattle.cells.specs.Segments.{carries, sameRest}
 use Rattle.cells.specs.Order.{cellSize}
 use Rattle.cells.specs.Messages.{look, roleOf, bodies, restFrom, runFrom, pickIn}
 use Rattle.taking.specs.Taking.{message, unable}
-use Rattle.demand3.specs.Cells.{put, hasFree}
+use Rattle.demand3.specs.Cells.{put, hasFree, recorded}
 use Rattle.demand3.specs.Traffic.{empty, takenFrom, stepped, after}
-use Rattle.demand3.specs.Calls.{Call, joining, packetsIn, tookBy, storeAfter}
+use Rattle.demand3.specs.Calls.{Call, joining, Plain, packetsIn, tookBy, storeAfter}
 use Rattle.demand3.specs.Sendings.{headerSize, bodySize}
 use Rattle.demand3.specs.Presupposed.{AllCame, Untaken, Given, storeBehind, fresh}
 use Rattle.demand3.specs.Whole.{Delivers}
 use Rattle.demand3.specs.Joins.{OnlyJoins, Completes}
 use Rattle.demand3.proofs.ReadAs.{repeat-reads}
 use Rattle.demand3.proofs.Events.{one-split}
+use Rattle.demand3.proofs.Plain.{plain-none, plain-left}
 use Rattle.demand3.proofs.Joins.{joining·whole, only-joins·whole}
 use Rattle.demand3.proofs.Acts.{EachPacket, each-packet, actEvents}
 use Rattle.demand3.proofs.Roomy.{room·whole}
-use Rattle.demand3.proofs.Day.{settings, two, messages, of-two, two-cut, is-two-first}
+use Rattle.demand3.proofs.Day.{settings, two, messages, of-two, two-cut, seg, is-two-first}
 use Rattle.demand3.proofs.DayComes.{Fine, two-fine}
-use Rattle.demand3.proofs.DayRun.{lentOut, two-first, in-use, traffic, joined-takes}
+use Rattle.demand3.proofs.DayRun.{lentOut, in-use, joined-takes}
+use Rattle.demand3.proofs.DayGiven.{traffic}
 
 abbrev Z : ℕ
 Z = cellSize
@@ -53,6 +55,9 @@ few : packetsIn calls ≤ 4
 unfolding packetsIn
 few = omega arith
 
+plain : Plain calls
+plain p h = each-packet Fine calls fine p h .0
+
 given : Given settings Z 4 messages calls
 given =
     record {
@@ -60,16 +65,16 @@ given =
           record {
             cut = traffic .cut;
             apart = traffic .apart;
-            octets = λ p h. each-packet Fine calls fine p h .0;
+            octets = plain;
             packets = λ p h. each-packet Fine calls fine p h .1;
           };
-      room = room·whole settings 4 in-use calls few;
+      room = room·whole settings 4 in-use calls plain few;
     }
 
 -- nothing is complete with the first segment alone
 takes-none : tookBy settings Z (storeBehind settings Z 4 []) stores ≡ some (unable 20)
-unfolding actEvents after stepped takenFrom look carries sameRest alike put hasFree pickIn runFrom restFrom roleOf bodies nextCounter
-takes-none = joined-takes [] [] refl (empty 4) refl (of-two 0 3) (lentOut 33) two-first (is-two-first 3 (omega arith)) refl
+unfolding actEvents after stepped takenFrom look carries sameRest alike put hasFree pickIn runFrom restFrom roleOf bodies nextCounter recorded
+takes-none = joined-takes [] plain-none [] refl (empty 4) refl (of-two 0 3) (lentOut 33) (fine .0 .0) (seg 1 1 (21 ∷ 22 ∷ 23 ∷ [])) (is-two-first 3 (omega arith)) refl
 
 untaken : Untaken settings Z two (storeBehind settings Z 4 []) (stores ∷ [])
 unfolding storeAfter
@@ -85,7 +90,8 @@ untaken x y c e t =
 only : OnlyJoins settings Z 4 (stores ∷ [])
 only =
     record {
-      joins = λ x y c e. let a = one-split stores c x y e in (of-two 0 3, lentOut 33, sym (a .1));
+      octets = plain-left (stores ∷ []) (completes ∷ []) plain;
+      joins = λ x y c e. let a = one-split stores c x y e in inl (of-two 0 3, lentOut 33, sym (a .1));
       long =
           λ x y c e d.
           let a = one-split stores c x y e in

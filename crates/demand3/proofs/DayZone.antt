@@ -8,7 +8,7 @@ use mathlib.Core.Bool.{true, false}
 use mathlib.Core.List.{List, [], _∷_, _++_}
 use native.Mathlib.Omega.{arith}
 use lib.ListN.{length}
-use Rattle.octets.specs.Octets.{Octets, wide, alike}
+use Rattle.octets.specs.Octets.{wide, alike}
 use Rattle.octets.proofs.Has.{octets-nil}
 use Rattle.utf8.specs.Test.{ended, begins, follows, accepts, isText}
 use Rattle.varint.specs.Varint.{write, octetsOf as varintOctets}
@@ -34,13 +34,14 @@ use Rattle.cells.specs.Rows.{Cell, held}
 use Rattle.cells.specs.Order.{cellSize}
 use Rattle.cells.specs.Messages.{cellsOf, look, roleOf, bodies, restFrom, runFrom, pickIn}
 use Rattle.taking.specs.Taking.{Took, message, unable, writing, took}
-use Rattle.demand3.specs.Cells.{put}
-use Rattle.demand3.specs.Traffic.{Event, arrives, empty, takenFrom, stepped, after}
-use Rattle.demand3.specs.Calls.{Call, arrival}
+use Rattle.demand3.specs.Cells.{put, recorded}
+use Rattle.demand3.specs.Traffic.{arrives, empty, takenFrom, stepped, after}
+use Rattle.demand3.specs.Calls.{Call, arrival, Plain}
 use Rattle.demand3.specs.Sendings.{Sending, flagsIn, manyOf, valuesAt, packetWith, segmentAt, IsCut}
 use Rattle.demand3.specs.Cutter.{Cutting, countOf, packetOf, sendingOf, Succeeds}
 use Rattle.demand3.specs.Presupposed.{InUse, emptyStore, storeBehind}
-use Rattle.demand3.proofs.ReadAs.{recounted-range}
+use Rattle.demand3.proofs.ReadAs.{recounted-range, repeat-octets}
+use Rattle.demand3.proofs.Plain.{plain-arrival, plain-both}
 use Rattle.demand3.proofs.Cutter.{cutter-many, cutter-cut}
 use Rattle.demand3.proofs.Steps.{eventOf, took-is}
 use Rattle.demand3.proofs.Events.{eventsIn}
@@ -193,6 +194,16 @@ abbrev pub calls : List Call
 calls =
     arrival (packetWith settings zoned 1 1) ∷ arrival (packetWith settings zoned 1 77) ∷ arrival (packetWith settings zoned 0 0) ∷ []
 
+plain-packet : (i : ℕ) → i < 2 → (c : ℕ) → c < 16384 → Plain (arrival (packetWith settings zoned i c) ∷ [])
+plain-packet i l c h =
+    plain-arrival (packetWith settings zoned i c) (repeat-octets settings cellSize zoned zoned-cut i (omega (arith, many-is)) c h)
+
+plain : Plain calls
+plain =
+    plain-both (arrival (packetWith settings zoned 1 1) ∷ []) _ (plain-packet 1 (omega arith) 1 (omega arith))
+    (plain-both (arrival (packetWith settings zoned 1 77) ∷ []) _ (plain-packet 1 (omega arith) 77 (omega arith))
+    (plain-packet 0 (omega arith) 0 (omega arith)))
+
 events : eventsIn settings cellSize (emptyStore cellSize 2) calls ≡ arrives closes ∷ arrives closes ∷ arrives opens ∷ []
 unfolding eventsIn
 events =
@@ -205,12 +216,12 @@ one : 1 ≤ cellSize
 one = omega arith
 
 two-held : after nextCounter stepsMost (empty 2) (arrives closes ∷ arrives closes ∷ arrives opens ∷ []) ≡ held closes ∷ held opens ∷ []
-unfolding after stepped look carries sameRest alike put
+unfolding after stepped look carries sameRest alike put recorded
 two-held = refl
 
 -- both segments are held
 pub zoned-held : cellsOf settings cellSize (storeBehind settings cellSize 2 calls) 2 ≡ held closes ∷ held opens ∷ []
-zoned-held = behind-cells settings cellSize 2 one in-use calls ∙ ap (after nextCounter stepsMost (empty 2)) events ∙ two-held
+zoned-held = behind-cells settings cellSize 2 one in-use calls plain ∙ ap (after nextCounter stepsMost (empty 2)) events ∙ two-held
 
 -- what a taking writes
 abbrev pub out : Took → List ℕ
@@ -224,6 +235,6 @@ all-out = refl
 -- the message is taken, with its zone octets
 pub zoned-taken : out (took settings cellSize (storeBehind settings cellSize 2 calls) 36) ≡ key ++ cutting .body
 zoned-taken =
-    ap out (took-is settings cellSize 2 (storeBehind settings cellSize 2 calls) (behind-keeps settings cellSize 2 one in-use calls) 36)
+    ap out (took-is settings cellSize 2 (storeBehind settings cellSize 2 calls) (behind-keeps settings cellSize 2 one in-use calls plain) 36)
     ∙ ap (λ (cs : List Cell). out (takenFrom nextCounter stepsMost cs 36)) zoned-held
     ∙ all-out

@@ -1,9 +1,9 @@
--- A taking at a store's octets, from the taking at its cells: what it writes and tells, and which cells it zeroes, octet by octet;
+-- A taking at a store's octets, from the taking at its cells: what it writes and tells, and what it leaves in the cells, octet by octet;
 -- with enough output and with less; and takings one after the other.
 -- Assumes nothing.
 use Prim.Native.Nat.{ℕ, _+_, _-_, _≤_, _<_}
 use mathlib.Core.Path.{_≡_, refl, ap, sym, _∙_, subst}
-use mathlib.Core.Bool.{Bool, true}
+use mathlib.Core.Bool.{Bool, true, false, true≢false}
 use mathlib.Core.Option.{none, some, Option·map}
 use mathlib.Core.List.{List, [], _∷_, _++_, map, List·Memᴰ}
 use native.Mathlib.Omega.{arith}
@@ -16,22 +16,26 @@ use Rattle.cells.specs.Rows.{Cell, held, rowAt, zeroRow}
 use Rattle.cells.specs.Order.{countIn, cellAt}
 use Rattle.taking.specs.declared.Taken.{Taken}
 use Rattle.cells.specs.Messages.{Run, bodyOf, segments, picked}
-use Rattle.taking.specs.Taking.{Took, message, unable, writing, took, outWith, storeLess}
+use Rattle.taking.specs.Taking.{Took, message, unable, writing, took, outWith, storeLess, recordOf}
 use Rattle.walk.specs.Walk.{refusal}
 use Rattle.taking.specs.Told.{takenOf}
 use Rattle.cells.proofs.Picking.{pick-yes}
 use Rattle.taking.proofs.Tells.{taken-tells, segment-held}
-use Rattle.demand3.proofs.Zeroed.{zeroed-row, other-row}
+use Rattle.demand3.proofs.Zeroed.{recorded-row, zeroed-row, other-row}
 use Rattle.demand3.proofs.Untouched.{unable-same, unable-output}
-use Rattle.demand3.specs.Traffic.{bodyIn, takes, takenFrom, after}
+use Rattle.demand3.specs.Traffic.{bodyIn, runOf, takes, takenFrom, after}
 use Rattle.demand3.specs.Promise.{Original, Gives, Output, LongEnough as CellLongEnough, Handed}
 use Rattle.join.specs.Joining.{lessTaken}
 use Rattle.demand3.specs.Calls.{Call, taking, outOf, draws, storeAt, tookBy, storeBy, outBy, storeAfter}
-use Rattle.demand3.specs.Sendings.{Sending, wholeBody, manyOf, segmentAt, identificationOf, headerOf, keyIn, headerSize, bodySize, startOf, IsCut}
+use Rattle.demand3.specs.Sendings.{Sending, wholeBody, manyOf, segmentAt, identificationOf, headerOf, keyIn, headerSize, bodySize, startOf, recordSent, IsCut}
 use Rattle.demand3.specs.Presupposed.{cellsIn}
 use Rattle.demand3.specs.Whole.{Holds, Delivers, Picks, Takes, HandsOut}
 use Rattle.demand3.proofs.Called.{store-by, out-by}
-use Rattle.demand3.proofs.Sents.{sentOf, own-in, in-own, body-is, key-long}
+use Rattle.demand3.proofs.Plain.{plain-takings}
+use Rattle.demand3.proofs.Sents.{sentOf, first-is, own-in, in-own, body-is, end-is, key-long}
+use Rattle.demand3.proofs.Links.{opened-end, sent-opened, sent-key, sent-start, sent-length}
+use Rattle.demand3.proofs.ReadAs.{start-fits}
+use Rattle.sender.proofs.Stepping.{no-return}
 use Rattle.demand3.proofs.Steps.{Kept, took-is}
 use Rattle.demand3.proofs.Events.{events-takings}
 use Rattle.demand3.proofs.Simulates.{by-took, run-keeps, run-cells}
@@ -62,6 +66,18 @@ same-taken : {h k b d c e : ℕ} → h ≡ k → b ≡ d → c ≡ e →
     (record { refusal = refusal 0; header = k; body = d; counter = record { 0 = e } })
 same-taken p q r = λ i. record { refusal = refusal 0; header = p i; body = q i; counter = record { 0 = r i } }
 
+-- the record of a message's run
+sent-record : (s : Settings) (Z : ℕ) (m : Sending) → IsCut s Z m → recordOf Z (runOf nextCounter (sentOf s m)) ≡ recordSent s Z m
+unfolding recordOf
+sent-record s Z m k =
+    rw (
+      sent-key nextCounter (sentOf s m),
+      opened-end nextCounter (runOf nextCounter (sentOf s m)) (sent-opened nextCounter (sentOf s m)),
+      sent-start nextCounter (sentOf s m),
+      sent-length nextCounter (sentOf s m),
+      end-is s Z m k,
+    )
+
 module _ (s : Settings) (Z n : ℕ) (m : Sending) (k : IsCut s Z m) where
   -- ---- what is handed out
 
@@ -80,7 +96,7 @@ module _ (s : Settings) (Z n : ℕ) (m : Sending) (k : IsCut s Z m) where
     pub delivers : draws s Z st c ≡ true → (r : Run) → took s Z at long ≡ message r → Original nextCounter (sentOf s m) r → Delivers s Z n m st c
     unfolding tookBy
     delivers d r e o =
-        record { told = tells; written = writes; there = held-there; zeroed = zeroes; others = leaves }
+        record { told = tells; written = writes; there = held-there; recorded = records; zeroed = zeroes; others = leaves }
       where
         body-same : bodyOf r ≡ wholeBody m
         body-same = o .body ∙ body-is s Z m k
@@ -117,15 +133,37 @@ module _ (s : Settings) (Z n : ℕ) (m : Sending) (k : IsCut s Z m) where
             ap (λ (x : List ℕ). rowAt Z x j) (store-by s Z st c ∙ pick-yes (draws s Z st c) (lessTaken s Z at long) at d)
             ∙ ap (λ (x : Took). rowAt Z (storeLess s Z at (countIn Z at) x) j) e
 
-        zeroes : (j : ℕ) → j < n → Holds s Z n m at j → rowAt Z (storeBy s Z st c) j ≡ zeroRow Z
-        zeroes j l h =
+        its-run : r ≡ runOf nextCounter (sentOf s m)
+        its-run =
+            let a : r .head ≡ runOf nextCounter (sentOf s m) .head = cc (o .own) in
+            let b : r .rest ≡ runOf nextCounter (sentOf s m) .rest = cc (o .own) in
+            λ i. record { head = a i; rest = b i }
+
+        first-here : r .head ≡ segmentAt s m 0
+        first-here = ap (λ (x : Run). x .head) its-run ∙ first-is s Z m k
+
+        not-first : (i : ℕ) → 0 < i → i < manyOf s m → segmentAt s m i .counter ≡ r .head .counter → ⊥
+        not-first i a b q =
+            no-return i (startOf s m) (start-fits s Z m k) a (omega (arith, k .most)) (q ∙ o .counter)
+
+        record-same : recordOf Z r ≡ recordSent s Z m
+        record-same = ap (recordOf Z) its-run ∙ sent-record s Z m k
+
+        records : (j : ℕ) → j < n → cellAt s Z at j ≡ held (segmentAt s m 0) → rowAt Z (storeBy s Z st c) j ≡ recordSent s Z m
+        records j l h =
             behind j
-            ∙ zeroed-row s Z at long r e j (subst (λ (x : ℕ). j < x) (sym (kept .count)) l) (segmentAt s m (h .0)) (mine (h .0) (h .1)) (h .2)
+            ∙ recorded-row s Z at (kept .octets) long r e j (subst (λ (x : ℕ). j < x) (sym (kept .count)) l) (h ∙ ap held (sym first-here))
+            ∙ record-same
+
+        zeroes : (j : ℕ) → j < n → (i : ℕ) → 0 < i → i < manyOf s m → cellAt s Z at j ≡ held (segmentAt s m i) → rowAt Z (storeBy s Z st c) j ≡ zeroRow Z
+        zeroes j l i o′ i′ h =
+            behind j
+            ∙ zeroed-row s Z at (kept .octets) long r e j (subst (λ (x : ℕ). j < x) (sym (kept .count)) l) (segmentAt s m i) (mine i i′) (not-first i o′ i′) h
 
         leaves : (j : ℕ) → j < n → (Holds s Z n m at j → ⊥) → rowAt Z (storeBy s Z st c) j ≡ rowAt Z at j
         leaves j l f =
             behind j
-            ∙ other-row s Z at long r e j (subst (λ (x : ℕ). j < x) (sym (kept .count)) l)
+            ∙ other-row s Z at (kept .octets) long r e j (subst (λ (x : ℕ). j < x) (sym (kept .count)) l)
             (λ t h y.
             let v = in-own s Z m k t (subst (List·Memᴰ t) (o .own) h) in
             f (v .0, v .1, y ∙ ap held (v .2)))
@@ -168,12 +206,21 @@ module _ (s : Settings) (Z n : ℕ) (m : Sending) (k : IsCut s Z m) where
               out-by s Z st c ∙ pick-yes (draws s Z st c) (outWith (outOf c) (took s Z at long)) (outOf c) (p .0) ∙ unable-output s Z at (outOf c) long 21 w,
             )
 
+  -- a call that takes nothing
+  pub idle-takes : (st : List ℕ) (c : Call) → draws s Z st c ≡ false → Takes s Z n m st c
+  idle-takes st c d =
+      record {
+        gives = λ r e. absurd (true≢false (sym (by-took s Z st c r e .0) ∙ d));
+        enough = λ p. absurd (true≢false (sym (p .0) ∙ d));
+        short = λ p. absurd (true≢false (sym (p .0) ∙ d));
+      }
+
   -- ---- takings one after the other
 
   module _ (st : List ℕ) (c : Kept s Z n st) where
     takings-cells : (outs : List (List ℕ)) →
         cellsIn s Z n (storeAfter s Z st (map taking outs)) ≡ after nextCounter stepsMost (cellsIn s Z n st) (map takes (map length outs))
-    takings-cells outs = run-cells s Z n (map taking outs) st c ∙ ap (after nextCounter stepsMost (cellsIn s Z n st)) (events-takings s Z outs st)
+    takings-cells outs = run-cells s Z n (map taking outs) st c (plain-takings outs) ∙ ap (after nextCounter stepsMost (cellsIn s Z n st)) (events-takings s Z outs st)
 
     -- one of as many as there are cells hands out the message
     pub hands-of : Handed nextCounter stepsMost n (sentOf s m) (cellsIn s Z n st) → HandsOut s Z n m st
@@ -194,7 +241,7 @@ module _ (s : Settings) (Z n : ℕ) (m : Sending) (k : IsCut s Z m) where
         finish a =
             let v = map-split length outs (a .0) (a .1) (a .2) (a .3) in
             let there = storeAfter s Z st (map taking (v .0)) in
-            let kept = run-keeps s Z n (map taking (v .0)) st c in
+            let kept = run-keeps s Z n (map taking (v .0)) st c (plain-takings (v .0)) in
             let w : cellsIn s Z n there ≡ after nextCounter stepsMost (cellsIn s Z n st) (map takes (a .0)) =
             takings-cells (v .0) ∙ ap (λ (z : List ℕ). after nextCounter stepsMost (cellsIn s Z n st) (map takes z)) (v .4) in
             let t : took s Z there (length (v .1)) ≡ message (a .4 .0) =

@@ -9,26 +9,29 @@ use native.Mathlib.Omega.{arith}
 use lib.ListN.{length, length-append}
 use Rattle.cells.specs.Segments.{Seg}
 use Rattle.cells.specs.Rows.{Cell}
-use Rattle.cells.specs.Messages.{Run, bodyOf, segments, look, picked}
+use Rattle.cells.specs.Messages.{Run, bodyOf, look, picked}
 use Rattle.taking.specs.Taking.{message, unable, writing}
-use Rattle.demand3.specs.Cells.{clear}
+use Rattle.demand3.specs.Cells.{rangeBy, clear, forgotten}
 use Rattle.demand3.specs.Complete.{Held}
-use Rattle.demand3.specs.Traffic.{Sent, bodyIn, stepsIn, runOf, segmentsOf, Event, arrives, takes, empty, takenFrom, stepped, after, OneOf, Stray, Traffic}
-use Rattle.demand3.specs.Promise.{Original, Its, Done, Untaken, Anew, fresh, retaken, AllCame, Gives, Output, Handed, Delivery, Demand3, Soundness}
+use Rattle.demand3.specs.Traffic.{Sent, bodyIn, stepsIn, runOf, segmentsOf, Event, arrives, takes, forgets, empty, takenFrom, stepped, after, OneOf, Stray, Traffic}
+use Rattle.demand3.specs.Promise.{Original, Its, Done, Untaken, Anew, fresh, forgot, AllCame, Gives, Output, Handed, Delivery, Demand3, Soundness}
 use Rattle.demand3.proofs.Looks.{look-held}
-use Rattle.demand3.proofs.Links.{Mem, opened-key, sent-opened, sent-length, sent-key, sent-start, original}
+use Rattle.demand3.proofs.Links.{Mem, Opened, opened-key, sent-opened, sent-length, sent-key, sent-start, original}
 use Rattle.demand3.proofs.Finds.{There}
 use Rattle.demand3.proofs.Exactly.{there-complete, complete-some}
 use Rattle.demand3.proofs.Beside.{Beside}
 use Rattle.demand3.proofs.Takings.{picked-taken, too-short, taken-cells, taken-own, Fair, beside-after, held-after, beside-gives, beside-empty}
-use Rattle.demand3.proofs.Keeps.{Keeps, Nothing, keeps-empty, clear-own, after-append, room-right, Left, keeps-after}
-use Rattle.demand3.proofs.Lasts.{Whole, whole-beside, whole-keeps, whole-after}
-use Rattle.demand3.proofs.Progress.{used-most, hand-out}
+use Rattle.demand3.proofs.Tally.{number-most}
+use Rattle.demand3.proofs.Forgets.{look-forgotten, at-noted}
+use Rattle.demand3.proofs.Records.{Clean, clean-empty, clean-open, clean-after, forgotten-clean, forgotten-own}
+use Rattle.demand3.proofs.Keeps.{Keeps, Nothing, keeps-nothing, keeps-empty, after-append, room-right, Left, keeps-after}
+use Rattle.demand3.proofs.Lasts.{Whole, whole-beside, whole-after}
+use Rattle.demand3.proofs.Progress.{holdsOne, hand-out}
 use Rattle.demand3.proofs.Rooms.{after-length, cells-length}
 
 module _ (next : ℕ → ℕ) (span : ℕ) (inj : (x y : ℕ) → next x ≡ next y → x ≡ y) where
   -- each segment that arrives agrees with each message
-  fair : (ms : List Sent) (es : List Event) → Traffic next span ms es → (m : Sent) → List·Memᴰ m ms → Fair next span (runOf next m) es
+  pub fair : (ms : List Sent) (es : List Event) → Traffic next span ms es → (m : Sent) → List·Memᴰ m ms → Fair next span (runOf next m) es
   fair ms es tr m h t k u g p q = go (tr .source t k)
     where
       key-of : (w : Sent) (x : Seg) → Mem x (segmentsOf next w) → x .key ≡ w .key
@@ -61,31 +64,40 @@ module _ (next : ℕ → ℕ) (span : ℕ) (inj : (x y : ℕ) → next x ≡ nex
       Left next span inj (runOf next m) (sent-opened next m) cs es
   untaken-left m cs es u p q long d e = u p q long (runOf next m) d e (sent-key next m, sent-start next m)
 
-  -- nothing of the message is held where it is told anew
+  -- nothing of the message is held or recorded where it is told anew
   anew : (cells : ℕ) (m : Sent) (es : List Event) → Fair next span (runOf next m) es → Anew next span cells m es →
-      Nothing (runOf next m) (after next span (empty cells) es)
-  unfolding after
-  anew cells m es f fresh = keeps-empty (runOf next m) cells
-  anew cells m es f (retaken p long r e i) =
-      let b : Beside (runOf next m) (after next span (empty cells) p) =
-      beside-after next span (runOf next m) p (empty cells) (λ t k. f t (Memᴰ·append-left (takes long ∷ []) k))
-      (beside-empty (runOf next m) cells) in
-      let q : after next span (empty cells) (p ++ takes long ∷ []) ≡ stepped next span (after next span (empty cells) p) (takes long) =
-      after-append next span (empty cells) p (takes long ∷ []) in
-      let c : stepped next span (after next span (empty cells) p) (takes long) ≡ clear (segments r) (after next span (empty cells) p) =
-      taken-cells next span (after next span (empty cells) p) long r e in
-      let o : r ≡ runOf next m = its-own m (after next span (empty cells) p) b long r e i in
-      subst (Nothing (runOf next m)) (sym (q ∙ c ∙ ap (λ (x : Run). clear (segments x) (after next span (empty cells) p)) o))
-      (clear-own (runOf next m) (after next span (empty cells) p) b)
+      Nothing next (runOf next m) (after next span (empty cells) es)
+  unfolding after stepped
+  anew cells m es f fresh = keeps-empty next (runOf next m) cells
+  anew cells m es f (forgot p i e) =
+      subst (Nothing next own) (sym (after-append next span (empty cells) p (forgets i ∷ [])))
+      (keeps-nothing next own (forgotten i cs) (w .beside) (clean-open next own (forgotten i cs) w (forgotten-own next own o i cs v e))
+      (λ t k. look-forgotten i cs (t .key) (t .counter) ∙ v .parted (at-noted cs i (rangeBy own) e) t k))
+    where
+      own : Run
+      own = runOf next m
+
+      o : Opened next own
+      o = sent-opened next m
+
+      cs : List Cell
+      cs = after next span (empty cells) p
+
+      v : Clean next own cs
+      v = clean-after next span inj own o p (empty cells) (λ t k. f t (Memᴰ·append-left (forgets i ∷ []) k)) (clean-empty next own cells)
+
+      w : Clean next own (forgotten i cs)
+      w = forgotten-clean next own i cs v
 
   -- a taking that picks the message, with enough output and with less
   output : (m : Sent) (cs : List Cell) → Beside (runOf next m) cs → Output next span m cs
   output m cs b = record { enough = yes′; short = no′ }
     where
+      run : (r : Run) → picked next span cs ≡ some r → Its m r → r ≡ runOf next m
+      run r e i = its-own m cs b (length (writing r)) r (picked-taken next span cs (length (writing r)) r e (omega arith)) i
+
       own : (r : Run) → picked next span cs ≡ some r → Its m r → Original next m r
-      own r e i =
-          original next m r
-          (its-own m cs b (length (writing r)) r (picked-taken next span cs (length (writing r)) r e (omega arith)) i)
+      own r e i = original next m r (run r e i)
 
       written : (r : Run) → Original next m r → writing r ≡ m .key ++ bodyIn m
       written r o = ap (λ (x : List ℕ). x ++ bodyOf r) (o .key) ∙ ap (λ (x : List ℕ). m .key ++ x) (o .body)
@@ -95,11 +107,11 @@ module _ (next : ℕ → ℕ) (span : ℕ) (inj : (x y : ℕ) → next x ≡ nex
 
       yes′ : (r : Run) → picked next span cs ≡ some r → Its m r → (long : ℕ) → length (m .key) + length (bodyIn m) ≤ long →
           (takenFrom next span cs long ≡ message r) × (writing r ≡ m .key ++ bodyIn m) × (r .head .counter ≡ m .start) ×
-          (stepped next span cs (takes long) ≡ clear (segmentsOf next m) cs)
+          (stepped next span cs (takes long) ≡ clear (runOf next m) cs)
       yes′ r e i long h =
           let o = own r e i in
           let t : takenFrom next span cs long ≡ message r = picked-taken next span cs long r e (rw (many r o) h) in
-          (t, written r o, o .counter, taken-cells next span cs long r t ∙ ap (λ (x : List Seg). clear x cs) (o .own))
+          (t, written r o, o .counter, taken-cells next span cs long r t ∙ ap (λ (x : Run). clear x cs) (run r e i))
 
       no′ : (r : Run) → picked next span cs ≡ some r → Its m r → (long : ℕ) → long < length (m .key) + length (bodyIn m) →
           (takenFrom next span cs long ≡ unable 21) × (stepped next span cs (takes long) ≡ cs)
@@ -130,8 +142,8 @@ module _ (next : ℕ → ℕ) (span : ℕ) (inj : (x y : ℕ) → next x ≡ nex
       Handed next span cells m cs
   handed-out m cs cells c l w ns h e =
       let v =
-      hand-out next span inj (runOf next m) (sent-opened next m) (rw (sent-length next m) l) ns cs (λ (t : Seg). Unit {0})
-      (whole-keeps (runOf next m) cs w) (λ t k. tt) (omega (arith, used-most cs, c)) e in
+      hand-out next span inj (runOf next m) (sent-opened next m) (rw (sent-length next m) l) ns cs w
+      (omega (arith, number-most holdsOne cs, c)) e in
       (v .0, v .1, v .2, v .3, (v .4 .0, v .4 .1, original next m (v .4 .0) (v .4 .2)))
 
   -- its taking
@@ -173,7 +185,7 @@ module _ (next : ℕ → ℕ) (span : ℕ) (inj : (x y : ℕ) → next x ≡ nex
       go (held-after next span since (after next span (empty cells) before) t
       (subst (Held t) (after-append next span (empty cells) before since) g))
     where
-      w : Nothing (runOf next m) (after next span (empty cells) before)
+      w : Nothing next (runOf next m) (after next span (empty cells) before)
       w = anew cells m before (λ u i. fair ms (before ++ since) tr m h u (Memᴰ·append-left since i)) a
 
       go : Held t (after next span (empty cells) before) ⊎ List·Memᴰ (arrives t) since → List·Memᴰ (arrives t) since
@@ -212,9 +224,9 @@ module _ (next : ℕ → ℕ) (span : ℕ) (inj : (x y : ℕ) → next x ≡ nex
       Came : Seg → Type 0
       Came t = ⊥ ⊎ List·Memᴰ (arrives t) since
 
-      w : Keeps own Came cs
+      w : Keeps next own Came cs
       w =
-          subst (Keeps own Came) (sym (after-append next span (empty cells) before since))
+          subst (Keeps next own Came) (sym (after-append next span (empty cells) before since))
           (keeps-after next span inj own (sent-opened next m) since (after next span (empty cells) before) (λ (t : Seg). ⊥)
           (anew cells m before (λ t k. f t (Memᴰ·append-left since k)) a) (λ t k. f t (Memᴰ·append-right before k))
           (room-right next span (empty cells) before since (gv .room))

@@ -44,7 +44,7 @@ distinct-single (x ∷ cs) d t m =
 -- ---- a store's octets
 
 -- a listed element has a number
-listed-at : {A : Type 0} (f : ℕ → A) (n i : ℕ) (x : A) → List·Memᴰ x (listed f n i) → (j : ℕ) × (i ≤ j) × (j < n + i) × (x ≡ f j)
+pub listed-at : {A : Type 0} (f : ℕ → A) (n i : ℕ) (x : A) → List·Memᴰ x (listed f n i) → (j : ℕ) × (i ≤ j) × (j < n + i) × (x ≡ f j)
 unfolding listed
 listed-at f zero i x m = absurd (List·Memᴰ·not-nil m)
 listed-at {A} f (suc n) i x m = go (listed-at f n (suc i) x) (List·Memᴰ·cases-cons m)

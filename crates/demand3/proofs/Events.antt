@@ -11,9 +11,9 @@ use lib.ListN.{length}
 use Rattle.octets.specs.Octets.{pick}
 use Rattle.walk.specs.declared.Settings.{Settings}
 use Rattle.cells.specs.Segments.{Seg}
-use Rattle.demand3.specs.Traffic.{Event, arrives, takes}
-use Rattle.demand3.specs.Calls.{Call, arrival, taking, joining, Brings, outOf, draws, storeBy, storeAfter, outBy, outsAfter}
-use Rattle.demand3.proofs.Steps.{eventOf, event-no-take}
+use Rattle.demand3.specs.Traffic.{Event, arrives, takes, forgets}
+use Rattle.demand3.specs.Calls.{Call, arrival, taking, joining, forgetting, Brings, outOf, draws, storeBy, storeAfter, outBy, outsAfter}
+use Rattle.demand3.proofs.Steps.{eventOf, event-no-take, event-no-forget}
 
 -- ---- lists
 
@@ -45,11 +45,12 @@ module _ {A : Type 0} where
 module _ (s : Settings) (Z : ℕ) where
   -- ---- a call's events
 
-  -- its arrival
+  -- its arrival, or its forgetting
   abbrev pub before : Call → List Event
   before (arrival p) = eventOf s Z p ∷ []
   before (taking out) = []
   before (joining p out) = eventOf s Z p ∷ []
+  before (forgetting i) = forgets i ∷ []
 
   -- and its taking
   abbrev pub drawing : Bool → Call → List Event
@@ -106,6 +107,10 @@ module _ (s : Settings) (Z : ℕ) where
       first (arrival p) v′ e = let a = one-split (eventOf s Z p) (arrives t) u v′ e in (a .0, (p, inl refl, a .1))
       first (taking out) v′ e = absurd (none-split (arrives t) u v′ e)
       first (joining p out) v′ e = let a = one-split (eventOf s Z p) (arrives t) u v′ e in (a .0, (p, inr (out, refl), a .1))
+      first (forgetting i) v′ e =
+          let a = one-split (forgets i) (arrives t) u v′ e .1 in
+          let z : _≡_ {A = ℕ} 0 1 = cc a in
+          absurd (omega arith)
 
       second : (b : Bool) (w : List Event) → drawing b c ≡ w ++ arrives t ∷ v → ⊥
       second true w e =
@@ -129,6 +134,10 @@ module _ (s : Settings) (Z : ℕ) where
       first (arrival p) v′ e = event-no-take s Z p long (one-split (eventOf s Z p) (takes long) u v′ e .1)
       first (taking out) v′ e = none-split (takes long) u v′ e
       first (joining p out) v′ e = event-no-take s Z p long (one-split (eventOf s Z p) (takes long) u v′ e .1)
+      first (forgetting i) v′ e =
+          let a = one-split (forgets i) (takes long) u v′ e .1 in
+          let z : _≡_ {A = ℕ} 0 1 = cc a in
+          omega arith
 
       second : (b : Bool) (w : List Event) → u ≡ before c ++ w → drawing b c ≡ w ++ takes long ∷ v →
           (u ≡ before c) × (b ≡ true) × (length (outOf c) ≡ long)
@@ -142,6 +151,29 @@ module _ (s : Settings) (Z : ℕ) where
           (u ≡ before c) × (draws s Z st c ≡ true) × (length (outOf c) ≡ long)
       go (inl a) = absurd (first c (a .0) (a .1))
       go (inr a) = second (draws s Z st c) (a .0) (a .1) (a .2)
+
+  -- a forgetting is its own
+  pub by-forgets : (st : List ℕ) (c : Call) (i : ℕ) (u v : List Event) → eventsBy st c ≡ u ++ forgets i ∷ v → (u ≡ []) × (c ≡ forgetting i)
+  by-forgets st c i u v h = go (append-split (before c) (drawing (draws s Z st c) c) u (forgets i) v h)
+    where
+      first : (c′ : Call) (v′ : List Event) → before c′ ≡ u ++ forgets i ∷ v′ → (u ≡ []) × (c′ ≡ forgetting i)
+      first (arrival p) v′ e = absurd (event-no-forget s Z p i (one-split (eventOf s Z p) (forgets i) u v′ e .1))
+      first (taking out) v′ e = absurd (none-split (forgets i) u v′ e)
+      first (joining p out) v′ e = absurd (event-no-forget s Z p i (one-split (eventOf s Z p) (forgets i) u v′ e .1))
+      first (forgetting k) v′ e = let a = one-split (forgets k) (forgets i) u v′ e in let q : k ≡ i = cc (a .1) in (a .0, ap forgetting q)
+
+      second : (b : Bool) (w : List Event) → drawing b c ≡ w ++ forgets i ∷ v → ⊥
+      second true w e =
+          let a = one-split (takes (length (outOf c))) (forgets i) w v e .1 in
+          let z : _≡_ {A = ℕ} 0 1 = cc a in
+          omega arith
+      second false w e = none-split (forgets i) w v e
+
+      go : ((v′ : List Event) × (before c ≡ u ++ forgets i ∷ v′)) ⊎
+          ((w : List Event) × (u ≡ before c ++ w) × (drawing (draws s Z st c) c ≡ w ++ forgets i ∷ v)) →
+          (u ≡ []) × (c ≡ forgetting i)
+      go (inl a) = first c (a .0) (a .1)
+      go (inr a) = absurd (second (draws s Z st c) (a .0) (a .2))
 
   -- the call that an event of a list of calls comes from
   pub record Origin (st : List ℕ) (cs : List Call) (p : List Event) (e : Event) : Type 0 where

@@ -1,5 +1,6 @@
 -- The hypotheses of demand 3 are met by a run whose first message goes round the end: by computation it has room and takes each message
--- when it should, and the law then says that the first message, taken once and sent again, is complete again.
+-- when it should. The laws then say that the first message, once taken, is out, also after late repeats of it; and that, sent again after its
+-- record was forgotten, it is complete again.
 -- Assumes nothing.
 use Prim.Native.Nat.{ℕ, suc, _+_, _≤_}
 use mathlib.Core.Path.{_≡_, refl, sym, _∙_, ap}
@@ -10,18 +11,18 @@ use native.Mathlib.Omega.{arith}
 use Rattle.octets.specs.Octets.{alike, most32}
 use Rattle.packet.specs.Numbers.{nextCounter, stepsMost}
 use Rattle.sender.specs.Sending.{stepsOf}
-use Rattle.cells.specs.Segments.{Seg, carries}
-use Rattle.cells.specs.Rows.{free, held}
+use Rattle.cells.specs.Segments.{Seg, carries, reaches}
+use Rattle.cells.specs.Rows.{free, held, taken}
 use Rattle.cells.specs.Messages.{Run, bodies, look, roleOf, restFrom, runFrom, pickIn, among}
 use Rattle.taking.specs.Taking.{message, unable}
-use Rattle.demand3.specs.Cells.{put, hasFree}
-use Rattle.demand3.specs.Traffic.{Sent, later, runOf, segmentsOf, arrives, takes, empty, takenFrom, stepped, after, OneOf, stepsIn}
-use Rattle.demand3.specs.Promise.{AllCame, Untaken, Anew, retaken, Promise}
-use Rattle.demand3.specs.Base.{Done01, Given01}
-use Rattle.demand3.specs.Example.{theKey, three, two, morning, noon, evening, takings}
+use Rattle.demand3.specs.Cells.{put, hasFree, recorded, spans, forgotten}
+use Rattle.demand3.specs.Traffic.{Sent, later, runOf, segmentsOf, Event, arrives, takes, forgets, empty, takenFrom, stepped, after, OneOf, stepsIn}
+use Rattle.demand3.specs.Promise.{AllCame, Untaken, RecordAt, Anew, forgot, Promise, Out}
+use Rattle.demand3.specs.Base.{Done01, Traffic01, Given01}
+use Rattle.demand3.specs.Example.{theKey, three, two, morning, noon, evening, midnight, night, takings}
 use Rattle.demand3.proofs.Links.{Mem, linked-at, sent-opened, sent-key, sent-start, sent-length}
-use Rattle.demand3.proofs.Base.{demand3·01}
-use Rattle.demand3.proofs.Checks.{Each, each-arrives, roomIn, room-by, leftIn, untaken-by}
+use Rattle.demand3.proofs.Base.{demand3·01, recorded01}
+use Rattle.demand3.proofs.Checks.{Each, each-arrives, remembersIn, remembered-by, roomIn, room-by, leftIn, untaken-by}
 use Rattle.sender.proofs.Stepping.{steps-round}
 
 -- ---- the messages
@@ -128,71 +129,105 @@ stray = inr (λ m h e. go (one-of m h) e)
         let z : _≡_ {A = ℕ} 6 5 = cc q in
         omega arith
 
-sources : Each Source (noon ++ evening)
-sources = (three-last, (two-first, (three-first, (three-last, (three-next, (three-next, (stray, (two-last, (three-first, (three-next, (three-last, tt)))))))))))
+-- the calls up to midnight, and all
+abbrev dark : List Event
+dark = noon ++ evening ++ midnight
+
+sources : Each Source (dark ++ night)
+sources =
+    (three-last, (two-first, (three-first, (three-last, (three-next, (three-next, (stray, (three-first, (two-last, (three-next, (two-last, (three-first, (three-next, (three-last, tt))))))))))))))
 
 -- ---- the run
 
-has-room : roomIn nextCounter stepsMost (empty 4) (noon ++ evening) ≡ true
-unfolding roomIn stepped takenFrom look carries alike put hasFree pickIn runFrom restFrom roleOf bodies among nextCounter
+has-room : roomIn nextCounter stepsMost (empty 4) (dark ++ night) ≡ true
+unfolding roomIn stepped takenFrom look carries alike put hasFree pickIn runFrom restFrom roleOf bodies among nextCounter recorded spans reaches forgotten
 has-room = refl
 
--- nothing complete; one octet too few; the first message; the second; and the first again
+-- nothing complete; one octet too few; the first message; the second; no more, also after late repeats; and the first again, once its record
+-- is forgotten
 pub its-takings :
-    takings (empty 4) (noon ++ evening ++ takes 8 ∷ []) ≡
-    unable 20 ∷ unable 21 ∷ message (runOf nextCounter three) ∷ message (runOf nextCounter two) ∷ message (runOf nextCounter three) ∷ []
-unfolding takings stepped takenFrom look carries alike put hasFree pickIn runFrom restFrom roleOf bodies among runOf later nextCounter
+    takings (empty 4) (dark ++ night ++ takes 8 ∷ []) ≡
+    unable 20 ∷ unable 21 ∷ message (runOf nextCounter three) ∷ message (runOf nextCounter two) ∷ unable 20 ∷ message (runOf nextCounter three) ∷ []
+unfolding takings stepped takenFrom look carries alike put hasFree pickIn runFrom restFrom roleOf bodies among runOf later nextCounter recorded spans reaches forgotten
 its-takings = refl
 
--- once it is taken, its cells are free, for others and for itself
-pub in-use : after nextCounter stepsMost (empty 4) noon ≡ free ∷ held (seg 1 1 (6 ∷ [])) ∷ free ∷ free ∷ []
-unfolding after stepped takenFrom look carries alike put hasFree pickIn runFrom restFrom roleOf bodies among nextCounter
+-- once it is taken, its record is in the cell of its first, and its other cells are free
+pub in-use :
+    after nextCounter stepsMost (empty 4) noon ≡
+    free ∷ held (seg 1 1 (6 ∷ [])) ∷ taken (record { key = theKey; first = 4294967294; steps = 2 }) ∷ free ∷ []
+unfolding after stepped takenFrom look carries alike put hasFree pickIn runFrom restFrom roleOf bodies among nextCounter recorded spans reaches
 in-use = refl
 
-pub given : Given01 4 messages (noon ++ evening)
+pub given : Given01 4 messages (dark ++ night)
 given =
     record {
-      traffic = record { start = starts; short = short; apart = apart; source = each-arrives Source (noon ++ evening) sources };
-      room = room-by nextCounter stepsMost (empty 4) (noon ++ evening) has-room;
+      traffic = record { start = starts; short = short; apart = apart; source = each-arrives Source (dark ++ night) sources };
+      room = room-by nextCounter stepsMost (empty 4) (dark ++ night) has-room;
     }
 
+-- ---- the first message is out from noon on
+
 at-noon : takenFrom nextCounter stepsMost (after nextCounter stepsMost (empty 4) morning) 8 ≡ message (runOf nextCounter three)
-unfolding after stepped takenFrom look carries alike put hasFree pickIn runFrom restFrom roleOf bodies among runOf later nextCounter
+unfolding after stepped takenFrom look carries alike put hasFree pickIn runFrom restFrom roleOf bodies among runOf later nextCounter recorded
 at-noon = refl
 
--- the first message was taken at noon
-pub anew : Anew nextCounter stepsMost 4 three noon
-anew = retaken morning 8 (runOf nextCounter three) at-noon (sent-key nextCounter three, sent-start nextCounter three)
+day-sources : Each Source (morning ++ takes 8 ∷ evening)
+day-sources =
+    (three-last, (two-first, (three-first, (three-last, (three-next, (three-next, (stray, (three-first, (two-last, (three-next, (two-last, tt)))))))))))
 
-left : leftIn nextCounter stepsMost three (after nextCounter stepsMost (empty 4) noon) evening ≡ true
-unfolding leftIn after stepped takenFrom look carries alike put hasFree pickIn runFrom restFrom roleOf bodies among nextCounter
+day : Traffic01 messages (morning ++ takes 8 ∷ evening)
+day =
+    record { start = starts; short = short; apart = apart; source = each-arrives Source (morning ++ takes 8 ∷ evening) day-sources }
+
+remembers : remembersIn nextCounter stepsMost three (stepped nextCounter stepsMost (after nextCounter stepsMost (empty 4) morning) (takes 8)) evening ≡ true
+unfolding remembersIn after stepped takenFrom look carries alike put hasFree pickIn runFrom restFrom roleOf bodies among nextCounter recorded spans reaches
+remembers = refl
+
+pub out-since :
+    Out nextCounter stepsMost three (after nextCounter stepsMost (empty 4) (morning ++ takes 8 ∷ evening)) ×
+    Untaken nextCounter stepsMost three (stepped nextCounter stepsMost (after nextCounter stepsMost (empty 4) morning) (takes 8)) evening
+out-since =
+    recorded01 4 messages morning evening 8 (runOf nextCounter three) day three (List·Memᴰ·head refl) at-noon
+    (sent-key nextCounter three, sent-start nextCounter three)
+    (remembered-by nextCounter stepsMost three (stepped nextCounter stepsMost (after nextCounter stepsMost (empty 4) morning) (takes 8)) evening remembers)
+
+-- ---- and told anew from midnight on
+
+before-midnight : RecordAt nextCounter stepsMost three (after nextCounter stepsMost (empty 4) (noon ++ evening ++ forgets 1 ∷ forgets 0 ∷ [])) 2
+unfolding after stepped takenFrom look carries alike put hasFree pickIn runFrom restFrom roleOf bodies among runOf later nextCounter recorded spans reaches forgotten
+before-midnight = refl
+
+pub anew : Anew nextCounter stepsMost 4 three dark
+anew = forgot (noon ++ evening ++ forgets 1 ∷ forgets 0 ∷ []) 2 before-midnight
+
+left : leftIn nextCounter stepsMost three (after nextCounter stepsMost (empty 4) dark) night ≡ true
+unfolding leftIn after stepped takenFrom look carries alike put hasFree pickIn runFrom restFrom roleOf bodies among nextCounter recorded spans reaches forgotten
 left = refl
 
--- and not since
-pub untaken : Untaken nextCounter stepsMost three (after nextCounter stepsMost (empty 4) noon) evening
-untaken = untaken-by nextCounter stepsMost three (after nextCounter stepsMost (empty 4) noon) evening left
+-- and not taken since
+pub untaken : Untaken nextCounter stepsMost three (after nextCounter stepsMost (empty 4) dark) night
+untaken = untaken-by nextCounter stepsMost three (after nextCounter stepsMost (empty 4) dark) night left
 
-pub promised : Promise nextCounter stepsMost (Done01 three) 4 three evening (after nextCounter stepsMost (empty 4) (noon ++ evening))
-promised = demand3·01 4 messages noon evening given three (List·Memᴰ·head refl) anew untaken
+pub promised : Promise nextCounter stepsMost (Done01 three) 4 three night (after nextCounter stepsMost (empty 4) (dark ++ night))
+promised = demand3·01 4 messages dark night given three (List·Memᴰ·head refl) anew untaken
 
 -- all its segments have arrived since
-again : AllCame nextCounter three evening
+again : AllCame nextCounter three night
 unfolding runOf later nextCounter
 again t h = at (List·Memᴰ·cases-cons h)
   where
-    at-last : (t ≡ seg 0 2 (5 ∷ [])) ⊎ Mem t [] → List·Memᴰ (arrives t) evening
-    at-last (inl e) =
-        rw e (List·Memᴰ·tail (List·Memᴰ·tail (List·Memᴰ·tail (List·Memᴰ·tail (List·Memᴰ·tail (List·Memᴰ·head refl))))))
+    at-last : (t ≡ seg 0 2 (5 ∷ [])) ⊎ Mem t [] → List·Memᴰ (arrives t) night
+    at-last (inl e) = rw e (List·Memᴰ·tail (List·Memᴰ·tail (List·Memᴰ·head refl)))
     at-last (inr k) = absurd (List·Memᴰ·not-nil k)
 
-    at-next : (t ≡ seg 4294967295 0 (3 ∷ 4 ∷ [])) ⊎ Mem t (seg 0 2 (5 ∷ []) ∷ []) → List·Memᴰ (arrives t) evening
-    at-next (inl e) = rw e (List·Memᴰ·tail (List·Memᴰ·tail (List·Memᴰ·tail (List·Memᴰ·tail (List·Memᴰ·head refl)))))
+    at-next : (t ≡ seg 4294967295 0 (3 ∷ 4 ∷ [])) ⊎ Mem t (seg 0 2 (5 ∷ []) ∷ []) → List·Memᴰ (arrives t) night
+    at-next (inl e) = rw e (List·Memᴰ·tail (List·Memᴰ·head refl))
     at-next (inr k) = at-last (List·Memᴰ·cases-cons k)
 
-    at : (t ≡ seg 4294967294 1 (1 ∷ 2 ∷ [])) ⊎ Mem t (seg 4294967295 0 (3 ∷ 4 ∷ []) ∷ seg 0 2 (5 ∷ []) ∷ []) → List·Memᴰ (arrives t) evening
-    at (inl e) = rw e (List·Memᴰ·tail (List·Memᴰ·tail (List·Memᴰ·head refl)))
+    at : (t ≡ seg 4294967294 1 (1 ∷ 2 ∷ [])) ⊎ Mem t (seg 4294967295 0 (3 ∷ 4 ∷ []) ∷ seg 0 2 (5 ∷ []) ∷ []) → List·Memᴰ (arrives t) night
+    at (inl e) = rw e (List·Memᴰ·head refl)
     at (inr k) = at-next (List·Memᴰ·cases-cons k)
 
 -- so it is complete again
-pub complete-again : Done01 three (after nextCounter stepsMost (empty 4) (noon ++ evening))
+pub complete-again : Done01 three (after nextCounter stepsMost (empty 4) (dark ++ night))
 complete-again = promised .complete .1 again

@@ -18,7 +18,7 @@ use Rattle.cells.proofs.Distinct.{carries-true, carries-yes}
 use Rattle.taking.specs.Taking.{Took, message, unable}
 use Rattle.demand3.specs.Complete.{Held}
 use Rattle.demand3.specs.Traffic.{arrives, empty, after}
-use Rattle.demand3.specs.Calls.{Call, tookBy, storeBy, storeAfter}
+use Rattle.demand3.specs.Calls.{Call, Plain, tookBy, storeBy, storeAfter}
 use Rattle.demand3.specs.Sendings.{Sending, keyIn, startOf}
 use Rattle.demand3.specs.Presupposed.{Came, InUse, emptyStore, storeBehind, cellsIn, TakesIt, Untaken}
 use Rattle.demand3.proofs.Takings.{held-after, held-empty}
@@ -31,15 +31,15 @@ use Rattle.demand3.proofs.Carried.{behind-cells}
 -- ---- what is held came
 
 module _ (Z : ℕ) (one : 1 ≤ Z) (s : Settings) (n : ℕ) (u : InUse s n) where
-  pub held-came : (cs : List Call) (j : ℕ) (t : Seg) → j < n → cellAt s Z (storeBehind s Z n cs) j ≡ held t → Came s t cs
-  held-came cs j t l e = go (held-after nextCounter stepsMost (eventsIn s Z zeros cs) (empty n) t there)
+  pub held-came : (cs : List Call) → Plain cs → (j : ℕ) (t : Seg) → j < n → cellAt s Z (storeBehind s Z n cs) j ≡ held t → Came s t cs
+  held-came cs o j t l e = go (held-after nextCounter stepsMost (eventsIn s Z zeros cs) (empty n) t there)
     where
       zeros : List ℕ
       zeros = emptyStore Z n
 
       there : Held t (after nextCounter stepsMost (empty n) (eventsIn s Z zeros cs))
       there =
-          subst (Held t) (behind-cells s Z n one u cs)
+          subst (Held t) (behind-cells s Z n one u cs o)
           (subst (λ (x : Cell). List·Memᴰ x (cellsIn s Z n (storeBehind s Z n cs))) e
           (listed-in (cellAt s Z (storeBehind s Z n cs)) n 0 j (omega arith) (omega arith)))
 

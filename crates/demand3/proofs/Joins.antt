@@ -1,4 +1,4 @@
--- A joining that completes a message hands it out; joinings leave nothing complete in the store.
+-- A joining that completes a message hands it out; joinings, and forgettings between them, leave nothing complete in the store.
 -- Assumes nothing.
 use Prim.Native.Nat.{ℕ, _+_, _-_, _≤_}
 use mathlib.Core.Path.{_≡_, refl, ap, sym, _∙_, subst}
@@ -17,7 +17,7 @@ use Rattle.cells.proofs.Empty.{empty-cells}
 use Rattle.taking.specs.Taking.{unable}
 use Rattle.demand3.specs.Cells.{hasFree}
 use Rattle.demand3.specs.Traffic.{takes, empty}
-use Rattle.demand3.specs.Calls.{Call, arrival, joining, Brings, Handed, arrivedStore, storeAfter, tookBy}
+use Rattle.demand3.specs.Calls.{Call, arrival, joining, forgetting, Brings, Handed, Plain, arrivedStore, storeBy, storeAfter, tookBy}
 use Rattle.demand3.specs.Sendings.{IsCut}
 use Rattle.demand3.specs.Presupposed.{emptyStore, storeBehind, cellsIn, AllCame, MayCome, Traffic, Room, Given}
 use Rattle.demand3.specs.Whole.{IsComplete, Picks, Delivery}
@@ -27,7 +27,8 @@ use Rattle.demand3.proofs.Takings.{held-empty}
 use Rattle.demand3.proofs.Events.{append-split, one-split, store-append}
 use Rattle.demand3.proofs.Now.{untaken-more, traffic-more, store-more}
 use Rattle.demand3.proofs.Whole.{whole-demand3, whole-soundness}
-use Rattle.demand3.proofs.JoinsAt.{none-after, completes-picks}
+use Rattle.demand3.proofs.Plain.{Pure, plain-at}
+use Rattle.demand3.proofs.JoinsAt.{none-forgotten, none-after, completes-picks}
 
 -- ---- a list of calls with one more
 
@@ -62,7 +63,7 @@ handed-arrival l p out q h = go (last-is l (joining p out) (h .0) (h .1))
 
 -- and so the room for it
 room-arrival : (s : Settings) (Z n : ℕ) (l : List Call) (p out : List ℕ) → Room s Z n (l ++ joining p out ∷ []) → Room s Z n (l ++ arrival p ∷ [])
-room-arrival s Z n l p out g x y c q e b ok seg fit new = go (append-split l (arrival p ∷ []) x c y e)
+room-arrival s Z n l p out g x y c q e b ok seg fit free new = go (append-split l (arrival p ∷ []) x c y e)
   where
     same : (c′ : Call) → arrival p ≡ c′ → Brings q c′ → q ≡ p
     same c′ d (inl f) = let k : arrival p ≡ arrival q = d ∙ f in cc k
@@ -75,12 +76,12 @@ room-arrival s Z n l p out g x y c q e b ok seg fit new = go (append-split l (ar
         hasFree (cellsIn s Z n (storeBehind s Z n x)) ≡ true
     go (inl v) =
         g x (v .0 ++ joining p out ∷ []) c q
-        (ap (λ (k : List Call). k ++ joining p out ∷ []) (v .1) ∙ append-assoc x (c ∷ v .0) (joining p out ∷ [])) b ok seg fit new
+        (ap (λ (k : List Call). k ++ joining p out ∷ []) (v .1) ∙ append-assoc x (c ∷ v .0) (joining p out ∷ [])) b ok seg fit free new
     go (inr w) =
         let a = one-split (arrival p) c (w .0) y (w .2) in
         let d : q ≡ p = same c (a .1) b in
         let f : x ≡ l = w .1 ∙ ap (λ (k : List Call). l ++ k) (a .0) ∙ append-nil l in
-        g x [] (joining p out) q (ap (λ (k : List Call). k ++ joining p out ∷ []) (sym f)) (inr (out, ap (λ (k : List ℕ). joining k out) (sym d))) ok seg fit new
+        g x [] (joining p out) q (ap (λ (k : List Call). k ++ joining p out ∷ []) (sym f)) (inr (out, ap (λ (k : List ℕ). joining k out) (sym d))) ok seg fit free new
 
 -- ---- the laws
 
@@ -99,20 +100,29 @@ module _ (Z : ℕ) (one : 1 ≤ Z) where
 
   none-left : WholeNoneLeft Z
   unfolding storeAfter
-  none-left s n u l p out e f =
-      ap (λ (x : List ℕ). picked nextCounter stepsMost (cellsIn s Z n x)) (store-append s Z l (joining p out ∷ []) (emptyStore Z n)) ∙ none-after Z one s n u l p out e f
+  none-left s n u l p out o plain e f =
+      ap (λ (x : List ℕ). picked nextCounter stepsMost (cellsIn s Z n x)) (store-append s Z l (joining p out ∷ []) (emptyStore Z n)) ∙ none-after Z one s n u l o p out plain e f
 
   only-joins : WholeOnlyJoins Z
+  unfolding storeAfter storeBy
   only-joins s n u l g = on l [] refl (none-begins s n)
     where
       on : (y x : List Call) → l ≡ x ++ y → NoneComplete s Z n (storeBehind s Z n x) → NoneComplete s Z n (storeBehind s Z n l)
       on [] x e h = subst (λ (k : List Call). NoneComplete s Z n (storeBehind s Z n k)) (sym (e ∙ append-nil x)) h
-      on (c ∷ y) x e h =
-          let j = g .joins x y c e in
-          on y (x ++ c ∷ []) (e ∙ sym (append-assoc x (c ∷ []) y))
-          (subst (λ (d : Call). NoneComplete s Z n (storeBehind s Z n (x ++ d ∷ []))) (sym (j .2))
-          (none-left s n u x (j .0) (j .1) h
-          (subst (λ (d : Call). tookBy s Z (storeBehind s Z n x) d ≢ some (unable 21)) (j .2) (g .long x y c e))))
+      on (c ∷ y) x e h = on y (x ++ c ∷ []) (e ∙ sym (append-assoc x (c ∷ []) y)) (by (g .joins x y c e))
+        where
+          f : Plain x × Pure c
+          f = plain-at l x y c e (g .octets)
+
+          by : ((p : List ℕ) × (out : List ℕ) × (c ≡ joining p out)) ⊎ ((i : ℕ) × (c ≡ forgetting i)) →
+              NoneComplete s Z n (storeBehind s Z n (x ++ c ∷ []))
+          by (inl j) =
+              subst (λ (d : Call). NoneComplete s Z n (storeBehind s Z n (x ++ d ∷ []))) (sym (j .2))
+              (none-left s n u x (j .0) (j .1) (f .0) (f .1 (j .0) (inr (j .1, j .2))) h
+              (subst (λ (d : Call). tookBy s Z (storeBehind s Z n x) d ≢ some (unable 21)) (j .2) (g .long x y c e)))
+          by (inr j) =
+              subst (λ (d : Call). NoneComplete s Z n (storeBehind s Z n (x ++ d ∷ []))) (sym (j .1))
+              (subst (NoneComplete s Z n) (sym (store-append s Z x (forgetting (j .0) ∷ []) (emptyStore Z n))) (none-forgotten Z one s n u x (f .0) h (j .0)))
 
   joining-whole : WholeJoining Z
   joining-whole s n u ms m first since p out g = v .1 .takes c brings .enough picks (g .enough)
@@ -166,7 +176,7 @@ module _ (Z : ℕ) (one : 1 ≤ Z) where
           (untaken-more s Z m (storeBehind s Z n first) since p (g .untaken)) .complete .1 all′)
 
       picks : Picks s Z n m (storeBehind s Z n l) c
-      picks = completes-picks Z one s n u l p out (g .nothing) m k complete
+      picks = completes-picks Z one s n u l (traffic .octets) p out plain (g .nothing) m k complete
 
       v : (IsComplete s Z n m (storeBehind s Z n l) → AllCame s m since) × Delivery s Z n ms m (storeBehind s Z n l)
       v = whole-soundness Z one s n u ms first since traffic m (g .sent) (g .anew)

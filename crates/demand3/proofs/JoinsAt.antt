@@ -9,28 +9,31 @@ use mathlib.Core.Option.{some, Option·none-ne-some}
 use mathlib.Core.List.{List, [], _∷_, _++_}
 use native.Mathlib.Omega.{arith}
 use lib.ListN.{length}
+use Rattle.octets.specs.Octets.{Octets}
 use Rattle.octets.proofs.Lists.{bool}
 use Rattle.walk.specs.declared.Settings.{Settings}
 use Rattle.packet.specs.Numbers.{nextCounter, stepsMost}
 use Rattle.packet.proofs.Rounds.{next-injective}
 use Rattle.cells.specs.Rows.{Cell}
 use Rattle.cells.specs.Messages.{Run, picked}
-use Rattle.arrival.specs.Arriving.{Arrived, whole, stored, again, refused, arrived, storeWith}
+use Rattle.arrival.specs.Arriving.{Arrived, whole, stored, again, late, refused, arrived, storeWith}
 use Rattle.taking.specs.Taking.{unable}
+use Rattle.taking.specs.Forgetting.{storeForgotten}
 use Rattle.join.specs.Joining.{lessTaken}
 use Rattle.demand3.specs.Complete.{Single}
 use Rattle.demand3.specs.Traffic.{takes, empty, takenFrom, stepped, after}
 use Rattle.demand3.specs.Base.{CompleteFrom}
-use Rattle.demand3.specs.Calls.{Call, joining, goesOn, arrivedStore, draws, storeAt, storeBy, tookBy}
+use Rattle.demand3.specs.Calls.{Call, joining, Plain, goesOn, arrivedStore, draws, storeAt, storeBy, tookBy}
 use Rattle.demand3.specs.Sendings.{Sending, keyIn, startOf, stepsTo, IsCut}
 use Rattle.demand3.specs.Presupposed.{InUse, emptyStore, storeBehind, cellsIn}
 use Rattle.demand3.specs.Whole.{IsComplete, Picks}
 use Rattle.demand3.specs.Joins.{NoneComplete}
 use Rattle.demand3.proofs.Exactly.{complete-found, complete-picks}
 use Rattle.demand3.proofs.Takings.{single-after, single-empty}
-use Rattle.demand3.proofs.Lone.{Lies, Lone, picked-lies, lone-step, idle-taken}
+use Rattle.demand3.proofs.Lone.{Lies, Lone, picked-lies, idle-forgotten, lone-step, idle-taken}
 use Rattle.demand3.proofs.Called.{store-by}
-use Rattle.demand3.proofs.Steps.{Kept, eventOf, event-no-take, arrival-cells, pick-no}
+use Rattle.demand3.proofs.Plain.{Pure, joining-pure}
+use Rattle.demand3.proofs.Steps.{Kept, eventOf, event-no-take, arrival-cells, forgetting-cells, pick-no}
 use Rattle.demand3.proofs.Events.{before, drawing, eventsIn}
 use Rattle.demand3.proofs.Simulates.{took-by, by-cells}
 use Rattle.demand3.proofs.Carried.{behind-cells, behind-keeps}
@@ -43,20 +46,29 @@ unfolding storeWith
 undrawn Z st p whole e = refl
 undrawn Z st p (stored i) e = let z : _≡_ {A = ℕ} 0 1 = cc in absurd (omega arith)
 undrawn Z st p again e = refl
+undrawn Z st p late e = refl
 undrawn Z st p (refused k) e = refl
 
 module _ (Z : ℕ) (one : 1 ≤ Z) (s : Settings) (n : ℕ) (u : InUse s n) where
-  cells-single : (l : List Call) → Single (cellsIn s Z n (storeBehind s Z n l))
-  cells-single l =
-      subst Single (sym (behind-cells s Z n one u l)) (single-after nextCounter stepsMost (eventsIn s Z (emptyStore Z n) l) (empty n) (single-empty n))
+  cells-single : (l : List Call) → Plain l → Single (cellsIn s Z n (storeBehind s Z n l))
+  cells-single l o =
+      subst Single (sym (behind-cells s Z n one u l o)) (single-after nextCounter stepsMost (eventsIn s Z (emptyStore Z n) l) (empty n) (single-empty n))
 
   -- if nothing is picked, no message is complete
-  pub none-is : (l : List Call) → NoneComplete s Z n (storeBehind s Z n l) → (m : Sending) → IsCut s Z m → IsComplete s Z n m (storeBehind s Z n l) → ⊥
-  none-is l e m k d =
-      let z = complete-picks nextCounter stepsMost (cellsIn s Z n (storeBehind s Z n l)) (cells-single l) (keyIn s m) (startOf s m) (stepsTo s m) d in
+  pub none-is : (l : List Call) → Plain l → NoneComplete s Z n (storeBehind s Z n l) → (m : Sending) → IsCut s Z m → IsComplete s Z n m (storeBehind s Z n l) → ⊥
+  none-is l o e m k d =
+      let z = complete-picks nextCounter stepsMost (cellsIn s Z n (storeBehind s Z n l)) (cells-single l o) (keyIn s m) (startOf s m) (stepsTo s m) d in
       Option·none-ne-some (z .0) (sym e ∙ z .1)
 
-  module _ (l : List Call) (p out : List ℕ) (none′ : NoneComplete s Z n (storeBehind s Z n l)) where
+  -- a forgetting completes nothing
+  pub none-forgotten : (l : List Call) → Plain l → NoneComplete s Z n (storeBehind s Z n l) → (i : ℕ) →
+      NoneComplete s Z n (storeForgotten s Z (storeBehind s Z n l) i)
+  unfolding stepped
+  none-forgotten l o e i =
+      ap (picked nextCounter stepsMost) (forgetting-cells s Z n (storeBehind s Z n l) (behind-keeps s Z n one u l o) i)
+      ∙ idle-forgotten nextCounter stepsMost next-injective (cellsIn s Z n (storeBehind s Z n l)) (cells-single l o) e i
+
+  module _ (l : List Call) (o : Plain l) (p out : List ℕ) (plain : Octets p) (none′ : NoneComplete s Z n (storeBehind s Z n l)) where
     abbrev st : List ℕ
     st = storeBehind s Z n l
 
@@ -70,11 +82,14 @@ module _ (Z : ℕ) (one : 1 ≤ Z) (s : Settings) (n : ℕ) (u : InUse s n) wher
     abbrev then : List Cell
     then = stepped nextCounter stepsMost cs (eventOf s Z p)
 
+    pure : Pure c
+    pure = joining-pure p out plain
+
     kept : Kept s Z n st
-    kept = behind-keeps s Z n one u l
+    kept = behind-keeps s Z n one u l o
 
     single : Single cs
-    single = cells-single l
+    single = cells-single l o
 
     then-single : Single then
     unfolding after
@@ -89,11 +104,11 @@ module _ (Z : ℕ) (one : 1 ≤ Z) (s : Settings) (n : ℕ) (u : InUse s n) wher
     -- what its taking comes to, and the cells after it
     takes-then : draws s Z st c ≡ true → tookBy s Z st c ≡ some (takenFrom nextCounter stepsMost then (length out))
     unfolding after
-    takes-then d = took-by s Z n st kept c d
+    takes-then d = took-by s Z n st kept c pure d
 
     cells-after : draws s Z st c ≡ true → cellsIn s Z n (storeBy s Z st c) ≡ stepped nextCounter stepsMost then (takes (length out))
     unfolding after
-    cells-after d = by-cells s Z n st kept c ∙ ap (λ (b : Bool). after nextCounter stepsMost cs (before s Z c ++ drawing s Z b c)) d
+    cells-after d = by-cells s Z n st kept c pure ∙ ap (λ (b : Bool). after nextCounter stepsMost cs (before s Z c ++ drawing s Z b c)) d
 
     -- nothing is complete after it
     pub none-after : tookBy s Z st c ≢ some (unable 21) → NoneComplete s Z n (storeBy s Z st c)

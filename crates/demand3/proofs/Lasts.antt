@@ -11,7 +11,7 @@ use Rattle.cells.specs.Segments.{Seg}
 use Rattle.cells.specs.Rows.{Cell}
 use Rattle.cells.specs.Messages.{Run, segments, look}
 use Rattle.taking.specs.Taking.{message}
-use Rattle.demand3.specs.Cells.{put, clear}
+use Rattle.demand3.specs.Cells.{put, clear, forgotten}
 use Rattle.demand3.specs.Complete.{Held, Single, Complete}
 use Rattle.demand3.specs.Traffic.{Event, takes, takenFrom, stepped, after}
 use Rattle.demand3.proofs.Looks.{carries-no, look-same, put-other, clear-kept}
@@ -20,7 +20,8 @@ use Rattle.demand3.proofs.Finds.{There, Found, found-opened, found-ther
 use Rattle.demand3.proofs.Exactly.{there-complete, complete-found, rest-short}
 use Rattle.demand3.proofs.Beside.{among-none, among-carried, put-single, clear-single, Beside, Off}
 use Rattle.demand3.proofs.Takings.{step-keeps, taken-apart}
-use Rattle.demand3.proofs.Keeps.{Keeps, Left, left-tail, left-first}
+use Rattle.demand3.proofs.Forgets.{look-forgotten, forgotten-single}
+use Rattle.demand3.proofs.Keeps.{Left, left-tail, left-first}
 
 -- all of a message is held, each segment in one cell
 pub record Whole (own : Run) (cs : List Cell) : Type 0 where
@@ -29,9 +30,6 @@ pub record Whole (own : Run) (cs : List Cell) : Type 0 where
 
 pub whole-beside : (own : Run) (cs : List Cell) → Whole own cs → Beside own cs
 whole-beside own cs w = record { single = w .single; only = λ t u m e. Option·some-injective u t (sym e ∙ w .there t m) }
-
-pub whole-keeps : (own : Run) (cs : List Cell) → Whole own cs → Keeps own (λ (t : Seg). Unit {0}) cs
-whole-keeps own cs w = record { beside = whole-beside own cs w; came = λ t u m e. tt; kept = λ t m a. w .there t m }
 
 -- a new segment is put beside it
 put-whole : (own : Run) (cs : List Cell) (t : Seg) → look cs (t .key) (t .counter) ≡ none → Whole own cs → Whole own (put cs t)
@@ -43,27 +41,34 @@ put-whole own cs t n w = record { single = put-single cs t n (w .single); there 
         (carries-no (u .key) (u .counter) t (λ p q. Option·some-ne-none u (sym (w .there u m) ∙ look-same cs u t p q ∙ n)))
         ∙ w .there u m
 
--- others' cells are freed
-clear-whole : (own : Run) (cs : List Cell) (us : List Seg) → Off own us → Whole own cs → Whole own (clear us cs)
-clear-whole own cs us o w = record { single = clear-single us cs (w .single); there = still }
+-- others' cells are given up
+pub clear-whole : (own : Run) (cs : List Cell) (r : Run) → Off own (segments r) → Whole own cs → Whole own (clear r cs)
+clear-whole own cs r o w = record { single = clear-single r cs (w .single); there = still }
   where
-    still : There (clear us cs) (segments own)
+    still : There (clear r cs) (segments own)
     still t m =
-        clear-kept us cs (t .key) (t .counter) (λ u e. among-carried us t u (among-none us t (λ s k. o s t k m)) e) ∙ w .there t m
+        clear-kept r cs (t .key) (t .counter) (λ u e. among-carried (segments r) t u (among-none (segments r) t (λ s k. o s t k m)) e)
+        ∙ w .there t m
+
+-- a record is forgotten
+forgotten-whole : (own : Run) (i : ℕ) (cs : List Cell) → Whole own cs → Whole own (forgotten i cs)
+forgotten-whole own i cs w =
+    record { single = forgotten-single i cs (w .single); there = λ t m. look-forgotten i cs (t .key) (t .counter) ∙ w .there t m }
 
 module _ (next : ℕ → ℕ) (span : ℕ) (inj : (x y : ℕ) → next x ≡ next y → x ≡ y) where
   module _ (own : Run) (o : Opened next own) where
     whole-step : (cs : List Cell) (e : Event) (es : List Event) → Left next span inj own o cs (e ∷ es) → Whole own cs →
         Whole own (stepped next span cs e)
     whole-step cs e es l w =
-        step-keeps next span (Whole own) cs e w (λ t d n. put-whole own cs t n w)
+        step-keeps next span (Whole own) cs e w (λ t d v n. put-whole own cs t n w)
         (λ long r d g. other long r d g (taken-apart next span inj own o cs (whole-beside own cs w) long r g))
+        (λ i d. forgotten-whole own i cs w)
       where
         other : (long : ℕ) (r : Run) → e ≡ takes long → takenFrom next span cs long ≡ message r → (r ≡ own) ⊎ Off own (segments r) →
-            Whole own (clear (segments r) cs)
+            Whole own (clear r cs)
         other long r d g (inl q) =
             absurd (left-first next span inj own o cs long es (rw d at l) (g ∙ ap message q))
-        other long r d g (inr q) = clear-whole own cs (segments r) q w
+        other long r d g (inr q) = clear-whole own cs r q w
 
     pub whole-after : (es : List Event) (cs : List Cell) → Left next span inj own o cs es → Whole own cs →
         Whole own (after next span cs es)

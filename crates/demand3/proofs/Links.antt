@@ -10,6 +10,7 @@ use lib.ListN.{length}
 use Rattle.octets.specs.Laying.{together}
 use Rattle.cells.specs.Segments.{Seg}
 use Rattle.cells.specs.Messages.{Role, first, middle, last, roleOf, Run, bodies, bodyOf, segments}
+use Rattle.taking.specs.Taking.{lastOf}
 use Rattle.demand3.specs.Traffic.{Sent, bodyIn, stepsIn, later, runOf}
 use Rattle.demand3.specs.Promise.{Original}
 use Rattle.sender.specs.Sending.{stepsOf}
@@ -159,6 +160,21 @@ module _ (next : ℕ → ℕ) where
           (t : Seg) × Mem t (u ∷ ts) × (t .key ≡ k) × (t .counter ≡ stepsOf next j (next c)) × (roleIn t ≡ middle)
       go ih (inl d) = absurd (let z : length ts ≡ 0 = ap length (d .1) in omega arith)
       go ih (inr d) = let z = ih (d .1) j (omega arith) in (z .0, List·Memᴰ·tail (z .1), z .2, z .3, z .4)
+
+  -- and its last one, told from the counter before its first
+  linked-end : (k : List ℕ) (c : ℕ) (ts : List Seg) → Linked k (next c) ts → lastOf c ts ≡ stepsOf next (length ts) c
+  unfolding lastOf stepsOf
+  linked-end k c [] l = absurd l
+  linked-end k c (t ∷ ts) l = go (linked-end k (next c) ts) (l .2)
+    where
+      go : (Linked k (next (next c)) ts → lastOf (next c) ts ≡ stepsOf next (length ts) (next c)) →
+          ((roleIn t ≡ last) × (ts ≡ [])) ⊎ ((roleIn t ≡ middle) × Linked k (next (next c)) ts) →
+          lastOf (t .counter) ts ≡ stepsOf next (length ts) (next c)
+      go ih (inl d) = rw (d .1) (l .1)
+      go ih (inr d) = ap (λ (x : ℕ). lastOf x ts) (l .1) ∙ ih (d .1)
+
+  pub opened-end : (r : Run) → Opened r → lastOf (r .head .counter) (r .rest) ≡ stepsOf next (length (r .rest)) (r .head .counter)
+  opened-end r o = linked-end (r .head .key) (r .head .counter) (r .rest) (o .follows)
 
   -- ---- what cutting gives
 

@@ -14,10 +14,11 @@ use Rattle.cells.specs.Rows.{Cell}
 use Rattle.cells.specs.Messages.{Run, segments, look, picked, among, or}
 use Rattle.cells.proofs.Distinct.{carries-true}
 use Rattle.taking.specs.Taking.{unable, writing}
-use Rattle.demand3.specs.Cells.{put, clear}
+use Rattle.demand3.specs.Cells.{put, clear, forgotten}
 use Rattle.demand3.specs.Complete.{Held, Single}
 use Rattle.demand3.specs.Traffic.{Event, takes, takenFrom, stepped}
 use Rattle.demand3.proofs.Looks.{carries-no, look-held, put-other, clear-held}
+use Rattle.demand3.proofs.Forgets.{look-forgotten, forgotten-single}
 use Rattle.demand3.proofs.Links.{Mem, Opened}
 use Rattle.demand3.proofs.Finds.{There, Found, found-opened, found-there, picked-lowest, picked-held, picked-some}
 use Rattle.demand3.proofs.Exactly.{rest-short}
@@ -110,31 +111,41 @@ module _ (next : ℕ → ℕ) (span : ℕ) (inj : (x y : ℕ) → next x ≡ nex
             let y = among-has (segments q) t (has-new q v) in
             absurd (f (y .0) (x .0) (y .1) (x .1) (y .2 ∙ sym (x .2)) (y .3 ∙ sym (x .3)))
 
+  -- a record is forgotten
+  forgotten-lies : (cs : List Cell) → Single cs → (j : ℕ) (r : Run) → Lies (forgotten j cs) r → Lies cs r
+  forgotten-lies cs s j r w =
+      lies-again (forgotten j cs) cs r w
+      (λ u m. sym (look-forgotten j cs (u .key) (u .counter)) ∙ lies-there (forgotten j cs) r (forgotten-single j cs s) w u m)
+
+  pub idle-forgotten : (cs : List Cell) → Single cs → Idle cs → (j : ℕ) → Idle (forgotten j cs)
+  idle-forgotten cs s i j = go (picked next span (forgotten j cs)) refl
+    where
+      go : (o : Option Run) → picked next span (forgotten j cs) ≡ o → Idle (forgotten j cs)
+      go none e = e
+      go (some r) e = absurd (idle-none cs i r (forgotten-lies cs s j r (picked-lies (forgotten j cs) r e)))
+
   -- a call that hands over a packet
   pub lone-step : (cs : List Cell) → Single cs → Idle cs → (e : Event) → ((long : ℕ) → e ≢ takes long) → Lone (stepped next span cs e)
   lone-step cs s i e no-take =
-      step-keeps next span Lone cs e (λ r q w v. absurd (idle-none cs i r w)) (λ t d n. put-lone cs s i t n)
-      (λ long r d m. absurd (no-take long d))
+      step-keeps next span Lone cs e (λ r q w v. absurd (idle-none cs i r w)) (λ t d v n. put-lone cs s i t n)
+      (λ long r d m. absurd (no-take long d)) (λ j d r q w v. absurd (idle-none cs i r (forgotten-lies cs s j r w)))
 
   -- ---- its taking
 
   module _ (cs : List Cell) (s : Single cs) (one : Lone cs) where
     -- after it nothing lies there
-    cleared-none : (r q : Run) → Lies cs r → Lies (clear (segments r) cs) q → ⊥
+    cleared-none : (r q : Run) → Lies cs r → Lies (clear r cs) q → ⊥
     cleared-none r q w v =
-        let same : q ≡ r = one r q w (lies-again (clear (segments r) cs) cs q v all) in
+        let same : q ≡ r = one r q w (lies-again (clear r cs) cs q v all) in
         true≢false
         (sym (among-mem (segments r) (r .head) (List·Memᴰ·head refl))
         ∙ ap (λ (x : Run). among (segments r) (x .head)) (sym same)
-        ∙ clear-held (segments r) cs (q .head) (v .first) .1)
+        ∙ clear-held r cs (q .head) (v .first) .1)
       where
-        us : List Seg
-        us = segments r
-
         all : There cs (segments q)
         all u m =
-            let a = lies-there (clear us cs) q (clear-single us cs s) v u m in
-            s u (clear-held us cs u (look-held (clear us cs) (u .key) (u .counter) u a .0) .0)
+            let a = lies-there (clear r cs) q (clear-single r cs s) v u m in
+            s u (clear-held r cs u (look-held (clear r cs) (u .key) (u .counter) u a .0) .0)
 
     -- unless it is refused for want of output, nothing is complete then
     pub idle-taken : (long : ℕ) → takenFrom next span cs long ≢ unable 21 → Idle (stepped next span cs (takes long))
@@ -144,7 +155,7 @@ module _ (next : ℕ → ℕ) (span : ℕ) (inj : (x y : ℕ) → next x ≡ nex
             picked next span (stepped next span cs (takes long)) ≡ o → Idle (stepped next span cs (takes long))
         left r e l none d = d
         left r e l (some q) d =
-            let c : stepped next span cs (takes long) ≡ clear (segments r) cs =
+            let c : stepped next span cs (takes long) ≡ clear r cs =
             taken-cells next span cs long r (picked-taken next span cs long r e l) in
             absurd (cleared-none r q (picked-lies cs r e) (subst (λ (x : List Cell). Lies x q) c (picked-lies _ q d)))
 

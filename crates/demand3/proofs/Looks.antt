@@ -1,4 +1,4 @@
--- What cells hold under a key and a counter, after a segment is put in and after cells are freed.
+-- What cells hold under a key and a counter, after a segment is put in and after the cells of a message are given up.
 -- Assumes nothing.
 use Prim.Native.Nat.{ℕ}
 use mathlib.Core.Path.{_≡_, refl, sym, _∙_, ap, subst}
@@ -11,13 +11,13 @@ use borrow.Author.Tests.{eq-eqb}
 use Rattle.octets.specs.Octets.{pick}
 use Rattle.octets.proofs.Lists.{bool, alike-self}
 use Rattle.cells.specs.Segments.{Seg, carries}
-use Rattle.cells.specs.Rows.{Cell, free, held, segmentIn, bySegment}
-use Rattle.cells.specs.Order.{isFree}
-use Rattle.cells.proofs.CellSegments.{free-none, segment-freed}
-use Rattle.cells.specs.Messages.{orElse, heldAs, look, among, amongIn}
+use Rattle.cells.specs.Rows.{Cell, free, held, taken, segmentIn, bySegment}
+use Rattle.cells.specs.Order.{isFree, carriesIn}
+use Rattle.cells.proofs.CellSegments.{free-none}
+use Rattle.cells.specs.Messages.{Run, segments, orElse, heldAs, look, among, amongIn}
 use Rattle.cells.proofs.Distinct.{carries-true}
 use Rattle.cells.proofs.Looking.{held-some, or-some, or-none}
-use Rattle.demand3.specs.Cells.{put, hasFree, freed, clear}
+use Rattle.demand3.specs.Cells.{put, hasFree, rangeBy, left, freed, clear}
 use Rattle.demand3.proofs.Putting.{put-free, put-on}
 use Rattle.demand3.specs.Complete.{Held}
 
@@ -127,71 +127,83 @@ put-held (x ∷ cs) t u m = by (put-held cs t u) (bool (isFree x))
     by ih (inl f) = new (List·Memᴰ·cases-cons (subst (Held u) (put-free x cs t f) m))
     by ih (inr f) = old ih (List·Memᴰ·cases-cons (subst (Held u) (put-on x cs t f) m))
 
--- ---- cells are freed
+-- ---- cells are given up
+
+-- what a taking leaves in a cell is no segment
+pub left-none : (r : Run) (x : Cell) → segmentIn (left r x) ≡ none
+left-none r x = go (carriesIn (r .head .key) (r .head .counter) x)
+  where
+    go : (b : Bool) → segmentIn (pick b (taken (rangeBy r)) free) ≡ none
+    go true = refl
+    go false = refl
+
+pub segment-left : (b : Bool) (r : Run) (x : Cell) → segmentIn (pick b (left r x) x) ≡ pick b none (segmentIn x)
+segment-left true r x = left-none r x
+segment-left false r x = refl
 
 -- what is held under a key and a counter in a cell from which some segments are freed, by its segment
-by-freed : (us : List Seg) (x : Cell) (k : List ℕ) (c : ℕ) →
-    heldAs k c (freed us x) ≡ bySegment none (λ u. pick (carries k c u) (some u) none) (pick (amongIn us x) none (segmentIn x))
-by-freed us x k c = ap (bySegment none (λ u. pick (carries k c u) (some u) none)) (segment-freed (amongIn us x) x)
+by-freed : (r : Run) (x : Cell) (k : List ℕ) (c : ℕ) →
+    heldAs k c (freed r x) ≡ bySegment none (λ u. pick (carries k c u) (some u) none) (pick (amongIn (segments r) x) none (segmentIn x))
+by-freed r x k c = ap (bySegment none (λ u. pick (carries k c u) (some u) none)) (segment-left (amongIn (segments r) x) r x)
 
 -- what a cell holds once it is freed, where all that is looked for is among the freed
 freed-gone :
-    (us : List Seg) (x : Cell) (k : List ℕ) (c : ℕ) → ((t : Seg) → carries k c t ≡ true → among us t ≡ true) →
-    heldAs k c (freed us x) ≡ none
-freed-gone us x k c h = by-freed us x k c ∙ of (segmentIn x)
+    (r : Run) (x : Cell) (k : List ℕ) (c : ℕ) → ((t : Seg) → carries k c t ≡ true → among (segments r) t ≡ true) →
+    heldAs k c (freed r x) ≡ none
+freed-gone r x k c h = by-freed r x k c ∙ of (segmentIn x)
   where
-    go : (t : Seg) → (among us t ≡ true) ⊎ (among us t ≡ false) → (carries k c t ≡ true) ⊎ (carries k c t ≡ false) →
-        bySegment none (λ u. pick (carries k c u) (some u) none) (pick (among us t) none (some t)) ≡ none
+    go : (t : Seg) → (among (segments r) t ≡ true) ⊎ (among (segments r) t ≡ false) → (carries k c t ≡ true) ⊎ (carries k c t ≡ false) →
+        bySegment none (λ u. pick (carries k c u) (some u) none) (pick (among (segments r) t) none (some t)) ≡ none
     go t (inl a) b = rw a
     go t (inr a) (inl b) = absurd (true≢false (sym (h t b) ∙ a))
     go t (inr a) (inr b) = rw (a, b)
 
-    of : (o : Option Seg) → bySegment none (λ u. pick (carries k c u) (some u) none) (pick (bySegment false (among us) o) none o) ≡ none
+    of : (o : Option Seg) → bySegment none (λ u. pick (carries k c u) (some u) none) (pick (bySegment false (among (segments r)) o) none o) ≡ none
     of none = refl
-    of (some t) = go t (bool (among us t)) (bool (carries k c t))
+    of (some t) = go t (bool (among (segments r) t)) (bool (carries k c t))
 
 freed-kept :
-    (us : List Seg) (x : Cell) (k : List ℕ) (c : ℕ) → ((t : Seg) → carries k c t ≡ true → among us t ≡ false) →
-    heldAs k c (freed us x) ≡ heldAs k c x
-freed-kept us x k c h = by-freed us x k c ∙ of (segmentIn x)
+    (r : Run) (x : Cell) (k : List ℕ) (c : ℕ) → ((t : Seg) → carries k c t ≡ true → among (segments r) t ≡ false) →
+    heldAs k c (freed r x) ≡ heldAs k c x
+freed-kept r x k c h = by-freed r x k c ∙ of (segmentIn x)
   where
-    go : (t : Seg) → (among us t ≡ true) ⊎ (among us t ≡ false) → (carries k c t ≡ true) ⊎ (carries k c t ≡ false) →
-        bySegment none (λ u. pick (carries k c u) (some u) none) (pick (among us t) none (some t)) ≡ pick (carries k c t) (some t) none
+    go : (t : Seg) → (among (segments r) t ≡ true) ⊎ (among (segments r) t ≡ false) → (carries k c t ≡ true) ⊎ (carries k c t ≡ false) →
+        bySegment none (λ u. pick (carries k c u) (some u) none) (pick (among (segments r) t) none (some t)) ≡ pick (carries k c t) (some t) none
     go t (inl a) (inl b) = absurd (true≢false (sym a ∙ h t b))
     go t (inl a) (inr b) = rw (a, b)
     go t (inr a) b = rw a
 
-    of : (o : Option Seg) → bySegment none (λ u. pick (carries k c u) (some u) none) (pick (bySegment false (among us) o) none o) ≡
+    of : (o : Option Seg) → bySegment none (λ u. pick (carries k c u) (some u) none) (pick (bySegment false (among (segments r)) o) none o) ≡
         bySegment none (λ u. pick (carries k c u) (some u) none) o
     of none = refl
-    of (some t) = go t (bool (among us t)) (bool (carries k c t))
+    of (some t) = go t (bool (among (segments r) t)) (bool (carries k c t))
 
 pub clear-gone :
-    (us : List Seg) (cs : List Cell) (k : List ℕ) (c : ℕ) → ((t : Seg) → carries k c t ≡ true → among us t ≡ true) →
-    look (clear us cs) k c ≡ none
+    (r : Run) (cs : List Cell) (k : List ℕ) (c : ℕ) → ((t : Seg) → carries k c t ≡ true → among (segments r) t ≡ true) →
+    look (clear r cs) k c ≡ none
 unfolding look
-clear-gone us [] k c h = refl
-clear-gone us (x ∷ cs) k c h = rw (freed-gone us x k c h) (clear-gone us cs k c h)
+clear-gone r [] k c h = refl
+clear-gone r (x ∷ cs) k c h = rw (freed-gone r x k c h) (clear-gone r cs k c h)
 
 pub clear-kept :
-    (us : List Seg) (cs : List Cell) (k : List ℕ) (c : ℕ) → ((t : Seg) → carries k c t ≡ true → among us t ≡ false) →
-    look (clear us cs) k c ≡ look cs k c
+    (r : Run) (cs : List Cell) (k : List ℕ) (c : ℕ) → ((t : Seg) → carries k c t ≡ true → among (segments r) t ≡ false) →
+    look (clear r cs) k c ≡ look cs k c
 unfolding look
-clear-kept us [] k c h = refl
-clear-kept us (x ∷ cs) k c h = rw (freed-kept us x k c h, clear-kept us cs k c h)
+clear-kept r [] k c h = refl
+clear-kept r (x ∷ cs) k c h = rw (freed-kept r x k c h, clear-kept r cs k c h)
 
-freed-held : (us : List Seg) (x : Cell) (t : Seg) → held t ≡ freed us x → (held t ≡ x) × (among us t ≡ false)
-freed-held us x t e = go (bool (amongIn us x))
+freed-held : (r : Run) (x : Cell) (t : Seg) → held t ≡ freed r x → (held t ≡ x) × (among (segments r) t ≡ false)
+freed-held r x t e = go (bool (amongIn (segments r) x))
   where
-    go : (amongIn us x ≡ true) ⊎ (amongIn us x ≡ false) → (held t ≡ x) × (among us t ≡ false)
-    go (inl a) = absurd (Option·some-ne-none t (ap segmentIn (e ∙ ap (λ (b : Bool). pick b free x) a)))
-    go (inr a) = let f : held t ≡ x = e ∙ ap (λ (b : Bool). pick b free x) a in (f, ap (amongIn us) f ∙ a)
+    go : (amongIn (segments r) x ≡ true) ⊎ (amongIn (segments r) x ≡ false) → (held t ≡ x) × (among (segments r) t ≡ false)
+    go (inl a) = absurd (Option·some-ne-none t (ap segmentIn (e ∙ ap (λ (b : Bool). pick b (left r x) x) a) ∙ left-none r x))
+    go (inr a) = let f : held t ≡ x = e ∙ ap (λ (b : Bool). pick b (left r x) x) a in (f, ap (amongIn (segments r)) f ∙ a)
 
-pub clear-held : (us : List Seg) (cs : List Cell) (t : Seg) → Held t (clear us cs) → Held t cs × (among us t ≡ false)
-clear-held us [] t m = absurd (List·Memᴰ·not-nil m)
-clear-held us (x ∷ cs) t m = go (clear-held us cs t) (List·Memᴰ·cases-cons m)
+pub clear-held : (r : Run) (cs : List Cell) (t : Seg) → Held t (clear r cs) → Held t cs × (among (segments r) t ≡ false)
+clear-held r [] t m = absurd (List·Memᴰ·not-nil m)
+clear-held r (x ∷ cs) t m = go (clear-held r cs t) (List·Memᴰ·cases-cons m)
   where
-    go : (Held t (clear us cs) → Held t cs × (among us t ≡ false)) → (held t ≡ freed us x) ⊎ Held t (clear us cs) →
-        Held t (x ∷ cs) × (among us t ≡ false)
-    go ih (inl e) = (List·Memᴰ·head (freed-held us x t e .0), freed-held us x t e .1)
+    go : (Held t (clear r cs) → Held t cs × (among (segments r) t ≡ false)) → (held t ≡ freed r x) ⊎ Held t (clear r cs) →
+        Held t (x ∷ cs) × (among (segments r) t ≡ false)
+    go ih (inl e) = (List·Memᴰ·head (freed-held r x t e .0), freed-held r x t e .1)
     go ih (inr h) = (List·Memᴰ·tail (ih h .0), ih h .1)

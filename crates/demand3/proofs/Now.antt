@@ -14,7 +14,7 @@ use Rattle.taking.specs.Taking.{message}
 use Rattle.demand3.specs.Traffic.{Event, arrives, empty, after, Room as CellRoom}
 use Rattle.demand3.specs.Promise.{Gives, Output, Handed as CellHanded, AllCame as CellAllCame, Untaken as CellUntaken, Delivery as CellDelivery, Promise as CellPromise}
 use Rattle.demand3.specs.Base.{CompleteFrom, Done01, Traffic01}
-use Rattle.demand3.specs.Calls.{Call, arrival, taking, joining, Brings, Handed, arrivedStore, storeAt, tookBy, storeBy, storeAfter}
+use Rattle.demand3.specs.Calls.{Call, arrival, taking, joining, forgetting, Brings, Handed, Plain, arrivedStore, storeAt, tookBy, storeBy, storeAfter}
 use Rattle.demand3.specs.Sendings.{Sending, keyIn, startOf, stepsTo, IsCut}
 use Rattle.demand3.specs.Presupposed.{MayCome, Traffic, Untaken, InUse, emptyStore, storeBehind, cellsIn, Anew}
 use Rattle.demand3.specs.Whole.{IsComplete, Takes, HandsOut, Delivery}
@@ -24,7 +24,8 @@ use Rattle.demand3.proofs.Steps.{Kept}
 use Rattle.demand3.proofs.Events.{append-split, one-split, eventsIn, store-append, events-append}
 use Rattle.demand3.proofs.Simulates.{at-keeps, run-keeps, run-cells}
 use Rattle.demand3.proofs.Carried.{traffic-of, untaken-of, behind-cells, behind-keeps, anew-of}
-use Rattle.demand3.proofs.Delivers.{takes-of, hands-of}
+use Rattle.demand3.proofs.Plain.{plain-left, plain-right, plain-both, plain-first, plain-arrival}
+use Rattle.demand3.proofs.Delivers.{takes-of, idle-takes, hands-of}
 
 -- a packet handed over by some calls or by one more
 pub handed-more : (l : List Call) (p q : List ℕ) → Handed q (l ++ arrival p ∷ []) → Handed q l ⊎ (q ≡ p)
@@ -89,11 +90,11 @@ module _ (Z : ℕ) (one : 1 ≤ Z) (s : Settings) (n : ℕ) (u : InUse s n) wher
       events-are : eventsIn s Z zeros (first ++ since) ≡ es
       events-are = events-append s Z first since zeros
 
-      cells-are : cellsIn s Z n now ≡ after nextCounter stepsMost (empty n) es
-      cells-are = behind-cells s Z n one u (first ++ since) ∙ ap (after nextCounter stepsMost (empty n)) events-are
+      cells-are : Plain (first ++ since) → cellsIn s Z n now ≡ after nextCounter stepsMost (empty n) es
+      cells-are o = behind-cells s Z n one u (first ++ since) o ∙ ap (after nextCounter stepsMost (empty n)) events-are
 
-      pub kept-now : Kept s Z n now
-      kept-now = behind-keeps s Z n one u (first ++ since)
+      pub kept-now : Plain (first ++ since) → Kept s Z n now
+      kept-now o = behind-keeps s Z n one u (first ++ since) o
 
       module _ (g : Traffic s Z ms (first ++ since)) where
         pub traffic-now : Traffic01 (map (sentOf s) ms) es
@@ -107,9 +108,9 @@ module _ (Z : ℕ) (one : 1 ≤ Z) (s : Settings) (n : ℕ) (u : InUse s n) wher
             subst
             (λ (l : List Cell). (Done01 (sentOf s m) l → CellAllCame nextCounter (sentOf s m) (eventsIn s Z (storeBehind s Z n first) since)) ×
             CellDelivery nextCounter stepsMost (Done01 (sentOf s m)) n (sentOf s m) l)
-            (sym cells-are)
+            (sym (cells-are (g .octets)))
             (soundness01 n (map (sentOf s) ms) (eventsIn s Z zeros first) (eventsIn s Z (storeBehind s Z n first) since) traffic-now (sentOf s m)
-            (Memᴰ·map (sentOf s) h) (anew-of s Z n one u m first a))
+            (Memᴰ·map (sentOf s) h) (anew-of s Z n one u m (g .cut m h) first (plain-left first since (g .octets)) a))
 
         -- with it
         pub promise-now : CellRoom nextCounter stepsMost (empty n) (eventsIn s Z zeros (first ++ since)) → Untaken s Z m (storeBehind s Z n first) since →
@@ -117,14 +118,15 @@ module _ (Z : ℕ) (one : 1 ≤ Z) (s : Settings) (n : ℕ) (u : InUse s n) wher
         promise-now r w =
             subst
             (CellPromise nextCounter stepsMost (Done01 (sentOf s m)) n (sentOf s m) (eventsIn s Z (storeBehind s Z n first) since))
-            (sym cells-are)
+            (sym (cells-are (g .octets)))
             (demand3·01 n (map (sentOf s) ms) (eventsIn s Z zeros first) (eventsIn s Z (storeBehind s Z n first) since)
             (record { traffic = traffic-now; room = subst (CellRoom nextCounter stepsMost (empty n)) events-are r })
-            (sentOf s m) (Memᴰ·map (sentOf s) h) (anew-of s Z n one u m first a)
+            (sentOf s m) (Memᴰ·map (sentOf s) h) (anew-of s Z n one u m (g .cut m h) first (plain-left first since (g .octets)) a)
             (subst
             (λ (l : List Cell). CellUntaken nextCounter stepsMost (sentOf s m) l (eventsIn s Z (storeBehind s Z n first) since))
-            (behind-cells s Z n one u first)
-            (untaken-of s Z n m (storeBehind s Z n first) since (behind-keeps s Z n one u first) w)))
+            (behind-cells s Z n one u first (plain-left first since (g .octets)))
+            (untaken-of s Z n m (storeBehind s Z n first) since (behind-keeps s Z n one u first (plain-left first since (g .octets)))
+            (plain-right first since (g .octets)) w)))
 
     -- one packet more
     pub traffic-more : (since : List Call) → Traffic s Z ms (first ++ since) → (p : List ℕ) → Octets p → MayCome s Z ms p →
@@ -167,7 +169,7 @@ module _ (Z : ℕ) (one : 1 ≤ Z) (s : Settings) (n : ℕ) (u : InUse s n) wher
         st = storeBehind s Z n (first ++ since)
 
         kept : Kept s Z n st
-        kept = kept-now since
+        kept = kept-now since (g .octets)
 
         v : CellDelivery nextCounter stepsMost (Done01 (sentOf s m)) n (sentOf s m) (cellsIn s Z n st)
         v = sound-now since g .1
@@ -183,51 +185,62 @@ module _ (Z : ℕ) (one : 1 ≤ Z) (s : Settings) (n : ℕ) (u : InUse s n) wher
         takes′ : (c : Call) → ((p : List ℕ) → Brings p c → Octets p × MayCome s Z ms p) → Takes s Z n m st c
         takes′ (arrival p) f =
             let w = more-takes p (f p (inl refl)) in
-            takes-of s Z n m k st (arrival p) (at-keeps s Z n st kept (arrival p)) (w .0) (w .1)
+            takes-of s Z n m k st (arrival p) (at-keeps s Z n st kept (arrival p) (λ q b. f q b .0)) (w .0) (w .1)
         takes′ (taking out) f = takes-of s Z n m k st (taking out) kept (v .gives) (v .output)
+        takes′ (forgetting i) f = idle-takes s Z n m k st (forgetting i) refl
         takes′ (joining p out) f =
             let w = more-takes p (f p (inr (out, refl))) in
-            takes-of s Z n m k st (joining p out) (at-keeps s Z n st kept (joining p out)) (w .0) (w .1)
+            takes-of s Z n m k st (joining p out) (at-keeps s Z n st kept (joining p out) (λ q b. f q b .0)) (w .0) (w .1)
 
         -- after more calls
-        done-then : IsComplete s Z n m st → (more : List Call) → Untaken s Z m st more →
+        done-then : IsComplete s Z n m st → (more : List Call) → Plain more → Untaken s Z m st more →
             Done01 (sentOf s m) (cellsIn s Z n (storeAfter s Z st more)) × Gives nextCounter stepsMost (sentOf s m) (cellsIn s Z n (storeAfter s Z st more)) ×
             Output nextCounter stepsMost (sentOf s m) (cellsIn s Z n (storeAfter s Z st more)) ×
             CellHanded nextCounter stepsMost n (sentOf s m) (cellsIn s Z n (storeAfter s Z st more))
-        done-then d more w =
+        done-then d more pl w =
             subst
             (λ (l : List Cell). Done01 (sentOf s m) l × Gives nextCounter stepsMost (sentOf s m) l × Output nextCounter stepsMost (sentOf s m) l ×
             CellHanded nextCounter stepsMost n (sentOf s m) l)
-            (sym (run-cells s Z n more st kept))
-            (v .lasts (done-of m k (cellsIn s Z n st) d) (eventsIn s Z st more) (untaken-of s Z n m st more kept w))
+            (sym (run-cells s Z n more st kept pl))
+            (v .lasts (done-of m k (cellsIn s Z n st) d) (eventsIn s Z st more) (untaken-of s Z n m st more kept pl w))
 
-        takes-then : IsComplete s Z n m st → (more : List Call) → Untaken s Z m st more → (c : Call) → Takes s Z n m (storeAfter s Z st more) c
-        takes-then d more w c =
-            let then = storeAfter s Z st more in
-            let x = at-then c in
-            takes-of s Z n m k then c (at-keeps s Z n then (run-keeps s Z n more st kept) c) (x .0) (x .1)
+        takes-then : IsComplete s Z n m st → (more : List Call) → Plain more → Untaken s Z m st more → (c : Call) → Plain (c ∷ []) →
+            Takes s Z n m (storeAfter s Z st more) c
+        takes-then d more pl w = at-then
           where
-            with-packet : (p : List ℕ) →
+            with-packet : (p : List ℕ) → Octets p →
                 Gives nextCounter stepsMost (sentOf s m) (cellsIn s Z n (arrivedStore s Z (storeAfter s Z st more) p)) ×
                 Output nextCounter stepsMost (sentOf s m) (cellsIn s Z n (arrivedStore s Z (storeAfter s Z st more) p))
-            with-packet p =
-                let y = done-then d (more ++ arrival p ∷ []) (untaken-more s Z m st more p w) in
+            with-packet p q =
+                let y = done-then d (more ++ arrival p ∷ []) (plain-both more (arrival p ∷ []) pl (plain-arrival p q)) (untaken-more s Z m st more p w) in
                 subst (λ (x : List ℕ). Gives nextCounter stepsMost (sentOf s m) (cellsIn s Z n x) × Output nextCounter stepsMost (sentOf s m) (cellsIn s Z n x))
                 (arrived-more s Z st more p) (y .1, y .2)
 
-            at-then : (c′ : Call) →
-                Gives nextCounter stepsMost (sentOf s m) (cellsIn s Z n (storeAt s Z (storeAfter s Z st more) c′)) ×
-                Output nextCounter stepsMost (sentOf s m) (cellsIn s Z n (storeAt s Z (storeAfter s Z st more) c′))
-            at-then (arrival p) = with-packet p
-            at-then (taking out) = let y = done-then d more w in (y .1, y .2)
-            at-then (joining p out) = with-packet p
+            then : List ℕ
+            then = storeAfter s Z st more
 
-        lasts′ : IsComplete s Z n m st → (more : List Call) → Untaken s Z m st more →
-            IsComplete s Z n m (storeAfter s Z st more) × ((c : Call) → Takes s Z n m (storeAfter s Z st more) c) ×
+            kept-then : Kept s Z n then
+            kept-then = run-keeps s Z n more st kept pl
+
+            by-packet : (c : Call) (p : List ℕ) → Plain (c ∷ []) → Brings p c → storeAt s Z then c ≡ arrivedStore s Z then p → Takes s Z n m then c
+            by-packet c p o b e =
+                let x =
+                subst (λ (y : List ℕ). Gives nextCounter stepsMost (sentOf s m) (cellsIn s Z n y) × Output nextCounter stepsMost (sentOf s m) (cellsIn s Z n y))
+                (sym e) (with-packet p (plain-first c [] o p b)) in
+                takes-of s Z n m k then c (at-keeps s Z n then kept-then c (plain-first c [] o)) (x .0) (x .1)
+
+            at-then : (c : Call) → Plain (c ∷ []) → Takes s Z n m then c
+            at-then (arrival p) o = by-packet (arrival p) p o (inl refl) refl
+            at-then (taking out) o = let y = done-then d more pl w in takes-of s Z n m k then (taking out) kept-then (y .1) (y .2)
+            at-then (joining p out) o = by-packet (joining p out) p o (inr (out, refl)) refl
+            at-then (forgetting i) o = idle-takes s Z n m k then (forgetting i) refl
+
+        lasts′ : IsComplete s Z n m st → (more : List Call) → Plain more → Untaken s Z m st more →
+            IsComplete s Z n m (storeAfter s Z st more) × ((c : Call) → Plain (c ∷ []) → Takes s Z n m (storeAfter s Z st more) c) ×
             HandsOut s Z n m (storeAfter s Z st more)
-        lasts′ d more w =
-            let x = done-then d more w in (
+        lasts′ d more pl w =
+            let x = done-then d more pl w in (
               of-done m k (cellsIn s Z n (storeAfter s Z st more)) (x .0),
-              takes-then d more w,
-              hands-of s Z n m k (storeAfter s Z st more) (run-keeps s Z n more st kept) (x .3),
+              takes-then d more pl w,
+              hands-of s Z n m k (storeAfter s Z st more) (run-keeps s Z n more st kept pl) (x .3),
             )

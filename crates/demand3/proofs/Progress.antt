@@ -1,89 +1,52 @@
 -- Takes one after the other, each with output long enough, hand out every complete message within as many takes as there are cells:
--- each frees a cell at least, and none touches a message that it does not take.
+-- each leaves fewer cells that hold a segment, and none touches a message that it does not take.
 -- Assumes nothing.
-use Prim.Native.Nat.{ℕ, suc, _+_, _≤_, _<_, suc-le-suc, zero-le}
+use Prim.Native.Nat.{ℕ, _+_, _≤_, _<_}
 use mathlib.Core.Path.{_≡_, refl, sym, _∙_, ap}
 use mathlib.Core.Logic.{_⊎_, inl, inr}
-use mathlib.Core.Bool.{true, false, Bool}
-use mathlib.Core.Option.{some, Option·some-injective}
-use mathlib.Core.List.{List, [], _∷_, _++_, map, List·Memᴰ·head, List·Memᴰ·tail, List·Memᴰ·cases-cons, List·Memᴰ·not-nil}
+use mathlib.Core.Bool.{true, false, false≢true, Bool}
+use mathlib.Core.Option.{some}
+use mathlib.Core.List.{List, [], _∷_, _++_, map, List·Memᴰ·head, List·Memᴰ·tail}
 use native.Mathlib.Omega.{arith}
 use lib.ListN.{length}
 use Rattle.octets.specs.Octets.{pick}
-use Rattle.cells.specs.Segments.{Seg}
-use Rattle.cells.specs.Rows.{Cell, free, held}
-use Rattle.cells.specs.Order.{isFree}
-use Rattle.cells.specs.Messages.{Run, segments, picked, among, amongIn}
+use Rattle.cells.specs.Rows.{Cell, held, segmentIn, bySegment}
+use Rattle.cells.specs.Messages.{Run, segments, picked, amongIn}
 use Rattle.taking.specs.Taking.{message, writing}
-use Rattle.demand3.specs.Cells.{clear, freed}
+use Rattle.demand3.specs.Cells.{left, freed, clear}
 use Rattle.demand3.specs.Complete.{Held, Single, Complete}
 use Rattle.demand3.specs.Traffic.{takes, takenFrom, stepped, after}
 use Rattle.demand3.specs.Promise.{LongEnough, HandsOut}
-use Rattle.demand3.proofs.Looks.{look-held}
-use Rattle.demand3.proofs.Links.{Mem, Opened}
+use Rattle.demand3.proofs.Looks.{look-held, left-none}
+use Rattle.demand3.proofs.Links.{Opened}
 use Rattle.demand3.proofs.Finds.{There, Found, found-opened, found-there, rest-all, picked-lowest, picked-held, picked-some}
 use Rattle.demand3.proofs.Exactly.{complete-found, rest-short}
 use Rattle.demand3.proofs.Beside.{among-mem, Off, found-apart}
 use Rattle.demand3.proofs.Takings.{picked-taken, taken-cells}
-use Rattle.demand3.proofs.Keeps.{Keeps, clear-off}
+use Rattle.demand3.proofs.Tally.{numberOf, number-most, number-some, number-fewer}
+use Rattle.demand3.proofs.Lasts.{Whole, whole-beside, clear-whole}
 
--- ---- how many cells are not free
+-- ---- how many cells hold a segment
 
-unfoldable pub used : List Cell → ℕ
-used [] = 0
-used (x ∷ xs) = pick (isFree x) (used xs) (suc (used xs))
+abbrev pub holdsOne : Cell → Bool
+holdsOne x = bySegment false (λ t. true) (segmentIn x)
 
-pub used-most : (cs : List Cell) → used cs ≤ length cs
-unfolding used
-used-most [] = zero-le
-used-most (x ∷ cs) = go (used-most cs) (isFree x)
+-- a cell that is given up holds none
+given-up : (r : Run) (x : Cell) → holdsOne (freed r x) ≡ true → holdsOne x ≡ true
+given-up r x e = go (amongIn (segments r) x) e
   where
-    go : used cs ≤ length cs → (b : Bool) → pick b (used cs) (suc (used cs)) ≤ suc (length cs)
-    go ih true = omega arith
-    go ih false = suc-le-suc ih
+    go : (b : Bool) → holdsOne (pick b (left r x) x) ≡ true → holdsOne x ≡ true
+    go true d = absurd (false≢true (sym (ap (bySegment false (λ t. true)) (left-none r x)) ∙ d))
+    go false d = d
 
-used-held : (cs : List Cell) (t : Seg) → Held t cs → 0 < used cs
-unfolding used
-used-held [] t h = absurd (List·Memᴰ·not-nil h)
-used-held (x ∷ cs) t h = go (used-held cs t) (List·Memᴰ·cases-cons h)
-  where
-    some-used : (b : Bool) → 0 < used cs → 0 < pick b (used cs) (suc (used cs))
-    some-used true k = k
-    some-used false k = suc-le-suc zero-le
+own-given-up : (r : Run) → holdsOne (freed r (held (r .head))) ≡ false
+own-given-up r =
+    ap (λ (b : Bool). holdsOne (pick b (left r (held (r .head))) (held (r .head)))) (among-mem (segments r) (r .head) (List·Memᴰ·head refl))
+    ∙ ap (bySegment false (λ t. true)) (left-none r (held (r .head)))
 
-    go : (Held t cs → 0 < used cs) → (held t ≡ x) ⊎ Held t cs → 0 < pick (isFree x) (used cs) (suc (used cs))
-    go ih (inl e) = rw (← e) (suc-le-suc zero-le)
-    go ih (inr k) = some-used (isFree x) (ih k)
-
-pub used-clear : (us : List Seg) (cs : List Cell) → used (clear us cs) ≤ used cs
-unfolding used
-used-clear us [] = zero-le
-used-clear us (x ∷ cs) = go (used-clear us cs) (amongIn us x) (isFree x) refl
-  where
-    go : used (clear us cs) ≤ used cs → (a b : Bool) → isFree x ≡ b →
-        pick (isFree (pick a free x)) (used (clear us cs)) (suc (used (clear us cs))) ≤ pick b (used cs) (suc (used cs))
-    go ih true true e = ih
-    go ih true false e = omega arith
-    go ih false true e = rw e ih
-    go ih false false e = rw e (suc-le-suc ih)
-
--- a cell that is freed
-used-fewer : (us : List Seg) (cs : List Cell) (t : Seg) → Held t cs → among us t ≡ true → used (clear us cs) < used cs
-unfolding used
-used-fewer us [] t h a = absurd (List·Memᴰ·not-nil h)
-used-fewer us (x ∷ cs) t h a = go (λ k. used-fewer us cs t k a) (List·Memᴰ·cases-cons h)
-  where
-    by : used (clear us cs) < used cs → (f b : Bool) → isFree x ≡ b →
-        pick (isFree (pick f free x)) (used (clear us cs)) (suc (used (clear us cs))) < pick b (used cs) (suc (used cs))
-    by k true true e = k
-    by k true false e = omega arith
-    by k false true e = rw e k
-    by k false false e = rw e (suc-le-suc k)
-
-    go : (Held t cs → used (clear us cs) < used cs) → (held t ≡ x) ⊎ Held t cs →
-        pick (isFree (freed us x)) (used (clear us cs)) (suc (used (clear us cs))) < pick (isFree x) (used cs) (suc (used cs))
-    go ih (inl p) = let l = used-clear us cs in rw (← p, a) (omega arith)
-    go ih (inr k) = by (ih k) (amongIn us x) (isFree x) refl
+-- so each taking leaves fewer
+held-fewer : (r : Run) (cs : List Cell) → Held (r .head) cs → numberOf holdsOne (clear r cs) < numberOf holdsOne cs
+held-fewer r cs h = number-fewer holdsOne (freed r) (given-up r) cs (held (r .head)) h refl (own-given-up r)
 
 -- ---- takes, one after the other
 
@@ -103,17 +66,15 @@ module _ (next : ℕ → ℕ) (span : ℕ) (inj : (x y : ℕ) → next x ≡ nex
 
     -- a message all of which is there is handed out
     pub hand-out :
-        (ns : List ℕ) (cs : List Cell) (A : Seg → Type 0) → Keeps own A cs → ((t : Seg) → Mem t (segments own) → A t) →
-        used cs ≤ length ns → LongEnough next span cs ns → HandsOut next span (λ (r : Run). r ≡ own) cs ns
+        (ns : List ℕ) (cs : List Cell) → Whole own cs → numberOf holdsOne cs ≤ length ns → LongEnough next span cs ns →
+        HandsOut next span (λ (r : Run). r ≡ own) cs ns
     unfolding after
-    hand-out [] cs A w a l e =
-        absurd (let h = used-held cs (own .head) (own-found cs (λ t m. w .kept t m (a t m)) .0) in omega arith)
-    hand-out (n ∷ ns) cs A w a l e =
-        go (hand-out ns)
-        (picked-some next span cs own (own-found cs (λ t m. w .kept t m (a t m)) .0) (own-found cs (λ t m. w .kept t m (a t m)) .1))
-        e
+    hand-out [] cs w l e =
+        absurd (let h = number-some holdsOne cs (held (own .head)) (own-found cs (w .there) .0) refl in omega arith)
+    hand-out (n ∷ ns) cs w l e =
+        go (hand-out ns) (picked-some next span cs own (own-found cs (w .there) .0) (own-found cs (w .there) .1)) e
       where
-        go : ((xs : List Cell) (B : Seg → Type 0) → Keeps own B xs → ((t : Seg) → Mem t (segments own) → B t) → used xs ≤ length ns →
+        go : ((xs : List Cell) → Whole own xs → numberOf holdsOne xs ≤ length ns →
             LongEnough next span xs ns → HandsOut next span (λ (r : Run). r ≡ own) xs ns) →
             (r : Run) × (picked next span cs ≡ some r) →
             ((x y : List ℕ) (long : ℕ) (r : Run) → n ∷ ns ≡ x ++ long ∷ y →
@@ -121,7 +82,7 @@ module _ (next : ℕ → ℕ) (span : ℕ) (inj : (x y : ℕ) → next x ≡ nex
             (x : List ℕ) × (long : ℕ) × (y : List ℕ) × (n ∷ ns ≡ x ++ long ∷ y) ×
             ((r : Run) × (takenFrom next span (after next span cs (map takes x)) long ≡ message r) × (r ≡ own))
         go ih z e′ =
-            by (found-apart next span inj own o cs (w .beside) r (picked-held next span cs r (z .1))
+            by (found-apart next span inj own o cs (whole-beside own cs w) r (picked-held next span cs r (z .1))
             (picked-lowest next span cs r (z .1) .1))
           where
             r : Run
@@ -140,12 +101,10 @@ module _ (next : ℕ → ℕ) (span : ℕ) (inj : (x y : ℕ) → next x ≡ nex
                 ((v : Run) × (takenFrom next span (after next span cs (map takes x)) long ≡ message v) × (v ≡ own))
             by (inl d) = ([], n, ns, refl, (r, takes-it, d))
             by (inr q) =
-                let c : stepped next span cs (takes n) ≡ clear (segments r) cs = taken-cells next span cs n r takes-it in
-                let f : used (clear (segments r) cs) < used cs =
-                used-fewer (segments r) cs (r .head) (picked-held next span cs r (z .1))
-                (among-mem (segments r) (r .head) (List·Memᴰ·head refl)) in
+                let c : stepped next span cs (takes n) ≡ clear r cs = taken-cells next span cs n r takes-it in
+                let f : numberOf holdsOne (clear r cs) < numberOf holdsOne cs = held-fewer r cs (picked-held next span cs r (z .1)) in
                 further
-                (ih (stepped next span cs (takes n)) A (rw c (clear-off own A cs w (segments r) q)) a (rw c (omega arith))
+                (ih (stepped next span cs (takes n)) (rw c (clear-whole own cs r q w)) (rw c (omega arith))
                 (λ x y k u d. e′ (n ∷ x) y k u (ap (λ (g : List ℕ). n ∷ g) d)))
 
   -- every complete message is handed out
@@ -155,8 +114,7 @@ module _ (next : ℕ → ℕ) (span : ℕ) (inj : (x y : ℕ) → next x ≡ nex
       HandsOut next span (λ (r : Run). (r .head .key ≡ k) × (r .head .counter ≡ c) × (length (r .rest) ≡ n)) cs ns
   progress cs s k c n d ns l e =
       let v =
-      hand-out own (found-opened next span cs own f) short ns cs (λ (t : Seg). Unit {0}) w (λ t m. tt)
-      (omega (arith, used-most cs)) e in
+      hand-out own (found-opened next span cs own f) short ns cs w (omega (arith, number-most holdsOne cs)) e in
       (v .0, v .1, v .2, v .3, (v .4 .0, v .4 .1, its (v .4 .0) (v .4 .2)))
     where
       z : (r : Run) × Held (r .head) cs × Found next span cs r × (r .head .key ≡ k) × (r .head .counter ≡ c) × (length (r .rest) ≡ n)
@@ -174,12 +132,8 @@ module _ (next : ℕ → ℕ) (span : ℕ) (inj : (x y : ℕ) → next x ≡ nex
       all : There cs (segments own)
       all = found-there next span cs own s (z .1) f
 
-      w : Keeps own (λ (t : Seg). Unit {0}) cs
-      w = record {
-        beside = record { single = s; only = λ t u m g. Option·some-injective u t (sym g ∙ all t m) };
-        came = λ t u m g. tt;
-        kept = λ t m g. all t m;
-      }
+      w : Whole own cs
+      w = record { single = s; there = all }
 
       its : (r : Run) → r ≡ own → (r .head .key ≡ k) × (r .head .counter ≡ c) × (length (r .rest) ≡ n)
       its r q = (

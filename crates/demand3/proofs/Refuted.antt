@@ -16,17 +16,17 @@ use Rattle.fields.specs.Form.{split}
 use Rattle.packet.specs.Format.{presence, identification, fixedOctets, frontOctets, backOctets, headerOctets}
 use Rattle.packet.specs.Numbers.{nextCounter, stepsMost}
 use Rattle.write.specs.Given.{headOf}
-use Rattle.cells.specs.Segments.{carries, sameRest}
+use Rattle.cells.specs.Segments.{carries, sameRest, reaches}
 use Rattle.cells.specs.Order.{cellSize}
 use Rattle.taking.specs.declared.Taken.{Taken}
 use Rattle.cells.specs.Messages.{Run, look, roleOf, bodies, bodyOf, restFrom, runFrom, pickIn, picked, among}
 use Rattle.taking.specs.Taking.{Took, message, unable}
 use Rattle.walk.specs.Walk.{refusal}
 use Rattle.taking.specs.Told.{takenOf}
-use Rattle.demand3.specs.Cells.{put, hasFree}
+use Rattle.demand3.specs.Cells.{put, hasFree, recorded, spans, forgotten}
 use Rattle.cells.proofs.Empty.{empty-cells}
 use Rattle.demand3.specs.Complete.{Held}
-use Rattle.demand3.specs.Traffic.{Event, passes, empty}
+use Rattle.demand3.specs.Traffic.{passes, empty}
 use Rattle.demand3.specs.Calls.{Call, arrival, taking, joining, Brings, Handed, tookBy, storeAfter}
 use Rattle.demand3.specs.Sendings.{segmentAt, headerSize}
 use Rattle.demand3.specs.Presupposed.{Came, AllCame, Its, MayCome, Traffic, Untaken, emptyStore, storeBehind, cellsIn, fresh, RoomIn}
@@ -39,7 +39,8 @@ use Rattle.demand3.proofs.Cutter.{cutter-hands-out}
 use Rattle.demand3.proofs.Day.{settings, cutting, three, succeeds, messages, of-three, of-two, single, stub, huge, three-many, three-long}
 use Rattle.demand3.proofs.Day.{three-cut, seg, stray, is-three-first, is-three-last, is-two-first, is-single, is-stub}
 use Rattle.demand3.proofs.DayComes.{Fine, three-fine}
-use Rattle.demand3.proofs.DayRun.{lentOut, early, morning, atNoon, noon, evening, three-first, three-last, two-first, noonActs, eveningActs, consed, day-acts, in-use, traffic}
+use Rattle.demand3.proofs.DayRun.{lentOut, early, morning, atNoon, evening, night, day, three-first, three-last, two-first, dayActs, consed, met, day-acts, in-use}
+use Rattle.demand3.proofs.DayGiven.{traffic}
 use Rattle.demand3.proofs.DayEnd.{cellsAtEnd, end-cells, theRun, the-key, the-start, promised}
 use Rattle.demand3.proofs.Ways.{goes, goesOn, behind, takenBy, by, ofKey, lastOf, heldFrom, numbered, numberWay, match, restBy, opened, chosen, transactionWay}
 use Rattle.sender.specs.Sending.{stepsOf}
@@ -110,7 +111,7 @@ no-empty run e f =
     cells cs = ap (cellsIn settings Z 4) (e cs) ∙ empty-cells settings Z 4
 
     roomy : RoomIn settings Z 4 run (map arrival all-three)
-    roomy x y c p q b r g l n = ap hasFree (cells x)
+    roomy x y c p q b r g l v n = ap hasFree (cells x)
 
     enough : Traffic settings Z messages (map arrival all-three)
     enough =
@@ -127,9 +128,10 @@ no-empty run e f =
 abbrev pub told : Taken
 told = record { refusal = refusal 0; header = 21; body = 8; counter = record { 0 = 4294967294 } }
 
--- at the end of the run the first message, taken at noon, is complete anew: a taking with 31 octets or more tells it
+-- at the end of the run the first message, taken at noon and sent once more after its record was forgotten, is complete anew: a taking with
+-- 31 octets or more tells it
 abbrev pub TakesAgain : (List Call → Call → Option Took) → Type 0
-TakesAgain by = (out : List ℕ) → 31 ≤ length out → Option·map takenOf (by (noon ++ evening) (taking out)) ≡ some told
+TakesAgain by = (out : List ℕ) → 31 ≤ length out → Option·map takenOf (by day (taking out)) ≡ some told
 
 -- once a call has handed out a message, no later one does
 abbrev pub Once : (List Call → Call → Option Took) → Type 0
@@ -147,7 +149,7 @@ takes-again out l =
     let d =
     promised .delivery .takes (taking out) (λ p b. absurd (no-packet p b)) .enough
     (refl, (theRun, ap (picked nextCounter stepsMost) end-cells ∙ picks-three, (the-key, the-start))) (omega (arith, three-long)) in
-    cutter-hands-out settings Z cutting succeeds 4 (storeBehind settings Z 4 (noon ++ evening)) (taking out) d .0
+    cutter-hands-out settings Z cutting succeeds 4 (storeBehind settings Z 4 day) (taking out) d .0
   where
     no-packet : (p : List ℕ) → Brings p (taking out) → ⊥
     no-packet p (inl e) = let z : _≡_ {A = ℕ} 0 1 = cc e in omega arith
@@ -155,18 +157,18 @@ takes-again out l =
 
 -- no program does that handed out the message at noon and works once
 pub no-once : (by : List Call → Call → Option Took) (r : Run) → by morning atNoon ≡ some (message r) → Once by → TakesAgain by → ⊥
-no-once by r e o f = go (by (noon ++ evening) (taking (lentOut 31))) refl (f (lentOut 31) (omega arith))
+no-once by r e o f = go (by day (taking (lentOut 31))) refl (f (lentOut 31) (omega arith))
   where
-    go : (t : Option Took) → by (noon ++ evening) (taking (lentOut 31)) ≡ t → Option·map takenOf t ≡ some told → ⊥
+    go : (t : Option Took) → by day (taking (lentOut 31)) ≡ t → Option·map takenOf t ≡ some told → ⊥
     go none d g = let z : _≡_ {A = ℕ} 0 1 = cc in omega arith
-    go (some (message q)) d g = o morning evening atNoon (taking (lentOut 31)) r q e d
+    go (some (message q)) d g = o morning (evening ++ night) atNoon (taking (lentOut 31)) r q e d
     go (some (unable k)) d g = let z : _≡_ {A = ℕ} 0 21 = cc (ap (Option·map (λ (x : Taken). x .header)) g) in omega arith
 
 -- ---- a message complete by number alone
 
 -- of the run's calls, one that hands out something under the first message's key and first counter tells the message
 abbrev pub TellsIt : (List Call → Call → Option Took) → Type 0
-TellsIt by = (x y : List Call) (c : Call) (r : Run) → noon ++ evening ≡ x ++ c ∷ y → by x c ≡ some (message r) → Its settings three r →
+TellsIt by = (x y : List Call) (c : Call) (r : Run) → day ≡ x ++ c ∷ y → by x c ≡ some (message r) → Its settings three r →
     Option·map takenOf (by x c) ≡ some told
 
 -- the store does so
@@ -212,9 +214,9 @@ abbrev lacking : Run
 lacking = record { head = seg 4294967294 1 (1 ∷ 2 ∷ 3 ∷ []); rest = seg 0 2 (7 ∷ 8 ∷ []) ∷ [] }
 
 lacking-taken :
-    takenBy numberWay (behind numberWay (empty 4) (comes three-last ∷ draw 100 ∷ comes two-first ∷ comes passes ∷ comes passes ∷ [])) (meets three-first 100)
+    takenBy numberWay (behind numberWay (empty 4) (comes three-last ∷ draw 100 ∷ comes two-first ∷ comes passes ∷ comes passes ∷ [])) (meets three-first none 100)
     ≡ some (message lacking)
-unfolding takenBy behind goesOn goes numbered ofKey lastOf heldFrom look carries sameRest alike put hasFree roleOf bodies nextCounter
+unfolding takenBy behind goesOn goes numbered ofKey lastOf heldFrom look carries sameRest alike put hasFree roleOf bodies nextCounter recorded
 lacking-taken = refl
 
 lacking-long : length (bodyOf lacking) ≡ 5
@@ -225,13 +227,13 @@ pub no-number : TellsIt (by numberWay settings Z 4) → ⊥
 no-number f =
     let e : by numberWay settings Z 4 thirdComes (joining (of-three 0 0) (lentOut 100)) ≡ some (message lacking) =
     ap₂ (λ (l : List Act) (a : Act). takenBy numberWay (behind numberWay (empty 4) l) a) third-acts
-    (ap (λ (t : Event). meets t 100) (is-three-first 0 (omega arith)))
+    (met (of-three 0 0) _ 100 (is-three-first 0 (omega arith)))
     ∙ lacking-taken in
     let g = f thirdComes rest (joining (of-three 0 0) (lentOut 100)) lacking refl e (the-key, the-start) in
     omega (arith, told-body lacking (sym (ap (Option·map takenOf) e) ∙ g), lacking-long)
   where
     rest : List Call
-    rest = arrival (of-three 2 77) ∷ arrival huge ∷ early ∷ arrival (of-three 1 78) ∷ atNoon ∷ evening
+    rest = arrival (of-three 2 77) ∷ arrival huge ∷ early ∷ arrival (of-three 1 78) ∷ atNoon ∷ (evening ++ night)
 
 -- ---- segments matched by transaction id alone
 
@@ -239,8 +241,8 @@ no-number f =
 abbrev mixed : Run
 mixed = record { head = seg 4294967294 1 (1 ∷ 2 ∷ 3 ∷ []); rest = stray ∷ seg 0 2 (7 ∷ 8 ∷ []) ∷ [] }
 
-mixed-taken : takenBy transactionWay (behind transactionWay (empty 4) (noonActs ++ eveningActs)) (draw 31) ≡ some (message mixed)
-unfolding takenBy behind goesOn goes match restBy opened chosen carries sameRest alike put hasFree roleOf bodies among nextCounter
+mixed-taken : takenBy transactionWay (behind transactionWay (empty 4) dayActs) (draw 31) ≡ some (message mixed)
+unfolding takenBy behind goesOn goes match restBy opened chosen carries sameRest alike put hasFree roleOf bodies among nextCounter recorded spans reaches forgotten
 mixed-taken = refl
 
 mixed-long : length (bodyOf mixed) ≡ 6
@@ -249,6 +251,6 @@ mixed-long = refl
 
 pub no-transaction : TakesAgain (by transactionWay settings Z 4) → ⊥
 no-transaction f =
-    let e : by transactionWay settings Z 4 (noon ++ evening) (taking (lentOut 31)) ≡ some (message mixed) =
+    let e : by transactionWay settings Z 4 day (taking (lentOut 31)) ≡ some (message mixed) =
     ap (λ (l : List Act). takenBy transactionWay (behind transactionWay (empty 4) l) (draw 31)) day-acts ∙ mixed-taken in
     omega (arith, told-body mixed (sym (ap (Option·map takenOf) e) ∙ f (lentOut 31) (omega arith)), mixed-long)

@@ -1,9 +1,10 @@
--- A store with as many cells as segments arrive has room for them, whatever is taken.
+-- A store with as many cells as segments arrive has room for them, whatever is taken and forgotten: a taking leaves a record in one of its
+-- message's cells, and so no more cells in use.
 -- Assumes nothing.
 use Prim.Native.Nat.{ℕ, zero, suc, _+_, _≤_, _<_, suc-le-suc, zero-le}
-use mathlib.Core.Path.{_≡_, refl, _∙_, ap}
+use mathlib.Core.Path.{_≡_, refl, sym, _∙_, ap}
 use mathlib.Core.Logic.{_⊎_, inl, inr}
-use mathlib.Core.Bool.{true, false, true≢false, Bool}
+use mathlib.Core.Bool.{true, false, not, true≢false, false≢true, Bool}
 use mathlib.Core.Option.{none}
 use mathlib.Core.List.{List, [], _∷_, _++_}
 use native.Mathlib.Omega.{arith}
@@ -11,13 +12,15 @@ use lib.ListN.{length, length-replicate, length-map}
 use Rattle.octets.proofs.Lists.{bool}
 use Rattle.octets.specs.Octets.{pick}
 use Rattle.cells.specs.Segments.{Seg}
-use Rattle.cells.specs.Rows.{Cell, free, held}
+use Rattle.cells.specs.Rows.{Cell, free, held, segmentIn, bySegment}
 use Rattle.cells.specs.Order.{isFree}
-use Rattle.cells.specs.Messages.{segments, look, or}
-use Rattle.demand3.specs.Cells.{put, hasFree, freed}
-use Rattle.demand3.specs.Traffic.{Event, arrives, passes, takes, empty, stepped, after, Room}
+use Rattle.cells.specs.Messages.{Run, segments, look, or, among, amongIn}
+use Rattle.demand3.specs.Cells.{put, hasFree, left, freed, recorded}
+use Rattle.demand3.specs.Traffic.{Event, arrives, passes, takes, forgets, empty, stepped, after, Room}
 use Rattle.demand3.proofs.Takings.{step-keeps}
-use Rattle.demand3.proofs.Progress.{used, used-clear}
+use Rattle.cells.proofs.CellSegments.{segment-or}
+use Rattle.demand3.proofs.Forgets.{forgotten-length}
+use Rattle.demand3.proofs.Tally.{numberOf, number-map, number-put, number-forgotten}
 
 -- how many segments arrive
 unfoldable pub arrivals : List Event → ℕ
@@ -25,6 +28,7 @@ arrivals [] = 0
 arrivals (arrives t ∷ es) = suc (arrivals es)
 arrivals (passes ∷ es) = arrivals es
 arrivals (takes n ∷ es) = arrivals es
+arrivals (forgets i ∷ es) = arrivals es
 
 -- ---- the number of cells
 
@@ -40,8 +44,8 @@ put-length (x ∷ cs) t = go (put-length cs t) (isFree x)
 module _ (next : ℕ → ℕ) (span : ℕ) where
   step-length : (cs : List Cell) (e : Event) → length (stepped next span cs e) ≡ length cs
   step-length cs e =
-      step-keeps next span (λ (x : List Cell). length x ≡ length cs) cs e refl (λ t d n. put-length cs t)
-      (λ long r d m. length-map cs (freed (segments r)))
+      step-keeps next span (λ (x : List Cell). length x ≡ length cs) cs e refl (λ t d v n. put-length cs t)
+      (λ long r d m. length-map cs (freed r)) (λ i d. forgotten-length i cs)
 
   pub after-length : (es : List Event) (cs : List Cell) → length (after next span cs es) ≡ length cs
   unfolding after
@@ -53,27 +57,33 @@ module _ (next : ℕ → ℕ) (span : ℕ) where
 
 -- ---- the number of those not free
 
-full-used : (cs : List Cell) → hasFree cs ≡ false → used cs ≡ length cs
-unfolding hasFree used
+abbrev inUse : Cell → Bool
+inUse x = not (isFree x)
+
+full-used : (cs : List Cell) → hasFree cs ≡ false → numberOf inUse cs ≡ length cs
+unfolding hasFree numberOf
 full-used [] e = refl
 full-used (x ∷ cs) e = go (full-used cs) (isFree x) e
   where
-    go : (hasFree cs ≡ false → used cs ≡ length cs) → (b : Bool) → or b (hasFree cs) ≡ false → pick b (used cs) (suc (used cs)) ≡ suc (length cs)
+    go : (hasFree cs ≡ false → numberOf inUse cs ≡ length cs) → (b : Bool) → or b (hasFree cs) ≡ false →
+        pick (not b) (suc (numberOf inUse cs)) (numberOf inUse cs) ≡ suc (length cs)
     go ih true d = absurd (true≢false d)
     go ih false d = ap suc (ih d)
 
-put-used : (cs : List Cell) (t : Seg) → used (put cs t) ≤ suc (used cs)
-unfolding put used
-put-used [] t = zero-le
-put-used (x ∷ cs) t = go (put-used cs t) (bool (isFree x))
+-- a cell that a taking leaves was not free before
+freed-used : (r : Run) (x : Cell) → inUse (freed r x) ≡ true → inUse x ≡ true
+freed-used r x e = go (bool (amongIn (segments r) x))
   where
-    go : used (put cs t) ≤ suc (used cs) → (isFree x ≡ true) ⊎ (isFree x ≡ false) →
-        used (pick (isFree x) (held t ∷ cs) (x ∷ put cs t)) ≤ suc (pick (isFree x) (used cs) (suc (used cs)))
-    go ih (inl h) = rw h (omega arith)
-    go ih (inr h) = rw (h, h) (suc-le-suc ih)
+    go : (amongIn (segments r) x ≡ true) ⊎ (amongIn (segments r) x ≡ false) → inUse x ≡ true
+    go (inl a) = by (segment-or x)
+      where
+        by : ((t : Seg) × (x ≡ held t)) ⊎ (segmentIn x ≡ none) → inUse x ≡ true
+        by (inl w) = ap inUse (w .1)
+        by (inr n) = absurd (false≢true (sym (ap (bySegment false (among (segments r))) n) ∙ a))
+    go (inr a) = sym (ap (λ (b : Bool). inUse (pick b (left r x) x)) a) ∙ e
 
-empty-used : (n : ℕ) → used (empty n) ≡ 0
-unfolding used
+empty-used : (n : ℕ) → numberOf inUse (empty n) ≡ 0
+unfolding numberOf
 empty-used zero = refl
 empty-used (suc n) = empty-used n
 
@@ -82,6 +92,7 @@ unfolding arrivals
 arrivals-cons (arrives t) es = omega arith
 arrivals-cons passes es = omega arith
 arrivals-cons (takes n) es = omega arith
+arrivals-cons (forgets i) es = omega arith
 
 arrivals-one : (t : Seg) → arrivals (arrives t ∷ []) ≡ 1
 unfolding arrivals
@@ -93,25 +104,27 @@ arrivals-split [] q t = suc-le-suc zero-le
 arrivals-split (arrives u ∷ p) q t = suc-le-suc (arrivals-split p q t)
 arrivals-split (passes ∷ p) q t = arrivals-split p q t
 arrivals-split (takes n ∷ p) q t = arrivals-split p q t
+arrivals-split (forgets i ∷ p) q t = arrivals-split p q t
 
 module _ (next : ℕ → ℕ) (span : ℕ) where
-  step-used : (cs : List Cell) (e : Event) → used (stepped next span cs e) ≤ used cs + arrivals (e ∷ [])
+  step-used : (cs : List Cell) (e : Event) → numberOf inUse (stepped next span cs e) ≤ numberOf inUse cs + arrivals (e ∷ [])
   step-used cs e =
-      step-keeps next span (λ (x : List Cell). used x ≤ used cs + arrivals (e ∷ [])) cs e (omega arith) new
-      (λ long r d m. omega (arith, used-clear (segments r) cs))
+      step-keeps next span (λ (x : List Cell). numberOf inUse x ≤ numberOf inUse cs + arrivals (e ∷ [])) cs e (omega arith) new
+      (λ long r d m. omega (arith, number-map inUse (freed r) (freed-used r) cs)) (λ i d. omega (arith, number-forgotten inUse refl i cs))
     where
-      new : (t : Seg) → e ≡ arrives t → look cs (t .key) (t .counter) ≡ none → used (put cs t) ≤ used cs + arrivals (e ∷ [])
-      new t d n =
+      new : (t : Seg) → e ≡ arrives t → recorded next cs (t .key) (t .counter) ≡ false → look cs (t .key) (t .counter) ≡ none →
+          numberOf inUse (put cs t) ≤ numberOf inUse cs + arrivals (e ∷ [])
+      new t d v n =
           let a : arrivals (e ∷ []) ≡ 1 = ap (λ (x : Event). arrivals (x ∷ [])) d ∙ arrivals-one t in
-          omega (arith, put-used cs t, a)
+          omega (arith, number-put inUse cs t, a)
 
-  after-used : (es : List Event) (cs : List Cell) → used (after next span cs es) ≤ used cs + arrivals es
+  after-used : (es : List Event) (cs : List Cell) → numberOf inUse (after next span cs es) ≤ numberOf inUse cs + arrivals es
   unfolding after
   after-used [] cs = omega arith
   after-used (e ∷ es) cs = omega (arith, after-used es (stepped next span cs e), step-used cs e, arrivals-cons e es)
 
   pub roomy : (cells : ℕ) (es : List Event) → arrivals es ≤ cells → Room next span (empty cells) es
-  roomy cells es h p q t d n = go (bool (hasFree (after next span (empty cells) p)))
+  roomy cells es h p q t d v n = go (bool (hasFree (after next span (empty cells) p)))
     where
       go : (hasFree (after next span (empty cells) p) ≡ true) ⊎ (hasFree (after next span (empty cells) p) ≡ false) →
           hasFree (after next span (empty cells) p) ≡ true

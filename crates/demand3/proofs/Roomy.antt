@@ -1,5 +1,5 @@
--- A store with as many cells as packets are handed over, by arrivals and joinings, has room for them, whatever is taken: over the
--- octets, from the same over cells.
+-- A store with as many cells as packets are handed over, by arrivals and joinings, has room for them, whatever is taken or
+-- forgotten: over the octets, from the same over cells.
 -- Assumes nothing.
 use Prim.Native.Nat.{ℕ, _+_, _≤_}
 use mathlib.Core.Path.{_≡_, refl}
@@ -9,8 +9,8 @@ use native.Mathlib.Omega.{arith}
 use Rattle.walk.specs.declared.Settings.{Settings}
 use Rattle.packet.specs.Numbers.{nextCounter, stepsMost}
 use Rattle.cells.specs.Order.{cellSize}
-use Rattle.demand3.specs.Traffic.{Event, arrives, passes, takes}
-use Rattle.demand3.specs.Calls.{Call, arrival, taking, joining, packetsIn, draws, storeBy}
+use Rattle.demand3.specs.Traffic.{Event, arrives, passes, takes, forgets}
+use Rattle.demand3.specs.Calls.{Call, arrival, taking, joining, forgetting, packetsIn, draws, storeBy}
 use Rattle.demand3.specs.Presupposed.{emptyStore}
 use Rattle.demand3.specs.Whole.{WholeRoom}
 use Rattle.demand3.proofs.Rooms.{arrivals, roomy}
@@ -24,12 +24,14 @@ arrivals-append [] b = omega arith
 arrivals-append (arrives t ∷ a) b = omega (arith, arrivals-append a b)
 arrivals-append (passes ∷ a) b = arrivals-append a b
 arrivals-append (takes n ∷ a) b = arrivals-append a b
+arrivals-append (forgets i ∷ a) b = arrivals-append a b
 
 one-most : (e : Event) → arrivals (e ∷ []) ≤ 1
 unfolding arrivals
 one-most (arrives t) = omega arith
 one-most passes = omega arith
 one-most (takes n) = omega arith
+one-most (forgets i) = omega arith
 
 module _ (s : Settings) (Z : ℕ) where
   none-drawn : (b : Bool) (c : Call) → arrivals (drawing s Z b c) ≡ 0
@@ -43,6 +45,7 @@ module _ (s : Settings) (Z : ℕ) where
   call-most (arrival p) cs = omega (arith, one-most (eventOf s Z p))
   call-most (taking out) cs = omega arith
   call-most (joining p out) cs = omega (arith, one-most (eventOf s Z p))
+  call-most (forgetting i) cs = omega arith
 
   few : (cs : List Call) (st : List ℕ) → arrivals (eventsIn s Z st cs) ≤ packetsIn cs
   unfolding eventsIn arrivals packetsIn
@@ -58,8 +61,8 @@ module _ (s : Settings) (Z : ℕ) where
       )
 
 roomy-of : (Z : ℕ) → 1 ≤ Z → WholeRoom Z
-roomy-of Z one s n u cs h =
-    room-told s Z n one u cs
+roomy-of Z one s n u cs o h =
+    room-told s Z n one u cs o
     (roomy nextCounter stepsMost n (eventsIn s Z (emptyStore Z n) cs) (let l = few s Z cs (emptyStore Z n) in omega arith))
 
 pub room·whole : WholeRoom cellSize

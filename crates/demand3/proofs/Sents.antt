@@ -108,6 +108,11 @@ module _ (s : Settings) (Z : ℕ) (m : Sending) (k : IsCut s Z m) where
       (suc q) 1 (nextCounter (startOf s m)) (omega arith) (omega (arith, twice)) refl)
       ∙ ap (λ (n : ℕ). listed (segmentAt s m) n 0) twice
 
+  -- the first is segment 0
+  pub first-is : runOf nextCounter (sentOf s m) .head ≡ segmentAt s m 0
+  unfolding runOf flagsIn stepsOf
+  first-is = same-seg refl refl refl refl
+
   -- segment i is one of its segments
   pub own-in : (i : ℕ) → i < manyOf s m → List·Memᴰ (segmentAt s m i) (segmentsOf nextCounter (sentOf s m))
   own-in i l =

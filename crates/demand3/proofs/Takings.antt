@@ -17,14 +17,15 @@ use Rattle.cells.specs.Segments.{Seg}
 use Rattle.cells.specs.Rows.{Cell, free, held}
 use Rattle.cells.specs.Messages.{Run, segments, look, picked}
 use Rattle.taking.specs.Taking.{Took, message, unable, writing, drawn}
-use Rattle.demand3.specs.Cells.{put, clear}
+use Rattle.demand3.specs.Cells.{put, clear, forgotten, recorded}
 use Rattle.demand3.specs.Complete.{Held, Single}
-use Rattle.demand3.specs.Traffic.{Sent, runOf, Event, arrives, passes, takes, stowed, lessened, empty, takenFrom, stepped, after}
+use Rattle.demand3.specs.Traffic.{Sent, runOf, Event, arrives, passes, takes, forgets, stowed, lessened, empty, takenFrom, stepped, after}
 use Rattle.demand3.specs.Promise.{Gives}
 use Rattle.demand3.proofs.Looks.{put-held, clear-held}
+use Rattle.demand3.proofs.Forgets.{held-forgotten, forgotten-single}
 use Rattle.demand3.proofs.Links.{Mem, Opened, sent-opened, original}
-use Rattle.demand3.proofs.Finds.{picked-lowest, picked-held}
-use Rattle.demand3.proofs.Beside.{put-single, clear-single, Beside, Agrees, Off, put-beside, clear-beside, found-apart}
+use Rattle.demand3.proofs.Finds.{found-opened, picked-lowest, picked-held}
+use Rattle.demand3.proofs.Beside.{put-single, clear-single, Beside, Agrees, Off, put-beside, clear-beside, forgotten-beside, found-apart}
 
 -- ---- its output
 
@@ -74,28 +75,34 @@ module _ (next : ℕ → ℕ) (span : ℕ) where
 
   -- the cells after a taking
   pub taken-cells : (cs : List Cell) (long : ℕ) (r : Run) → takenFrom next span cs long ≡ message r →
-      stepped next span cs (takes long) ≡ clear (segments r) cs
+      stepped next span cs (takes long) ≡ clear r cs
   unfolding stepped
   taken-cells cs long r e = ap (λ (x : Took). lessened x cs) e
 
-  -- a step on the cells: a property that a new segment, a taking and nothing at all keep
+  -- a step on the cells: a property that a new segment, a taking, a forgetting and nothing at all keep
   pub step-keeps :
       (F : List Cell → Type 0) (cs : List Cell) (e : Event) → F cs →
-      ((t : Seg) → e ≡ arrives t → look cs (t .key) (t .counter) ≡ none → F (put cs t)) →
-      ((long : ℕ) (r : Run) → e ≡ takes long → takenFrom next span cs long ≡ message r → F (clear (segments r) cs)) →
+      ((t : Seg) → e ≡ arrives t → recorded next cs (t .key) (t .counter) ≡ false → look cs (t .key) (t .counter) ≡ none → F (put cs t)) →
+      ((long : ℕ) (r : Run) → e ≡ takes long → takenFrom next span cs long ≡ message r → F (clear r cs)) →
+      ((i : ℕ) → e ≡ forgets i → F (forgotten i cs)) →
       F (stepped next span cs e)
   unfolding stepped
-  step-keeps F cs (arrives t) f new took = go (look cs (t .key) (t .counter)) refl
+  step-keeps F cs (arrives t) f new took forgot = by (recorded next cs (t .key) (t .counter)) refl
     where
-      go : (x : Option Seg) → look cs (t .key) (t .counter) ≡ x → F (stowed x cs t)
-      go none e = new t refl e
-      go (some u) e = f
-  step-keeps F cs passes f new took = f
-  step-keeps F cs (takes long) f new took = go (takenFrom next span cs long) refl
+      go : recorded next cs (t .key) (t .counter) ≡ false → (x : Option Seg) → look cs (t .key) (t .counter) ≡ x → F (stowed x cs t)
+      go d none e = new t refl d e
+      go d (some u) e = f
+
+      by : (b : Bool) → recorded next cs (t .key) (t .counter) ≡ b → F (pick b cs (stowed (look cs (t .key) (t .counter)) cs t))
+      by true d = f
+      by false d = go d (look cs (t .key) (t .counter)) refl
+  step-keeps F cs passes f new took forgot = f
+  step-keeps F cs (takes long) f new took forgot = go (takenFrom next span cs long) refl
     where
       go : (x : Took) → takenFrom next span cs long ≡ x → F (lessened x cs)
       go (message r) e = took long r refl e
       go (unable k) e = f
+  step-keeps F cs (forgets i) f new took forgot = forgot i refl
 
   -- no events bring a key and counter into two cells
   pub single-after : (es : List Event) (cs : List Cell) → Single cs → Single (after next span cs es)
@@ -103,7 +110,7 @@ module _ (next : ℕ → ℕ) (span : ℕ) where
   single-after [] cs s = s
   single-after (e ∷ es) cs s =
       single-after es (stepped next span cs e)
-      (step-keeps Single cs e s (λ t d n. put-single cs t n s) (λ long r d m. clear-single (segments r) cs s))
+      (step-keeps Single cs e s (λ t d v n. put-single cs t n s) (λ long r d m. clear-single r cs s) (λ i d. forgotten-single i cs s))
 
   -- ---- events beside a message
 
@@ -114,8 +121,9 @@ module _ (next : ℕ → ℕ) (span : ℕ) where
       Beside own (stepped next span cs e)
   beside-step own cs e es f b =
       step-keeps (Beside own) cs e b
-      (λ t d n. put-beside own cs t n (f t (List·Memᴰ·head (sym d))) b)
-      (λ long r d m. clear-beside own (segments r) cs b)
+      (λ t d v n. put-beside own cs t n (f t (List·Memᴰ·head (sym d))) b)
+      (λ long r d m. clear-beside own r cs b)
+      (λ i d. forgotten-beside own i cs b)
 
   pub beside-after : (own : Run) (es : List Event) (cs : List Cell) → Fair own es → Beside own cs → Beside own (after next span cs es)
   unfolding after
@@ -132,10 +140,11 @@ module _ (next : ℕ → ℕ) (span : ℕ) where
       one : Held t (stepped next span cs e) → Held t cs ⊎ (arrives t ≡ e)
       one =
           step-keeps (λ (x : List Cell). Held t x → Held t cs ⊎ (arrives t ≡ e)) cs e (λ m. inl m) new
-          (λ long r d g m. inl (clear-held (segments r) cs t m .0))
+          (λ long r d g m. inl (clear-held r cs t m .0)) (λ i d m. inl (held-forgotten i cs t m))
         where
-          new : (u : Seg) → e ≡ arrives u → look cs (u .key) (u .counter) ≡ none → Held t (put cs u) → Held t cs ⊎ (arrives t ≡ e)
-          new u d n m = at (put-held cs u t m)
+          new : (u : Seg) → e ≡ arrives u → recorded next cs (u .key) (u .counter) ≡ false → look cs (u .key) (u .counter) ≡ none →
+              Held t (put cs u) → Held t cs ⊎ (arrives t ≡ e)
+          new u d v n m = at (put-held cs u t m)
             where
               at : (t ≡ u) ⊎ Held t cs → Held t cs ⊎ (arrives t ≡ e)
               at (inl p) = inr (ap arrives p ∙ sym d)
@@ -148,6 +157,10 @@ module _ (next : ℕ → ℕ) (span : ℕ) where
           on : Held t cs ⊎ (arrives t ≡ e) → Held t cs ⊎ List·Memᴰ (arrives t) (e ∷ es)
           on (inl m) = inl m
           on (inr d) = inr (List·Memᴰ·head d)
+
+  -- what is taken is a first and what is linked to it
+  pub taken-opened : (cs : List Cell) (long : ℕ) (r : Run) → takenFrom next span cs long ≡ message r → Opened next r
+  taken-opened cs long r e = found-opened next span cs r (picked-lowest next span cs r (taken-picked cs long r e .0) .1)
 
   -- whatever is taken beside a message is the message, or has none of its keys and counters
   pub taken-apart :

@@ -1,14 +1,21 @@
--- What leaves a store as it was (S-6, and every refusal): an arrival that is answered "whole" or "held", a refused arrival, a refused
--- taking. A refused taking leaves the output as it was too.
+-- What leaves a store as it was (S-6, and every refusal): an arrival that is answered "whole", "held" or "taken", a refused arrival, a refused
+-- taking, a refused forgetting. A refused taking leaves the output as it was too.
 -- Assumes nothing.
-use Prim.Native.Nat.{ℕ}
+use Prim.Native.Nat.{ℕ, _*_}
 use mathlib.Core.Path.{_≡_, ap}
+use mathlib.Core.Logic.{_≢_}
+use mathlib.Core.Bool.{Bool}
 use mathlib.Core.List.{List}
+use lib.Seq.{sets}
+use borrow.Author.Tests.{ne-eqb}
+use Rattle.octets.specs.Octets.{pick}
 use Rattle.walk.specs.declared.Settings.{Settings}
 use Rattle.walk.specs.declared.Refusal.{Refusal}
+use Rattle.cells.specs.Rows.{zeroRow}
 use Rattle.cells.specs.Order.{countIn}
-use Rattle.arrival.specs.Arriving.{whole, again, refused, arrived, storeWith}
+use Rattle.arrival.specs.Arriving.{whole, again, late, refused, arrived, storeWith}
 use Rattle.taking.specs.Taking.{unable, took, outWith, storeLess}
+use Rattle.taking.specs.Forgetting.{forgot, storeForgotten}
 
 module _ (s : Settings) (Z : ℕ) (st : List ℕ) where
   module _ (p : List ℕ) where
@@ -21,6 +28,11 @@ module _ (s : Settings) (Z : ℕ) (st : List ℕ) where
     pub again-same : arrived s Z st p ≡ again → storeWith Z st p (arrived s Z st p) ≡ st
     unfolding storeWith
     again-same e = ap (storeWith Z st p) e
+
+    -- S-16: a segment of a message that was taken
+    pub late-same : arrived s Z st p ≡ late → storeWith Z st p (arrived s Z st p) ≡ st
+    unfolding storeWith
+    late-same e = ap (storeWith Z st p) e
 
     -- a refusal, by any number
     pub refused-same : (r : Refusal) → arrived s Z st p ≡ refused r → storeWith Z st p (arrived s Z st p) ≡ st
@@ -35,3 +47,7 @@ module _ (s : Settings) (Z : ℕ) (st : List ℕ) where
   pub unable-output : (out : List ℕ) (long k : ℕ) → took s Z st long ≡ unable k → outWith out (took s Z st long) ≡ out
   unfolding outWith
   unable-output out long k e = ap (outWith out) e
+
+  -- a forgetting that is refused
+  pub unforgotten-same : (i : ℕ) → forgot s Z st i ≢ 0 → storeForgotten s Z st i ≡ st
+  unforgotten-same i h = ap (λ (b : Bool). pick b (sets st (i * Z) (zeroRow Z)) st) (ne-eqb (forgot s Z st i) 0 h)

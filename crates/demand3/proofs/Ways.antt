@@ -7,7 +7,7 @@ use mathlib.Core.Path.{_≡_, refl, ap, ap₂, sym, _∙_}
 use mathlib.Core.Logic.{_⊎_, inl, inr}
 use mathlib.Core.Bool.{Bool, true, false}
 use mathlib.Core.Option.{Option, none, some}
-use mathlib.Core.List.{List, [], _∷_, map}
+use mathlib.Core.List.{List, [], _∷_, _++_, map}
 use lib.ListN.{length}
 use lib.Dec.{eqb, leb}
 use Rattle.octets.specs.Octets.{pick, part, alike, most32}
@@ -20,13 +20,15 @@ use Rattle.cells.specs.Messages.{Run, Role, first, middle, last, roleOf, cellsO
 use Rattle.taking.specs.Taking.{Took, drawn, took}
 use Rattle.cells.proofs.Picking.{pick-yes}
 use Rattle.cells.proofs.Empty.{empty-cells}
-use Rattle.demand3.specs.Traffic.{Event, arrives, passes, takes, stowed, lessened, empty, takenFrom, stepped, after}
-use Rattle.demand3.specs.Calls.{Call, arrival, taking, joining, draws, storeAt, tookBy, storeBy, storeAfter}
+use Rattle.demand3.specs.Cells.{forgotten, recorded}
+use Rattle.demand3.specs.Traffic.{Event, arrives, passes, takes, forgets, stowed, lessened, empty, takenFrom, stepped, after}
+use Rattle.demand3.specs.Calls.{Call, arrival, taking, joining, forgetting, Plain, draws, storeAt, tookBy, storeBy, storeAfter}
 use Rattle.demand3.specs.Presupposed.{InUse, emptyStore, storeBehind}
 use Rattle.demand3.proofs.Steps.{pick-no, eventOf, Kept}
+use Rattle.demand3.proofs.Plain.{Pure, plain-first, plain-rest, plain-at}
 use Rattle.demand3.proofs.Simulates.{took-by, by-keeps, by-cells, run-keeps}
 use Rattle.demand3.proofs.Carried.{begins}
-use Rattle.demand3.proofs.Acts.{Act, comes, draw, meets, actOf, landsBeside, lands, eventsOf, draws-by, by-acts}
+use Rattle.demand3.proofs.Acts.{Act, comes, draw, meets, forgoes, farOf, actOf, landsBeside, landsFar, lands, eventsOf, draws-by, by-acts}
 
 -- what is held under a key and a counter, and the message that a taking picks
 pub record Way : Type 0 where
@@ -37,25 +39,28 @@ pub record Way : Type 0 where
 
 module _ (w : Way) where
   unfoldable pub goes : List Cell → Event → List Cell
-  goes cs (arrives t) = stowed (w .find cs (t .key) (t .counter)) cs t
+  goes cs (arrives t) = pick (recorded nextCounter cs (t .key) (t .counter)) cs (stowed (w .find cs (t .key) (t .counter)) cs t)
   goes cs passes = cs
   goes cs (takes long) = lessened (drawn (w .choose cs) long) cs
+  goes cs (forgets i) = forgotten i cs
 
   unfoldable pub goesOn : List Cell → List Event → List Cell
   goesOn cs [] = cs
   goesOn cs (e ∷ es) = goesOn (goes cs e) es
 
   -- a joining goes on to a taking
-  abbrev pub joins : List Cell → Event → Bool
-  joins cs (arrives t) = landsBeside (w .find cs (t .key) (t .counter)) cs t
-  joins cs passes = false
-  joins cs (takes long) = false
+  abbrev pub joins : List Cell → Event → Option Seg → Bool
+  joins cs (arrives t) o = pick (recorded nextCounter cs (t .key) (t .counter)) true (landsBeside (w .find cs (t .key) (t .counter)) cs t)
+  joins cs passes o = landsFar cs o
+  joins cs (takes long) o = false
+  joins cs (forgets i) o = false
 
   -- a call's events
   abbrev pub eventsFor : List Cell → Act → List Event
   eventsFor cs (comes e) = e ∷ []
   eventsFor cs (draw long) = takes long ∷ []
-  eventsFor cs (meets e long) = e ∷ pick (joins cs e) (takes long ∷ []) []
+  eventsFor cs (meets e o long) = e ∷ pick (joins cs e o) (takes long ∷ []) []
+  eventsFor cs (forgoes i) = forgets i ∷ []
 
   -- the cells after a list of calls
   unfoldable pub behind : List Cell → List Act → List Cell
@@ -66,7 +71,8 @@ module _ (w : Way) where
   unfoldable pub takenBy : List Cell → Act → Option Took
   takenBy cs (comes e) = none
   takenBy cs (draw long) = some (drawn (w .choose cs) long)
-  takenBy cs (meets e long) = pick (joins cs e) (some (drawn (w .choose (goes cs e)) long)) none
+  takenBy cs (meets e o long) = pick (joins cs e o) (some (drawn (w .choose (goes cs e)) long)) none
+  takenBy cs (forgoes i) = none
 
   -- and after some calls, from an empty store of n cells on
   abbrev pub by : Settings → ℕ → ℕ → List Call → Call → Option Took
@@ -82,33 +88,37 @@ unfolding goes stepped takenFrom
 goes-same cs (arrives t) = refl
 goes-same cs passes = refl
 goes-same cs (takes long) = refl
+goes-same cs (forgets i) = refl
 
 all-same : (es : List Event) (cs : List Cell) → goesOn storeWay cs es ≡ after nextCounter stepsMost cs es
 unfolding goesOn after
 all-same [] cs = refl
 all-same (e ∷ es) cs = all-same es (goes storeWay cs e) ∙ ap (λ (x : List Cell). after nextCounter stepsMost x es) (goes-same cs e)
 
-joins-same : (cs : List Cell) (e : Event) → joins storeWay cs e ≡ lands cs e
-joins-same cs (arrives t) = refl
-joins-same cs passes = refl
-joins-same cs (takes long) = refl
+joins-same : (cs : List Cell) (e : Event) (o : Option Seg) → joins storeWay cs e o ≡ lands cs e o
+joins-same cs (arrives t) o = refl
+joins-same cs passes o = refl
+joins-same cs (takes long) o = refl
+joins-same cs (forgets i) o = refl
 
 events-same : (cs : List Cell) (a : Act) → eventsFor storeWay cs a ≡ eventsOf cs a
 events-same cs (comes e) = refl
 events-same cs (draw long) = refl
-events-same cs (meets e long) = ap (λ (b : Bool). e ∷ pick b (takes long ∷ []) []) (joins-same cs e)
+events-same cs (meets e o long) = ap (λ (b : Bool). e ∷ pick b (takes long ∷ []) []) (joins-same cs e o)
+events-same cs (forgoes i) = refl
 
 module _ (s : Settings) (Z n : ℕ) where
   module _ (st : List ℕ) (k : Kept s Z n st) where
     abbrev cs : List Cell
     cs = cellsOf s Z st n
 
-    one-takes : (c : Call) → takenBy storeWay cs (actOf s Z c) ≡ tookBy s Z st c
+    one-takes : (c : Call) → Pure c → takenBy storeWay cs (actOf s Z c) ≡ tookBy s Z st c
     unfolding takenBy tookBy takenFrom after
-    one-takes (arrival p) = refl
-    one-takes (taking out) = sym (took-by s Z n st k (taking out) refl)
-    one-takes (joining p out) =
-        ap (λ (b : Bool). pick b taken none) (joins-same cs (eventOf s Z p) ∙ sym (draws-by s Z n st k p out))
+    one-takes (arrival p) o = refl
+    one-takes (forgetting i) o = refl
+    one-takes (taking out) o = sym (took-by s Z n st k (taking out) o refl)
+    one-takes (joining p out) o =
+        ap (λ (b : Bool). pick b taken none) (joins-same cs (eventOf s Z p) (farOf s Z p) ∙ sym (draws-by s Z n st k p out))
         ∙ go (bool (draws s Z st (joining p out)))
       where
         taken : Option Took
@@ -119,33 +129,34 @@ module _ (s : Settings) (Z n : ℕ) where
         go (inl d) =
             pick-yes (draws s Z st (joining p out)) taken none d
             ∙ ap (λ (x : List Cell). some (drawn (picked nextCounter stepsMost x) (length out))) (goes-same cs (eventOf s Z p))
-            ∙ sym (took-by s Z n st k (joining p out) d)
+            ∙ sym (took-by s Z n st k (joining p out) o d)
         go (inr d) =
             pick-no (draws s Z st (joining p out)) taken none d
             ∙ sym
             (pick-no (draws s Z st (joining p out)) (some (took s Z (storeAt s Z st (joining p out)) (length out))) none d)
 
-    one-goes : (c : Call) → goesOn storeWay cs (eventsFor storeWay cs (actOf s Z c)) ≡ cellsOf s Z (storeBy s Z st c) n
-    one-goes c =
+    one-goes : (c : Call) → Pure c → goesOn storeWay cs (eventsFor storeWay cs (actOf s Z c)) ≡ cellsOf s Z (storeBy s Z st c) n
+    one-goes c o =
         ap (goesOn storeWay cs) (events-same cs (actOf s Z c) ∙ sym (by-acts s Z n st k c))
         ∙ all-same _ cs
-        ∙ sym (by-cells s Z n st k c)
+        ∙ sym (by-cells s Z n st k c o)
 
-  all-go : (l : List Call) (st : List ℕ) → Kept s Z n st →
+  all-go : (l : List Call) (st : List ℕ) → Kept s Z n st → Plain l →
       behind storeWay (cellsOf s Z st n) (map (actOf s Z) l) ≡ cellsOf s Z (storeAfter s Z st l) n
   unfolding behind storeAfter
-  all-go [] st k = refl
-  all-go (c ∷ l) st k =
-      ap (λ (x : List Cell). behind storeWay x (map (actOf s Z) l)) (one-goes st k c)
-      ∙ all-go l (storeBy s Z st c) (by-keeps s Z n st k c)
+  all-go [] st k o = refl
+  all-go (c ∷ l) st k o =
+      ap (λ (x : List Cell). behind storeWay x (map (actOf s Z) l)) (one-goes st k c (plain-first c l o))
+      ∙ all-go l (storeBy s Z st c) (by-keeps s Z n st k c (plain-first c l o)) (plain-rest c l o)
 
   -- a program that goes the store's way takes what the store's calls do
-  pub store-goes : 1 ≤ Z → InUse s n → (cs : List Call) (c : Call) → by storeWay s Z n cs c ≡ tookBy s Z (storeBehind s Z n cs) c
-  store-goes one u cs c =
+  pub store-goes : 1 ≤ Z → InUse s n → (cs : List Call) (c : Call) → Plain (cs ++ c ∷ []) → by storeWay s Z n cs c ≡ tookBy s Z (storeBehind s Z n cs) c
+  store-goes one u cs c o =
+      let f = plain-at (cs ++ c ∷ []) cs [] c refl o in
       let k = begins s Z n one u in
       ap (λ (x : List Cell). takenBy storeWay (behind storeWay x (map (actOf s Z) cs)) (actOf s Z c)) (sym (empty-cells s Z n))
-      ∙ ap (λ (x : List Cell). takenBy storeWay x (actOf s Z c)) (all-go cs (emptyStore Z n) k)
-      ∙ one-takes (storeBehind s Z n cs) (run-keeps s Z n cs (emptyStore Z n) k) c
+      ∙ ap (λ (x : List Cell). takenBy storeWay x (actOf s Z c)) (all-go cs (emptyStore Z n) k (f .0))
+      ∙ one-takes (storeBehind s Z n cs) (run-keeps s Z n cs (emptyStore Z n) k (f .0)) c (f .1)
 
 -- ---- a message complete by the number of its segments
 

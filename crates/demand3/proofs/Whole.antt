@@ -1,7 +1,7 @@
 -- Demand 3 over the store's octets, from demand 3 over its cells; and what of it holds without the room.
 -- Assumes nothing.
 use Prim.Native.Nat.{ℕ, _≤_}
-use mathlib.Core.Path.{_≡_, ap, sym, _∙_, subst}
+use mathlib.Core.Path.{_≡_, refl, ap, sym, _∙_, subst}
 use mathlib.Core.Logic.{_⊎_, inl, inr}
 use mathlib.Core.Bool.{true}
 use mathlib.Core.List.{List, _∷_, _++_, map, List·Memᴰ, Memᴰ·append-left, Memᴰ·append-right, List·Memᴰ·append-cases, Memᴰ·map, Memᴰ·of-map}
@@ -15,7 +15,7 @@ use Rattle.taking.specs.Taking.{message, took}
 use Rattle.demand3.specs.Traffic.{Sent, Event, arrives, empty, takenFrom, after}
 use Rattle.demand3.specs.Promise.{Original, Promise as CellPromise}
 use Rattle.demand3.specs.Base.{Done01, Traffic01}
-use Rattle.demand3.specs.Calls.{outOf, storeAt, storeBy, draws}
+use Rattle.demand3.specs.Calls.{Plain, outOf, storeAt, storeBy, draws}
 use Rattle.demand3.specs.Sendings.{IsCut}
 use Rattle.demand3.specs.Presupposed.{emptyStore, storeBehind, cellsIn}
 use Rattle.demand3.specs.Whole.{WholeDemand3, WholeSoundness, WholeGenuine}
@@ -26,6 +26,7 @@ use Rattle.demand3.proofs.Steps.{Kept}
 use Rattle.demand3.proofs.Events.{before, drawing, eventsIn, outs-append, events-append}
 use Rattle.demand3.proofs.Simulates.{at-keeps, took-by, by-took}
 use Rattle.demand3.proofs.Carried.{traffic-of, came-all, all-came, behind-cells, behind-keeps, room-of}
+use Rattle.demand3.proofs.Plain.{Pure, plain-at}
 use Rattle.demand3.proofs.Delivers.{delivers}
 use Rattle.demand3.proofs.Now.{done-of, of-done, sound-now, promise-now, delivery-now}
 
@@ -53,7 +54,7 @@ module _ (Z : ℕ) (one : 1 ≤ Z) where
       st = storeBehind s Z n (first ++ since)
 
       v : CellPromise nextCounter stepsMost (Done01 (sentOf s m)) n (sentOf s m) (eventsIn s Z (storeBehind s Z n first) since) (cellsIn s Z n st)
-      v = promise-now Z one s n u ms m h first a since (g .traffic) (room-of s Z n one u (first ++ since) (g .room)) w
+      v = promise-now Z one s n u ms m h first a since (g .traffic) (room-of s Z n one u (first ++ since) (g .traffic .octets) (g .room)) w
 
   -- without the room
   pub whole-soundness : WholeSoundness Z
@@ -74,15 +75,18 @@ module _ (Z : ℕ) (one : 1 ≤ Z) where
         v .0,
         v .1,
         ap (λ (z : Sent). z .key) (v .2) ∙ w .2,
-        delivers s Z n (v .0) (g .cut (v .0) (v .1)) st c (at-keeps s Z n st kept c) (b .0) r (b .1)
+        delivers s Z n (v .0) (g .cut (v .0) (v .1)) st c (at-keeps s Z n st kept c (pl .1)) (b .0) r (b .1)
             (subst (λ (z : Sent). Original nextCounter z r) (sym (v .2)) (w .3)),
       )
     where
       st : List ℕ
       st = storeBehind s Z n x
 
+      pl : Plain x × Pure c
+      pl = plain-at (x ++ c ∷ y) x y c refl (g .octets)
+
       kept : Kept s Z n st
-      kept = behind-keeps s Z n one u x
+      kept = behind-keeps s Z n one u x (pl .0)
 
       es : List Event
       es = eventsIn s Z (emptyStore Z n) x ++ before s Z c
@@ -93,12 +97,12 @@ module _ (Z : ℕ) (one : 1 ≤ Z) where
       cells-are : after nextCounter stepsMost (empty n) es ≡ after nextCounter stepsMost (cellsIn s Z n st) (before s Z c)
       cells-are =
           after-append nextCounter stepsMost (empty n) (eventsIn s Z (emptyStore Z n) x) (before s Z c)
-          ∙ ap (λ (l : List Cell). after nextCounter stepsMost l (before s Z c)) (sym (behind-cells s Z n one u x))
+          ∙ ap (λ (l : List Cell). after nextCounter stepsMost l (before s Z c)) (sym (behind-cells s Z n one u x (pl .0)))
 
       taken : takenFrom nextCounter stepsMost (after nextCounter stepsMost (empty n) es) (length (outOf c)) ≡ message r
       taken =
           let d : takenFrom nextCounter stepsMost (after nextCounter stepsMost (cellsIn s Z n st) (before s Z c)) (length (outOf c)) ≡ message r =
-          cc (sym (took-by s Z n st kept c (b .0)) ∙ e) in
+          cc (sym (took-by s Z n st kept c (pl .1) (b .0)) ∙ e) in
           ap (λ (l : List Cell). takenFrom nextCounter stepsMost l (length (outOf c))) cells-are ∙ d
 
       into : (t : Seg) → List·Memᴰ (arrives t) (eventsIn s Z (emptyStore Z n) x) ⊎ List·Memᴰ (arrives t) (before s Z c) →

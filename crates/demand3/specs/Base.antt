@@ -3,7 +3,7 @@
 use Prim.Native.Nat.{ℕ, _≤_}
 use mathlib.Core.Path.{_≡_}
 use mathlib.Core.Logic.{_≢_, _⊎_}
-use mathlib.Core.List.{List, _++_, List·Memᴰ}
+use mathlib.Core.List.{List, _∷_, _++_, List·Memᴰ}
 use Rattle.octets.specs.Octets.{most32}
 use Rattle.packet.specs.Numbers.{nextCounter, stepsMost}
 use Rattle.cells.specs.Segments.{Seg}
@@ -11,8 +11,8 @@ use Rattle.cells.specs.Rows.{Cell}
 use Rattle.cells.specs.Messages.{Run}
 use Rattle.taking.specs.Taking.{message}
 use Rattle.demand3.specs.Complete.{Complete}
-use Rattle.demand3.specs.Traffic.{Sent, stepsIn, segmentsOf, Event, arrives, empty, takenFrom, after, OneOf, Room}
-use Rattle.demand3.specs.Promise.{Original, AllCame, Untaken, Anew, Done, Delivery, Promise}
+use Rattle.demand3.specs.Traffic.{Sent, stepsIn, segmentsOf, Event, arrives, takes, empty, takenFrom, stepped, after, OneOf, Room}
+use Rattle.demand3.specs.Promise.{Original, Its, AllCame, Untaken, Remembered, Anew, Done, Delivery, Promise, Out}
 
 -- SPEC S-8: under the key k a first at c, a last n steps on, 1 to 4,095 of them, a continuation at every counter in between
 abbrev pub CompleteFrom : List Cell → List ℕ → ℕ → ℕ → Type 0
@@ -37,7 +37,7 @@ pub record Given01 (cells : ℕ) (ms : List Sent) (es : List Event) : Type 0 whe
   -- a free cell just before each new segment (DEMANDS 3.5)
   pub room : Room nextCounter stepsMost (empty cells) es
 
--- from an empty store on, up to a taking of the message, and anew after each
+-- from an empty store on, up to a taking of the message, and anew once its record is forgotten
 abbrev pub Demand3·01 : Type 0
 Demand3·01 = (cells : ℕ) (ms : List Sent) (before since : List Event) → Given01 cells ms (before ++ since) →
     (m : Sent) → List·Memᴰ m ms → Anew nextCounter stepsMost cells m before →
@@ -57,3 +57,11 @@ Genuine01 = (cells : ℕ) (ms : List Sent) (es : List Event) → Traffic01 ms es
     takenFrom nextCounter stepsMost (after nextCounter stepsMost (empty cells) es) long ≡ message r → (m : Sent) → List·Memᴰ m ms →
     r .head .key ≡ m .key →
     (w : Sent) × List·Memᴰ w ms × (w .key ≡ m .key) × Original nextCounter w r
+
+-- without the room, a message that was taken is out until its record is forgotten, and no taking hands it out again
+abbrev pub Recorded01 : Type 0
+Recorded01 = (cells : ℕ) (ms : List Sent) (before since : List Event) (long : ℕ) (r : Run) → Traffic01 ms (before ++ takes long ∷ since) →
+    (m : Sent) → List·Memᴰ m ms → takenFrom nextCounter stepsMost (after nextCounter stepsMost (empty cells) before) long ≡ message r → Its m r →
+    Remembered nextCounter stepsMost m (stepped nextCounter stepsMost (after nextCounter stepsMost (empty cells) before) (takes long)) since →
+    Out nextCounter stepsMost m (after nextCounter stepsMost (empty cells) (before ++ takes long ∷ since)) ×
+    Untaken nextCounter stepsMost m (stepped nextCounter stepsMost (after nextCounter stepsMost (empty cells) before) (takes long)) since

@@ -6,7 +6,7 @@ use mathlib.Core.List.{List, [], _∷_, _++_}
 use Rattle.packet.specs.Numbers.{nextCounter, stepsMost}
 use Rattle.cells.specs.Rows.{Cell}
 use Rattle.taking.specs.Taking.{Took}
-use Rattle.demand3.specs.Traffic.{Sent, Event, arrives, passes, takes, takenFrom, stepped}
+use Rattle.demand3.specs.Traffic.{Sent, Event, arrives, passes, takes, forgets, takenFrom, stepped}
 
 abbrev pub theKey : List ℕ
 theKey = 0x18 ∷ 5 ∷ 9 ∷ []
@@ -36,10 +36,18 @@ morning =
 abbrev pub noon : List Event
 noon = morning ++ takes 8 ∷ []
 
--- freed cells are used again; the first message is sent once more
+-- freed cells are used again; the second message is taken; and late repeats of both come
 abbrev pub evening : List Event
 evening =
-    other ∷ part 2 2 (7 ∷ []) ∷ part 4294967294 1 (1 ∷ 2 ∷ []) ∷ takes 5 ∷ part 4294967295 0 (3 ∷ 4 ∷ []) ∷ part 0 2 (5 ∷ []) ∷ []
+    other ∷ part 4294967294 1 (1 ∷ 2 ∷ []) ∷ part 2 2 (7 ∷ []) ∷ takes 5 ∷ part 4294967295 0 (3 ∷ 4 ∷ []) ∷ part 2 2 (7 ∷ []) ∷ takes 100 ∷ []
+
+-- the records of the second message and of the first are forgotten; of a cell that has none, nothing
+abbrev pub midnight : List Event
+midnight = forgets 1 ∷ forgets 0 ∷ forgets 2 ∷ []
+
+-- after that the first message is sent once more
+abbrev pub night : List Event
+night = part 4294967294 1 (1 ∷ 2 ∷ []) ∷ part 4294967295 0 (3 ∷ 4 ∷ []) ∷ part 0 2 (5 ∷ []) ∷ []
 
 -- what the takings come to
 unfoldable pub takings : List Cell → List Event → List Took
@@ -47,3 +55,4 @@ takings cs [] = []
 takings cs (arrives t ∷ es) = takings (stepped nextCounter stepsMost cs (arrives t)) es
 takings cs (passes ∷ es) = takings cs es
 takings cs (takes long ∷ es) = takenFrom nextCounter stepsMost cs long ∷ takings (stepped nextCounter stepsMost cs (takes long)) es
+takings cs (forgets i ∷ es) = takings (stepped nextCounter stepsMost cs (forgets i)) es

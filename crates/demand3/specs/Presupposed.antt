@@ -1,6 +1,7 @@
 -- What demand 3 presupposes of the calls on a store's octets: n cells of Z octets. Its parts, by their numbers in docs/DEMANDS.md:
 -- 3.1 `emptyStore`, `storeBehind`, and one T and profile, `InUse`; 3.2 `cut`, which is `IsCut`; 3.3 `apart`; 3.4 `packets`, which is `MayCome`,
--- and takings, `Call`; 3.5 `Room`. For how long it is told: `Untaken`, and from where on `Anew`.
+-- and takings and forgettings, `Call`; 3.5 `Room`. For how long it is told: `Untaken`, and from where on `Anew`; of a message that was
+-- taken for how long: `Remembered`.
 -- Assumes nothing: these are definitions.
 use Prim.Native.Nat.{ℕ, _+_, _*_, _≤_, _<_}
 use mathlib.Core.Path.{_≡_}
@@ -9,19 +10,18 @@ use mathlib.Core.Bool.{true, false}
 use mathlib.Core.Option.{some, none}
 use mathlib.Core.List.{List, [], _∷_, _++_, List·Memᴰ}
 use lib.ListN.{length, replicate}
-use Rattle.octets.specs.Octets.{Octets}
 use Rattle.walk.specs.declared.Settings.{Settings}
 use Rattle.packet.specs.Format.{SettingsInRange}
 use Rattle.packet.specs.Reading.{readPacket, segmented}
 use Rattle.packet.specs.Key.{keyOf}
 use Rattle.cells.specs.Segments.{Seg, segOf}
-use Rattle.cells.specs.Rows.{Cell}
-use Rattle.cells.specs.Order.{cellsMost}
+use Rattle.cells.specs.Rows.{Cell, taken}
+use Rattle.cells.specs.Order.{cellsMost, cellAt, untakenTo}
 use Rattle.cells.specs.Messages.{Run, cellsOf, look}
 use Rattle.taking.specs.Taking.{message}
 use Rattle.demand3.specs.Cells.{hasFree}
-use Rattle.demand3.specs.Calls.{Call, Brings, Handed, tookBy, storeAfter}
-use Rattle.demand3.specs.Sendings.{Sending, ReadsAs, manyOf, segmentAt, keyIn, startOf, IsCut}
+use Rattle.demand3.specs.Calls.{Call, forgetting, Brings, Handed, Plain, tookBy, storeAfter}
+use Rattle.demand3.specs.Sendings.{Sending, ReadsAs, manyOf, segmentAt, keyIn, startOf, rangeSent, IsCut}
 
 -- ---- packets
 
@@ -58,7 +58,7 @@ module _ (s : Settings) (Z : ℕ) where
         (m ≡ w) ⊎ (keyIn s m ≢ keyIn s w) ⊎
         ((i j : ℕ) → i < manyOf s m → j < manyOf s w → segmentAt s m i .counter ≢ segmentAt s w j .counter)
     -- packets are octets: what their type says
-    pub octets : (p : List ℕ) → Handed p cs → Octets p
+    pub octets : Plain cs
     -- what may come, in whatever order and how often (DEMANDS 3.4)
     pub packets : (p : List ℕ) → Handed p cs → MayCome ms p
 
@@ -71,6 +71,16 @@ module _ (s : Settings) (Z : ℕ) where
   -- up to its taking: none of the calls takes it
   abbrev pub Untaken : Sending → List ℕ → List Call → Type 0
   Untaken m st cs = (x y : List Call) (c : Call) → cs ≡ x ++ c ∷ y → TakesIt m (storeAfter s Z st x) c → ⊥
+
+  -- ---- records
+
+  -- cell i, of n, has the record of the message
+  abbrev pub RecordAt : ℕ → Sending → List ℕ → ℕ → Type 0
+  RecordAt n m st i = (i < n) × (cellAt s Z st i ≡ taken (rangeSent s m))
+
+  -- none of the calls forgets it
+  abbrev pub Remembered : ℕ → Sending → List ℕ → List Call → Type 0
+  Remembered n m st cs = (x y : List Call) (i : ℕ) → cs ≡ x ++ forgetting i ∷ y → RecordAt n m (storeAfter s Z st x) i → ⊥
 
 -- ---- the store
 
@@ -93,17 +103,19 @@ module _ (s : Settings) (Z n : ℕ) where
   abbrev pub cellsIn : List ℕ → List Cell
   cellsIn st = cellsOf s Z st n
 
-  -- from where on it is told, up to the next taking: the store's beginning, and anew after each taking of it, so that a message
-  -- that is sent once more comes out once more
+  -- from where on it is told, up to its taking: the store's beginning, and anew once its record is forgotten, so that a message that is
+  -- sent once more after that comes out once more
   pub data Anew (m : Sending) : List Call → Type 0 where
     fresh : Anew m []
-    retaken : (x : List Call) (c : Call) → TakesIt s Z m (storeBehind x) c → Anew m (x ++ c ∷ [])
+    forgot : (x : List Call) (i : ℕ) → RecordAt s Z n m (storeBehind x) i → Anew m (x ++ forgetting i ∷ [])
 
   -- a free cell just before each new segment (DEMANDS 3.5), by an arrival or a joining: a packet that reading accepts, segmented,
-  -- that fits a cell, and whose key and counter no cell has just before; where `run` tells the store after some calls
+  -- that fits a cell, and whose key and counter just before no record has in its range and no cell has; where `run` tells the store after
+  -- some calls. A record's cell is not free
   abbrev pub RoomIn : (List Call → List ℕ) → List Call → Type 0
   RoomIn run cs = (x y : List Call) (c : Call) (p : List ℕ) → cs ≡ x ++ c ∷ y → Brings p c →
       readPacket s p .refusal .number ≡ 0 → segmented p ≡ true → 2 + length p ≤ Z →
+      untakenTo s Z (run x) n (segOf p (readPacket s p) .key) (segOf p (readPacket s p) .counter) ≡ true →
       look (cellsIn (run x)) (segOf p (readPacket s p) .key) (segOf p (readPacket s p) .counter) ≡ none →
       hasFree (cellsIn (run x)) ≡ true
 

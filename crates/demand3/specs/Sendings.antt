@@ -15,6 +15,7 @@ use Rattle.packet.specs.Format.{Head, Values, identification, headerOctets, oct
 use Rattle.packet.specs.Reading.{readPacket, segmented}
 use Rattle.packet.specs.Numbers.{nextCounter, segmentsMost}
 use Rattle.cells.specs.Segments.{Seg, segOf}
+use Rattle.cells.specs.Rows.{Range, recordRow}
 use Rattle.sender.specs.Sending.{stepsOf}
 
 -- a message as it was cut: what all its packets share, its first counter, and the bodies of its segments
@@ -82,6 +83,13 @@ module _ (s : Settings) where
   abbrev pub segmentAt : Sending → ℕ → Seg
   segmentAt m i =
       record { key = keyIn m; counter = counterIn m i; flags = flagsIn (manyOf m) i; body = getD (m .bodies) i [] }
+
+  -- its record, once it is taken, and the octets of that
+  abbrev pub rangeSent : Sending → Range
+  rangeSent m = record { key = keyIn m; first = startOf m; steps = stepsTo m }
+
+  abbrev pub recordSent : ℕ → Sending → List ℕ
+  recordSent Z m = recordRow Z (keyIn m) (startOf m) (counterIn m (stepsTo m))
 
   -- H and B
   abbrev pub headerSize : Sending → ℕ

@@ -4,16 +4,17 @@
 use Prim.Native.Nat.{ℕ, suc, _≤_}
 use mathlib.Core.Path.{_≡_}
 use mathlib.Core.Logic.{_≢_, _⊎_}
-use mathlib.Core.Bool.{true}
+use mathlib.Core.Bool.{true, false}
 use mathlib.Core.Option.{Option, none, some}
 use mathlib.Core.List.{List, [], _∷_, _++_, List·Memᴰ}
 use lib.ListN.{length, replicate}
+use Rattle.octets.specs.Octets.{pick}
 use Rattle.octets.specs.Laying.{together}
 use Rattle.cells.specs.Segments.{Seg}
 use Rattle.cells.specs.Rows.{Cell, free}
 use Rattle.cells.specs.Messages.{Run, segments, look, picked}
 use Rattle.taking.specs.Taking.{Took, message, unable, drawn}
-use Rattle.demand3.specs.Cells.{put, hasFree, clear}
+use Rattle.demand3.specs.Cells.{put, hasFree, clear, forgotten, recorded}
 
 -- ---- messages
 
@@ -58,20 +59,22 @@ module _ (next : ℕ → ℕ) where
 -- ---- what happens
 
 -- a segment arrives; a call that is nothing to the store (a packet that is whole, refused or too long); a taking with so many
--- octets of output
+-- octets of output; the record in a cell is forgotten
 pub data Event : Type 0 where
   arrives : Seg → Event
   passes : Event
   takes : ℕ → Event
+  forgets : ℕ → Event
 
--- the cells after an arrival, told what they hold under its key and counter: a new segment goes to the lowest free cell
+-- the cells after an arrival that no record has in its range, told what they hold under its key and counter: a new segment goes to the
+-- lowest free cell
 abbrev pub stowed : Option Seg → List Cell → Seg → List Cell
 stowed none cs t = put cs t
 stowed (some u) cs t = cs
 
--- the cells after a taking: just the message's are free
+-- the cells after a taking: of the message its record is left, and no other cell is touched
 abbrev pub lessened : Took → List Cell → List Cell
-lessened (message r) cs = clear (segments r) cs
+lessened (message r) cs = clear r cs
 lessened (unable k) cs = cs
 
 -- an empty store of n cells
@@ -84,9 +87,10 @@ module _ (next : ℕ → ℕ) (span : ℕ) where
   takenFrom cs long = drawn (picked next span cs) long
 
   unfoldable pub stepped : List Cell → Event → List Cell
-  stepped cs (arrives t) = stowed (look cs (t .key) (t .counter)) cs t
+  stepped cs (arrives t) = pick (recorded next cs (t .key) (t .counter)) cs (stowed (look cs (t .key) (t .counter)) cs t)
   stepped cs passes = cs
   stepped cs (takes long) = lessened (takenFrom cs long) cs
+  stepped cs (forgets i) = forgotten i cs
 
   -- the cells after a list of events
   unfoldable pub after : List Cell → List Event → List Cell
@@ -117,7 +121,8 @@ module _ (next : ℕ → ℕ) (span : ℕ) where
     -- what may come, in whatever order and how often (DEMANDS 3.4)
     pub source : (t : Seg) → List·Memᴰ (arrives t) es → OneOf next ms t ⊎ Stray next ms t
 
-  -- a free cell just before each new segment (DEMANDS 3.5)
+  -- a free cell just before each new segment (DEMANDS 3.5): one that no record has in its range, and that is not held. A record's cell is
+  -- not free
   abbrev pub Room : List Cell → List Event → Type 0
-  Room cs es = (p q : List Event) (t : Seg) → es ≡ p ++ arrives t ∷ q →
+  Room cs es = (p q : List Event) (t : Seg) → es ≡ p ++ arrives t ∷ q → recorded next (after next span cs p) (t .key) (t .counter) ≡ false →
       look (after next span cs p) (t .key) (t .counter) ≡ none → hasFree (after next span cs p) ≡ true

@@ -22,7 +22,7 @@ use Rattle.flat.specs.Told.{toldBeside}
 abbrev pub arrivalNumbers : Arrival → List ℕ
 arrivalNumbers a = said a .refusal .number ∷ said a .word ∷ toldBeside (said a .refusal)
 
--- refusal; 1 whole, 2 stored or 3 held; what reading's refusal tells
+-- refusal; 1 whole, 2 stored, 3 held or 4 taken; what reading's refusal tells
 abbrev pub arriveNumbers : Arrived → List ℕ
 arriveNumbers b = arrivalNumbers (arrivalOf b)
 
@@ -34,6 +34,12 @@ takenNumbers t = t .refusal .number ∷ t .header ∷ t .body ∷ t .counter .0 
 -- refusal, H, B and c
 abbrev pub takeNumbers : Took → List ℕ
 takeNumbers t = takenNumbers (takenOf t)
+
+-- ---- forgetting
+
+-- the refusal alone
+abbrev pub forgetNumbers : ℕ → List ℕ
+forgetNumbers k = k ∷ []
 
 -- ---- joining
 

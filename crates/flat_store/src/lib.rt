@@ -9,11 +9,13 @@ ghost use lib.ListN.{length};
 ghost use Rattle.cells.specs.Order.{countIn, cellSize};
 ghost use Rattle.arrival.specs.Arriving.{arrived, storeWith};
 ghost use Rattle.taking.specs.Taking.{took, outWith, storeLess};
+ghost use Rattle.taking.specs.Forgetting.{forgot, storeForgotten};
 ghost use Rattle.arrival.specs.Told.{wordOf};
 ghost use Rattle.join.specs.Joining.{joining, storeJoined, outJoined};
 ghost use Rattle.join.specs.Told.{bufferNumber};
 ghost use Rattle.walk.specs.Walk.{settingsOf};
-ghost use Rattle.flat_store.specs.Numbers.{arrivalNumbers, arriveNumbers, takenNumbers, takeNumbers, joinedNumbers, joinNumbers, orderNumbers};
+ghost use Rattle.flat_store.specs.Numbers.{arrivalNumbers, arriveNumbers, takenNumbers, takeNumbers, forgetNumbers};
+ghost use Rattle.flat_store.specs.Numbers.{joinedNumbers, joinNumbers, orderNumbers};
 ghost use Rattle.flat_store.specs.Views.{insideNumbers, viewNumbers};
 use arrival::Arrival;
 use arrival::Kind;
@@ -29,6 +31,7 @@ fn kind_number(k: Kind) -> u64
         Kind::Whole => 1,
         Kind::Stored => 2,
         Kind::Held => 3,
+        Kind::Taken => 4,
     }
 }
 
@@ -41,7 +44,7 @@ fn arrival_numbers(a: Arrival) -> [u64; 4]
     }
 }
 
-// A packet arrives: the refusal; 1 whole, 2 stored or 3 held; what the refusal tells.
+// A packet arrives: the refusal; 1 whole, 2 stored, 3 held or 4 taken; what the refusal tells.
 pub fn arrive(t: u64, profile: u64, store: &mut [u8], packet: &[u8]) -> [u64; 4]
     ensures { λ r. ⌜ r ≡ arriveNumbers (arrived (settingsOf t profile) cellSize (now (store .entry)) (now (packet .entry))) ⌝ }
     ensures { λ r. ⌜ now (store .exit) ≡ storeWith cellSize (now (store .entry)) (now (packet .entry))
@@ -79,6 +82,19 @@ pub fn take(t: u64, profile: u64, store: &mut [u8], out: &mut [u8]) -> [u64; 4]
         profile: profile,
     };
     taken_numbers(store::take(s, store, out))
+}
+
+// A taken record is forgotten, by the number of its cell: the refusal.
+pub fn forget(t: u64, profile: u64, store: &mut [u8], number: u64) -> [u64; 1]
+    ensures { λ r. ⌜ r ≡ forgetNumbers (forgot (settingsOf t profile) cellSize (now (store .entry)) number) ⌝ }
+    ensures { λ r. ⌜ now (store .exit) ≡ storeForgotten (settingsOf t profile) cellSize (now (store .entry)) number ⌝ }
+{
+    let s = Settings {
+        t: t as usize,
+        profile: profile,
+    };
+    let refusal = store::forget(s, store, number as usize);
+    [refusal.number as u64]
 }
 
 fn which_number(w: Which) -> u64

@@ -20,10 +20,10 @@ use Rattle.walk.specs.Walk.{refusal}
 use Rattle.packet.specs.Reading.{readPacket, segmented, counterSize}
 use Rattle.format.proofs.Accepting.{accepted}
 use Rattle.cells.specs.Segments.{Seg, segOf, sameRest}
-use Rattle.cells.specs.Order.{countIn, gate}
+use Rattle.cells.specs.Order.{untakenTo, countIn, gate}
 use Rattle.cells.proofs.Gate.{through-tells}
 use Rattle.cells.specs.Messages.{Run, bodyOf, cellsOf, look, picked}
-use Rattle.arrival.specs.Arriving.{whole, stored, again, refused, placed, beside, lowestFree, segmentArrived, arrivedIn, arrived}
+use Rattle.arrival.specs.Arriving.{whole, stored, again, late, refused, placed, beside, lowestFree, segmentArrived, segmentCame, arrivedIn, arrived}
 use Rattle.taking.specs.Taking.{message, unable, writing, drawn, tookIn}
 use Rattle.taking.specs.declared.Taken.{Taken}
 use Rattle.taking.specs.Told.{takenOf}
@@ -49,19 +49,29 @@ module _ (s : Settings) (Z : ℕ) (st p : List ℕ) where
       told none false d = let z : _≡_ {A = ℕ} 0 1 = cc in omega arith
       told (some u) b d = same (sameRest u t) d
 
+  came-not : (n : ℕ) (t : Seg) (long : ℕ) → segmentCame s Z st n t long ≡ whole → ⊥
+  unfolding segmentCame
+  came-not n t long e = told (bool (untakenTo s Z st n (t .key) (t .counter))) (bool (leb (2 + long) Z))
+    where
+      told :
+          (untakenTo s Z st n (t .key) (t .counter) ≡ true) ⊎ (untakenTo s Z st n (t .key) (t .counter) ≡ false) →
+          (leb (2 + long) Z ≡ true) ⊎ (leb (2 + long) Z ≡ false) → ⊥
+      told (inl a) (inl b) = segment-not n t (rw (a, b) at e)
+      told (inl a) (inr b) = let d : refused (refusal 17) ≡ whole = rw (a, b) at e in let z : _≡_ {A = ℕ} 0 1 = cc in omega arith
+      told (inr a) b = let d : late ≡ whole = rw a at e in let z : _≡_ {A = ℕ} 0 1 = cc in omega arith
+
   pub whole-in : (n : ℕ) → arrivedIn s Z st n p ≡ whole → (readPacket s p .refusal .number ≡ 0) × (segmented p ≡ false)
   unfolding arrivedIn
   whole-in n e =
-      told (bool (eqb (readPacket s p .refusal .number) 0)) (bool (segmented p)) (bool (leb (2 + length p) Z))
+      told (bool (eqb (readPacket s p .refusal .number) 0)) (bool (segmented p))
     where
       told :
           (eqb (readPacket s p .refusal .number) 0 ≡ true) ⊎ (eqb (readPacket s p .refusal .number) 0 ≡ false) →
-          (segmented p ≡ true) ⊎ (segmented p ≡ false) → (leb (2 + length p) Z ≡ true) ⊎ (leb (2 + length p) Z ≡ false) →
+          (segmented p ≡ true) ⊎ (segmented p ≡ false) →
           (readPacket s p .refusal .number ≡ 0) × (segmented p ≡ false)
-      told (inl a) (inr b) c = (eqb-true _ 0 a, b)
-      told (inl a) (inl b) (inl c) = absurd (segment-not n (segOf p (readPacket s p)) (rw (a, b, c) at e))
-      told (inl a) (inl b) (inr c) = let d : refused (refusal 17) ≡ whole = rw (a, b, c) at e in let z : _≡_ {A = ℕ} 0 1 = cc in absurd (omega arith)
-      told (inr a) b c =
+      told (inl a) (inr b) = (eqb-true _ 0 a, b)
+      told (inl a) (inl b) = absurd (came-not n (segOf p (readPacket s p)) (length p) (rw (a, b) at e))
+      told (inr a) b =
           let d : refused (readPacket s p .refusal) ≡ whole = rw a at e in let z : _≡_ {A = ℕ} 0 1 = cc in absurd (omega arith)
 
   pub whole-tells : arrived s Z st p ≡ whole → (readPacket s p .refusal .number ≡ 0) × (segmented p ≡ false)

@@ -1,6 +1,7 @@
 mod Parts
 mod Coming
 mod Joins
+pub mod Plain
 pub mod Kept
 pub mod Inner
 mod Calls

@@ -9,7 +9,7 @@ use lib.ListN.{length}
 use Rattle.walk.specs.declared.Settings.{Settings}
 use Rattle.walk.specs.declared.Refusal.{Refusal}
 use Rattle.cells.specs.Order.{countIn}
-use Rattle.arrival.specs.Arriving.{Arrived, whole, stored, again, refused, arrived, storeWith}
+use Rattle.arrival.specs.Arriving.{Arrived, whole, stored, again, late, refused, arrived, storeWith}
 use Rattle.taking.specs.Taking.{Took, message, unable, took, outWith, storeLess}
 use Rattle.join.specs.Joining.{inPacket, unjoined, tookAs, joinedBy, storeBy, outBy, joining, storeJoined, outJoined}
 
@@ -34,6 +34,7 @@ module _ (s : Settings) (Z : ℕ) (st p out : List ℕ) where
   whole-by whole m n e = (refl, refl)
   whole-by (stored i) m n e = absurd (took-not (took s Z (storeWith Z st p (stored i)) (length out)) m n e)
   whole-by again m n e = absurd (took-not (took s Z (storeWith Z st p again) (length out)) m n e)
+  whole-by late m n e = absurd (took-not (took s Z (storeWith Z st p late) (length out)) m n e)
   whole-by (refused k) m n e = let z : _≡_ {A = ℕ} 0 1 = cc in absurd (omega arith)
 
   refused-by :
@@ -43,6 +44,7 @@ module _ (s : Settings) (Z : ℕ) (st p out : List ℕ) where
   refused-by (stored i) k e =
       let x = storeWith Z st p (stored i) in took-leaves s Z x out (took s Z x (length out)) k e
   refused-by again k e = let x = storeWith Z st p again in took-leaves s Z x out (took s Z x (length out)) k e
+  refused-by late k e = let x = storeWith Z st p late in took-leaves s Z x out (took s Z x (length out)) k e
   refused-by (refused j) k e = (refl, refl)
 
   -- SPEC J-5: a packet that came whole leaves the output as it was

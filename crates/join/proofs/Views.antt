@@ -3,25 +3,22 @@
 -- Assumes nothing.
 use Prim.Native.Nat.{ℕ, _+_, _-_, _≤_}
 use mathlib.Core.Path.{_≡_, refl, ap, ap₂, sym, _∙_, subst}
-use mathlib.Core.Bool.{Bool, true, false}
-use mathlib.Core.Logic.{⊎-elim}
+use mathlib.Core.Bool.{Bool, false}
 use mathlib.Core.List.{List, [], _++_, List·Memᴰ·head}
 use native.Mathlib.Omega.{arith}
 use lib.ListN.{length, take, drop, length-append, length-take}
 use lib.Seq.{sets, length-sets, sets-eq, drop-append-le, drop-append-seam, take-append-seam}
 use borrow.Author.Tests.{le-leb}
-use Rattle.octets.specs.Octets.{pick, part, Octets, alike}
-use Rattle.octets.proofs.Lists.{bool}
+use Rattle.octets.specs.Octets.{pick, part, Octets}
 use Rattle.walk.specs.declared.Settings.{Settings}
 use Rattle.packet.specs.Reading.{readPacket, segmented}
 use Rattle.packet.specs.Key.{keyOf}
 use Rattle.format.proofs.Accepting.{accepted}
 use Rattle.cells.specs.Segments.{Seg, segOf}
-use Rattle.cells.specs.Rows.{free, held, rowAt, zeroRow, packetIn, cellOf}
-use Rattle.cells.specs.Order.{isSound}
-use Rattle.cells.proofs.Carries.{free-cell, holding}
+use Rattle.cells.specs.Rows.{held, rowAt, packetIn, cellOf}
+use Rattle.cells.proofs.Carries.{held-is}
 use Rattle.cells.specs.Messages.{bodyOf}
-use Rattle.arrival.specs.Arriving.{Arrived, whole, stored, again, refused, arrived, storeWith}
+use Rattle.arrival.specs.Arriving.{Arrived, whole, stored, again, late, refused, arrived, storeWith}
 use Rattle.taking.specs.Taking.{Took, message, unable, took, outWith}
 use Rattle.cells.proofs.Opens.{opens}
 use Rattle.taking.proofs.Tells.{taken-tells, segment-held}
@@ -78,13 +75,10 @@ key-seg s p z = key-two s p z
 
 pub held-two : (s : Settings) (Z : ℕ) (r : List ℕ) (t : Seg) → cellOf s Z r ≡ held t → 2 ≤ length (t .key)
 held-two s Z r t e =
-    let h = holding s Z r (ap isSound e) (⊎-elim free-it (λ x. x) (bool (alike r (zeroRow Z)))) in
+    let h = held-is s Z r t e in
     let d : held (segOf (packetIn r) (readPacket s (packetIn r))) ≡ held t = sym (h .cell) ∙ e in
     let f : segOf (packetIn r) (readPacket s (packetIn r)) ≡ t = cc d in
     subst (λ (u : Seg). 2 ≤ length (u .key)) f (key-seg s (packetIn r) (h .accepted))
-  where
-    free-it : alike r (zeroRow Z) ≡ true → alike r (zeroRow Z) ≡ false
-    free-it a = let b : free ≡ held t = sym (free-cell s Z r a) ∙ e in let z : _≡_ {A = ℕ} 0 1 = cc in absurd (omega arith)
 
 module _ (s : Settings) (Z : ℕ) (p x out : List ℕ) where
   message-viewed :
@@ -120,6 +114,7 @@ module _ (s : Settings) (Z : ℕ) (st p out : List ℕ) (o : Octets p) where
   viewed-by (stored i) e =
       let x = storeWith Z st p (stored i) in message-viewed s Z p x out (took s Z x (length out)) refl
   viewed-by again e = let x = storeWith Z st p again in message-viewed s Z p x out (took s Z x (length out)) refl
+  viewed-by late e = let x = storeWith Z st p late in message-viewed s Z p x out (took s Z x (length out)) refl
   viewed-by (refused k) e = sym (nothing p out 0 0)
 
   pub joining-viewed :

@@ -13,7 +13,7 @@ use Rattle.packet.specs.Format.{primarySize}
 use Rattle.packet.specs.Reading.{readPacket}
 use Rattle.cells.specs.Order.{countIn}
 use Rattle.cells.specs.Messages.{Run}
-use Rattle.arrival.specs.Arriving.{Arrived, whole, stored, again, refused, arrived, storeWith}
+use Rattle.arrival.specs.Arriving.{Arrived, whole, stored, again, late, refused, arrived, storeWith}
 use Rattle.taking.specs.Taking.{Took, message, unable, took, storeLess, outWith}
 
 -- what joining comes to: a body at a place of the arrived packet, with its length; a message that was taken; or a refusal
@@ -35,12 +35,13 @@ tookAs (unable k) = unjoined (refusal k)
 abbrev pub lessTaken : Settings → ℕ → List ℕ → ℕ → List ℕ
 lessTaken s Z x long = storeLess s Z x (countIn Z x) (took s Z x long)
 
--- by what the arrival comes to: after "stored" and "held" there is a taking from the store after the arrival; `long` is the
+-- by what the arrival comes to: after "stored", "held" and "taken" there is a taking from the store after the arrival; `long` is the
 -- length of the output
 abbrev pub joinedBy : Settings → ℕ → List ℕ → List ℕ → ℕ → Arrived → Joining
 joinedBy s Z st p long whole = inPacket (bodyFrom s p) (length p - bodyFrom s p)
 joinedBy s Z st p long (stored i) = tookAs (took s Z (storeWith Z st p (stored i)) long)
 joinedBy s Z st p long again = tookAs (took s Z (storeWith Z st p again) long)
+joinedBy s Z st p long late = tookAs (took s Z (storeWith Z st p late) long)
 joinedBy s Z st p long (refused r) = unjoined r
 
 -- the store then: the arrived segment is in it, and the message that was taken is not
@@ -48,6 +49,7 @@ abbrev pub storeBy : Settings → ℕ → List ℕ → List ℕ → ℕ → Arri
 storeBy s Z st p long whole = storeWith Z st p whole
 storeBy s Z st p long (stored i) = lessTaken s Z (storeWith Z st p (stored i)) long
 storeBy s Z st p long again = lessTaken s Z (storeWith Z st p again) long
+storeBy s Z st p long late = lessTaken s Z (storeWith Z st p late) long
 storeBy s Z st p long (refused r) = storeWith Z st p (refused r)
 
 -- the output then
@@ -55,6 +57,7 @@ abbrev pub outBy : Settings → ℕ → List ℕ → List ℕ → List ℕ → A
 outBy s Z st p out whole = out
 outBy s Z st p out (stored i) = outWith out (took s Z (storeWith Z st p (stored i)) (length out))
 outBy s Z st p out again = outWith out (took s Z (storeWith Z st p again) (length out))
+outBy s Z st p out late = outWith out (took s Z (storeWith Z st p late) (length out))
 outBy s Z st p out (refused r) = out
 
 -- a packet p is joined at a store st, with an output of some length

@@ -11,7 +11,8 @@ ghost use Rattle.cells.specs.Order.{cellSize};
 ghost use Rattle.join.specs.Viewing.{inside, viewed};
 ghost use Rattle.join.specs.Joining.{unjoined, joining, storeJoined, outJoined};
 ghost use Rattle.join.specs.Told.{joinedOf};
-ghost use Rattle.join.specs.Inner.{refusalIn, bodyIn, takenAs, joiningIn, storeJoinedIn, outJoinedIn};
+ghost use Rattle.join.specs.Inner.{refusalIn, bodyIn, takenAs, isLate, lateAs, joiningIn, storeJoinedIn, outJoinedIn};
+ghost use Rattle.arrival.specs.Arriving.{arrivedIn};
 use arrival::Arrival;
 use arrival::Kind;
 use cells::CELL;
@@ -38,6 +39,12 @@ pub struct Joined {
     pub header: usize,
     pub body: usize,
     pub counter: SegmentCounter,
+}
+
+// What the inner joining answers: beside that, whether the packet is of a message that was taken before.
+pub struct Came {
+    pub joined: Joined,
+    pub late: bool,
 }
 
 // The part of a buffer at a place, empty if it does not lie inside.
@@ -112,6 +119,18 @@ fn in_packet(h: Header) -> Joined
     }
 }
 
+// Whether an arrival is one of a message that was taken before.
+fn is_late(k: Kind) -> bool
+    ensures { λ r. ⌜ r ≡ lateAs k ⌝ }
+{
+    match k {
+        Kind::Whole => false,
+        Kind::Stored => false,
+        Kind::Held => false,
+        Kind::Taken => true,
+    }
+}
+
 // What taking answered.
 fn in_output(t: Taken) -> Joined
     requires { ⌜ t .header < 18446744073709551614 ⌝ }
@@ -141,21 +160,32 @@ pub fn join_in(
     zero: &[u8],
     p: &[u8],
     out: &mut [u8],
-) -> Joined
+) -> Came
     requires { ⌜ now zero ≡ zeroRow (length (now zero)) ⌝ }
-    ensures { λ r. ⌜ r ≡ joinedOf (joiningIn s (length (now (zero .entry))) (now (store .entry)) n (now (p .entry)) (length (now (out .entry)))) ⌝ }
+    ensures { λ r. ⌜ r .joined ≡ joinedOf (joiningIn s (length (now (zero .entry))) (now (store .entry)) n (now (p .entry)) (length (now (out .entry)))) ⌝ }
+    ensures { λ r. ⌜ r .late ≡ isLate (arrivedIn s (length (now (zero .entry))) (now (store .entry)) n (now (p .entry))) ⌝ }
     ensures { λ r. ⌜ now (store .exit) ≡ storeJoinedIn s (length (now (zero .entry))) (now (store .entry)) n (now (p .entry)) (length (now (out .entry))) ⌝ }
     ensures { λ r. ⌜ now (out .exit) ≡ outJoinedIn s (length (now (zero .entry))) (now (store .entry)) n (now (p .entry)) (now (out .entry)) ⌝ }
 {
     let h = packet::read(s, p);
     let got = arrival::arrive_in(s, store, n, zero, p, h);
     let Arrival::Answer(kind) = got else {
-        return refused(refusal_of(got));
+        return Came {
+            joined: refused(refusal_of(got)),
+            late: false,
+        };
     };
     if let Kind::Whole = kind {
-        return in_packet(h);
+        return Came {
+            joined: in_packet(h),
+            late: false,
+        };
     }
-    in_output(taking::take_in(s, store, n, zero, out))
+    let late = is_late(kind);
+    Came {
+        joined: in_output(taking::take_in(s, store, n, zero, out)),
+        late: late,
+    }
 }
 
 // A packet arrives; its body is told if it came whole, else the complete message with its first in the lowest cell is taken out.
@@ -170,5 +200,6 @@ pub fn join(s: Settings, store: &mut [u8], p: &[u8], out: &mut [u8]) -> Joined
     if shut.number != 0 {
         return refused(shut);
     }
-    join_in(s, store, o.cells, &zero, p, out)
+    let came = join_in(s, store, o.cells, &zero, p, out);
+    came.joined
 }

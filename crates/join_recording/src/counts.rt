@@ -6,11 +6,11 @@ use steps::What;
 use walk::REFUSED_HEADER_ENDS;
 use walk::Refusal;
 
-pub const COUNTS: usize = 331;
+pub const COUNTS: usize = 333;
 
 // What the findings tell, in this order: packets seen; those that came whole, that completed a message, that were stored or held
 // already, that were too long; the segments left in the store and their keys; the octets written; the packets refused; the octets read,
-// and those of them that packets used up.
+// and those of them that packets used up; the packets that came late, and the joined messages that were forgotten.
 pub const SEEN: usize = 64;
 
 pub const WHOLE: usize = 65;
@@ -33,10 +33,14 @@ pub const READ: usize = 73;
 
 pub const USED: usize = 74;
 
-pub const TOLD: usize = 11;
+pub const LATE: usize = 75;
+
+pub const FORGOT: usize = 76;
+
+pub const TOLD: usize = 13;
 
 // The places of a secondary header, which has at most 256 octets.
-const BEGAN: usize = 75;
+const BEGAN: usize = 77;
 
 const PLACES: usize = 256;
 
@@ -67,12 +71,22 @@ fn place(what: What, number: u8) -> usize {
         What::Passed => PASSED,
         What::Refused => number as usize,
         What::Kept => KEPT,
+        What::Late => LATE,
         What::Whole => WHOLE,
         What::Joined => JOINED,
         What::More => NOWHERE,
         What::Ended => NOWHERE,
         What::Unmarked => NOWHERE,
         What::Torn => NOWHERE,
+    }
+}
+
+// Counts the joined messages that were forgotten, of which no record is left. Each message that is joined makes one record, and only forgetting
+// takes one away.
+pub fn note_forgot(counts: &mut [u64; COUNTS], records: u64) {
+    let joined = at(counts, JOINED);
+    if records < joined {
+        add(counts, FORGOT, joined - records);
     }
 }
 

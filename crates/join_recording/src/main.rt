@@ -1,13 +1,14 @@
-// The recording program, SPEC G-1 to G-7: joins a recording and writes its messages to standard output.
+// The recording program, SPEC G-1 to G-7, G-19, G-20: joins a recording and writes its messages to standard output.
 //
-//   join_recording [RECORDING [REPORT [TIMESTAMP [PROFILE]]]]
+//   join_recording [RECORDING [REPORT [TIMESTAMP [PROFILE [CELLS]]]]]
 //
 // The recording is a file, or standard input if it is `-` or not named. The octets in hand stand in a window; `steps` says what to write and
 // how many octets it used up, and if it wants more, what is left goes to the window's front and more is read after it. Messages are
 // gathered and written together: before each read, since it may wait, and if the next message might find no room. A failed read or write
 // is told on standard error. A program has no exit status, so at the end its findings go to the new file REPORT, or to standard error if
 // none is named. TIMESTAMP and PROFILE are the settings in decimal digits: T, 8 if it is not named, and the profile, 1 for four octets, 0 or
-// not named for Varints. If they are refused, nothing is read and no report is made.
+// not named for Varints. CELLS is how many cells the store has, 1 to 4,096, 32 if it is not named. If any of them is out of range, nothing is
+// read and no report is made.
 //
 // Proved here: the program is safe and ends, and each step meets what it asks: the settings are in range, and the store stays in order
 // from the first step to the last. Module output writes, counts has the numbers of the findings, say tells them.
@@ -20,18 +21,17 @@ ghost use Prim.Native.Nat.{_+_, _≤_};
 ghost use lib.ListN.{length};
 ghost use Rattle.walk.specs.Walk.{begun};
 ghost use Rattle.cells.specs.Rows.{zeroRow};
-ghost use Rattle.cells.specs.Order.{countIn, gate};
+ghost use Rattle.cells.specs.Order.{cellSize, cellsMost, countIn, gate};
+ghost use Rattle.cells.proofs.Empty.{zeros};
 ghost use Rattle.steps.specs.Stepping.{room};
-ghost use Rattle.recording.specs.Recording.{cellCount};
 use cells::CELL;
+use cells::CELLS_MOST;
 use counts::COUNTS;
-use recording::CELLS;
-use recording::STORE;
 use steps::SPACE;
 use steps::What;
 use walk::Settings;
 
-// The program's arguments: the recording, the file for its findings, T, and the profile.
+// The program's arguments: the recording, the file for its findings, T, the profile, and how many cells the store has.
 const RECORDING: usize = 1;
 
 const REPORT: usize = 2;
@@ -39,6 +39,11 @@ const REPORT: usize = 2;
 const TIMESTAMP: usize = 3;
 
 const PROFILE: usize = 4;
+
+const CELLS: usize = 5;
+
+// The octets of the largest store.
+const STORE: usize = 4194304;
 
 // The window: more than a mark and the longest packet.
 const WINDOW: usize = 196608;
@@ -171,6 +176,7 @@ fn turn(
     s: Settings,
     fd: i32,
     store: &mut [u8],
+    n: usize,
     zero: &[u8],
     buf: &mut [u8],
     from: usize,
@@ -182,17 +188,17 @@ fn turn(
 ) -> Hand
     requires { ⌜ now zero ≡ zeroRow (length (now zero)) ⌝ }
     requires { ⌜ gate s (length (now zero)) (now store) ≡ 0 ⌝ }
-    requires { ⌜ cellCount ≡ countIn (length (now zero)) (now store) ⌝ }
+    requires { ⌜ n ≡ countIn (length (now zero)) (now store) ⌝ }
     requires { ⌜ at + (6 + room) ≤ length (now out) ⌝ }
     requires { ⌜ from ≤ till ⌝ }
     requires { ⌜ till ≤ length (now buf) ⌝ }
     ensures { λ r. ⌜ gate s (length (now (zero .entry))) (now (store .exit)) ≡ 0 ⌝ }
-    ensures { λ r. ⌜ cellCount ≡ countIn (length (now (zero .entry))) (now (store .exit)) ⌝ }
+    ensures { λ r. ⌜ n ≡ countIn (length (now (zero .entry))) (now (store .exit)) ⌝ }
     ensures { λ r. ⌜ r .from ≤ r .till ⌝ }
     ensures { λ r. ⌜ r .till ≤ length (now (buf .entry)) ⌝ }
     ensures { λ r. ⌜ r .at + (6 + room) ≤ length (now (out .entry)) ⌝ }
 {
-    let d = steps::step_there(s, store, CELLS, zero, &buf[from..till], ends, out, at);
+    let d = steps::step_there(s, store, n, zero, &buf[from..till], ends, out, at);
     let what = d.what;
     let used = d.used;
     let written = d.written;
@@ -220,6 +226,7 @@ fn run(
     s: Settings,
     fd: i32,
     store: &mut [u8],
+    n: usize,
     zero: &[u8],
     buf: &mut [u8],
     out: &mut [u8],
@@ -227,7 +234,7 @@ fn run(
 ) -> u8
     requires { ⌜ now zero ≡ zeroRow (length (now zero)) ⌝ }
     requires { ⌜ gate s (length (now zero)) (now store) ≡ 0 ⌝ }
-    requires { ⌜ cellCount ≡ countIn (length (now zero)) (now store) ⌝ }
+    requires { ⌜ n ≡ countIn (length (now zero)) (now store) ⌝ }
     requires { ⌜ 6 + room ≤ length (now out) ⌝ }
 {
     let mut from: usize = 0;
@@ -236,7 +243,20 @@ fn run(
     let mut ends = false;
     let mut turns = u64::MAX;
     while turns > 0 {
-        let h = turn(s, fd, store, zero, buf, from, till, ends, out, at, counts);
+        let h = turn(
+            s,
+            fd,
+            store,
+            n,
+            zero,
+            buf,
+            from,
+            till,
+            ends,
+            out,
+            at,
+            counts,
+        );
         from = h.from;
         till = h.till;
         at = h.at;
@@ -257,29 +277,41 @@ fn closed(stop: u8, counts: &[u64; COUNTS]) -> u8 {
     say::NOT_WRITTEN
 }
 
-// The end of a run: its findings.
-fn end(s: Settings, store: &[u8], counts: &mut [u64; COUNTS], stop: u8) {
+// The end of a run with n cells: its findings.
+fn end(s: Settings, store: &[u8], n: usize, counts: &mut [u64; COUNTS], stop: u8) {
     let left = tally::left(s, store);
     counts::add(counts, counts::SEGMENTS, left.segments as u64);
     counts::add(counts, counts::KEYS, left.keys as u64);
+    counts::note_forgot(counts, tally::records(s, store) as u64);
     let because = closed(stop, counts);
     let to = report_made();
     if to >= 0 {
-        say::findings(to, s, counts, store, because);
+        say::findings(to, s, counts, store, n, because);
     }
 }
 
-// Joins the recording that is open, under settings that are in range.
-fn join(s: Settings, fd: i32)
+// Joins the recording that is open, under settings that are in range, with an empty store of n cells.
+fn join_with(s: Settings, fd: i32, store: &mut [u8], n: usize)
     requires { ⌜ begun s .refused ≡ 0 ⌝ }
+    requires { ⌜ (1 ≤ n) × (n ≤ cellsMost) ⌝ }
+    requires { ⌜ now store ≡ zeros cellSize n ⌝ }
 {
     let zero = [0u8; CELL];
-    let mut store = [0u8; STORE];
     let mut buf = [0u8; WINDOW];
     let mut out = [0u8; GATHERED];
     let mut counts = [0u64; COUNTS];
-    let stop = run(s, fd, &mut store, &zero, &mut buf, &mut out, &mut counts);
-    end(s, &store, &mut counts, stop);
+    let stop = run(s, fd, store, n, &zero, &mut buf, &mut out, &mut counts);
+    end(s, store, n, &mut counts, stop);
+}
+
+// The same with the front of the largest store.
+fn join(s: Settings, fd: i32, n: usize)
+    requires { ⌜ begun s .refused ≡ 0 ⌝ }
+    requires { ⌜ (1 ≤ n) × (n ≤ cellsMost) ⌝ }
+{
+    let mut store = [0u8; STORE];
+    let long = n * CELL;
+    join_with(s, fd, &mut store[0..long], n);
 }
 
 // A number, as large as a setting may be written.
@@ -303,6 +335,11 @@ fn settings() -> Settings {
     }
 }
 
+// How many cells the store has, as the fifth argument names it. Whether so many are allowed is not tested here.
+fn cells_named() -> u64 {
+    files::setting(CELLS, bounded(recording::CELLS as u64))
+}
+
 fn opened() -> i32 {
     let mut name = io::buffer();
     files::input(RECORDING, &mut name)
@@ -313,6 +350,24 @@ fn report_made() -> i32 {
     files::report(REPORT, &mut name)
 }
 
+// Joins the recording that is named, with as many cells as are named.
+fn start(s: Settings, n: u64)
+    requires { ⌜ begun s .refused ≡ 0 ⌝ }
+{
+    if n == 0 {
+        say::no_store(n);
+        return;
+    }
+    if (CELLS_MOST as u64) < n {
+        say::no_store(n);
+        return;
+    }
+    let fd = opened();
+    if fd >= 0 {
+        join(s, fd, n as usize);
+    }
+}
+
 fn main() {
     let s = settings();
     let w = walk::begin(s);
@@ -320,8 +375,5 @@ fn main() {
         say::not_joined(w.refused);
         return;
     }
-    let fd = opened();
-    if fd >= 0 {
-        join(s, fd);
-    }
+    start(s, cells_named());
 }

@@ -15,7 +15,6 @@ ghost use lib.ListN.{length};
 use crate::counts;
 use counts::COUNTS;
 use files::ERROR;
-use recording::CELLS;
 use tally::Told;
 use walk::Settings;
 
@@ -40,6 +39,12 @@ fn next(to: i32, n: u64) {
 // The settings are refused by this number.
 pub fn not_joined(k: u8) {
     files::tell(ERROR, b"the settings are refused with ", k as u64);
+    files::write(ERROR, b"\n");
+}
+
+// A store has no such number of cells.
+pub fn no_store(n: u64) {
+    files::tell(ERROR, b"a store has 1 to 4096 cells, and not ", n);
     files::write(ERROR, b"\n");
 }
 
@@ -105,6 +110,8 @@ written
 refused
 read
 used
+late
+forgot
 ",
         k,
     );
@@ -175,20 +182,20 @@ fn segment(to: i32, t: Told) {
     files::write(to, b"\n");
 }
 
-fn segments(to: i32, s: Settings, store: &[u8]) {
+fn segments(to: i32, s: Settings, store: &[u8], n: usize) {
     let mut i: usize = 0;
-    while i < CELLS {
+    while i < n {
         segment(to, tally::cell(s, store, i));
         i += 1;
     }
 }
 
-// All of them: the numbers, which refusals occurred, what is left in the store, and why it stopped.
-pub fn findings(to: i32, s: Settings, counts: &[u64; COUNTS], store: &[u8], stop: u8) {
+// All of them: the numbers, which refusals occurred, what is left in the store of n cells, and why it stopped.
+pub fn findings(to: i32, s: Settings, counts: &[u64; COUNTS], store: &[u8], n: usize, stop: u8) {
     numbers(to, counts);
     refusals(to, counts);
     began(to, counts);
-    segments(to, s, store);
+    segments(to, s, store, n);
     files::write(to, b"stop");
     next(to, stop as u64);
     files::write(to, b"\n");

@@ -18,6 +18,8 @@ use Rattle.arrival.specs.declared.Arrival.{Arrival}
 use Rattle.arrival.specs.Told.{said}
 use Rattle.store.proofs.arrive.Reads as arrives
 use Rattle.store.proofs.take.Reads as takes
+use Rattle.store.proofs.forget.Reads as forgets
+use Rattle.walk.specs.declared.Refusal.{Refusal}
 use Rattle.join.specs.declared.Joined.{Joined}
 use Rattle.join.proofs.join.Reads as joins
 use Rattle.recording.specs.declared.Recorded.{Recorded}
@@ -32,11 +34,11 @@ use Rattle.pdu.proofs.write.Reads as pdu-writes
 use Rattle.carry.specs.declared.Carried.{Carried}
 use Rattle.carry.proofs.to_pdu.Reads as there
 use Rattle.carry.proofs.to_message.Reads as back
-use Rattle.numbers.specs.Lists.{Numbered, ofReading, ofArrival, ofTaking, ofJoining, ofRecording, ofSalvage, ofWriting, ofCount, ofCutting}
+use Rattle.numbers.specs.Lists.{Numbered, ofReading, ofArrival, ofTaking, ofForgetting, ofJoining, ofRecording, ofSalvage, ofWriting, ofCount, ofCutting}
 use Rattle.numbers.specs.Lists.{ofPduReading, ofPduWriting, ofToPdu, ofToMessage}
 use Rattle.numbers.proofs.Reading.{reading}
 use Rattle.numbers.proofs.Sending.{writing, count, cutting}
-use Rattle.numbers.proofs.Store.{arrival, taking, join, all}
+use Rattle.numbers.proofs.Store.{arrival, taking, forgetting, join, all}
 use Rattle.numbers.proofs.Salvaging.{salvaging, salvaging-part}
 use Rattle.numbers.proofs.Pdus.{pdu-reading, pdu-writing}
 use Rattle.numbers.proofs.Carrying.{to-pdu, to-message}
@@ -61,6 +63,9 @@ arrive-numbered κs a r x k = subst (λ (h : Arrival). Numbered ofArrival (said 
 
 pub take-numbered : (κs : L.Lfts 2) (a : _) (r : _) (x : _) → takes.Post κs a r x → Numbered ofTaking (r .refusal .number)
 take-numbered κs a r x k = subst (λ (h : Taken). Numbered ofTaking (h .refusal .number)) (sym (k .0)) (taking _ _ _ _)
+
+pub forget-numbered : (κs : L.Lfts 1) (a : _) (r : _) (x : _) → forgets.Post κs a r x → Numbered ofForgetting (r .number)
+forget-numbered κs a r x k = subst (λ (h : Refusal). Numbered ofForgetting (h .number)) (sym (k .0)) (forgetting _ _ _ _)
 
 pub join-numbered : (κs : L.Lfts 3) (a : _) (r : _) (x : _) → joins.Post κs a r x → Numbered ofJoining (r .refusal .number)
 join-numbered κs a r x k = subst (λ (h : Joined). Numbered ofJoining (h .refusal .number)) (sym (k .0)) (join _ _ _ _ _)

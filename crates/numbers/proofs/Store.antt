@@ -1,4 +1,4 @@
--- Arrival, taking, joining, the order of a store and a whole recording are refused by a number of their own lists.
+-- Arrival, taking, forgetting, joining, the order of a store and a whole recording are refused by a number of their own lists.
 -- Assumes nothing.
 use Prim.Native.Nat.{ℕ, _+_}
 use mathlib.Core.Path.{_≡_, refl}
@@ -11,18 +11,20 @@ use Rattle.walk.specs.declared.Settings.{Settings}
 use Rattle.packet.specs.Numbers.{nextCounter, stepsMost}
 use Rattle.walk.specs.Walk.{begun, refusal}
 use Rattle.packet.specs.Reading.{readPacket, segmented}
-use Rattle.cells.specs.Segments.{Seg, segOf, sameRest}
-use Rattle.cells.specs.Order.{inOrder, countIn, gate}
+use Rattle.cells.specs.Segments.{Seg, segOf, sameRest, both}
+use Rattle.cells.specs.Order.{cellAt, untakenTo, inOrder, countIn, gate}
 use Rattle.cells.specs.Messages.{Run, cellsOf, look, picked as pickedFrom}
-use Rattle.arrival.specs.Arriving.{Arrived, whole, stored, again, refused, placed, beside, lowestFree, segmentArrived, arrivedIn, arrived, storeWith}
+use Rattle.arrival.specs.Arriving.{Arrived, whole, stored, again, late, refused, placed, beside, lowestFree, segmentArrived, segmentCame}
+use Rattle.arrival.specs.Arriving.{arrivedIn, arrived, storeWith}
 use Rattle.taking.specs.Taking.{Took, message, unable, writing, drawn, tookIn, took}
+use Rattle.taking.specs.Forgetting.{isRecord, forgotIn, forgot}
 use Rattle.arrival.specs.Told.{said, arrivalOf}
 use Rattle.taking.specs.Told.{takenOf}
 use Rattle.join.specs.Joining.{tookAs, joinedBy, joining}
 use Rattle.join.specs.Told.{joinedOf}
 use Rattle.recording.specs.declared.Recorded.{Recorded}
 use Rattle.recording.specs.Ending.{refusedBy as byRecording, recordedOf}
-use Rattle.numbers.specs.Lists.{Numbered, ofReading, ofArrival, ofTaking, ofJoining, ofOrder, ofRecording}
+use Rattle.numbers.specs.Lists.{Numbered, ofReading, ofArrival, ofTaking, ofForgetting, ofJoining, ofOrder, ofRecording}
 use Rattle.format.proofs.Refusals.{picked}
 use Rattle.numbers.proofs.Among.{has, among, among-all}
 use Rattle.numbers.proofs.Reading.{reading}
@@ -52,12 +54,14 @@ segment-came s Z st n t = go (look (cellsOf s Z st n) (t .key) (t .counter))
     go (some u) = picked Came (sameRest u t) again (refused (refusal 18)) (came 0 refl) (came 18 refl)
 
 pub arrival : (s : Settings) (Z : ℕ) (st p : List ℕ) → Numbered ofArrival (said (arrivalOf (arrived s Z st p)) .refusal .number)
-unfolding arrived arrivedIn
+unfolding arrived arrivedIn segmentCame
 arrival s Z st p =
     picked Came (eqb (gate s Z st) 0) _ (refused (refusal (gate s Z st)))
     (picked Came (eqb (readPacket s p .refusal .number) 0) _ (refused (readPacket s p .refusal))
     (picked Came (segmented p) _ whole
+    (picked Came (untakenTo s Z st (countIn Z st) (segOf p (readPacket s p) .key) (segOf p (readPacket s p) .counter)) _ late
     (picked Came (leb (2 + length p) Z) _ (refused (refusal 17)) (segment-came s Z st (countIn Z st) (segOf p (readPacket s p))) (came 17 refl))
+    (came 0 refl))
     (came 0 refl))
     (among-all (0 ∷ ofReading) (0 ∷ ofArrival) refl _ (reading s p)))
     (gated ofArrival refl refl s Z st)
@@ -81,6 +85,16 @@ taking s Z st long =
     go (some r) =
         picked Taken (leb (length (writing r)) long) (message r) (unable 21) (some-taken 0 refl) (some-taken 21 refl)
 
+-- ---- forgetting
+
+pub forgetting : (s : Settings) (Z : ℕ) (st : List ℕ) (i : ℕ) → Numbered ofForgetting (forgot s Z st i)
+unfolding forgot forgotIn
+forgetting s Z st i =
+    picked (Numbered ofForgetting) (eqb (gate s Z st) 0) _ (gate s Z st)
+    (picked (Numbered ofForgetting) (both (ltb i (countIn Z st)) (isRecord (cellAt s Z st i))) 0 31 (among (0 ∷ ofForgetting) 0 refl)
+    (among (0 ∷ ofForgetting) 31 refl))
+    (gated ofForgetting refl refl s Z st)
+
 -- ---- joining
 
 pub join : (s : Settings) (Z : ℕ) (st p : List ℕ) (long : ℕ) → Numbered ofJoining (joinedOf (joining s Z st p long) .refusal .number)
@@ -95,6 +109,7 @@ join s Z st p long = go (arrived s Z st p) (arrival s Z st p)
     go whole h = among (0 ∷ ofJoining) 0 refl
     go (stored i) h = took-as (took s Z (storeWith Z st p (stored i)) long) (taking s Z (storeWith Z st p (stored i)) long)
     go again h = took-as (took s Z (storeWith Z st p again) long) (taking s Z (storeWith Z st p again) long)
+    go late h = took-as (took s Z (storeWith Z st p late) long) (taking s Z (storeWith Z st p late) long)
     go (refused k) h = among-all (0 ∷ ofArrival) (0 ∷ ofJoining) refl (k .number) h
 
 -- ---- the order of a store, and a whole recording

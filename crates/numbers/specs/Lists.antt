@@ -20,6 +20,9 @@ ofArrival = 15 ∷ 16 ∷ ofPacket ++ (17 ∷ 18 ∷ 19 ∷ [])
 abbrev pub ofTaking : List ℕ
 ofTaking = 15 ∷ 16 ∷ 20 ∷ 21 ∷ []
 
+abbrev pub ofForgetting : List ℕ
+ofForgetting = 15 ∷ 16 ∷ 31 ∷ []
+
 -- arrival's, and then taking's
 abbrev pub ofJoining : List ℕ
 ofJoining = ofArrival ++ (20 ∷ 21 ∷ [])

@@ -1,17 +1,22 @@
 -- A recording begins with a store in order, and with room for a message and its frame.
 -- Assumes nothing.
-use Prim.Native.Nat.{ℕ, _+_, _≤_}
+use Prim.Native.Nat.{ℕ, _+_, _*_, _≤_}
 use mathlib.Core.Path.{_≡_, refl, ap, sym}
 use mathlib.Core.List.{List}
 use native.Mathlib.Omega.{arith}
 use lib.ListN.{length, replicate, length-replicate}
 use borrow.Author.Tests.{eq-eqb}
+use Rattle.octets.specs.Octets.{Octets}
 use Rattle.walk.specs.declared.Settings.{Settings}
 use Rattle.walk.specs.Walk.{begun}
 use Rattle.cells.specs.Order.{countIn, cellSize, gate}
 use Rattle.cells.proofs.Empty.{empty-order, empty-count}
+use Rattle.join.proofs.Plain.{zeros-octets}
 use Rattle.steps.specs.Stepping.{room}
 use Rattle.recording.specs.Recording.{settings, cellCount, emptyStore}
+
+pub begin-octets : Octets emptyStore
+begin-octets = zeros-octets (cellCount * cellSize)
 
 pub begin-count : cellCount ≡ countIn cellSize emptyStore
 begin-count = sym (empty-count settings cellSize cellCount (omega arith))

@@ -11,9 +11,8 @@ use native.Mathlib.Omega.{arith}
 use lib.Dec.{eqb}
 use Rattle.octets.specs.Octets.{pick, most32}
 use Rattle.packet.specs.Numbers.{nextCounter, stepsMost}
-use Rattle.cells.specs.Segments.{Seg, carries}
+use Rattle.cells.specs.Segments.{Seg, carries, reaches}
 use Rattle.cells.specs.Rows.{Cell, free, held, segmentIn, bySegment}
-use Rattle.cells.specs.Inner.{reaches}
 use Rattle.cells.proofs.CellSegments.{segment-or, segment-freed}
 use Rattle.cells.specs.Messages.{listed, look, Role, first, middle, last, roleOf, linkBy, link, restFrom, or, among, amongIn}
 use Rattle.cells.proofs.Distinct.{carries-true, carries-yes}

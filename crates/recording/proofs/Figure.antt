@@ -10,10 +10,12 @@ use Rattle.walk.specs.Walk.{begun, check}
 use Rattle.packet.specs.Figure14.{packet}
 use Rattle.format.proofs.Figure14.{reads}
 use Rattle.cells.specs.Order.{countIn, cellSize, gate}
-use Rattle.arrival.specs.Arriving.{Arrived, whole, arrivedIn, arrived}
+use Rattle.arrival.specs.Arriving.{whole, arrivedIn, arrived}
 use Rattle.arrival.proofs.Checked.{arrived-open}
 use Rattle.join.specs.Joining.{joinedBy, joining}
-use Rattle.steps.specs.Stepping.{room, wholly, cameBy, cameOf, framed, without, foundIn, came, stepped, storeBehind}
+use Rattle.join.specs.Inner.{isLate}
+use Rattle.steps.proofs.Roomed.{roomed-as}
+use Rattle.steps.specs.Stepping.{room, isFull, wholly, cameBy, cameAt, cameOf, framed, without, foundIn, came, stepped, storeBehind}
 use Rattle.recording.specs.Recording.{recordedFrom, recorded, settings, emptyStore}
 use Rattle.recording.proofs.Beginning.{begin-gate}
 use Rattle.recording.proofs.Pieces.{one, stops, nothing-ends, goOn}
@@ -33,9 +35,16 @@ module _ (Z : ℕ) (st : List ℕ) (g : gate settings Z st ≡ 0) where
   arrives : arrived settings Z st packet ≡ whole
   arrives = sym (arrived-open settings Z st packet g) ∙ arrives-in (countIn Z st)
 
+  joins : joining settings Z st packet room ≡ joinedBy settings Z st packet room whole
+  unfolding joining
+  joins = ap (joinedBy settings Z st packet room) arrives
+
+  -- it is not refused by 19, so nothing is forgotten for it
   comes : cameOf settings Z st packet ≡ wholly
-  unfolding cameOf joining
-  comes = ap (λ (b : Arrived). cameBy (joinedBy settings Z st packet room b)) arrives
+  unfolding cameOf cameAt
+  comes =
+      ap (λ (x : List ℕ). cameAt settings Z x packet) (roomed-as settings Z st packet (ap isFull joins))
+      ∙ ap (cameBy (isLate (arrived settings Z st packet))) joins
 
   steps : stepped settings Z st alone true ≡ came packet wholly
   unfolding stepped foundIn alike number

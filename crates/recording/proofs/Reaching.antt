@@ -2,7 +2,7 @@
 -- the definition says, with all of it written.
 -- Assumes nothing.
 use Prim.Native.Nat.{ℕ, zero, suc, _+_, _-_, _*_, _≤_, _<_}
-use mathlib.Core.Path.{_≡_, refl, ap, ap₂, sym, _∙_}
+use mathlib.Core.Path.{_≡_, refl, ap, ap₂, sym, subst, _∙_}
 use mathlib.Core.Logic.{inl, inr}
 use mathlib.Core.Bool.{true}
 use mathlib.Core.List.{List, [], _++_, append-nil, append-assoc}
@@ -12,6 +12,7 @@ use lib.Seq.{sets, length-sets, take-all, drop-drop}
 use borrow.Author.Tests.{ne-eqb}
 use Rattle.octets.specs.Octets.{Octets}
 use Rattle.octets.proofs.Lists.{sets-append}
+use Rattle.octets.proofs.Has.{octets-drop}
 use Rattle.walk.specs.declared.Settings.{Settings}
 use Rattle.cells.specs.Rows.{zeroRow}
 use Rattle.cells.specs.Order.{countIn, cellSize, gate}
@@ -24,8 +25,8 @@ use Rattle.recording.specs.Recording.{recordedFrom, recorded, settings, 
 use Rattle.steps.specs.Told.{doneOf}
 use Rattle.recording.specs.Ending.{past, reachFrom, reach, whyAt, whyOf, refusedBy, recordedOf, outRecorded}
 use Rattle.steps.proofs.Steps.{used-most, done-used, done-written}
-use Rattle.steps.proofs.Kept.{step-gate, step-count}
-use Rattle.recording.proofs.Beginning.{begin-gate, begin-count}
+use Rattle.steps.proofs.Kept.{step-gate, step-octets, step-count}
+use Rattle.recording.proofs.Beginning.{begin-octets, begin-gate, begin-count}
 use Rattle.recording.proofs.Pieces.{one, Stop, stops, Ways, stop, goes, ways}
 use Rattle.recording.proofs.Shorter.{recorded-most}
 
@@ -98,6 +99,7 @@ pub record Going (s : Settings) (x out₀ : List ℕ) (Z : ℕ) (st out : List �
   pub plain : Octets x
   pub wide : length x ≤ length out₀
   pub within : place ≤ length x
+  pub stored : Octets st
   pub order : gate s Z st ≡ 0
   pub count : cellCount ≡ countIn Z st
   pub done : List ℕ
@@ -118,6 +120,7 @@ going-first s x out₀ g {zero} {st} ez es o h =
       plain = o;
       wide = h;
       within = omega arith;
+      stored = subst Octets (sym es) begin-octets;
       order = ap₂ (λ (Z : ℕ) (y : List ℕ). gate s Z y) e es ∙ begin-gate s g;
       count = begin-count ∙ sym (ap₂ (λ (Z : ℕ) (y : List ℕ). countIn Z y) e es);
       done = [];
@@ -140,6 +143,9 @@ rest-lent x place = take-all (length x - place) (drop place x) (omega (arith, le
 module _ {s : Settings} {x out₀ : List ℕ} {Z : ℕ} {st out : List ℕ} {place written : ℕ} (inv : Going s x out₀ Z st out place written) where
   abbrev y : List ℕ
   y = drop place x
+
+  rest-octets : Octets y
+  rest-octets = octets-drop place x (inv .plain)
 
   pub going-long : length out ≡ length out₀
   going-long = ap length (inv .output) ∙ length-sets out₀ 0 (inv .done)
@@ -197,7 +203,8 @@ module _ {s : Settings} {x out₀ : List ℕ} {Z : ℕ} {st out : List ℕ} {pla
           plain = inv .plain;
           wide = inv .wide;
           within = omega (arith, used-within, length-drop place x, inv .within);
-          order = ap (λ (a : List ℕ). gate s Z a) store-is ∙ step-gate s Z st h (inv .order);
+          stored = subst Octets (sym store-is) (step-octets s Z st (inv .stored) y true rest-octets);
+          order = ap (λ (a : List ℕ). gate s Z a) store-is ∙ step-gate s Z st (inv .stored) y true rest-octets (inv .order);
           count = step-count s Z st h (inv .count) ∙ ap (λ (a : List ℕ). countIn Z a) (sym store-is);
           done = inv .done ++ writtenBy h;
           output =

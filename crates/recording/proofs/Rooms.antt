@@ -20,7 +20,7 @@ use Rattle.cells.specs.Rows.{Cell, held, rowAt, packetIn, cellOf, segmentIn, by
 use Rattle.cells.proofs.Carries.{held-is}
 use Rattle.cells.specs.Order.{cellAt, countIn}
 use Rattle.cells.specs.Messages.{listed, cellsOf, Run, bodies, bodyOf, segments, picked}
-use Rattle.arrival.specs.Arriving.{Arrived, whole, stored, again, refused, arrived, storeWith}
+use Rattle.arrival.specs.Arriving.{Arrived, whole, stored, again, late, refused, arrived, storeWith}
 use Rattle.taking.specs.Taking.{writing, drawn, tookIn, took, storeLess}
 use Rattle.cells.proofs.Members.{In, opening, picked-held}
 use Rattle.arrival.proofs.Keeps.{arrive-long}
@@ -144,6 +144,7 @@ module _ (s : Settings) (Z : ℕ) (zs : Z ≤ 1024) where
     by-room whole = refl
     by-room (stored i) = ap tookAs (took-room (storeWith Z st p (stored i)) (behind-few (stored i)) long h)
     by-room again = ap tookAs (took-room (storeWith Z st p again) (behind-few again) long h)
+    by-room late = ap tookAs (took-room (storeWith Z st p late) (behind-few late) long h)
     by-room (refused k) = refl
 
     -- nor for a joining
@@ -156,6 +157,7 @@ module _ (s : Settings) (Z : ℕ) (zs : Z ≤ 1024) where
     store-by (stored i) =
         let x = storeWith Z st p (stored i) in ap (storeLess s Z x (countIn Z x)) (took-room x (behind-few (stored i)) long h)
     store-by again = let x = storeWith Z st p again in ap (storeLess s Z x (countIn Z x)) (took-room x (behind-few again) long h)
+    store-by late = let x = storeWith Z st p late in ap (storeLess s Z x (countIn Z x)) (took-room x (behind-few late) long h)
     store-by (refused k) = refl
 
     pub store-room : storeJoined s Z st p long ≡ storeJoined s Z st p room

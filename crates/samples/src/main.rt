@@ -92,7 +92,7 @@ const CLEAN: [u8; 68] = [
 ];
 
 // Out of order, repeated, late and interleaved, with packets that are refused: by 2, 3, 7, 8, 18, 6, 13 and 17. One segment of message
-// 3 is lost, and one of message 5 comes again when the message is gone, so four segments of two keys are left.
+// 3 is lost, so three segments of it are left; and one of message 5 comes again when the message was taken, so it is late.
 const MIXED: [u8; 108] = [
     5,
     4,

@@ -14,7 +14,7 @@ use Rattle.walk.specs.declared.Refusal.{Refusal}
 use Rattle.walk.specs.Walk.{refusal}
 use Rattle.cells.specs.Rows.{rowAt}
 use Rattle.cells.specs.Messages.{Run, bodyOf}
-use Rattle.arrival.specs.Arriving.{Arrived, whole, stored, again, refused, arrived, storeWith}
+use Rattle.arrival.specs.Arriving.{Arrived, whole, stored, again, late, refused, arrived, storeWith}
 use Rattle.taking.specs.Taking.{Took, message, unable, writing, took, outWith}
 use Rattle.taking.proofs.Tells.{taken-tells, segment-held}
 use Rattle.join.specs.declared.Joined.{Joined}
@@ -22,9 +22,9 @@ use Rattle.join.specs.declared.Which.the-variants.{Packet, Joined as InJoined, 
 use Rattle.join.specs.Joining.{Joining, inPacket, inOutput, unjoined, tookAs, joinedBy, outBy, joining, outJoined}
 use Rattle.join.specs.Told.{joinedOf}
 use Rattle.join.proofs.Views.{held-two}
-use Rattle.steps.specs.declared.What.the-variants.{Refused, Kept, Whole, Joined as Made}
+use Rattle.steps.specs.declared.What.the-variants.{Refused, Kept, Late, Whole, Joined as Made}
 use Rattle.steps.specs.declared.Done.{Done}
-use Rattle.steps.specs.Stepping.{room, refused as passed, kept, cameBy, without, wrote}
+use Rattle.steps.specs.Stepping.{room, refused as passed, kept, late as comeLate, cameBy, without, wrote}
 use Rattle.steps.specs.Told.{doneCame}
 use Rattle.steps.specs.Inner.{takenIn, leftAs}
 use Rattle.steps.proofs.Frames.{sets-part, frame-before, framed-long}
@@ -42,6 +42,7 @@ module _ (s : Settings) (Z : ℕ) (st p : List ℕ) where
   out-by out whole = refl
   out-by out (stored i) = taken-out out (took s Z (storeWith Z st p (stored i)) (length out))
   out-by out again = taken-out out (took s Z (storeWith Z st p again) (length out))
+  out-by out late = taken-out out (took s Z (storeWith Z st p late) (length out))
   out-by out (refused k) = refl
 
   out-joined : (out : List ℕ) → outJoined s Z st p out ≡ sets out 0 (takenIn (joining s Z st p (length out)))
@@ -66,6 +67,7 @@ module _ (s : Settings) (Z : ℕ) (st p : List ℕ) where
   fits-by long r whole e = let z : _≡_ {A = ℕ} 0 1 = cc e in absurd (omega arith)
   fits-by long r (stored i) e = let x = storeWith Z st p (stored i) in took-fits x long (took s Z x long) r refl e
   fits-by long r again e = let x = storeWith Z st p again in took-fits x long (took s Z x long) r refl e
+  fits-by long r late e = let x = storeWith Z st p late in took-fits x long (took s Z x long) r refl e
   fits-by long r (refused k) e = let z : _≡_ {A = ℕ} 0 1 = cc e in absurd (omega arith)
 
   pub joined-fits : (long : ℕ) (r : Run) → joining s Z st p long ≡ inOutput r → Fitting long r
@@ -94,33 +96,39 @@ module _ (s : Settings) (Z : ℕ) (st p : List ℕ) where
 
 -- ---- a step over a packet, by what joining comes to
 
-module _ (p out : List ℕ) where
+module _ (p out : List ℕ) (l : Bool) where
   -- the answer, and the output after it
   abbrev pub Joins : Joining → Done → List ℕ → Type 0
-  Joins j d y = (d ≡ doneCame p (cameBy j)) × (y ≡ sets out 0 (wrote p (cameBy j)))
+  Joins j d y = (d ≡ doneCame p (cameBy l j)) × (y ≡ sets out 0 (wrote p (cameBy l j)))
 
   module _ {a : Joined} {x : List ℕ} where
     -- neither whole nor a message
     pub joins-left :
-        (j : Joining) {d : Done} → a ≡ joinedOf j → x ≡ sets out 6 (takenIn j) → a .which ≡ Nothing →
-        d ≡ leftAs (a .refusal) (2 + length p) → Joins j d x
+        (j : Joining) {m : Bool} {d : Done} → a ≡ joinedOf j → m ≡ l → x ≡ sets out 6 (takenIn j) → a .which ≡ Nothing →
+        d ≡ leftAs (a .refusal) m (2 + length p) → Joins j d x
     unfolding leftAs
-    joins-left (inPacket place n) e ex w ed = let z : _≡_ {A = ℕ} 0 1 = cc in absurd (omega arith)
-    joins-left (inOutput r) e ex w ed = let z : _≡_ {A = ℕ} 0 1 = cc in absurd (omega arith)
-    joins-left (unjoined k) e ex w ed =
-        (ed ∙ ap (λ (b : Joined). leftAs (b .refusal) (2 + length p)) e ∙ answer (eqb (k .number) 20), ex ∙ output (eqb (k .number) 20))
+    joins-left (inPacket place n) e el ex w ed = let z : _≡_ {A = ℕ} 0 1 = cc in absurd (omega arith)
+    joins-left (inOutput r) e el ex w ed = let z : _≡_ {A = ℕ} 0 1 = cc in absurd (omega arith)
+    joins-left (unjoined k) e el ex w ed = (
+      ed ∙ ap₂ (λ (b : Joined) (m : Bool). leftAs (b .refusal) m (2 + length p)) e el ∙ answer (eqb (k .number) 20) l,
+      ex ∙ output (eqb (k .number) 20) l,
+    )
       where
         answer :
-            (b : Bool) →
-            pick b (record { what = Kept; refusal = refusal 0; used = 2 + length p; written = 0 })
+            (b m : Bool) →
+            pick b
+            (pick m (record { what = Late; refusal = refusal 0; used = 2 + length p; written = 0 })
+            (record { what = Kept; refusal = refusal 0; used = 2 + length p; written = 0 }))
             (record { what = Refused; refusal = k; used = 2 + length p; written = 0 })
-            ≡ doneCame p (pick b kept (passed k))
-        answer true = refl
-        answer false = refl
+            ≡ doneCame p (pick b (pick m comeLate kept) (passed k))
+        answer true true = refl
+        answer true false = refl
+        answer false m = refl
 
-        output : (b : Bool) → out ≡ sets out 0 (wrote p (pick b kept (passed k)))
-        output true = refl
-        output false = refl
+        output : (b m : Bool) → out ≡ sets out 0 (wrote p (pick b (pick m comeLate kept) (passed k)))
+        output true true = refl
+        output true false = refl
+        output false m = refl
 
     module _ {long : ℕ} {z : List ℕ} where
       -- a packet that came whole
@@ -151,22 +159,22 @@ module _ (s : Settings) (Z : ℕ) (st p : List ℕ) {a : Joined} where
   message-most e w = let l = message-long (joining s Z st p room) refl e w in omega arith
 
   message-by :
-      (out : List ℕ) {x z : List ℕ} {long : ℕ} (j : Joining) → joining s Z st p room ≡ j → a ≡ joinedOf j → x ≡ sets out 6 (takenIn j) →
+      (out : List ℕ) (l : Bool) {x z : List ℕ} {long : ℕ} (j : Joining) → joining s Z st p room ≡ j → a ≡ joinedOf j → x ≡ sets out 6 (takenIn j) →
       a .which ≡ InJoined → long ≡ a .place + a .length → z ≡ sets x 0 (0x4d ∷ 0x4d ∷ wide 4 long) →
-      Joins p out j (record { what = Made; refusal = a .refusal; used = 2 + length p; written = 6 + long }) z
-  message-by out (inPacket place n) d e ex w el ez = let z : _≡_ {A = ℕ} 0 1 = cc in absurd (omega arith)
-  message-by out (inOutput r) d e ex w el ez =
-      let l = el ∙ message-long (inOutput r) d e w .0 in (
+      Joins p out l j (record { what = Made; refusal = a .refusal; used = 2 + length p; written = 6 + long }) z
+  message-by out l (inPacket place n) d e ex w el ez = let z : _≡_ {A = ℕ} 0 1 = cc in absurd (omega arith)
+  message-by out l (inOutput r) d e ex w el ez =
+      let n = el ∙ message-long (inOutput r) d e w .0 in (
         ap₂ (λ (r : Refusal) (m : ℕ). record { what = Made; refusal = r; used = 2 + length p; written = m })
             (ap (λ (b : Joined). b .refusal) e)
-            (ap (λ (m : ℕ). 6 + m) l ∙ sym (framed-long (writing r))),
-        frame-before out (writing r) ex l ez,
+            (ap (λ (m : ℕ). 6 + m) n ∙ sym (framed-long (writing r))),
+        frame-before out (writing r) ex n ez,
       )
-  message-by out (unjoined k) d e ex w el ez = let z : _≡_ {A = ℕ} 0 1 = cc in absurd (omega arith)
+  message-by out l (unjoined k) d e ex w el ez = let z : _≡_ {A = ℕ} 0 1 = cc in absurd (omega arith)
 
   -- a message that was taken
   pub joins-message :
-      (out : List ℕ) {x z : List ℕ} {long : ℕ} → a ≡ joinedOf (joining s Z st p room) → x ≡ sets out 6 (takenIn (joining s Z st p room)) →
+      (out : List ℕ) (l : Bool) {x z : List ℕ} {long : ℕ} → a ≡ joinedOf (joining s Z st p room) → x ≡ sets out 6 (takenIn (joining s Z st p room)) →
       a .which ≡ InJoined → long ≡ a .place + a .length → z ≡ sets x 0 (0x4d ∷ 0x4d ∷ wide 4 long) →
-      Joins p out (joining s Z st p room) (record { what = Made; refusal = a .refusal; used = 2 + length p; written = 6 + long }) z
-  joins-message out e ex w el ez = message-by out (joining s Z st p room) refl e ex w el ez
+      Joins p out l (joining s Z st p room) (record { what = Made; refusal = a .refusal; used = 2 + length p; written = 6 + long }) z
+  joins-message out l e ex w el ez = message-by out l (joining s Z st p room) refl e ex w el ez

@@ -5,4 +5,6 @@ pub mod Showing
 pub mod Steps
 pub mod Spare
 pub mod Kept
+pub mod Roomed
+pub mod Enough
 mod Calls

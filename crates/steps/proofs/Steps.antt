@@ -15,12 +15,14 @@ use Rattle.walk.specs.declared.Settings.{Settings}
 use Rattle.cells.specs.Rows.{sizeIn, packetIn}
 use Rattle.octets.proofs.Lists.{bool}
 use Rattle.taking.specs.Taking.{writing}
+use Rattle.arrival.specs.Arriving.{arrived}
 use Rattle.join.specs.Joining.{Joining, inPacket, inOutput, unjoined, joining, storeJoined}
+use Rattle.join.specs.Inner.{isLate}
 use Rattle.steps.specs.declared.What.the-variants.{More, Ended, Unmarked, Torn}
 use Rattle.steps.specs.declared.Stands.{Stands}
 use Rattle.steps.specs.declared.Stands.the-variants.{Nothing, Other, Cut, Whole}
 use Rattle.steps.specs.declared.Done.{Done}
-use Rattle.steps.specs.Stepping.{Found, nothing, other, cut, whole, foundIn, longest, room, over, refused, kept, cameBy, cameOf, storeAfter}
+use Rattle.steps.specs.Stepping.{Found, nothing, other, cut, whole, foundIn, longest, room, over, refused, kept, late, roomed, cameBy, cameAt, cameOf, storeAfter}
 use Rattle.steps.specs.Stepping.{without, wrote, Stepped, wanting, ended, unmarked, torn, came, stepBy, stepped, storeBehind, usedBy, writtenBy}
 use Rattle.steps.specs.Told.{standsOf, still, doneCame, doneOf}
 use Rattle.steps.specs.Inner.{stopAs}
@@ -40,23 +42,23 @@ module _ (s : Settings) (Z : ℕ) (st p out : List ℕ) where
   unfolding cameOf storeAfter
   passes-over h =
       let b : false ≡ leb (length p) longest = sym (lt-leb (length p) longest h) in (
-        ap (λ (t : Bool). doneCame p (pick t (cameBy (joining s Z st p room)) over)) b,
+        ap (λ (t : Bool). doneCame p (pick t (cameAt s Z (roomed s Z st p) p) over)) b,
         (
-          ap (λ (t : Bool). pick t (storeJoined s Z st p room) st) b,
-          ap (λ (t : Bool). sets out 0 (wrote p (pick t (cameBy (joining s Z st p room)) over))) b,
+          ap (λ (t : Bool). pick t (storeJoined s Z (roomed s Z st p) p room) st) b,
+          ap (λ (t : Bool). sets out 0 (wrote p (pick t (cameAt s Z (roomed s Z st p) p) over))) b,
         ),
       )
 
   pub passes-joined :
-      length p ≤ longest → {d : Done} {x y : List ℕ} → d ≡ doneCame p (cameBy (joining s Z st p room)) → x ≡ storeJoined s Z st p room →
-      y ≡ sets out 0 (wrote p (cameBy (joining s Z st p room))) → Passes d x y
+      length p ≤ longest → {d : Done} {x y : List ℕ} → d ≡ doneCame p (cameAt s Z (roomed s Z st p) p) →
+      x ≡ storeJoined s Z (roomed s Z st p) p room → y ≡ sets out 0 (wrote p (cameAt s Z (roomed s Z st p) p)) → Passes d x y
   unfolding cameOf storeAfter
   passes-joined h ed ex ey =
       let b : true ≡ leb (length p) longest = sym (le-leb (length p) longest h) in (
-        ed ∙ ap (λ (t : Bool). doneCame p (pick t (cameBy (joining s Z st p room)) over)) b,
+        ed ∙ ap (λ (t : Bool). doneCame p (pick t (cameAt s Z (roomed s Z st p) p) over)) b,
         (
-          ex ∙ ap (λ (t : Bool). pick t (storeJoined s Z st p room) st) b,
-          ey ∙ ap (λ (t : Bool). sets out 0 (wrote p (pick t (cameBy (joining s Z st p room)) over))) b,
+          ex ∙ ap (λ (t : Bool). pick t (storeJoined s Z (roomed s Z st p) p room) st) b,
+          ey ∙ ap (λ (t : Bool). sets out 0 (wrote p (pick t (cameAt s Z (roomed s Z st p) p) over))) b,
         ),
       )
 
@@ -167,23 +169,28 @@ module _ (s : Settings) (Z : ℕ) (st w : List ℕ) (e : Bool) where
   unfolding stepped
   used-most = used-by (foundIn w) refl
 
+  written-at : (x p : List ℕ) → length p ≤ longest → length (wrote p (cameAt s Z x p)) ≤ 6 + room
+  unfolding cameAt
+  written-at x p l = joined (isLate (arrived s Z x p)) (joining s Z x p room) refl
+    where
+      joined : (m : Bool) (j : Joining) → joining s Z x p room ≡ j → length (wrote p (cameBy m j)) ≤ 6 + room
+      joined m (inPacket place n) h = omega (arith, framed-long (without p), without-long p)
+      joined m (inOutput r) h = omega (arith, framed-long (writing r), joined-fits s Z x p room r h .fits)
+      joined m (unjoined k) h = left (eqb (k .number) 20) m
+        where
+          left : (b c : Bool) → length (wrote p (pick b (pick c late kept) (refused k))) ≤ 6 + room
+          left true true = omega arith
+          left true false = omega arith
+          left false c = omega arith
+
   written-came : (p : List ℕ) → length (wrote p (cameOf s Z st p)) ≤ 6 + room
   unfolding cameOf
   written-came p = go (bool (leb (length p) longest))
     where
-      joined : length p ≤ longest → (j : Joining) → joining s Z st p room ≡ j → length (wrote p (cameBy j)) ≤ 6 + room
-      joined l (inPacket place n) h = omega (arith, framed-long (without p), without-long p)
-      joined l (inOutput r) h = omega (arith, framed-long (writing r), joined-fits s Z st p room r h .fits)
-      joined l (unjoined k) h = left (eqb (k .number) 20)
-        where
-          left : (b : Bool) → length (wrote p (pick b kept (refused k))) ≤ 6 + room
-          left true = omega arith
-          left false = omega arith
-
       go :
           (leb (length p) longest ≡ true) ⊎ (leb (length p) longest ≡ false) →
-          length (wrote p (pick (leb (length p) longest) (cameBy (joining s Z st p room)) over)) ≤ 6 + room
-      go (inl h) = rw h (joined (leb-true (length p) longest h) (joining s Z st p room) refl)
+          length (wrote p (pick (leb (length p) longest) (cameAt s Z (roomed s Z st p) p) over)) ≤ 6 + room
+      go (inl h) = rw h (written-at (roomed s Z st p) p (leb-true (length p) longest h))
       go (inr h) = rw h (omega arith)
 
   written-by : (f : Found) → length (writtenBy (stepBy s Z st e f)) ≤ 6 + room

@@ -10,7 +10,7 @@ use Rattle.taking.specs.Taking.{writing}
 use Rattle.walk.specs.Walk.{noRefusal}
 use Rattle.join.specs.Joining.{Joining, inPacket, inOutput, unjoined}
 use Rattle.steps.specs.declared.What.{What}
-use Rattle.steps.specs.declared.What.the-variants.{More, Refused, Kept}
+use Rattle.steps.specs.declared.What.the-variants.{More, Refused, Kept, Late}
 use Rattle.steps.specs.declared.Done.{Done}
 use Rattle.steps.specs.Told.{still}
 
@@ -21,9 +21,10 @@ takenIn (inOutput r) = writing r
 takenIn (unjoined r) = []
 
 -- a packet that neither came whole nor completed a message
-unfoldable pub leftAs : Refusal → ℕ → Done
-leftAs r n =
-    pick (eqb (r .number) 20) (record { what = Kept; refusal = noRefusal; used = n; written = 0 })
+unfoldable pub leftAs : Refusal → Bool → ℕ → Done
+leftAs r l n =
+    pick (eqb (r .number) 20)
+    (pick l (record { what = Late; refusal = noRefusal; used = n; written = 0 }) (record { what = Kept; refusal = noRefusal; used = n; written = 0 }))
     (record { what = Refused; refusal = r; used = n; written = 0 })
 
 -- a step that writes a message of n octets after its mark and length

@@ -1,9 +1,9 @@
 -- A step along a recording.
--- SPEC G-1, G-3 to G-6: packets after their marks; those that are refused or too long are passed over; it stops where none is whole;
+-- SPEC G-1, G-3 to G-6, G-19: packets after their marks; those that are refused or too long are passed over; it stops where none is whole;
 -- each message goes out after a mark and its length.
 -- Assumes nothing: these are definitions.
 use Prim.Native.Nat.{ℕ, _+_}
-use mathlib.Core.Bool.{Bool}
+use mathlib.Core.Bool.{Bool, false}
 use mathlib.Core.List.{List, [], _∷_, _++_}
 use lib.ListN.{length, take, drop}
 use lib.Dec.{leb, eqb}
@@ -14,7 +14,11 @@ use Rattle.packet.specs.Mark.{packetMark}
 use Rattle.cells.specs.Rows.{sizeIn, packetIn}
 use Rattle.cells.specs.Messages.{Run}
 use Rattle.taking.specs.Taking.{writing}
+use Rattle.cells.specs.Order.{countIn}
+use Rattle.arrival.specs.Arriving.{arrived}
+use Rattle.taking.specs.Forgetting.{lowestRecord, storeForgotten}
 use Rattle.join.specs.Joining.{Joining, inPacket, inOutput, unjoined, joining, storeJoined}
+use Rattle.join.specs.Inner.{isLate}
 
 -- ---- what stands at a place
 
@@ -46,25 +50,45 @@ longest = 32768
 abbrev pub room : ℕ
 room = 65536
 
+-- SPEC G-19: a packet that is refused by 19, since every cell is in use, is joined once more, after the record in the lowest cell that
+-- has one is forgotten. A cell is free then, so it is not refused by 19 again: to forget one is enough
+abbrev pub isFull : Joining → Bool
+isFull (inPacket place long) = false
+isFull (inOutput r) = false
+isFull (unjoined r) = eqb (r .number) 19
+
+-- a store without the record in the lowest cell that has one
+abbrev pub unrecorded : Settings → ℕ → List ℕ → List ℕ
+unrecorded s Z st = storeForgotten s Z st (lowestRecord s Z st (countIn Z st))
+
+-- the store that a packet is joined to in the end
+unfoldable pub roomed : Settings → ℕ → List ℕ → List ℕ → List ℕ
+roomed s Z st p = pick (isFull (joining s Z st p room)) (unrecorded s Z st) st
+
 pub data Came : Type 0 where
   over : Came
   refused : Refusal → Came
   kept : Came
+  late : Came
   wholly : Came
   message : Run → Came
 
--- nothing complete (20) refuses no packet: its segment is stored
-abbrev pub cameBy : Joining → Came
-cameBy (inPacket place long) = wholly
-cameBy (inOutput r) = message r
-cameBy (unjoined r) = pick (eqb (r .number) 20) kept (refused r)
+-- nothing complete (20) refuses no packet: its segment is stored, held already, or of a message that was taken
+abbrev pub cameBy : Bool → Joining → Came
+cameBy l (inPacket place long) = wholly
+cameBy l (inOutput r) = message r
+cameBy l (unjoined r) = pick (eqb (r .number) 20) (pick l late kept) (refused r)
+
+-- a packet joined to this store
+unfoldable pub cameAt : Settings → ℕ → List ℕ → List ℕ → Came
+cameAt s Z st p = cameBy (isLate (arrived s Z st p)) (joining s Z st p room)
 
 unfoldable pub cameOf : Settings → ℕ → List ℕ → List ℕ → Came
-cameOf s Z st p = pick (leb (length p) longest) (cameBy (joining s Z st p room)) over
+cameOf s Z st p = pick (leb (length p) longest) (cameAt s Z (roomed s Z st p) p) over
 
 -- the store after it
 unfoldable pub storeAfter : Settings → ℕ → List ℕ → List ℕ → List ℕ
-storeAfter s Z st p = pick (leb (length p) longest) (storeJoined s Z st p room) st
+storeAfter s Z st p = pick (leb (length p) longest) (storeJoined s Z (roomed s Z st p) p room) st
 
 -- ---- what is written
 
@@ -80,6 +104,7 @@ abbrev pub wrote : List ℕ → Came → List ℕ
 wrote p over = []
 wrote p (refused r) = []
 wrote p kept = []
+wrote p late = []
 wrote p wholly = framed (without p)
 wrote p (message r) = framed (writing r)
 

@@ -6,11 +6,11 @@ use lib.ListN.{length}
 use Rattle.walk.specs.declared.Refusal.{Refusal}
 use Rattle.walk.specs.Walk.{noRefusal}
 use Rattle.steps.specs.declared.What.{What}
-use Rattle.steps.specs.declared.What.the-variants.{More, Ended, Unmarked, Torn, Passed, Refused, Kept, Whole, Joined}
+use Rattle.steps.specs.declared.What.the-variants.{More, Ended, Unmarked, Torn, Passed, Refused, Kept, Late, Whole, Joined}
 use Rattle.steps.specs.declared.Stands.{Stands}
 use Rattle.steps.specs.declared.Stands.the-variants.{Nothing, Other, Cut, Whole as InFull}
 use Rattle.steps.specs.declared.Done.{Done}
-use Rattle.steps.specs.Stepping.{Found, nothing, other, cut, whole, Came, over, refused, kept, wholly, message, wrote, Stepped}
+use Rattle.steps.specs.Stepping.{Found, nothing, other, cut, whole, Came, over, refused, kept, late, wholly, message, wrote, Stepped}
 use Rattle.steps.specs.Stepping.{wanting, ended, unmarked, torn, came}
 
 abbrev pub standsOf : Found → Stands
@@ -23,6 +23,7 @@ abbrev pub whatCame : Came → What
 whatCame over = Passed
 whatCame (refused r) = Refused
 whatCame kept = Kept
+whatCame late = Late
 whatCame wholly = Whole
 whatCame (message r) = Joined
 
@@ -31,6 +32,7 @@ abbrev pub refusalCame : Came → Refusal
 refusalCame over = noRefusal
 refusalCame (refused r) = r
 refusalCame kept = noRefusal
+refusalCame late = noRefusal
 refusalCame wholly = noRefusal
 refusalCame (message r) = noRefusal
 

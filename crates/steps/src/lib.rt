@@ -15,14 +15,19 @@ ghost use Rattle.cells.specs.Rows.{zeroRow};
 ghost use Rattle.cells.specs.Order.{countIn, gate};
 ghost use Rattle.join.specs.Joining.{joining, storeJoined};
 ghost use Rattle.join.specs.Told.{joinedOf};
-ghost use Rattle.steps.specs.Stepping.{foundIn, begins, room, longest, cameOf, cameBy, storeAfter, without, wrote, stepped, storeBehind, writtenBy};
+ghost use Rattle.join.specs.Inner.{isLate};
+ghost use Rattle.arrival.specs.Arriving.{arrived};
+ghost use Rattle.taking.specs.Forgetting.{lowestRecord, forgot};
+ghost use Rattle.steps.specs.Stepping.{foundIn, begins, room, longest, unrecorded, roomed, cameAt, cameOf, storeAfter};
+ghost use Rattle.steps.specs.Stepping.{without, wrote, stepped, storeBehind, writtenBy};
 ghost use Rattle.steps.specs.Told.{standsOf, still as stillAs, doneCame, doneOf};
 ghost use Rattle.steps.specs.Inner.{takenIn, leftAs, framedAs, stopAs};
 ghost use Rattle.packet.specs.Format.{packetMost};
-use join::Joined;
+use join::Came;
 use join::Which;
 use packet::MARK_FIRST;
 use packet::MARK_SECOND;
+use walk::REFUSED_FULL;
 use walk::REFUSED_INCOMPLETE;
 use walk::Refusal;
 use walk::Settings;
@@ -40,7 +45,8 @@ pub const FRAME: usize = 6;
 pub const SPACE: usize = 65542;
 
 // What a step comes to: more octets are wanted; the recording ends; no mark follows; a torn mark or packet follows; the packet is
-// passed over as too long; it is refused; it is stored or held already, and nothing is complete; it came whole; a message is joined.
+// passed over as too long; it is refused; it is stored or held already, and nothing is complete; it is of a message that was taken, and
+// nothing is complete; it came whole; a message is joined.
 pub enum What {
     More,
     Ended,
@@ -49,6 +55,7 @@ pub enum What {
     Passed,
     Refused,
     Kept,
+    Late,
     Whole,
     Joined,
 }
@@ -117,20 +124,28 @@ fn stop(ends: bool, what: What) -> Done
 }
 
 // A packet that neither came whole nor completed a message; 20 refuses no packet.
-fn left(refusal: Refusal, used: usize) -> Done
-    ensures { λ r. ⌜ r ≡ leftAs refusal used ⌝ }
+fn left(refusal: Refusal, late: bool, used: usize) -> Done
+    ensures { λ r. ⌜ r ≡ leftAs refusal late used ⌝ }
 {
-    if refusal.number == REFUSED_INCOMPLETE {
+    if refusal.number != REFUSED_INCOMPLETE {
         return Done {
-            what: What::Kept,
+            what: What::Refused,
+            refusal: refusal,
+            used: used,
+            written: 0,
+        };
+    }
+    if late {
+        return Done {
+            what: What::Late,
             refusal: walk::numbered(0),
             used: used,
             written: 0,
         };
     }
     Done {
-        what: What::Refused,
-        refusal: refusal,
+        what: What::Kept,
+        refusal: walk::numbered(0),
         used: used,
         written: 0,
     }
@@ -178,12 +193,13 @@ fn join_after(
     zero: &[u8],
     p: &[u8],
     out: &mut [u8],
-) -> Joined
+) -> Came
     requires { ⌜ now zero ≡ zeroRow (length (now zero)) ⌝ }
     requires { ⌜ gate s (length (now zero)) (now store) ≡ 0 ⌝ }
     requires { ⌜ n ≡ countIn (length (now zero)) (now store) ⌝ }
     requires { ⌜ 6 + room ≤ length (now out) ⌝ }
-    ensures { λ r. ⌜ r ≡ joinedOf (joining s (length (now (zero .entry))) (now (store .entry)) (now (p .entry)) room) ⌝ }
+    ensures { λ r. ⌜ r .joined ≡ joinedOf (joining s (length (now (zero .entry))) (now (store .entry)) (now (p .entry)) room) ⌝ }
+    ensures { λ r. ⌜ r .late ≡ isLate (arrived s (length (now (zero .entry))) (now (store .entry)) (now (p .entry))) ⌝ }
     ensures { λ r. ⌜ now (store .exit) ≡ storeJoined s (length (now (zero .entry))) (now (store .entry)) (now (p .entry)) room ⌝ }
     ensures { λ r. ⌜ now (out .exit) ≡ sets (now (out .entry)) 6
         (takenIn (joining s (length (now (zero .entry))) (now (store .entry)) (now (p .entry)) room)) ⌝ }
@@ -191,6 +207,53 @@ fn join_after(
     let from: usize = FRAME;
     let to: usize = FRAME + ROOM;
     join::join_in(s, store, n, zero, p, &mut out[from..to])
+}
+
+// The record in the lowest cell that has one is forgotten; 31 if none has.
+fn forget_lowest(s: Settings, store: &mut [u8], n: usize, zero: &[u8]) -> u8
+    requires { ⌜ now zero ≡ zeroRow (length (now zero)) ⌝ }
+    requires { ⌜ gate s (length (now zero)) (now store) ≡ 0 ⌝ }
+    requires { ⌜ n ≡ countIn (length (now zero)) (now store) ⌝ }
+    ensures { λ r. ⌜ r ≡ forgot s (length (now (zero .entry))) (now (store .entry))
+        (lowestRecord s (length (now (zero .entry))) (now (store .entry)) (countIn (length (now (zero .entry))) (now (store .entry)))) ⌝ }
+    ensures { λ r. ⌜ now (store .exit) ≡ unrecorded s (length (now (zero .entry))) (now (store .entry)) ⌝ }
+{
+    let i = taking::forgetting::lowest_record(s, store, n, zero);
+    taking::forgetting::forget_in(s, store, n, zero, i)
+}
+
+// Joining; and once more, if every cell is in use and there is a record that can be forgotten.
+fn join_roomed(
+    s: Settings,
+    store: &mut [u8],
+    n: usize,
+    zero: &[u8],
+    p: &[u8],
+    out: &mut [u8],
+) -> Came
+    requires { ⌜ now zero ≡ zeroRow (length (now zero)) ⌝ }
+    requires { ⌜ gate s (length (now zero)) (now store) ≡ 0 ⌝ }
+    requires { ⌜ n ≡ countIn (length (now zero)) (now store) ⌝ }
+    requires { ⌜ 6 + room ≤ length (now out) ⌝ }
+    ensures { λ r. ⌜ r .joined ≡ joinedOf (joining s (length (now (zero .entry)))
+        (roomed s (length (now (zero .entry))) (now (store .entry)) (now (p .entry))) (now (p .entry)) room) ⌝ }
+    ensures { λ r. ⌜ r .late ≡ isLate (arrived s (length (now (zero .entry)))
+        (roomed s (length (now (zero .entry))) (now (store .entry)) (now (p .entry))) (now (p .entry))) ⌝ }
+    ensures { λ r. ⌜ now (store .exit) ≡ storeJoined s (length (now (zero .entry)))
+        (roomed s (length (now (zero .entry))) (now (store .entry)) (now (p .entry))) (now (p .entry)) room ⌝ }
+    ensures { λ r. ⌜ now (out .exit) ≡ sets (now (out .entry)) 6 (takenIn (joining s (length (now (zero .entry)))
+        (roomed s (length (now (zero .entry))) (now (store .entry)) (now (p .entry))) (now (p .entry)) room)) ⌝ }
+{
+    let came = join_after(s, store, n, zero, p, out);
+    let joined = came.joined;
+    let refusal = joined.refusal;
+    if refusal.number != REFUSED_FULL {
+        return came;
+    }
+    if forget_lowest(s, store, n, zero) != 0 {
+        return came;
+    }
+    join_after(s, store, n, zero, p, out)
 }
 
 // A packet that is not too long is joined, and what is to be written stands in the output.
@@ -207,19 +270,23 @@ fn join_packet(
     requires { ⌜ n ≡ countIn (length (now zero)) (now store) ⌝ }
     requires { ⌜ 6 + room ≤ length (now out) ⌝ }
     requires { ⌜ length (now p) ≤ longest ⌝ }
-    ensures { λ r. ⌜ r ≡ doneCame (now (p .entry)) (cameBy (joining s (length (now (zero .entry))) (now (store .entry)) (now (p .entry)) room)) ⌝ }
-    ensures { λ r. ⌜ now (store .exit) ≡ storeJoined s (length (now (zero .entry))) (now (store .entry)) (now (p .entry)) room ⌝ }
-    ensures { λ r. ⌜ now (out .exit) ≡ sets (now (out .entry)) 0
-        (wrote (now (p .entry)) (cameBy (joining s (length (now (zero .entry))) (now (store .entry)) (now (p .entry)) room))) ⌝ }
+    ensures { λ r. ⌜ r ≡ doneCame (now (p .entry)) (cameAt s (length (now (zero .entry)))
+        (roomed s (length (now (zero .entry))) (now (store .entry)) (now (p .entry))) (now (p .entry))) ⌝ }
+    ensures { λ r. ⌜ now (store .exit) ≡ storeJoined s (length (now (zero .entry)))
+        (roomed s (length (now (zero .entry))) (now (store .entry)) (now (p .entry))) (now (p .entry)) room ⌝ }
+    ensures { λ r. ⌜ now (out .exit) ≡ sets (now (out .entry)) 0 (wrote (now (p .entry)) (cameAt s (length (now (zero .entry)))
+        (roomed s (length (now (zero .entry))) (now (store .entry)) (now (p .entry))) (now (p .entry)))) ⌝ }
 {
     let used = 2 + p.len();
-    let j = join_after(s, store, n, zero, p, out);
+    let came = join_roomed(s, store, n, zero, p, out);
+    let late = came.late;
+    let j = came.joined;
     let refusal = j.refusal;
     let place = j.place;
     let length = j.length;
     let which = j.which;
     match which {
-        Which::Nothing => left(refusal, used),
+        Which::Nothing => left(refusal, late, used),
         Which::Packet => {
             let long = put_whole(p, out);
             framed(out, What::Whole, refusal, used, long)

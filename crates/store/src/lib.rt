@@ -1,4 +1,4 @@
-// The store of arrived segments: what a packet's arrival comes to, and taking a complete message out.
+// The store of arrived segments: what a packet's arrival comes to, taking a complete message out, and forgetting that it was taken.
 //
 // The store is lent memory of 1 to 4,096 cells of 1,024 octets; an empty one is all zeros. Each public call has settings and order
 // checked by `opening` before anything else, and then calls an inner function of `arrival` or `taking` that takes any octets, by the
@@ -8,13 +8,16 @@ ghost use lib.ListN.{length};
 ghost use Rattle.cells.specs.Order.{countIn, cellSize};
 ghost use Rattle.arrival.specs.Arriving.{arrived, storeWith};
 ghost use Rattle.taking.specs.Taking.{took, outWith, storeLess};
+ghost use Rattle.taking.specs.Forgetting.{forgot, storeForgotten};
 ghost use Rattle.arrival.specs.Told.{arrivalOf};
 ghost use Rattle.taking.specs.Told.{takenOf};
+ghost use Rattle.walk.specs.Walk.{refusal as refusalOf};
 use arrival::Arrival;
 use cells::CELL;
 use cells::CELLS_MOST;
 use cells::CHAINS;
 use taking::Taken;
+use walk::Refusal;
 use walk::Settings;
 
 // A packet arrives.
@@ -49,4 +52,19 @@ pub fn take(s: Settings, store: &mut [u8], out: &mut [u8]) -> Taken
         return taking::not_taken(refusal.number);
     }
     taking::take_by(s, store, o.cells, &zero, out, &heads, &links)
+}
+
+// The taken record in the cell of this number is forgotten.
+pub fn forget(s: Settings, store: &mut [u8], number: usize) -> Refusal
+    ensures { λ r. ⌜ r ≡ refusalOf (forgot s cellSize (now (store .entry)) number) ⌝ }
+    ensures { λ r. ⌜ now (store .exit) ≡ storeForgotten s cellSize (now (store .entry)) number ⌝ }
+{
+    let zero = [0u8; CELL];
+    let o = cells::opening::check(s, store, &zero);
+    let refusal = o.refusal;
+    if refusal.number != 0 {
+        return refusal;
+    }
+    let k = taking::forgetting::forget_in(s, store, o.cells, &zero, number);
+    walk::numbered(k)
 }

@@ -1,22 +1,20 @@
 -- A row over a cell, and over those of the first cells for which there is one: it stands there, the others are as they were, and the
--- length stays. Freeing is the case of zero rows (S-8).
+-- length stays.
 -- Assumes nothing.
 use Prim.Native.Nat.{ℕ, zero, suc, _+_, _*_, _≤_, _<_, min}
 use mathlib.Core.Path.{_≡_, refl, ap, ap₂, sym, _∙_}
 use mathlib.Core.Logic.{_≢_, ⊎-elim}
-use mathlib.Core.Bool.{Bool, true, false}
 use mathlib.Core.List.{List}
 use mathlib.Core.Option.{Option, none, some}
 use native.Mathlib.Numerals.{add-one}
 use native.Mathlib.Omega.{arith}
 use native.Mathlib.Nat.{suc-mul}
-use lib.ListN.{length, length-replicate}
+use lib.ListN.{length}
 use lib.Seq.{sets, length-sets}
-use Rattle.octets.specs.Octets.{pick}
 use Rattle.octets.proofs.Lists.{below-or, sets-out}
-use Rattle.cells.specs.Rows.{rowAt, zeroRow}
+use Rattle.cells.specs.Rows.{rowAt}
 use Rattle.cells.proofs.Rows.{row-written, row-other}
-use Rattle.taking.specs.Cleared.{laidAt, clearedTo, zeroIf}
+use Rattle.taking.specs.Cleared.{laidAt, clearedTo}
 
 -- a place kept inside the store does as well
 pub row-there : (st z : List ℕ) (i : ℕ) {at : ℕ} → at ≡ min (i * length z) (length st) → sets st at z ≡ sets st (i * length z) z
@@ -51,10 +49,6 @@ module _ (f : ℕ → Option (List ℕ)) (Z : ℕ) (st : List ℕ) where
       go : (o : Option (List ℕ)) → length (laidAt Z n o (clearedTo f Z n st)) ≡ length (clearedTo f Z n st)
       go (some r) = length-sets (clearedTo f Z n st) (n * Z) r
       go none = refl
-
-  cleared-step : (i : ℕ) (o : Option (List ℕ)) → f i ≡ o → clearedTo f Z (suc i) st ≡ laidAt Z i o (clearedTo f Z i st)
-  unfolding clearedTo
-  cleared-step i o e = ap (λ (r : Option (List ℕ)). laidAt Z i r (clearedTo f Z i st)) e
 
   -- rows other than the last one
   one-other : (o : Option (List ℕ)) → ((r : List ℕ) → o ≡ some r → length r ≡ Z) → (x : List ℕ) (n j : ℕ) → j ≢ n → rowAt Z (laidAt Z n o x) j ≡ rowAt Z x j
@@ -98,25 +92,6 @@ cleared-same f g Z zero st h = refl
 cleared-same f g Z (suc n) st h =
     ap₂ (λ (o : Option (List ℕ)) (x : List ℕ). laidAt Z n o x) (h n (omega arith)) (cleared-same f g Z n st (λ j l. h j (omega arith)))
 
--- ---- zero rows
-
-pub zero-whole : (g : ℕ → Bool) (Z : ℕ) → Whole (λ i. zeroIf Z (g i)) Z
-zero-whole g Z j r e = go (g j) e
-  where
-    go : (b : Bool) → zeroIf Z b ≡ some r → length r ≡ Z
-    go true d = ap (λ (o : Option (List ℕ)). length (standing o r)) (sym d) ∙ length-replicate Z 0
-    go false d = let z : _≡_ {A = ℕ} 0 1 = cc in absurd (omega arith)
-
--- of the first n cells just those are zero that are to be freed
-pub zeroed-row :
-    (g : ℕ → Bool) (Z : ℕ) (st : List ℕ) (n j : ℕ) → n * Z ≤ length st → j < n →
-    rowAt Z (clearedTo (λ i. zeroIf Z (g i)) Z n st) j ≡ pick (g j) (zeroRow Z) (rowAt Z st j)
-zeroed-row g Z st n j l h = cleared-row (λ i. zeroIf Z (g i)) Z st (zero-whole g Z) n j l h ∙ go (g j)
-  where
-    go : (b : Bool) → standing (zeroIf Z b) (rowAt Z st j) ≡ pick b (zeroRow Z) (rowAt Z st j)
-    go true = refl
-    go false = refl
-
 -- ---- as the code goes
 
 pub record Clearing (f : ℕ → Option (List ℕ)) (Z n : ℕ) (st x : List ℕ) (i : ℕ) : Type 0 where
@@ -133,29 +108,16 @@ clearing-long {f} {Z} {n} {i} {st} p = ap length (p .same) ∙ cleared-long f Z 
 pub clearing-done : {f : ℕ → Option (List ℕ)} {Z n i : ℕ} {st x : List ℕ} → Clearing f Z n st x i → n ≤ i → x ≡ clearedTo f Z n st
 clearing-done {f} {Z} {n} {i} {st} p h = let e : i ≡ n = omega (arith, p .most) in p .same ∙ ap (λ (k : ℕ). clearedTo f Z k st) e
 
--- a test of the row as it stands is one of the row as it stood
-pub clearing-told :
-    {n i : ℕ} {st x r : List ℕ} (g : List ℕ → Bool) (Z : ℕ) {b : Bool} → Clearing (λ j. zeroIf Z (g (rowAt Z st j))) Z n st x i → r ≡ rowAt Z x i →
-    b ≡ g r → b ≡ g (rowAt Z st i)
-clearing-told {n} {i} {st} g Z p er eb =
+-- the row as it stands is as it stood
+pub clearing-row :
+    {f : ℕ → Option (List ℕ)} {Z n i : ℕ} {st x : List ℕ} → Whole f Z → Clearing f Z n st x i → rowAt Z x i ≡ rowAt Z st i
+clearing-row {f} {Z} {n} {i} {st} w p =
     let l : i ≤ i = omega arith in
-    let w = zero-whole (λ j. g (rowAt Z st j)) Z in
-    eb ∙ ap g (er ∙ ap (λ (y : List ℕ). rowAt Z y i) (p .same) ∙ cleared-past (λ j. zeroIf Z (g (rowAt Z st j))) Z st w i i l)
+    ap (λ (y : List ℕ). rowAt Z y i) (p .same) ∙ cleared-past f Z st w i i l
 
--- a row is laid over cell i
-pub clearing-here :
-    {f : ℕ → Option (List ℕ)} {n i : ℕ} {st x y : List ℕ} (z : List ℕ) → Clearing f (length z) n st x i → i < n → f i ≡ some z →
-    y ≡ sets x (i * length z) z → Clearing f (length z) n st y (i + 1)
-clearing-here {f} {n} {i} {st} z p h e ey =
-    record {
-      most = omega arith;
-      same =
-          rw (add-one i)
-          (ey ∙ ap (λ (w : List ℕ). sets w (i * length z) z) (p .same) ∙ sym (cleared-step f (length z) st i (some z) e));
-    }
-
--- or it is left as it is
-pub clearing-not :
-    {f : ℕ → Option (List ℕ)} {Z n i : ℕ} {st x y : List ℕ} → Clearing f Z n st x i → i < n → f i ≡ none → y ≡ x → Clearing f Z n st y (i + 1)
-clearing-not {f} {Z} {n} {i} {st} p h e ey =
-    record { most = omega arith; same = rw (add-one i) (ey ∙ p .same ∙ sym (cleared-step f Z st i none e)) }
+-- cell i is done
+pub clearing-on :
+    {f : ℕ → Option (List ℕ)} {Z n i : ℕ} {st x y : List ℕ} → Clearing f Z n st x i → i < n → y ≡ laidAt Z i (f i) x → Clearing f Z n st y (i + 1)
+unfolding clearedTo
+clearing-on {f} {Z} {n} {i} {st} p h ey =
+    record { most = omega arith; same = rw (add-one i) (ey ∙ ap (laidAt Z i (f i)) (p .same)) }

@@ -5,7 +5,7 @@ use mathlib.Core.Path.{_≡_, refl, ap, ap₂, sym, _∙_}
 use mathlib.Core.Bool.{Bool}
 use mathlib.Core.List.{List, [], _∷_, _++_, append-nil}
 use native.Mathlib.Omega.{arith}
-use lib.ListN.{length}
+use lib.ListN.{length, drop, length-append, length-take}
 use lib.Seq.{sets}
 use Rattle.octets.specs.Octets.{pick, part}
 use Rattle.octets.specs.Laying.{laid, together, Lays}
@@ -59,6 +59,22 @@ module _ (s : Settings) (q : List ℕ) (body-at : ℕ) (a : Asked s q body-at) {
       let p = place-least q in
       let x = accepted s q (a .octets) (a .accepted) in
       (omega (arith, p .0), (omega (arith, p .1), omega (arith, x .counter-end, place-is, four, a .body)))
+
+  -- the key has at most the octets around it
+  pub key-long : length (keyOf q (readPacket s q)) ≤ 2 + ((c - 6) + (body-at - (c + 4)))
+  key-long =
+      let x = part q 0 2 in
+      let y = part q 6 (c - 6) in
+      let z = part q (c + 4) (body-at - (c + 4)) in
+      omega (
+        arith,
+        ap length key-spread,
+        length-append x (y ++ z),
+        length-append y z,
+        length-take 2 (drop 0 q),
+        length-take (c - 6) (drop 6 q),
+        length-take (body-at - (c + 4)) (drop (c + 4) q),
+      )
 
   pub key-put :
       {out l m n x y z : List ℕ} {i j r : ℕ} → length (keyOf q (readPacket s q)) ≤ length out → x ≡ part q 0 2 → y ≡ part q 6 (c - 6) →

@@ -2,7 +2,7 @@
 -- Assumes nothing.
 use Prim.Native.Nat.{ℕ, _+_, _*_, _≤_, _<_}
 use mathlib.Core.Path.{_≡_, ap, ap₂, sym, _∙_}
-use mathlib.Core.List.{List, _∷_, _++_, map, append-assoc}
+use mathlib.Core.List.{List, _∷_, _++_, append-assoc}
 use native.Mathlib.Omega.{arith}
 use lib.ListN.{length, take, drop, length-append}
 use lib.Seq.{sets, sets-eq, take-append-seam}
@@ -14,17 +14,16 @@ use Rattle.walk.specs.Walk.{refusal}
 use Rattle.cells.specs.Segments.{segOf}
 use Rattle.cells.specs.Rows.{held, rowAt, packetIn}
 use Rattle.cells.specs.Order.{cellAt, lowest}
-use Rattle.cells.specs.Inner.{withinIn}
 use Rattle.taking.specs.declared.Copied.{Copied}
 use Rattle.taking.specs.declared.Measured.the-variants.{Long}
-use Rattle.cells.specs.Messages.{cellsOf, picked, amongIn}
-use Rattle.taking.specs.Taking.{message, tookIn, outWith, storeLess}
-use Rattle.taking.specs.Cleared.{clearedTo, zeroIf}
+use Rattle.cells.specs.Messages.{cellsOf, picked}
+use Rattle.taking.specs.Taking.{message, tookIn, outWith, leftIn, storeLess}
+use Rattle.taking.specs.Cleared.{clearedTo, leftWithin}
 use Rattle.taking.specs.Told.{takenOf}
 use Rattle.taking.specs.Follow.{segAt, placesFrom, bodiesAt, answer, opensAt, copiedOf, Opens}
-use Rattle.taking.proofs.Heads.{key-two}
+use Rattle.taking.proofs.Heads.{key-two, key-fits}
 use Rattle.taking.proofs.Clears.{cleared-same}
-use Rattle.taking.proofs.Among.{message-among}
+use Rattle.taking.proofs.Among.{message-left}
 use Rattle.taking.proofs.Drawing.{Message, the-message, message-held, runOf, writing-is, places-are, body-long, told-is, message-opens, took-message}
 
 -- the places in cell numbers of the message that opens in cell i
@@ -97,18 +96,27 @@ module _ (s : Settings) (Z : ℕ) (st out : List ℕ) (n i b : ℕ) (ei : i ≡ 
         (drop (0 + length (segAt s Z st i .key ++ bodiesAt s Z st (cellsFrom s Z st n i))) out))
         ∙ take-append-seam (segAt s Z st i .key) (bodiesAt s Z st (cellsFrom s Z st n i) ++ drop (0 + length (segAt s Z st i .key ++ bodiesAt s Z st (cellsFrom s Z st n i))) out)
 
+    -- the record of the message fits a cell: where it stands its first segment did, with six octets of primary header and a counter
+    pub draw-fits :
+        {x k : List ℕ} → x ≡ sets out 0 (segAt s Z st i .key ++ bodiesAt s Z st (cellsFrom s Z st n i)) → k ≡ part x 0 (2 + u .header) → 2 + length k + 8 ≤ Z
+    unfolding segOf
+    draw-fits ex ek =
+        let w = message-held nextCounter stepsMost s Z st n ei below in
+        let l = key-fits s (packetIn (rowAt Z st i)) (octets-part (rowAt Z st i) 2 (number 2 (rowAt Z st i) 6 + 7) (octets-part st (i * Z) Z o)) (w .accepted) (w .segment) in
+        omega (arith, ap length (key-front ex ek), l, w .fits)
+
     pub draw-store :
         {x k y : List ℕ} → x ≡ sets out 0 (segAt s Z st i .key ++ bodiesAt s Z st (cellsFrom s Z st n i)) → k ≡ part x 0 (2 + u .header) →
-        y ≡ clearedTo (λ j. zeroIf Z (withinIn nextCounter k (u .counter .0) (u .steps) (cellAt s Z st j))) Z n st → y ≡ storeLess s Z st n (tookIn s Z st n (length out))
+        y ≡ clearedTo (λ j. leftWithin Z k (u .counter .0) (u .steps) (cellAt s Z st j)) Z n st → y ≡ storeLess s Z st n (tookIn s Z st n (length out))
     unfolding storeLess copiedOf
     draw-store {x} {k} ex ek ey =
         let d : u .steps ≡ length (m .places) = ap (λ (w : Copied). w .steps) eu ∙ ap length (places-are nextCounter stepsMost s Z st n m) in
         ey
-        ∙ ap₂ (λ (l : List ℕ) (c : ℕ). clearedTo (λ j. zeroIf Z (withinIn nextCounter l c (u .steps) (cellAt s Z st j))) Z n st)
+        ∙ ap₂ (λ (l : List ℕ) (c : ℕ). clearedTo (λ j. leftWithin Z l c (u .steps) (cellAt s Z st j)) Z n st)
         (key-front ex ek) (ap (λ (w : Copied). w .counter .0) eu)
-        ∙ ap (λ (e : ℕ). clearedTo (λ j. zeroIf Z (withinIn nextCounter (segAt s Z st i .key) (segAt s Z st i .counter) e (cellAt s Z st j))) Z n st) d
+        ∙ ap (λ (e : ℕ). clearedTo (λ j. leftWithin Z (segAt s Z st i .key) (segAt s Z st i .counter) e (cellAt s Z st j)) Z n st) d
         ∙ cleared-same
-        (λ j. zeroIf Z (withinIn nextCounter (segAt s Z st i .key) (segAt s Z st i .counter) (length (m .places)) (cellAt s Z st j)))
-        (λ j. zeroIf Z (amongIn (segAt s Z st i ∷ map (segAt s Z st) (m .places)) (cellAt s Z st j))) Z n st
-        (λ j l. ap (zeroIf Z) (message-among nextCounter stepsMost s Z st n stepsMost (segAt s Z st i) (m .places) (m .complete) (cellAt s Z st j)))
+        (λ j. leftWithin Z (segAt s Z st i .key) (segAt s Z st i .counter) (length (m .places)) (cellAt s Z st j))
+        (λ j. leftIn Z (runOf nextCounter stepsMost s Z st n m) (cellAt s Z st j)) Z n st
+        (λ j l. message-left s Z st n stepsMost (segAt s Z st i) (m .places) (m .complete) (cellAt s Z st j))
         ∙ ap (storeLess s Z st n) (sym took-is)

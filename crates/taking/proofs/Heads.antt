@@ -1,7 +1,8 @@
 -- The message that opens in a cell, to the output: its key, the first's body, then the others'; and what is told of it.
 -- Assumes nothing.
 use Prim.Native.Nat.{ℕ, _+_, _-_, _*_, _≤_}
-use mathlib.Core.Path.{_≡_, ap, ap₂, sym, _∙_, subst}
+use mathlib.Core.Path.{_≡_, refl, ap, ap₂, sym, _∙_, subst}
+use mathlib.Core.Bool.{true}
 use mathlib.Core.List.{List, _∷_, _++_}
 use mathlib.Core.Option.{some}
 use native.Mathlib.Omega.{arith}
@@ -13,7 +14,7 @@ use Rattle.octets.proofs.Lists.{sets-append}
 use Rattle.walk.specs.declared.Settings.{Settings}
 use Rattle.packet.specs.declared.Header.{Header}
 use Rattle.packet.specs.Format.{identification, headerOctets}
-use Rattle.packet.specs.Reading.{readPacket}
+use Rattle.packet.specs.Reading.{readPacket, segmented}
 use Rattle.packet.specs.Key.{keyOf}
 use Rattle.format.specs.Told.{valuesOf}
 use Rattle.format.proofs.Frame.{identification-long}
@@ -27,6 +28,7 @@ use Rattle.cells.specs.declared.messages.Piece.{Piece}
 use Rattle.cells.specs.Pieces.{pieceOf}
 use Rattle.taking.specs.Follow.{segAt, follow, placesOf, placesFrom, bodiesAt, copiedOf, Ready, Opens}
 use Rattle.taking.proofs.Bodies.{body-there}
+use Rattle.taking.proofs.Copying.{key-places, key-long}
 
 -- one list after another from the front on
 three-laid : (o a b d : List ℕ) → sets (sets (sets o 0 a) (length a) b) (length a + length b) d ≡ sets o 0 (a ++ (b ++ d))
@@ -51,6 +53,14 @@ key-two s p o z =
     let v = valuesOf p (readPacket s p) .head in
     let l = ap length (a .key) ∙ length-append (identification v) (headerOctets s v) in
     omega (arith, identification-long v)
+
+-- a segment's packet has eight octets more than its key: four of primary header, and the counter
+pub key-fits : (s : Settings) (p : List ℕ) → Octets p → readPacket s p .refusal .number ≡ 0 → segmented p ≡ true → length (keyOf p (readPacket s p)) + 8 ≤ length p
+key-fits s p o z g =
+    let a = accepted s p o z in
+    let q : Asked s p (readPacket s p .body .at) = record { octets = o; accepted = z; segment = g; body = refl } in
+    let c = key-places s p (readPacket s p .body .at) q refl in
+    omega (arith, key-long s p (readPacket s p .body .at) q refl, c .0, c .1 .1, a .body-end)
 
 -- the places of a run that is complete
 places-are :

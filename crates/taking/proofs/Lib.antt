@@ -15,3 +15,6 @@ pub mod Checked
 pub mod Keeps
 pub mod Tells
 pub mod Clears
+pub mod Leaves
+pub mod Recorded
+pub mod Forgets

@@ -3,3 +3,4 @@ pub mod Told
 pub mod Inner
 pub mod Follow
 pub mod Cleared
+pub mod Forgetting

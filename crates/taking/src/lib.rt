@@ -1,8 +1,10 @@
-// Taking from the store: the complete message with its first in the lowest cell is found, written out, and its cells are freed.
+// Taking from the store: the complete message with its first in the lowest cell is found and written out; the record of it
+// stands in the cell of its first then, and its other cells are freed.
 //
 // The store is any octets here, and the size of a cell is that of the zero cell lent: settings and the store's order are tested by
 // `store::take`, or by whoever keeps a store in order.
 pub mod clearing;
+pub mod forgetting;
 
 ghost use mathlib.Core.Path.{_≡_};
 ghost use mathlib.Core.List.{_∷_, _++_};
@@ -346,7 +348,7 @@ fn copy_message(
     }
 }
 
-// The message that opens in cell i, with b octets of body, to the output; just its cells are made zero.
+// The message that opens in cell i, with b octets of body, to the output; just its cells are cleared.
 fn draw(
     s: Settings,
     store: &mut [u8],

@@ -9,17 +9,16 @@ use mathlib.Core.Option.{none}
 use native.Mathlib.Omega.{arith}
 use Rattle.octets.specs.Octets.{Octets, number, alike}
 use Rattle.octets.proofs.Has.{octets-part}
-use Rattle.octets.proofs.Lists.{bool}
 use Rattle.walk.specs.declared.Settings.{Settings}
 use Rattle.packet.specs.Reading.{readPacket}
 use Rattle.packet.specs.declared.Header.{Header}
 use Rattle.packet.specs.Key.{keyOf}
 use Rattle.cells.specs.declared.Judged.{Judged}
 use Rattle.cells.specs.Segments.{segOf, Seg}
-use Rattle.cells.specs.Rows.{Cell, held, rowAt, zeroRow, packetIn, cellOf, segmentIn, bySegment}
-use Rattle.cells.specs.Order.{isSound, cellAt}
+use Rattle.cells.specs.Rows.{Cell, held, rowAt, packetIn, cellOf, segmentIn, bySegment}
+use Rattle.cells.specs.Order.{cellAt}
 use Rattle.cells.specs.Inner.{spansAlike, bodyIn, judgedOf, toldHeld, Asked}
-use Rattle.cells.proofs.Carries.{free-cell, not-held, Holding, holding}
+use Rattle.cells.proofs.Carries.{not-held, Holding, kinds}
 use Rattle.cells.proofs.CellSegments.{segment-or, judged-none}
 use Rattle.cells.proofs.SameKeys.{keys-same}
 use Rattle.cells.proofs.Entering.{asked}
@@ -53,9 +52,6 @@ module _ (at : ℕ) (d : Cell) {t : Judged} (e : t ≡ judgedOf at d) where
   other-first : (s : Settings) (Z : ℕ) (st : List ℕ) (i : ℕ) → toldHeld (t .content) ≡ false → false ≡ newKeyIn s Z st i d
   other-first s Z st i h = sym (ap (bySegment false (λ u. newKeyTo s Z st i (u .key))) (not-one h))
 
-  is-sound : toldHeld (t .content) ≡ true → isSound d ≡ true
-  is-sound h = ⊎-elim (λ w. ap isSound (w .1)) (λ n. absurd (not-held h (none-other n))) (segment-or d)
-
   other-told : (s : Settings) (Z : ℕ) (st : List ℕ) (i : ℕ) → toldHeld (t .content) ≡ false → untold ≡ toldIn s Z st i d
   other-told s Z st i h = sym (ap (bySegment untold (toldBy s Z st i (readPacket s (packetIn (rowAt Z st i))))) (not-one h))
 
@@ -66,15 +62,8 @@ module _ (s : Settings) (Z : ℕ) (r : List ℕ) {t : Judged} (et : t ≡ judged
   key-none k h = other-key (bodyIn s r) (cellOf s Z r) et k h
 
   module _ (one : toldHeld (t .content) ≡ true) where
-    not-free : alike r (zeroRow Z) ≡ false
-    not-free =
-        ⊎-elim
-        (λ e. absurd (not-held one (ap told et ∙ ap (λ (d : Cell). told (judgedOf (bodyIn s r) d)) (free-cell s Z r e))))
-        (λ e. e)
-        (bool (alike r (zeroRow Z)))
-
     pub there : Holding s Z r
-    there = holding s Z r (is-sound (bodyIn s r) (cellOf s Z r) et one) not-free
+    there = ⊎-elim (λ h. h) (λ n. absurd (not-held one (none-other (bodyIn s r) (cellOf s Z r) et n))) (kinds s Z r)
 
     abbrev p : List ℕ
     p = packetIn r

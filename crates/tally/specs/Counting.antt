@@ -1,5 +1,5 @@
--- What is left in a store: its held cells, and the keys among them.
--- SPEC S-3 says which cells are held, S-4 what a key is.
+-- What is left in a store: its held cells, the keys among them, and its taken records.
+-- SPEC S-3 says which cells are held, S-4 what a key is, S-15 which have a record.
 -- Assumes nothing: these are definitions.
 use Prim.Native.Nat.{ℕ, zero, suc, _+_}
 use mathlib.Core.List.{List}
@@ -9,6 +9,7 @@ use Rattle.octets.specs.Octets.{pick, alike}
 use Rattle.walk.specs.declared.Settings.{Settings}
 use Rattle.cells.specs.Rows.{Cell, segmentIn, bySegment}
 use Rattle.cells.specs.Order.{lengthFits, countIn, cellAt, allTo}
+use Rattle.taking.specs.Forgetting.{isRecord}
 use Rattle.tally.specs.declared.Tallied.{Tallied}
 
 -- of how many of the first n numbers a test holds
@@ -38,9 +39,16 @@ segmentsIn s Z st n = countTo (λ i. isHeld (cellAt s Z st i)) n
 unfoldable pub keysIn : Settings → ℕ → List ℕ → ℕ → ℕ
 keysIn s Z st n = countTo (λ i. newKeyIn s Z st i (cellAt s Z st i)) n
 
+-- the records among the first n cells
+unfoldable pub recordsTo : Settings → ℕ → List ℕ → ℕ → ℕ
+recordsTo s Z st n = countTo (λ i. isRecord (cellAt s Z st i)) n
+
 -- the cells of a store: none if its length does not fit
 abbrev pub cellsIn : ℕ → List ℕ → ℕ
 cellsIn Z st = pick (lengthFits Z (length st)) (countIn Z st) 0
 
 abbrev pub leftIn : Settings → ℕ → List ℕ → Tallied
 leftIn s Z st = record { segments = segmentsIn s Z st (cellsIn Z st); keys = keysIn s Z st (cellsIn Z st) }
+
+abbrev pub recordsIn : Settings → ℕ → List ℕ → ℕ
+recordsIn s Z st = recordsTo s Z st (cellsIn Z st)

@@ -1,4 +1,5 @@
-// What is left in a store: how many segments it holds, how many different keys these have, and of each cell whose segment it holds.
+// What is left in a store: how many segments it holds, how many different keys these have, of each cell whose segment it holds, and how many
+// cells have a taken record.
 //
 // All segments of a message have one key, so there are at least as many messages as keys; two messages of one key count once. A cell
 // that is neither free nor held counts for nothing, and a store whose length does not fit has no cells. Each held cell is looked for
@@ -13,7 +14,8 @@ ghost use Rattle.cells.specs.Segments.{both};
 ghost use Rattle.cells.specs.Rows.{zeroRow, cellOf};
 ghost use Rattle.cells.specs.Order.{cellAt, cellsMost, cellSize};
 ghost use Rattle.cells.specs.Inner.{Asked};
-ghost use Rattle.tally.specs.Counting.{isHeld, keyed as keyedAs, newKeyTo, newKeyIn, segmentsIn, keysIn, leftIn};
+ghost use Rattle.taking.specs.Forgetting.{isRecord};
+ghost use Rattle.tally.specs.Counting.{isHeld, keyed as keyedAs, newKeyTo, newKeyIn, segmentsIn, keysIn, leftIn, recordsTo, recordsIn};
 ghost use Rattle.cells.specs.Segments.{segOf};
 ghost use Rattle.tally.specs.Telling.{keyAt, toldBy, toldAt};
 use walk::Settings;
@@ -129,6 +131,40 @@ pub fn left(s: Settings, store: &[u8]) -> Tallied
         segments: all,
         keys: different,
     }
+}
+
+// Whether a row is a taken record.
+fn taken(s: Settings, row: &[u8], zero: &[u8]) -> bool
+    requires { ⌜ now zero ≡ zeroRow (length (now zero)) ⌝ }
+    ensures { λ r. ⌜ r ≡ isRecord (cellOf s (length (now (zero .entry))) (now (row .entry))) ⌝ }
+{
+    let t = cells::judge(s, row, zero);
+    cells::is_taken(t)
+}
+
+// How many of the first n cells have a taken record.
+fn records_to(s: Settings, store: &[u8], n: usize, zero: &[u8]) -> usize
+    requires { ⌜ now zero ≡ zeroRow (length (now zero)) ⌝ }
+    requires { ⌜ n ≤ cellsMost ⌝ }
+    ensures { λ r. ⌜ r ≡ recordsTo s (length (now (zero .entry))) (now (store .entry)) n ⌝ }
+{
+    let z = zero.len();
+    let mut count: usize = 0;
+    let mut i: usize = 0;
+    while i < n {
+        count = more(count, taken(s, cells::row(store, z, i), zero));
+        i += 1;
+    }
+    count
+}
+
+// The taken records in a store.
+pub fn records(s: Settings, store: &[u8]) -> usize
+    ensures { λ r. ⌜ r ≡ recordsIn s cellSize (now (store .entry)) ⌝ }
+{
+    let zero = [0u8; cells::CELL];
+    let n = cells::count(store.len(), zero.len());
+    records_to(s, store, n, &zero)
 }
 
 // What a cell tells, if it is held: the lowest cell of its key, which may be its own; packet type, APID, SDU type and transaction id; and

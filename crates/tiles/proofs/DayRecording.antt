@@ -1,5 +1,5 @@
 -- A recording that meets every hypothesis: the two messages of demand 3's run, interleaved, the last of one first; with a repeat, a
--- repeat after the message was written, a whole packet, a refused one, one too long for a cell, one of another key; and a torn end.
+-- late repeat after the message was written, a whole packet, a refused one, one too long for a cell, one of another key; and a torn end.
 -- Both messages are written.
 -- Assumes nothing.
 use Prim.Native.Nat.{ℕ, zero, suc, _+_, _<_}
@@ -26,7 +26,7 @@ use Rattle.demand3.specs.Presupposed.{malformed}
 use Rattle.demand3.proofs.ReadAs.{repeat-reads}
 use Rattle.demand3.proofs.Day.{three, two, messages, of-three, of-two, theKey, single, huge, other, three-many, three-cut, two-cut}
 use Rattle.demand3.proofs.DayComes.{Fine, three-fine, two-fine, single-fine, huge-fine, other-fine}
-use Rattle.demand3.proofs.DayRun.{traffic}
+use Rattle.demand3.proofs.DayGiven.{traffic}
 use Rattle.tiles.specs.Along.{packetsOf, marked, Sized, wholePacket, frameOctets, framesOf}
 use Rattle.tiles.specs.Written.{AllIn, RecordingOf, RoomAlong, frameOf}
 use Rattle.tiles.proofs.Framing.{Z}
@@ -158,7 +158,7 @@ day-recording =
     }
 
 pub day-room : RoomAlong settings dayRecording
-day-room = recording-room settings in-range dayRecording (omega (arith, ap length day-packets))
+day-room = recording-room settings in-range dayRecording (day-recording .octets) (omega (arith, ap length day-packets))
 
 -- ---- both messages
 
@@ -193,7 +193,7 @@ single-read : readPacket settings single .refusal .number ≡ 0
 single-read = ap (λ (h : Header). h .refusal .number) reads
 
 pub day-single : List·Memᴰ (wholePacket single) (framesOf settings dayRecording)
-day-single = recording-whole settings in-range dayRecording single .1 (in-day 3 (omega arith), omega arith, single-read, refl)
+day-single = recording-whole settings in-range dayRecording (day-recording .octets) single .1 (in-day 3 (omega arith), omega arith, single-read, refl)
 
 -- ---- their octets
 

@@ -13,7 +13,8 @@ use Rattle.octets.proofs.Has.{octets-drop, octets-part}
 use Rattle.walk.specs.declared.Settings.{Settings}
 use Rattle.cells.specs.Rows.{sizeIn}
 use Rattle.cells.specs.Order.{cellSize}
-use Rattle.steps.specs.Stepping.{Found, nothing, other, cut, whole, foundIn, Came, over, refused, kept, wholly, message, cameOf, storeAfter, wrote, stepBy, stepped, storeBehind, usedBy, writtenBy}
+use Rattle.steps.specs.Stepping.{Found, nothing, other, cut, whole, foundIn, Came, over, refused, kept, late, wholly, message}
+use Rattle.steps.specs.Stepping.{cameOf, storeAfter, wrote, stepBy, stepped, storeBehind, usedBy, writtenBy}
 use Rattle.steps.proofs.Showing.{whole-tells}
 use Rattle.recording.specs.Recording.{emptyStore, recordedFrom, recorded}
 use Rattle.recording.specs.Ending.{past}
@@ -46,6 +47,7 @@ unfolding together
 came-frames p over l = refl
 came-frames p (refused k) l = refl
 came-frames p kept l = refl
+came-frames p late l = refl
 came-frames p wholly l = refl
 came-frames p (message r) l = refl
 

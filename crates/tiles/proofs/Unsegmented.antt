@@ -5,31 +5,34 @@ use mathlib.Core.Path.{_≡_, refl, ap, sym, _∙_, subst}
 use mathlib.Core.Logic.{_⊎_, inl, inr}
 use mathlib.Core.Bool.{Bool, true, false}
 use mathlib.Core.Option.{Option, none, some}
-use mathlib.Core.List.{List, [], _∷_, _++_, List·Memᴰ, List·Memᴰ·head, List·Memᴰ·cases-cons, List·Memᴰ·not-nil, Memᴰ·append-right}
+use mathlib.Core.List.{List, [], _∷_, _++_, List·Memᴰ, List·Memᴰ·head, List·Memᴰ·cases-cons, List·Memᴰ·not-nil, Memᴰ·append-left, Memᴰ·append-right}
 use native.Mathlib.Omega.{arith}
 use lib.ListN.{length}
 use lib.Dec.{leb, ltb, eqb}
 use borrow.Author.Tests.{eqb-true, eq-eqb, leb-true, le-leb}
-use Rattle.octets.specs.Octets.{pick}
+use Rattle.octets.specs.Octets.{pick, Octets}
 use Rattle.walk.specs.declared.Refusal.{Refusal}
 use Rattle.walk.specs.declared.Settings.{Settings}
 use Rattle.packet.specs.Format.{SettingsInRange}
 use Rattle.walk.specs.Walk.{refusal}
 use Rattle.packet.specs.Reading.{readPacket, segmented}
 use Rattle.cells.specs.Segments.{Seg, segOf, sameRest}
+use Rattle.cells.specs.Order.{untakenTo}
 use Rattle.cells.specs.Messages.{cellsOf, look, bodyOf}
-use Rattle.arrival.specs.Arriving.{Arrived, whole, stored, again, refused, placed, beside, lowestFree, segmentArrived, arrivedIn, arrived, storeWith}
+use Rattle.arrival.specs.Arriving.{Arrived, whole, stored, again, late as asTaken, refused, placed, beside, lowestFree}
+use Rattle.arrival.specs.Arriving.{segmentArrived, segmentCame, arrivedIn, arrived, storeWith}
 use Rattle.taking.specs.Taking.{Took, message, unable, took}
 use Rattle.join.specs.Joining.{tookAs, joinedBy, joining as joiningOf}
-use Rattle.steps.specs.Stepping.{longest, room, Came, over, kept, wholly, refused as refusedBy, message as messageOf, cameBy, cameOf}
+use Rattle.join.specs.Inner.{isLate}
+use Rattle.steps.specs.Stepping.{longest, room, roomed, Came, over, kept, late, wholly, refused as refusedBy, message as messageOf, cameBy, cameAt, cameOf}
 use Rattle.recording.specs.Recording.{cellCount, emptyStore}
 use Rattle.demand3.proofs.Steps.{Kept, arrived-is}
 use Rattle.demand3.proofs.Carried.{behind-keeps}
 use Rattle.tiles.specs.Along.{packetsOf, storeAlong, wholePacket, joined, framesBy, framesFrom, framesOf}
-use Rattle.tiles.specs.Written.{RecordingWhole}
-use Rattle.tiles.proofs.Framing.{Z, frame-at, at-frame}
-use Rattle.tiles.proofs.Joinings.{short, callsOf, calls-store}
-use Rattle.tiles.proofs.Comes.{in-use, one-octet}
+use Rattle.tiles.specs.Written.{storeFor, RecordingWhole}
+use Rattle.tiles.proofs.Framing.{Z, packets-octets, frame-at, at-frame}
+use Rattle.tiles.proofs.Joinings.{short, callsTo, to-store}
+use Rattle.tiles.proofs.Comes.{in-use, one-octet, plain-to}
 
 -- ---- an arrival that is whole
 
@@ -51,19 +54,21 @@ module _ (s : Settings) (st p : List ℕ) where
       go (some u) d = old (sameRest u t) d
 
   in-whole : (n : ℕ) → arrivedIn s Z st n p ≡ whole → (readPacket s p .refusal .number ≡ 0) × (segmented p ≡ false)
-  unfolding arrivedIn
-  in-whole n e = go (eqb (readPacket s p .refusal .number) 0) refl (segmented p) (leb (2 + length p) Z) e
+  unfolding arrivedIn segmentCame
+  in-whole n e = go (eqb (readPacket s p .refusal .number) 0) refl (segmented p) (untakenTo s Z st n (segOf p (readPacket s p) .key) (segOf p (readPacket s p) .counter)) (leb (2 + length p) Z) e
     where
       k : ℕ
       k = readPacket s p .refusal .number
 
-      go : (a : Bool) → eqb (readPacket s p .refusal .number) 0 ≡ a → (b c : Bool) →
-          pick a (pick b (pick c (segmentArrived s Z st n (segOf p (readPacket s p))) (refused (refusal 17))) whole) (refused (readPacket s p .refusal)) ≡ whole →
+      go : (a : Bool) → eqb (readPacket s p .refusal .number) 0 ≡ a → (b u c : Bool) →
+          pick a (pick b (pick u (pick c (segmentArrived s Z st n (segOf p (readPacket s p))) (refused (refusal 17))) asTaken) whole) (refused (readPacket s p .refusal))
+          ≡ whole →
           (readPacket s p .refusal .number ≡ 0) × (b ≡ false)
-      go true f false c d = (eqb-true k 0 f, refl)
-      go true f true true d = absurd (segment-no n (segOf p (readPacket s p)) d)
-      go true f true false d = let z : _≡_ {A = ℕ} 0 1 = cc d in absurd (omega arith)
-      go false f b c d = let z : _≡_ {A = ℕ} 0 1 = cc d in absurd (omega arith)
+      go true f false u c d = (eqb-true k 0 f, refl)
+      go true f true true true d = absurd (segment-no n (segOf p (readPacket s p)) d)
+      go true f true true false d = let z : _≡_ {A = ℕ} 0 1 = cc d in absurd (omega arith)
+      go true f true false c d = let z : _≡_ {A = ℕ} 0 1 = cc d in absurd (omega arith)
+      go false f b u c d = let z : _≡_ {A = ℕ} 0 1 = cc d in absurd (omega arith)
 
   whole-in : (n : ℕ) → readPacket s p .refusal .number ≡ 0 → segmented p ≡ false → arrivedIn s Z st n p ≡ whole
   unfolding arrivedIn
@@ -71,34 +76,41 @@ module _ (s : Settings) (st p : List ℕ) where
 
   -- ---- and what it comes to
 
-  not-wholly : (k : Refusal) (b : Bool) → pick b kept (refusedBy k) ≡ wholly → ⊥
-  not-wholly k true d = let z : _≡_ {A = ℕ} 0 1 = cc d in omega arith
-  not-wholly k false d = let z : _≡_ {A = ℕ} 0 1 = cc d in omega arith
+  not-wholly : (k : Refusal) (l b : Bool) → pick b (pick l late kept) (refusedBy k) ≡ wholly → ⊥
+  not-wholly k true true d = let z : _≡_ {A = ℕ} 0 1 = cc d in omega arith
+  not-wholly k false true d = let z : _≡_ {A = ℕ} 0 1 = cc d in omega arith
+  not-wholly k l false d = let z : _≡_ {A = ℕ} 0 1 = cc d in omega arith
 
-  took-no : (t : Took) → cameBy (tookAs t) ≡ wholly → ⊥
-  took-no (message r) e = let z : _≡_ {A = ℕ} 0 1 = cc e in omega arith
-  took-no (unable k) e = not-wholly (refusal k) (eqb k 20) e
+  took-no : (l : Bool) (t : Took) → cameBy l (tookAs t) ≡ wholly → ⊥
+  took-no l (message r) e = let z : _≡_ {A = ℕ} 0 1 = cc e in omega arith
+  took-no l (unable k) e = not-wholly (refusal k) l (eqb k 20) e
 
-  wholly-by : (a : Arrived) → cameBy (joinedBy s Z st p room a) ≡ wholly → a ≡ whole
-  wholly-by whole e = refl
-  wholly-by (stored i) e = absurd (took-no (took s Z (storeWith Z st p (stored i)) room) e)
-  wholly-by again e = absurd (took-no (took s Z (storeWith Z st p again) room) e)
-  wholly-by (refused k) e = absurd (not-wholly k (eqb (k .number) 20) e)
+  wholly-by : (l : Bool) (a : Arrived) → cameBy l (joinedBy s Z st p room a) ≡ wholly → a ≡ whole
+  wholly-by l whole e = refl
+  wholly-by l (stored i) e = absurd (took-no l (took s Z (storeWith Z st p (stored i)) room) e)
+  wholly-by l again e = absurd (took-no l (took s Z (storeWith Z st p again) room) e)
+  wholly-by l asTaken e = absurd (took-no l (took s Z (storeWith Z st p asTaken) room) e)
+  wholly-by l (refused k) e = absurd (not-wholly k l (eqb (k .number) 20) e)
 
-  came-whole : cameOf s Z st p ≡ wholly → (short p ≡ true) × (arrived s Z st p ≡ whole)
-  unfolding cameOf joiningOf
+-- joined to the store with room for it
+module _ (s : Settings) (st p : List ℕ) where
+  abbrev to : List ℕ
+  to = roomed s Z st p
+
+  came-whole : cameOf s Z st p ≡ wholly → (short p ≡ true) × (arrived s Z to p ≡ whole)
+  unfolding cameOf cameAt joiningOf
   came-whole e = go (short p) e
     where
-      go : (b : Bool) → pick b (cameBy (joinedBy s Z st p room (arrived s Z st p))) over ≡ wholly →
-          (b ≡ true) × (arrived s Z st p ≡ whole)
-      go true d = (refl, wholly-by (arrived s Z st p) d)
+      go : (b : Bool) → pick b (cameBy (isLate (arrived s Z to p)) (joinedBy s Z to p room (arrived s Z to p))) over ≡ wholly →
+          (b ≡ true) × (arrived s Z to p ≡ whole)
+      go true d = (refl, wholly-by s to p (isLate (arrived s Z to p)) (arrived s Z to p) d)
       go false d = let z : _≡_ {A = ℕ} 0 1 = cc d in absurd (omega arith)
 
-  whole-came : short p ≡ true → arrived s Z st p ≡ whole → cameOf s Z st p ≡ wholly
-  unfolding cameOf joiningOf
+  whole-came : short p ≡ true → arrived s Z to p ≡ whole → cameOf s Z st p ≡ wholly
+  unfolding cameOf cameAt joiningOf
   whole-came a b =
-      ap (λ (k : Bool). pick k (cameBy (joinedBy s Z st p room (arrived s Z st p))) over) a
-      ∙ ap (λ (k : Arrived). cameBy (joinedBy s Z st p room k)) b
+      ap (λ (k : Bool). pick k (cameBy (isLate (arrived s Z to p)) (joinedBy s Z to p room (arrived s Z to p))) over) a
+      ∙ ap (λ (k : Arrived). cameBy (isLate k) (joinedBy s Z to p room k)) b
 
 -- ---- among the frames
 
@@ -106,6 +118,7 @@ whole-frame : (p q : List ℕ) (y : Came) → List·Memᴰ (wholePacket p) (fram
 whole-frame p q over h = absurd (List·Memᴰ·not-nil h)
 whole-frame p q (refusedBy k) h = absurd (List·Memᴰ·not-nil h)
 whole-frame p q kept h = absurd (List·Memᴰ·not-nil h)
+whole-frame p q late h = absurd (List·Memᴰ·not-nil h)
 whole-frame p q wholly h = go (List·Memᴰ·cases-cons h)
   where
     go : (wholePacket p ≡ wholePacket q) ⊎ List·Memᴰ (wholePacket p) [] → (wholly ≡ wholly) × (p ≡ q)
@@ -127,21 +140,24 @@ split-at (q ∷ l) p h = go (split-at l p) (List·Memᴰ·cases-cons h)
     go ih (inl e) = ([], l, ap (λ (k : List ℕ). k ∷ l) (sym e))
     go ih (inr k) = let v = ih k in (q ∷ v .0, v .1, ap (λ (y : List (List ℕ)). q ∷ y) (v .2))
 
--- the store along a recording is in order
-along-kept : (s : Settings) → SettingsInRange s → (ps : List (List ℕ)) → Kept s Z cellCount (storeAlong s ps)
-along-kept s range ps = subst (Kept s Z cellCount) (calls-store s ps) (behind-keeps s Z cellCount one-octet (in-use s range) (callsOf ps))
+-- the store that a packet of a recording is joined to is in order
+for-kept : (s : Settings) → SettingsInRange s → (ps : List (List ℕ)) (p : List ℕ) → ((q : List ℕ) → List·Memᴰ q ps → Octets q) →
+    Kept s Z cellCount (storeFor s ps p)
+for-kept s range ps p o =
+    subst (Kept s Z cellCount) (to-store s ps p) (behind-keeps s Z cellCount one-octet (in-use s range) (callsTo s ps p) (plain-to s ps p o))
 
 pub recording-whole : RecordingWhole
-recording-whole s range x p = (there, back)
+recording-whole s range x o p = (there, back)
   where
     there : List·Memᴰ (wholePacket p) (framesOf s x) →
         List·Memᴰ p (packetsOf x) × (length p ≤ longest) × (readPacket s p .refusal .number ≡ 0) × (segmented p ≡ false)
     there h =
         let a = frame-at s (packetsOf x) emptyStore (wholePacket p) h in
         let st = storeAlong s (a .before) in
+        let w0 = for-kept s range (a .before) p (λ q k. packets-octets (length x) x o q (subst (List·Memᴰ q) (sym (a .place)) (Memᴰ·append-left (a .packet ∷ a .after) k))) in
         let v = whole-frame p (a .packet) (cameOf s Z st (a .packet)) (a .its) in
         let c = came-whole s st p (ap (cameOf s Z st) (v .1) ∙ v .0) in
-        let w = in-whole s st p cellCount (sym (arrived-is s Z cellCount st (along-kept s range (a .before)) p) ∙ c .1) in
+        let w = in-whole s (storeFor s (a .before) p) p cellCount (sym (arrived-is s Z cellCount (storeFor s (a .before) p) w0 p) ∙ c .1) in
         let m : List·Memᴰ p (packetsOf x) = subst (List·Memᴰ p) (sym (a .place)) (Memᴰ·append-right (a .before) (List·Memᴰ·head (v .1))) in
         (m, leb-true (length p) longest (c .0), w .0, w .1)
 
@@ -150,9 +166,10 @@ recording-whole s range x p = (there, back)
     back h =
         let a = split-at (packetsOf x) p (h .0) in
         let st = storeAlong s (a .0) in
+        let w0 = for-kept s range (a .0) p (λ q k. packets-octets (length x) x o q (subst (List·Memᴰ q) (sym (a .2)) (Memᴰ·append-left (p ∷ a .1) k))) in
         let c =
         whole-came s st p (le-leb (length p) longest (h .1))
-        (arrived-is s Z cellCount st (along-kept s range (a .0)) p ∙ whole-in s st p cellCount (h .2) (h .3)) in
+        (arrived-is s Z cellCount (storeFor s (a .0) p) w0 p ∙ whole-in s (storeFor s (a .0) p) p cellCount (h .2) (h .3)) in
         subst (λ (y : List (List ℕ)). List·Memᴰ (wholePacket p) (framesFrom s emptyStore y)) (sym (a .2))
         (at-frame s (a .0) p (a .1) emptyStore (wholePacket p)
         (subst (λ (y : Came). List·Memᴰ (wholePacket p) (framesBy p y)) (sym c) (List·Memᴰ·head refl)))

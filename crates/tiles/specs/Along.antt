@@ -10,7 +10,7 @@ use Rattle.cells.specs.Order.{cellSize}
 use Rattle.cells.specs.Messages.{bodyOf}
 use Rattle.packet.specs.Mark.{packetMark}
 use Rattle.steps.specs.Stepping.{Found, nothing, other, cut, whole, foundIn, storeAfter, framed, without}
-use Rattle.steps.specs.Stepping.{Came, over, refused, kept, wholly, message, cameOf}
+use Rattle.steps.specs.Stepping.{Came, over, refused, kept, late, wholly, message, cameOf}
 use Rattle.recording.specs.Recording.{emptyStore}
 use Rattle.recording.specs.Ending.{past}
 
@@ -45,7 +45,8 @@ Sized p = length p ≡ number 2 p 4 + 7
 
 -- ---- the store
 
--- after some packets; one above 32,768 octets is passed over, any other is joined
+-- after some packets; one above 32,768 octets is passed over, any other is joined, and if there is no room for it the record in the lowest
+-- cell is forgotten first
 unfoldable pub storeFrom : Settings → List ℕ → List (List ℕ) → List ℕ
 storeFrom s st [] = st
 storeFrom s st (p ∷ ps) = storeFrom s (storeAfter s cellSize st p) ps
@@ -71,6 +72,7 @@ abbrev pub framesBy : List ℕ → Came → List Frame
 framesBy p over = []
 framesBy p (refused k) = []
 framesBy p kept = []
+framesBy p late = []
 framesBy p wholly = wholePacket p ∷ []
 framesBy p (message r) = joined (r .head .key) (r .head .counter) (bodyOf r) ∷ []
 

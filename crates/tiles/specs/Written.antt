@@ -14,12 +14,12 @@ use Rattle.packet.specs.Format.{SettingsInRange}
 use Rattle.packet.specs.Reading.{readPacket, segmented}
 use Rattle.cells.specs.Segments.{segOf}
 use Rattle.cells.specs.Rows.{Cell}
-use Rattle.cells.specs.Order.{cellSize}
+use Rattle.cells.specs.Order.{cellSize, untakenTo}
 use Rattle.cells.specs.Messages.{look}
 use Rattle.demand3.specs.Cells.{hasFree}
 use Rattle.demand3.specs.Sendings.{Sending, ReadsAs, wholeBody, manyOf, segmentAt, identificationOf, headerOf, keyIn, startOf, IsCut}
 use Rattle.demand3.specs.Presupposed.{MayCome, cellsIn}
-use Rattle.steps.specs.Stepping.{foundIn, longest, framed}
+use Rattle.steps.specs.Stepping.{foundIn, longest, roomed, framed}
 use Rattle.recording.specs.Recording.{cellCount, recorded}
 use Rattle.recording.specs.Ending.{past}
 use Rattle.tiles.specs.Along.{packetsOf, marked, Sized, storeAlong, Frame, wholePacket, joined, frameOctets, framesOf}
@@ -49,20 +49,26 @@ abbrev pub RecordingPackets : Type 0
 RecordingPackets = (ps : List (List ℕ)) (rest : List ℕ) → ((p : List ℕ) → List·Memᴰ p ps → Sized p) → past (foundIn rest) ≡ 0 →
     packetsOf (marked ps ++ rest) ≡ ps
 
--- the 32 cells of the store after some of its packets
-abbrev pub cellsAlong : Settings → List (List ℕ) → List Cell
-cellsAlong s ps = cellsIn s cellSize cellCount (storeAlong s ps)
+-- the store of 32 cells that a packet is joined to, after those before it: the store along them, without the record in the lowest cell if
+-- there was no room for the packet; and its cells
+abbrev pub storeFor : Settings → List (List ℕ) → List ℕ → List ℕ
+storeFor s ps p = roomed s cellSize (storeAlong s ps) p
 
--- if a packet comes that is a segment, fits a cell, and has a key and counter that no cell has, one of the 32 cells is free
+abbrev pub cellsFor : Settings → List (List ℕ) → List ℕ → List Cell
+cellsFor s ps p = cellsIn s cellSize cellCount (storeFor s ps p)
+
+-- if a packet comes that is a segment, fits a cell, and has a key and counter that no record has in its range and no cell has, one of the
+-- 32 cells is free, or one has a record, which is forgotten for it
 abbrev pub RoomAlong : Settings → List ℕ → Type 0
 RoomAlong s x = (before after : List (List ℕ)) (p : List ℕ) → packetsOf x ≡ before ++ p ∷ after →
     readPacket s p .refusal .number ≡ 0 → segmented p ≡ true → 2 + length p ≤ cellSize →
-    look (cellsAlong s before) (segOf p (readPacket s p) .key) (segOf p (readPacket s p) .counter) ≡ none →
-    hasFree (cellsAlong s before) ≡ true
+    untakenTo s cellSize (storeFor s before p) cellCount (segOf p (readPacket s p) .key) (segOf p (readPacket s p) .counter) ≡ true →
+    look (cellsFor s before p) (segOf p (readPacket s p) .key) (segOf p (readPacket s p) .counter) ≡ none →
+    hasFree (cellsFor s before p) ≡ true
 
 -- a recording of at most 32 packets always has room
 abbrev pub RecordingRoom : Type 0
-RecordingRoom = (s : Settings) → SettingsInRange s → (x : List ℕ) → length (packetsOf x) ≤ cellCount → RoomAlong s x
+RecordingRoom = (s : Settings) → SettingsInRange s → (x : List ℕ) → Octets x → length (packetsOf x) ≤ cellCount → RoomAlong s x
 
 -- ---- what is written
 
@@ -98,5 +104,5 @@ RecordingGenuine = (s : Settings) → SettingsInRange s → (ms : List Sending) 
 
 -- the other frames are just those of the unsegmented packets that reading accepts, of at most 32,768 octets; whatever the recording
 abbrev pub RecordingWhole : Type 0
-RecordingWhole = (s : Settings) → SettingsInRange s → (x p : List ℕ) → List·Memᴰ (wholePacket p) (framesOf s x) ↔
+RecordingWhole = (s : Settings) → SettingsInRange s → (x : List ℕ) → Octets x → (p : List ℕ) → List·Memᴰ (wholePacket p) (framesOf s x) ↔
     (List·Memᴰ p (packetsOf x) × (length p ≤ longest) × (readPacket s p .refusal .number ≡ 0) × (segmented p ≡ false))

@@ -58,6 +58,8 @@ const PDU_READ: u64 = 15;
 
 const PDU_WRITE: u64 = 16;
 
+const FORGET: u64 = 17;
+
 // How many parts a domain has at most.
 const LENGTHS: usize = 384;
 
@@ -142,6 +144,10 @@ fn run_arrivals(tag: u64, c: &[u8], store: &mut [u8]) {
     }
     if tag == ARRIVE {
         stores::arrive(c, store);
+        return;
+    }
+    if tag == FORGET {
+        stores::forget(c, store);
     }
 }
 

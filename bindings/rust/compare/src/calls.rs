@@ -2,7 +2,7 @@
 
 use crate::told;
 use orlyukan::{
-    Arrived, Cut, CutPacket, Entry, Header, Joined, Order, Reading, Recording, Refusal, Returned, Route, Salvaged,
+    Arrived, Cut, CutPacket, Entry, Forgot, Header, Joined, Order, Reading, Recording, Refusal, Returned, Route, Salvaged,
     SegmentCounter, Sender, Sent, SequenceCount, Settings, Taken, Which, Written,
 };
 
@@ -36,6 +36,7 @@ pub trait Calls {
     fn in_order(&self, s: Settings, store: &[u8]) -> Order;
     fn arrive(&self, s: Settings, store: &mut [u8], packet: &[u8]) -> Arrived;
     fn take(&self, s: Settings, store: &mut [u8], out: &mut [u8]) -> Taken;
+    fn forget(&self, s: Settings, store: &mut [u8], number: u64) -> Forgot;
     fn join(&self, s: Settings, store: &mut [u8], packet: &[u8], out: &mut [u8]) -> Joined;
     fn view<'a>(&self, packet: &'a [u8], joined: &'a [u8], which: Which, place: u64, length: u64) -> &'a [u8];
     fn join_recording(&self, s: Settings, recording: &[u8], out: &mut [u8]) -> Recording;
@@ -99,6 +100,10 @@ impl Calls for Library {
 
     fn take(&self, s: Settings, store: &mut [u8], out: &mut [u8]) -> Taken {
         orlyukan::take(s, store, out)
+    }
+
+    fn forget(&self, s: Settings, store: &mut [u8], number: u64) -> Forgot {
+        orlyukan::forget(s, store, number)
     }
 
     fn join(&self, s: Settings, store: &mut [u8], packet: &[u8], out: &mut [u8]) -> Joined {
@@ -194,6 +199,10 @@ impl Calls for Model {
 
     fn take(&self, s: Settings, store: &mut [u8], out: &mut [u8]) -> Taken {
         told::taken(model::take(told::settings(s), store, out))
+    }
+
+    fn forget(&self, s: Settings, store: &mut [u8], number: u64) -> Forgot {
+        told::forgot(model::forget(told::settings(s), store, number))
     }
 
     fn join(&self, s: Settings, store: &mut [u8], packet: &[u8], out: &mut [u8]) -> Joined {

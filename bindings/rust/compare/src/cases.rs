@@ -10,7 +10,7 @@ use orlyukan::{
 };
 
 /// The change requests that have landed and have cases of their own, in the order in which they landed.
-const LANDED: [&str; 7] = ["T-01", "T-04", "T-12", "T-10", "T-09", "T-08", "T-02"];
+const LANDED: [&str; 8] = ["T-01", "T-04", "T-12", "T-10", "T-09", "T-08", "T-02", "T-06"];
 
 /// The cases of a call, from the latest folder that has some, or nothing, with a word, if the folder is missing.
 pub fn load(call: &str) -> Option<Vec<Json>> {
@@ -175,6 +175,7 @@ pub fn arrived(json: &Json) -> Arrived {
         "whole" => Some(Kind::Whole),
         "stored" => Some(Kind::Stored),
         "held" => Some(Kind::Held),
+        "taken" => Some(Kind::Taken),
         other => {
             assert_eq!(other, "", "no kind of arrival");
             None

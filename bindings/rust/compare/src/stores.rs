@@ -1,4 +1,4 @@
-//! Stores by chance: segments of a few messages in some cells, then perhaps damaged in one place.
+//! Stores by chance: segments of a few messages in some cells, records of some that were taken, then perhaps damaged in one place.
 
 use crate::headers::{self, Owned};
 use crate::packets::{self, packet_of};
@@ -85,6 +85,45 @@ impl Store {
         cell[..2].copy_from_slice(&[0x4d, 0x53]);
         cell[2..2 + packet.len()].copy_from_slice(packet);
     }
+
+    /// The record of a message: the key of a segment, and the counters from a first to a last.
+    fn put_record(&mut self, s: Settings, cell: usize, packet: &[u8], first: u32, last: u32) {
+        let Ok(read) = model::read(told::settings(s), packet) else { return };
+        let counter_at = 27 + usize::from(read.has(0)) + usize::from(read.has(1));
+        let header = [&packet[6..counter_at], &packet[counter_at + 4..read.body.place as usize]].concat();
+        let record = [b"MT", &packet[..2], &header, &first.to_be_bytes(), &last.to_be_bytes()].concat();
+        let cell = &mut self.octets[cell * CELL..][..CELL];
+        cell.fill(0);
+        cell[..record.len()].copy_from_slice(&record);
+    }
+}
+
+/// The counter of a segment.
+fn counter_of(s: Settings, packet: &[u8]) -> u32 {
+    model::read(told::settings(s), packet).map_or(0, |read| read.counter)
+}
+
+/// Records in some cells that are free: of a message of the store, mostly of counters beside those that are held, or of one that is not
+/// there. Now and then over its segments too, or with a last that is not reached.
+fn remember(r: &mut Random, s: Settings, store: &mut Store) {
+    for cell in 0..store.octets.len() / CELL {
+        let is_free = store.octets[cell * CELL] == 0;
+        if !is_free || r.once_in(2) {
+            continue;
+        }
+        let other = message(r, s);
+        let of = if r.once_in(2) { &other } else { &store.messages[r.index(store.messages.len())] };
+        let (packet, begin) = (of.packets[0].clone(), counter_of(s, &of.packets[0]));
+        let count = of.packets.len() as u32;
+        let steps = r.pick(&[1, 1, 2, 3, 4094, 4095]) as u32;
+        let first = match r.below(12) {
+            0 => begin.wrapping_add(r.below(6) as u32),
+            1..=5 => begin.wrapping_add(count),
+            _ => begin.wrapping_sub(steps + 1),
+        };
+        let steps = if r.once_in(40) { r.pick(&[0, 4096, u64::from(u32::MAX)]) as u32 } else { steps };
+        store.put_record(s, cell, &packet, first, first.wrapping_add(steps));
+    }
 }
 
 /// Puts most segments of the messages into cells in any order.
@@ -112,9 +151,14 @@ pub fn in_order(r: &mut Random, s: Settings) -> Store {
         messages.push(next);
     }
     let segments: usize = messages.iter().map(|m| m.packets.len()).sum();
-    let cells = (segments as u64 + r.below(4)).saturating_sub(r.below(2)).max(1);
+    let remembers = r.once_in(2);
+    let more = if remembers { r.below(6) } else { 0 };
+    let cells = (segments as u64 + r.below(4) + more).saturating_sub(r.below(2)).max(1);
     let mut store = Store { octets: vec![0; cells as usize * CELL], messages };
     fill(r, &mut store);
+    if remembers {
+        remember(r, s, &mut store);
+    }
     store
 }
 
@@ -127,7 +171,7 @@ pub fn damage(r: &mut Random, store: &mut Store) {
         0 => store.octets.truncate(r.index(2) * 1023 + (cells - 1) * r.index(CELL)),
         1 => store.octets.push(0),
         2 => store.octets[at + 2 + r.index(CELL - 2)] ^= 1 << r.below(8),
-        3 => store.octets[at + r.index(2)] ^= 1 << r.below(8),
+        3 => store.octets[at + r.index(2)] ^= r.pick(&[1, 2, 3, 4, 7, 8, 16, 32, 64, 128]) as u8,
         4 => {
             let to = r.index(cells) * CELL;
             store.octets.copy_within(at..at + CELL, to);
@@ -153,10 +197,24 @@ pub fn any(r: &mut Random, s: Settings) -> Store {
     store
 }
 
-/// A packet to arrive at a store: a segment of its messages as it was or changed, one of another, a whole packet, or noise.
+/// A segment's counter made another by some steps, forward or back.
+fn moved(packet: &mut [u8], steps: u32) {
+    let at = 27 + usize::from(packet[26] >> 7) + usize::from(packet[26] >> 6 & 1);
+    if let Some(octets) = packet.get_mut(at..at + 4) {
+        let counter = u32::from_be_bytes(octets.try_into().expect("four octets")).wrapping_add(steps);
+        octets.copy_from_slice(&counter.to_be_bytes());
+    }
+}
+
+/// A packet to arrive at a store: a segment of its messages as it was or changed, one of another, one with a counter before or after them,
+/// a whole packet, or noise.
 pub fn arriving(r: &mut Random, s: Settings, store: &Store) -> Vec<u8> {
     let message = &store.messages[r.index(store.messages.len())];
     let mut packet = message.packets[r.index(message.packets.len())].clone();
+    if r.once_in(4) {
+        let steps = r.below(8) as u32;
+        moved(&mut packet, if r.once_in(2) { steps } else { steps.wrapping_neg() });
+    }
     match r.below(12) {
         0..=2 => {}
         3 => packet[3] ^= 1 << r.below(8),

@@ -2,8 +2,8 @@
 
 use model::Refusal;
 use orlyukan::{
-    Apid, Arrived, Cut, CutPacket, Entry, Header, Joined, Kind, Order, Place, Reading, Recording, Returned, Route, Salvaged,
-    SecondaryApid, SegmentCounter, Sender, Sent, SequenceCount, Settings, Stop, Taken, Which, Written,
+    Apid, Arrived, Cut, CutPacket, Entry, Forgot, Header, Joined, Kind, Order, Place, Reading, Recording, Returned, Route,
+    Salvaged, SecondaryApid, SegmentCounter, Sender, Sent, SequenceCount, Settings, Stop, Taken, Which, Written,
 };
 
 pub fn settings(s: Settings) -> model::Settings {
@@ -139,6 +139,7 @@ pub fn arrived(answer: Result<model::Kind, Refusal>) -> Arrived {
         Ok(model::Kind::Whole) => Kind::Whole,
         Ok(model::Kind::Stored) => Kind::Stored,
         Ok(model::Kind::Held) => Kind::Held,
+        Ok(model::Kind::Taken) => Kind::Taken,
         Err(Refusal { number, off, began }) => {
             return Arrived { refusal: number.into(), kind: None, off: off.into(), began: began.into() }
         }
@@ -153,6 +154,10 @@ pub fn taken(answer: Result<model::Taken, Refusal>) -> Taken {
         }
         Err(Refusal { number, .. }) => Taken { refusal: number.into(), ..Taken::default() },
     }
+}
+
+pub fn forgot(answer: Result<(), Refusal>) -> Forgot {
+    Forgot { refusal: answer.err().map_or(0, |refusal| refusal.number.into()) }
 }
 
 pub fn joined(answer: Result<model::Joined, Refusal>) -> Joined {

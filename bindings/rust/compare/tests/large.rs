@@ -1,4 +1,4 @@
-//! Stores of up to 4,096 cells, with keys that differ in little.
+//! Stores of up to 4,096 cells, with keys that differ in little, and with records of messages that were taken.
 
 use compare::calls::{Calls, Library, Model, Numbers};
 use compare::random::Random;
@@ -117,5 +117,57 @@ fn many_messages() {
         assert!(ours == theirs && our_out == their_out);
         assert_eq!(taken.refusal, if k < 60 { 0 } else { 20 });
     }
+    let records = ours.chunks(CELL).filter(|cell| cell.starts_with(b"MT")).count();
+    assert_eq!(records, 60, "each message has its record");
+    for packet in &packets {
+        assert_eq!(both("a late repeat", &ours, packet, 300), (0, 20));
+    }
+    for cell in 0..301 {
+        let forgot = Library.forget(USUAL, &mut ours, cell);
+        assert_eq!(forgot, Model.forget(USUAL, &mut theirs, cell), "cell {cell}");
+        assert!(ours == theirs, "cell {cell}");
+    }
     assert!(ours.iter().all(|octet| *octet == 0), "every cell is free again");
+}
+
+/// The record of a message of a transaction id, with counters from a first to a last.
+fn record(transaction: u64, first: u32, last: u32) -> Vec<u8> {
+    let packet = segment(transaction, 1, 0);
+    let record = [b"MT", &packet[..2], &packet[6..27], &first.to_be_bytes(), &last.to_be_bytes()].concat();
+    let mut cell = vec![0; CELL];
+    cell[..record.len()].copy_from_slice(&record);
+    cell
+}
+
+/// The transaction id of a record, its first and its last counter, and the counter of a segment of that key outside every record.
+type Shape = fn(u32) -> (u64, u32, u32, u32);
+
+/// Records in half the cells and segments just outside them in the others: of one key and of many, apart and over each other. Then a segment
+/// inside a record.
+#[test]
+fn records() {
+    let half = CELLS as u32 / 2;
+    let shapes: [(&str, Shape); 4] = [
+        ("one key, two counters each", |k| (0, k << 12, (k << 12) + 1, (k << 12).wrapping_sub(1))),
+        ("one key, 4,095 counters each", |k| (0, k << 12, (k << 12) + 4094, (k << 12).wrapping_sub(1))),
+        ("many keys, round the end", |k| (u64::from(k), 0u32.wrapping_sub(k + 1), 4094 - k, 4095 - k)),
+        ("one key, over each other", |k| (0, k % 7, k % 7 + 4095, 5000 + k)),
+    ];
+    for (what, shape) in shapes {
+        let mut full = vec![];
+        let mut outside = vec![];
+        for (transaction, first, last, beside) in (0..half).map(shape) {
+            full.extend(record(transaction, first, last));
+            outside.push(segment(transaction, 0, beside.into()));
+        }
+        full.extend(store(half as usize, &outside));
+        let (transaction, first, last, _) = shape(1);
+        for counter in [first, last] {
+            assert_eq!(both(what, &full, &segment(transaction, 2, counter.into()), 100), (0, 20), "{what}: {counter}");
+        }
+        assert_eq!(both(what, &full, &segment(7777, 0, 4096), 100), (19, 20), "{what}");
+        let end = full.len() - CELL;
+        full[end..].copy_from_slice(&store(1, &[segment(transaction, 0, last.into())]));
+        assert_eq!(both(what, &full, &segment(7777, 0, 4096), 100), (16, 16), "{what}");
+    }
 }

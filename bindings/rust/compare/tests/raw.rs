@@ -8,8 +8,8 @@ use compare::packets;
 use compare::random::Random;
 use compare::stores;
 use orlyukan::raw::{
-    self, RawAfter, RawArrived, RawCut, RawHeader, RawJoined, RawNumber, RawRecording, RawSalvaged, RawSender, RawTaken,
-    RawView,
+    self, RawAfter, RawArrived, RawCut, RawForgot, RawHeader, RawJoined, RawNumber, RawRecording, RawSalvaged, RawSender,
+    RawTaken, RawView,
 };
 use orlyukan::{Header, Joined, Place, Reading, SegmentCounter, Sender, SequenceCount};
 
@@ -48,6 +48,10 @@ fn answers_are_filled() {
         unsafe { raw::orl_take(s.t, s.profile, one.as_mut_ptr(), one.len(), out.as_mut_ptr(), out.len(), &mut taken) };
         let answer = Library.take(s, &mut other, &mut second);
         assert_eq!(taken, RawTaken { refusal: answer.refusal, h: answer.h, b: answer.b, counter: answer.counter.0 });
+
+        let (mut forgot, number): (RawForgot, u64) = (spoiled(), r.below(4));
+        unsafe { raw::orl_forget(s.t, s.profile, one.as_mut_ptr(), one.len(), number, &mut forgot) };
+        assert_eq!(forgot, RawForgot { refusal: Library.forget(s, &mut other, number).refusal });
 
         let mut joined: RawJoined = spoiled();
         let (to, room) = (out.as_mut_ptr(), out.len());

@@ -27,7 +27,7 @@ fn in_order() {
 #[test]
 fn arrive() {
     let (mut r, mut tally) = (Random::new(12), Tally::new("arrive"));
-    let mut kinds = [0u64; 3];
+    let mut kinds = [0u64; 4];
     for case in 0..CASES {
         let s = r.settings();
         let given = stores::any(&mut r, s);
@@ -42,7 +42,7 @@ fn arrive() {
         }
         tally.meet(answer.refusal);
     }
-    println!("arrive: whole {}, stored {}, held {}", kinds[0], kinds[1], kinds[2]);
+    println!("arrive: whole {}, stored {}, held {}, taken {}", kinds[0], kinds[1], kinds[2], kinds[3]);
     assert!(!kinds.contains(&0), "a kind of arrival was never met");
     tally.close(&(1..=19).chain([27, 28]).collect::<Vec<u64>>(), CASES);
 }
@@ -76,6 +76,25 @@ fn take() {
 }
 
 #[test]
+fn forget() {
+    let (mut r, mut tally) = (Random::new(17), Tally::new("forget"));
+    for case in 0..CASES {
+        let s = r.settings();
+        let given = stores::any(&mut r, s);
+        let cells = given.octets.len() as u64 / 1024;
+        let far = r.pick(&[cells, cells + 1, 4096, 1 << 32, (1 << 32) + 1, u64::MAX]);
+        let number = if r.once_in(8) { far } else { r.below(cells.max(1)) };
+        let (mut ours, mut theirs) = (given.octets.clone(), given.octets.clone());
+        let answer = Library.forget(s, &mut ours, number);
+        assert_eq!(answer, Model.forget(s, &mut theirs, number), "case {case}: {s:?}, {number}");
+        assert!(ours == theirs, "case {case}: the stores differ: {s:?}, {number}");
+        assert!(answer.refusal == 0 || ours == given.octets, "case {case}: the store changed on a refusal");
+        tally.meet(answer.refusal);
+    }
+    tally.close(&[15, 16, 31], CASES);
+}
+
+#[test]
 fn join() {
     let (mut r, mut tally) = (Random::new(14), Tally::new("join"));
     let mut which = [0u64; 3];
@@ -102,11 +121,11 @@ fn join() {
     tally.close(&(1..=21).chain([27, 28]).collect::<Vec<u64>>(), CASES);
 }
 
-/// One store through many arrivals, takings and joinings, each program with its own.
+/// One store through many arrivals, takings, joinings and forgettings, each program with its own.
 #[test]
 fn many_steps() {
     let mut r = Random::new(15);
-    let mut taken = 0;
+    let (mut taken, mut late, mut forgotten) = (0, 0, 0);
     for run in 0..400 {
         let s = r.good_settings();
         let cells = r.between(2, 24) as usize;
@@ -129,16 +148,23 @@ fn many_steps() {
                     assert_eq!(answer, Model.join(s, &mut theirs, &packet, &mut their_out), "run {run}, step {step}");
                     taken += u64::from(answer.refusal == 0);
                 }
+                2 => {
+                    let number = r.below(cells as u64 + 1);
+                    let answer = Library.forget(s, &mut ours, number);
+                    assert_eq!(answer, Model.forget(s, &mut theirs, number), "run {run}, step {step}");
+                    forgotten += u64::from(answer.refusal == 0);
+                }
                 _ => {
                     let answer = Library.arrive(s, &mut ours, &packet);
                     assert_eq!(answer, Model.arrive(s, &mut theirs, &packet), "run {run}, step {step}");
+                    late += u64::from(answer.kind == Some(Kind::Taken));
                 }
             }
             assert!(ours == theirs && our_out == their_out, "run {run}, step {step}: buffers differ");
         }
     }
-    println!("many_steps: 120000 steps, {taken} messages taken");
-    assert!(taken > 1000);
+    println!("many_steps: 120000 steps, {taken} messages taken, {late} late repeats, {forgotten} records forgotten");
+    assert!(taken > 500 && late > 500 && forgotten > 500);
 }
 
 #[test]

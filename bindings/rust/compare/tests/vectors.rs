@@ -84,6 +84,16 @@ fn take() {
 }
 
 #[test]
+fn forget() {
+    each("forget", |program, case, expect| {
+        let mut store = case.octets("store");
+        let answer = program.forget(cases::settings(case), &mut store, case.number("number"));
+        assert_eq!(answer.refusal, expect.get("answer").number("refusal"), "{}: {case:?}", program.name());
+        assert_eq!(store, expect.octets("store"), "{}: {case:?}", program.name());
+    });
+}
+
+#[test]
 fn join() {
     each("join", |program, case, expect| {
         let (mut store, mut out) = (case.octets("store"), case.octets("out"));

@@ -24,7 +24,7 @@ pub use read::{read, Reading, Span};
 pub use recording::{join_recording, join_recording_into, recording_end, Stop};
 pub use salvage::{salvage, Listed, Salvaged};
 pub use sender::{after_packet, after_segment, next_sequence_count};
-pub use store::{arrive, in_order, take, Kind, Order, Taken, CELL, CELLS};
+pub use store::{arrive, forget, in_order, take, Kind, Order, Taken, CELL, CELLS};
 pub use values::{Refusal, Sender, Settings, Values};
 pub use varint::{read_varint, write_varint};
 pub use write::{write, write_old};

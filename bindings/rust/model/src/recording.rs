@@ -16,28 +16,57 @@ const MESSAGE_MARK: [u8; 2] = [0x4d, 0x4d];
 const MOST: usize = 32_768;
 const MOST_HELD: usize = 1022;
 
+/// What stands in a cell: nothing, a segment, or of a message that went out its first segment and its last's counter.
+#[derive(Clone, Copy)]
+enum Room<'a> {
+    Free,
+    Held(Segment<'a>),
+    Taken(Segment<'a>, u32),
+}
+
 /// The cells; the counters stand apart, to be looked through quickly.
 struct Rooms<'a> {
-    held: [Option<Segment<'a>>; ROOMS],
+    rooms: [Room<'a>; ROOMS],
     counters: [u32; ROOMS],
 }
 
 impl<'a> Rooms<'a> {
     fn find(&self, like: &Segment, counter: u32) -> Option<usize> {
-        (0..ROOMS).find(|i| self.counters[*i] == counter && self.held[*i].is_some_and(|s| s.same_key(like)))
+        (0..ROOMS).find(|i| self.counters[*i] == counter && matches!(&self.rooms[*i], Room::Held(s) if s.same_key(like)))
     }
 
     fn held(&self, room: usize) -> Segment<'a> {
-        self.held[room].expect("a room that was found")
+        let Room::Held(segment) = self.rooms[room] else { panic!("a room that was found") };
+        segment
     }
 
-    /// Puts a new segment into the lowest free cell: whether the segment is held now, by this or from before.
+    /// Whether a segment is of a message that went out and is not forgotten.
+    fn was_taken(&self, segment: &Segment) -> bool {
+        self.rooms.iter().any(|room| match room {
+            Room::Taken(first, last) => {
+                let steps = last.wrapping_sub(first.counter);
+                segment.counter.wrapping_sub(first.counter) <= steps && first.same_key(segment)
+            }
+            _ => false,
+        })
+    }
+
+    /// The lowest free cell; if there is none, the lowest one with a message that went out, which is forgotten.
+    fn free(&self) -> Option<usize> {
+        let free = self.rooms.iter().position(|room| matches!(room, Room::Free));
+        free.or_else(|| self.rooms.iter().position(|room| matches!(room, Room::Taken(..))))
+    }
+
+    /// Puts a new segment into a free cell: whether the segment is held now, by this or from before.
     fn arrive(&mut self, segment: Segment<'a>) -> bool {
+        if self.was_taken(&segment) {
+            return false;
+        }
         if let Some(room) = self.find(&segment, segment.counter) {
             return self.held(room).same_rest(&segment);
         }
-        let Some(free) = self.held.iter().position(Option::is_none) else { return false };
-        self.held[free] = Some(segment);
+        let Some(free) = self.free() else { return false };
+        self.rooms[free] = Room::Held(segment);
         self.counters[free] = segment.counter;
         true
     }
@@ -77,9 +106,9 @@ impl<'a> Rooms<'a> {
         Some(rooms)
     }
 
-    /// Writes a complete message and frees its rooms.
+    /// Writes a complete message and frees its rooms, but that of its first, where it is kept in mind.
     fn hand_out(&mut self, rooms: &[usize], out: &mut Vec<u8>) {
-        let first = self.held(rooms[0]);
+        let (first, last) = (self.held(rooms[0]), self.held(rooms[rooms.len() - 1]));
         let body: usize = rooms.iter().map(|room| self.held(*room).body().len()).sum();
         let (before, after) = first.header();
         begin(2 + first.h() + body, out);
@@ -88,8 +117,9 @@ impl<'a> Rooms<'a> {
         out.extend_from_slice(after);
         for room in rooms {
             out.extend_from_slice(self.held(*room).body());
-            self.held[*room] = None;
+            self.rooms[*room] = Room::Free;
         }
+        self.rooms[rooms[0]] = Room::Taken(first, last.counter);
     }
 }
 
@@ -120,7 +150,7 @@ pub fn join_recording(settings: impl Into<Settings>, recording: &[u8], room: usi
 /// The same, under settings in range, after what stands in the output already.
 pub fn join_recording_into(settings: impl Into<Settings>, recording: &[u8], out: &mut Vec<u8>) {
     let settings = settings.into();
-    let mut rooms = Rooms { held: [None; ROOMS], counters: [0; ROOMS] };
+    let mut rooms = Rooms { rooms: [Room::Free; ROOMS], counters: [0; ROOMS] };
     let mut rest = recording;
     while let Some((packet, after)) = next_packet(rest) {
         rest = after;

@@ -45,6 +45,12 @@ impl<'a> Segment<'a> {
         self.id() == other.id() && self.header() == other.header()
     }
 
+    /// Two octets of identification and the header without its counter: what names a message together with its counters.
+    pub fn key(&self) -> Vec<u8> {
+        let (before, after) = self.header();
+        [self.id(), before, after].concat()
+    }
+
     /// Whether flags and body agree too.
     pub fn same_rest(&self, other: &Segment) -> bool {
         self.flags == other.flags && self.body() == other.body()

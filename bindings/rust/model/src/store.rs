@@ -1,4 +1,4 @@
-//! The store of arrived segments: its order, arrival and taking.
+//! The store of arrived segments and of records of messages that were taken: its order, arrival, taking and forgetting.
 
 use std::collections::HashMap;
 
@@ -12,9 +12,10 @@ use crate::{CONTINUATION, FIRST, LAST, PRIMARY, SEGMENTS_LIMIT, UNSEGMENTED};
 pub const CELL: usize = 1024;
 /// The most cells of a store.
 pub const CELLS: usize = 4096;
-/// The octets of the mark before a record, and of the largest packet after it.
+/// The octets of the mark of a cell, and of the largest packet after it.
 const MARK: usize = 2;
 const HELD: [u8; MARK] = [0x4d, 0x53];
+const TAKEN: [u8; MARK] = [0x4d, 0x54];
 const ROOM: usize = CELL - MARK;
 static ZERO: [u8; CELL] = [0; CELL];
 
@@ -24,6 +25,7 @@ pub enum Kind {
     Whole,
     Stored,
     Held,
+    Taken,
 }
 
 /// A taking's answer: H, B and the first counter.
@@ -34,32 +36,91 @@ pub struct Taken {
     pub counter: u32,
 }
 
-/// A store in order has so many cells, and holds so many segments.
+/// A store in order has so many cells, holds so many segments, and has so many records of messages that were taken.
 #[derive(Clone, Copy, Debug, PartialEq, Eq)]
 pub struct Order {
     pub cells: usize,
     pub held: usize,
+    pub taken: usize,
 }
 
-/// What stands in the cells of a store in order.
-struct Index<'a> {
-    cells: Vec<Option<Segment<'a>>>,
-    places: HashMap<Segment<'a>, u16, Build>,
+/// The counters of a message that was taken, from its first segment to its last; 0 follows the largest.
+#[derive(Clone, Copy, Debug)]
+struct Range {
+    first: u32,
+    last: u32,
 }
 
-/// What stands in a cell: nothing in a free one, a segment in a held one; 16 in any other.
-fn look(settings: Settings, cell: &[u8]) -> Result<Option<Segment<'_>>, Refusal> {
-    if !cell.starts_with(&HELD) {
-        hold(cell == ZERO, 16)?;
-        return Ok(None);
+impl Range {
+    fn steps(self) -> u32 {
+        self.last.wrapping_sub(self.first)
     }
+
+    fn has(self, counter: u32) -> bool {
+        counter.wrapping_sub(self.first) <= self.steps()
+    }
+}
+
+/// The record of a message that was taken: its identification and its header without a counter, and its counters.
+#[derive(Clone, Copy, Debug)]
+struct Record<'a> {
+    key: &'a [u8],
+    range: Range,
+}
+
+/// What stands in a cell.
+#[derive(Clone, Copy, Debug)]
+enum Content<'a> {
+    Free,
+    Held(Segment<'a>),
+    Taken(Record<'a>),
+}
+
+/// What stands in the cells of a store in order: the cell of each segment, and the counters of all records of a key.
+struct Index<'a> {
+    cells: Vec<Content<'a>>,
+    places: HashMap<Segment<'a>, u16, Build>,
+    taken: HashMap<&'a [u8], Vec<Range>, Build>,
+}
+
+/// What stands in a cell; 16 if it is neither free nor held nor the record of a message that was taken.
+fn look(settings: Settings, cell: &[u8]) -> Result<Content<'_>, Refusal> {
+    if cell.starts_with(&HELD) {
+        return look_held(settings, cell).map(Content::Held);
+    }
+    if cell.starts_with(&TAKEN) {
+        return look_taken(settings, cell).map(Content::Taken);
+    }
+    hold(cell == ZERO, 16)?;
+    Ok(Content::Free)
+}
+
+/// The record in a cell. Its header is judged as the one of a first segment, with a counter put back after the ids and a body of all that
+/// follows; where that body begins tells where the header ends.
+fn look_taken(settings: Settings, cell: &[u8]) -> Result<Record<'_>, Refusal> {
+    let after = &cell[MARK + 2..];
+    let counter_at = 21 + usize::from(after[20] >> 7) + usize::from(after[20] >> 6 & 1);
+    let length = (after.len() + 4 - 1) as u16;
+    let front = [&cell[MARK..MARK + 2], &[0x40, 0], &length.to_be_bytes()].concat();
+    let packet = [&front, &after[..counter_at], &[0; 4], &after[counter_at..]].concat();
+    let h = read(settings, &packet).map_err(|_| refusal(16))?.body.place as usize - PRIMARY - 4;
+    let (key, rest) = cell[MARK..].split_at(2 + h);
+    let number = |at: usize| u32::from_be_bytes([rest[at], rest[at + 1], rest[at + 2], rest[at + 3]]);
+    let range = Range { first: number(0), last: number(4) };
+    hold((1..SEGMENTS_LIMIT).contains(&u64::from(range.steps())), 16)?;
+    hold(rest[8..] == ZERO[..rest.len() - 8], 16)?;
+    Ok(Record { key, range })
+}
+
+/// The segment in a cell.
+fn look_held(settings: Settings, cell: &[u8]) -> Result<Segment<'_>, Refusal> {
     let length = usize::from(u16::from_be_bytes([cell[MARK + 4], cell[MARK + 5]])) + 7;
     hold(length <= ROOM, 16)?;
     let (packet, tail) = cell[MARK..].split_at(length);
     hold(tail == &ZERO[..tail.len()], 16)?;
     let reading = read(settings, packet).map_err(|_| refusal(16))?;
     hold(reading.flags != UNSEGMENTED, 16)?;
-    Ok(Some(Segment::new(packet, &reading)))
+    Ok(Segment::new(packet, &reading))
 }
 
 impl<'a> Index<'a> {
@@ -67,16 +128,26 @@ impl<'a> Index<'a> {
     fn new(settings: Settings, store: &'a [u8]) -> Result<Self, Refusal> {
         let count = store.len() / CELL;
         hold(store.len() % CELL == 0 && (1..=CELLS).contains(&count), 16)?;
-        let mut cells = Vec::with_capacity(count);
-        let mut places = HashMap::with_capacity_and_hasher(count, Build::default());
+        let cells = Vec::with_capacity(count);
+        let places = HashMap::with_capacity_and_hasher(count, Build::default());
+        let mut index = Index { cells, places, taken: HashMap::default() };
         for (i, cell) in store.chunks_exact(CELL).enumerate() {
             let found = look(settings, cell)?;
-            if let Some(segment) = found {
-                hold(places.insert(segment, i as u16).is_none(), 16)?;
+            match found {
+                Content::Free => {}
+                Content::Held(segment) => hold(index.places.insert(segment, i as u16).is_none(), 16)?,
+                Content::Taken(record) => index.taken.entry(record.key).or_default().push(record.range),
             }
-            cells.push(found);
+            index.cells.push(found);
         }
-        Ok(Index { cells, places })
+        hold(index.taken.is_empty() || !index.places.keys().any(|segment| index.was_taken(segment)), 16)?;
+        Ok(index)
+    }
+
+    /// Whether a segment is of a message that was taken.
+    fn was_taken(&self, segment: &Segment) -> bool {
+        let ranges = if self.taken.is_empty() { None } else { self.taken.get(&segment.key()[..]) };
+        ranges.is_some_and(|ranges| ranges.iter().any(|range| range.has(segment.counter)))
     }
 
     fn cell_of(&self, segment: &Segment) -> Option<usize> {
@@ -84,7 +155,8 @@ impl<'a> Index<'a> {
     }
 
     fn held(&self, cell: usize) -> Segment<'a> {
-        self.cells[cell].expect("a place in the index is a held cell")
+        let Content::Held(segment) = self.cells[cell] else { panic!("a place in the index is a held cell") };
+        segment
     }
 
     /// The cells of the message that begins in a cell, if it is complete.
@@ -109,7 +181,7 @@ impl<'a> Index<'a> {
     /// The cells of the complete message with its first in the lowest cell.
     fn complete(&self) -> Option<Vec<usize>> {
         let mut run = Vec::new();
-        let firsts = self.cells.iter().enumerate().filter(|(_, held)| held.is_some_and(|s| s.flags == FIRST));
+        let firsts = self.cells.iter().enumerate().filter(|(_, c)| matches!(c, Content::Held(s) if s.flags == FIRST));
         for (cell, _) in firsts {
             if self.run(cell, &mut run) {
                 return Some(run);
@@ -124,7 +196,8 @@ pub fn in_order(settings: impl Into<Settings>, store: &[u8]) -> Result<Order, Re
     let settings = settings.into();
     settings.test()?;
     let index = Index::new(settings, store)?;
-    Ok(Order { cells: index.cells.len(), held: index.places.len() })
+    let taken = index.cells.iter().filter(|c| matches!(c, Content::Taken(_))).count();
+    Ok(Order { cells: index.cells.len(), held: index.places.len(), taken })
 }
 
 /// Takes a packet into the store.
@@ -136,13 +209,16 @@ pub fn arrive(settings: impl Into<Settings>, store: &mut [u8], packet: &[u8]) ->
     if reading.flags == UNSEGMENTED {
         return Ok(Kind::Whole);
     }
-    hold(packet.len() <= ROOM, 17)?;
     let segment = Segment::new(packet, &reading);
+    if index.was_taken(&segment) {
+        return Ok(Kind::Taken);
+    }
+    hold(packet.len() <= ROOM, 17)?;
     if let Some(cell) = index.cell_of(&segment) {
         hold(index.held(cell).same_rest(&segment), 18)?;
         return Ok(Kind::Held);
     }
-    let free = index.cells.iter().position(Option::is_none).ok_or(refusal(19))?;
+    let free = index.cells.iter().position(|c| matches!(c, Content::Free)).ok_or(refusal(19))?;
     let cell = &mut store[free * CELL..][..MARK + packet.len()];
     cell[..MARK].copy_from_slice(&HELD);
     cell[MARK..].copy_from_slice(packet);
@@ -169,10 +245,24 @@ pub fn take(settings: impl Into<Settings>, store: &mut [u8], out: &mut [u8]) -> 
         body[..piece.len()].copy_from_slice(piece);
         body = &mut body[piece.len()..];
     }
-    for cell in run {
+    let last = index.held(run[run.len() - 1]).counter;
+    let record = [&TAKEN[..], &first.key(), &first.counter.to_be_bytes(), &last.to_be_bytes()].concat();
+    for cell in &run {
         store[cell * CELL..][..CELL].fill(0);
     }
+    store[run[0] * CELL..][..record.len()].copy_from_slice(&record);
     Ok(taken)
+}
+
+/// Forgets the record in a cell, which is free then; 31 if it has none.
+pub fn forget(settings: impl Into<Settings>, store: &mut [u8], number: u64) -> Result<(), Refusal> {
+    let settings = settings.into();
+    settings.test()?;
+    let index = Index::new(settings, store)?;
+    let cell = usize::try_from(number).ok().and_then(|number| index.cells.get(number));
+    hold(matches!(cell, Some(Content::Taken(_))), 31)?;
+    store[number as usize * CELL..][..CELL].fill(0);
+    Ok(())
 }
 
 /// The packet identification and the header octets without counter that a taking of a whole packet would write, then its body.

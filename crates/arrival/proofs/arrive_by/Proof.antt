@@ -5,7 +5,7 @@ use denote.Ref.{now}
 use lib.ListN.{length}
 use Rattle.arrival.specs.Told.{arrivalOf}
 use Rattle.arrival.specs.Arriving.{storeWith}
-use Rattle.arrival.proofs.Arrivals.{unstored-store, told-asked, told-fits, told-segment, told-other}
+use Rattle.arrival.proofs.Arrivals.{unstored-store, told-asked, told-segment, told-other}
 use borrow.Author.Needs.{needs}
 use Rattle.arrival.proofs.arrive_by.Statement.{statement}
 use Rattle.arrival.proofs.arrive_by.Tie as tie
@@ -34,13 +34,14 @@ find-by-requires c κs =
     (c .before .before .before .if1 .left) (λ i. g .before .shared-slice-known2 .given i .fits) in
     (k .pre .0, (a, λ e. k .pre .1))
 
-store-found-requires : tie.Need-store-found-requires
-store-found-requires c κs =
+store-segment-requires : tie.Need-store-segment-requires
+store-segment-requires c κs =
     let g = c .before .before .before .before .before .before .before in
     let k = g .before .before .before .before in
-    let l = told-fits _ _ (now (k .args .store)) _ (k .args .n) (g .read .ensures .0) (c .before .before .before .before .before .before .is-segment .ensures)
-    (c .before .before .before .before .before .if1 .left) in
-    (k .pre .0, (l, c .before .find-by .ensures))
+    let a = told-asked _ (length (now (k .args .zero))) (now (k .args .store)) _ (k .args .n) (g .read .ensures .0)
+    (c .before .before .before .before .before .before .is-segment .ensures) (c .before .before .before .before .before .if1 .left)
+    (λ i. g .before .shared-slice-known2 .given i .fits) in
+    (k .pre .0, (a, c .before .find-by .ensures))
 
 same-length : tie.Need-same-length
 same-length c = search needs
@@ -50,8 +51,8 @@ returns-2 c =
     let f = c .before .before in
     let g = f .before .before .before .before .before .before in
     let e = told-segment _ _ _ _ _ (g .before .before .read .ensures .0) (g .before .is-segment .ensures) (g .if1 .left) in
-    (f .store-found .ensures .0 ∙ ap arrivalOf e, f .store-found .ensures .1 ∙ ap (storeWith _ _ _) e)
+    (f .store-segment .ensures .0 ∙ ap arrivalOf e, f .store-segment .ensures .1 ∙ ap (storeWith _ _ _) e)
 
 pub arrive-by-spec : {M : Type 1} → statement M
 arrive-by-spec =
-    tie.close (tie.spec read-requires is-segment-requires unstored-requires returns find-by-requires store-found-requires same-length returns-2)
+    tie.close (tie.spec read-requires is-segment-requires unstored-requires returns find-by-requires store-segment-requires same-length returns-2)

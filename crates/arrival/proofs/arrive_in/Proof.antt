@@ -1,12 +1,12 @@
--- `arrival::arrive_in` meets its contract: a segment that fits goes by the cell that the search tells, any other packet by the reading
--- that is handed in.
+-- `arrival::arrive_in` meets its contract: a segment goes by the cell that the search tells, any other packet by the reading that is handed
+-- in.
 -- Assumes nothing.
 use mathlib.Core.Path.{ap, _∙_}
 use denote.Ref.{now}
 use lib.ListN.{length}
 use Rattle.arrival.specs.Told.{arrivalOf}
 use Rattle.arrival.specs.Arriving.{storeWith}
-use Rattle.arrival.proofs.Arrivals.{unstored-store, told-asked, told-fits, told-segment, told-other}
+use Rattle.arrival.proofs.Arrivals.{unstored-store, told-asked, told-segment, told-other}
 use borrow.Author.Needs.{needs}
 use Rattle.arrival.proofs.arrive_in.Statement.{statement}
 use Rattle.arrival.proofs.arrive_in.Tie as tie
@@ -32,12 +32,13 @@ find-requires c κs =
     (c .before .before .before .if1 .left) (λ i. g .before .shared-slice-known2 .given i .fits) in
     (k .pre .0, a)
 
-store-found-requires : tie.Need-store-found-requires
-store-found-requires c κs =
+store-segment-requires : tie.Need-store-segment-requires
+store-segment-requires c κs =
     let g = c .before .before .before .before .before .before in
     let k = g .before .before .before .before in
-    let l = told-fits _ _ (now (k .args .store)) _ (k .args .n) (k .pre .1) (g .is-segment .ensures) (c .before .before .before .before .before .if1 .left) in
-    (k .pre .0, (l, c .before .find .ensures))
+    let a = told-asked _ (length (now (k .args .zero))) (now (k .args .store)) _ (k .args .n) (k .pre .1) (g .is-segment .ensures)
+    (c .before .before .before .before .before .if1 .left) (λ i. g .before .shared-slice-known2 .given i .fits) in
+    (k .pre .0, (a, c .before .find .ensures))
 
 same-length : tie.Need-same-length
 same-length c = search needs
@@ -48,8 +49,8 @@ returns-2 c =
     let g = f .before .before .before .before .before .before in
     let k = g .before .before .before .before .before in
     let e = told-segment _ _ _ _ _ (k .pre .1) (g .before .is-segment .ensures) (g .if1 .left) in
-    (f .store-found .ensures .0 ∙ ap arrivalOf e, f .store-found .ensures .1 ∙ ap (storeWith _ _ _) e)
+    (f .store-segment .ensures .0 ∙ ap arrivalOf e, f .store-segment .ensures .1 ∙ ap (storeWith _ _ _) e)
 
 pub arrive-in-spec : {M : Type 1} → statement M
 arrive-in-spec =
-    tie.close (tie.spec is-segment-requires unstored-requires returns find-requires store-found-requires same-length returns-2)
+    tie.close (tie.spec is-segment-requires unstored-requires returns find-requires store-segment-requires same-length returns-2)

@@ -1,4 +1,4 @@
--- `cells::order_by` meets its contract: the table that the first pass leaves is what the second one asks for.
+-- `cells::order_by` meets its contract: the table that the first pass leaves is what the others ask for.
 -- Assumes nothing.
 use denote.Ref.{now}
 use lib.ListN.{length}
@@ -15,8 +15,15 @@ distinct-by-requires c κs =
     let g = c .before .before .before .before .before .before .before .pre in
     (g .0, (g .1 .0, (bodies-left _ _ _ (g .1 .0) (c .before .before .before .sound-by .ensures .1), g .1 .1)))
 
+untaken-by-requires : tie.Need-untaken-by-requires
+untaken-by-requires c κs =
+    let g = c .before .before .before .before .before .before .before .before .before .pre in
+    (g .0, (g .1 .0, bodies-left _ _ _ (g .1 .0) (c .before .before .before .before .before .sound-by .ensures .1)))
+
 returns : tie.Need-returns
-returns c = search needs
+returns c =
+    let d = c .before .before .distinct-by .ensures in
+    (c .before .before .before .before .before .before .sound-by .ensures .0, (d .0, (c .untaken-by .ensures, d .1)))
 
 pub order-by-spec : {M : Type 1} → statement M
-order-by-spec = tie.close (tie.spec sound-by-requires distinct-by-requires returns)
+order-by-spec = tie.close (tie.spec sound-by-requires distinct-by-requires untaken-by-requires returns)

@@ -1,4 +1,4 @@
--- `cells::sound_by` meets its contract. The loop's invariant: whether the cells passed are all free or held, and their table.
+-- `cells::sound_by` meets its contract. The loop's invariant: whether the cells passed are all free, held or records, and their table.
 -- Assumes nothing.
 use Prim.Native.Nat.{_-_}
 use lib.ListN.{length}

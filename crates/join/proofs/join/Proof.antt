@@ -40,10 +40,10 @@ same-length-3 c = search needs
 
 returns-2 : tie.Need-returns-2
 returns-2 c =
-    let g = c .before .before .before .before .before .before .before .before in
+    let g = c .before .before .before .before .before .before .before .before .before in
     joins-open _ 1024 _ _ (opened-gate _ 1024 _ (g .before .before .before .check .ensures) (g .if1 .left))
     (opened-cells _ 1024 _ (g .before .before .before .check .ensures) (g .if1 .left)) _
-    (c .before .before .before .before .join-in .ensures)
+    (c .before .before .before .before .before .join-in .ensures)
 
 pub join-spec : {M : Type 1} → statement M
 join-spec =

@@ -53,8 +53,11 @@ returns-2 c =
     (c .before .before .before .before .got .given .1) (c .before .enum-told2 .given .1)
     (c .in-packet .ensures ∙ ap bodyIn (g .before .before .read .ensures .0))
 
+is-late-requires : tie.Need-is-late-requires
+is-late-requires c κs = search needs
+
 take-in-requires : tie.Need-take-in-requires
-take-in-requires c κs = c .before .before .before .before .before .before .before .before .before .before .before .before .before .before .before .pre
+take-in-requires c κs = c .before .before .before .before .before .before .before .before .before .before .before .before .before .before .before .before .pre
 
 in-output-requires : tie.Need-in-output-requires
 in-output-requires c κs =
@@ -62,7 +65,7 @@ in-output-requires c κs =
     (omega (
       arith,
       c .before .before .before .before .before .before .before .before .before .before .before .before .before .before .before .before .before .before .before
-          .before .good .1 .1 .1 .1 .1 .0,
+          .before .before .good .1 .1 .1 .1 .1 .0,
     ))
 
 same-length-3 : tie.Need-same-length-3
@@ -74,8 +77,9 @@ same-length-4 c = search needs
 returns-3 : tie.Need-returns-3
 returns-3 c =
     let g = c .before .before .before .before .before in
-    let h = g .before .before .before .before .before .before .before .before .before .arrive-in .ensures in
-    join-taking _ _ _ _ _ _ (h .0) (h .1) (g .before .before .before .before .before .got .given .1) (not-whole _ (g .before .before .before .match2 .keys2))
+    let h = g .before .before .before .before .before .before .before .before .before .before .arrive-in .ensures in
+    join-taking _ _ _ _ _ _ (h .0) (h .1) (g .before .before .before .before .before .before .got .given .1)
+    (not-whole _ (g .before .before .before .before .match2 .keys2)) (g .before .before .before .is-late .ensures)
     (record {
       taken = _;
       told = g .take-in .ensures .0;
@@ -87,4 +91,4 @@ returns-3 c =
 pub join-in-spec : {M : Type 1} → statement M
 join-in-spec =
     tie.close (tie.spec read-requires arrive-in-requires enum-known-got enum-told refusal-of-requires refused-requires same-length returns enum-told-2 in-packet-requires
-    same-length-2 returns-2 take-in-requires in-output-requires same-length-3 same-length-4 returns-3)
+    same-length-2 returns-2 is-late-requires take-in-requires in-output-requires same-length-3 same-length-4 returns-3)

@@ -18,17 +18,14 @@ not-joined-requires c κs = search needs
 returns : tie.Need-returns
 returns c = search needs
 
-opened-requires : tie.Need-opened-requires
-opened-requires c κs = search needs
+cells-named-requires : tie.Need-cells-named-requires
+cells-named-requires c κs = search needs
 
-join-requires : tie.Need-join-requires
-join-requires c κs = sym (ap (λ (w : Walk). w .refused) (c .before .before .before .before .begin .ensures)) ∙ c .before .before .if1 .left
+start-requires : tie.Need-start-requires
+start-requires c κs = sym (ap (λ (w : Walk). w .refused) (c .before .before .before .begin .ensures)) ∙ c .before .if1 .left
 
 returns-2 : tie.Need-returns-2
 returns-2 c = search needs
 
-returns-3 : tie.Need-returns-3
-returns-3 c = search needs
-
 pub main-spec : {M : Type 1} → statement M
-main-spec = tie.close (tie.spec settings-requires begin-requires not-joined-requires returns opened-requires join-requires returns-2 returns-3)
+main-spec = tie.close (tie.spec settings-requires begin-requires not-joined-requires returns cells-named-requires start-requires returns-2)

@@ -8,11 +8,11 @@ use Rattle.join_recording.proofs.run.Statement.{statement}
 use Rattle.join_recording.proofs.run.Tie as tie
 
 abbrev Inv-loop : tie.InvT-loop
-Inv-loop s fd store₀ zero buf₀ out₀ counts₀ from₀ till₀ at₀ ends₀ turns₀ store buf out counts from till at ends turns =
-    Going s zero store₀ buf₀ out₀ store buf out from till at
+Inv-loop s fd store₀ n zero buf₀ out₀ counts₀ from₀ till₀ at₀ ends₀ turns₀ store buf out counts from till at ends turns =
+    Going s n zero store₀ buf₀ out₀ store buf out from till at
 
 abbrev μ-loop : tie.MeasureT-loop
-μ-loop s fd store₀ zero buf₀ out₀ counts₀ from₀ till₀ at₀ ends₀ turns₀ store buf out counts from till at ends turns = turns
+μ-loop s fd store₀ n zero buf₀ out₀ counts₀ from₀ till₀ at₀ ends₀ turns₀ store buf out counts from till at ends turns = turns
 
 loop-holds : tie.Need-loop-holds Inv-loop μ-loop
 loop-holds c =
@@ -43,7 +43,7 @@ part-last-start c = search needs
 part-last-end : tie.Need-part-last-end Inv-loop μ-loop
 part-last-end c =
     let t = c .before .before .before .before .before .before .before .before .before .turn in
-    omega (arith, t .ensures .1 .1 .1 .1, t .kept .1 .1 .1 .1 .1 .1 .1 .1 .0)
+    omega (arith, t .ensures .1 .1 .1 .1, t .kept .1 .1 .1 .1 .1 .1 .1 .1 .1 .0)
 
 last-requires : tie.Need-last-requires Inv-loop μ-loop
 last-requires c κs = search needs
@@ -56,12 +56,12 @@ same-length c =
 same-length-2 : tie.Need-same-length-2 Inv-loop μ-loop
 same-length-2 c =
     let g = c .before .before .before .before .before .before .before .before .before .before .before .before in
-    g .turn .kept .1 .1 .1 .1 .0 ∙ g .before .before .before .before .before .before .loop .inv .window-long
+    g .turn .kept .1 .1 .1 .1 .1 .0 ∙ g .before .before .before .before .before .before .loop .inv .window-long
 
 same-length-3 : tie.Need-same-length-3 Inv-loop μ-loop
 same-length-3 c =
     let g = c .before .before .before .before .before .before .before .before .before .before .before .before in
-    g .turn .kept .1 .1 .1 .1 .1 .1 .1 .1 .0 ∙ g .before .before .before .before .before .before .loop .inv .output-long
+    g .turn .kept .1 .1 .1 .1 .1 .1 .1 .1 .1 .0 ∙ g .before .before .before .before .before .before .loop .inv .output-long
 
 returns : tie.Need-returns Inv-loop μ-loop
 returns c = search needs
@@ -78,7 +78,7 @@ loop-again c =
     let e = g .turn .ensures in
     let k = g .turn .kept in
     going-next (g .before .before .before .before .before .before .loop .inv) (e .0) (e .1 .0) (e .1 .1 .0) (e .1 .1 .1 .0) (e .1 .1 .1 .1) (k .1 .1 .0)
-    (k .1 .1 .1 .1 .0) (k .1 .1 .1 .1 .1 .1 .1 .1 .0)
+    (k .1 .1 .1 .1 .1 .0) (k .1 .1 .1 .1 .1 .1 .1 .1 .1 .0)
 
 same-length-4 : tie.Need-same-length-4 Inv-loop μ-loop
 same-length-4 c = c .before .loop .inv .store-long

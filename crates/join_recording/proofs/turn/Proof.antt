@@ -53,9 +53,11 @@ same-length-3 c = search needs
 returns : tie.Need-returns
 returns c =
     let b = c .before .before .before .before .before .before .before .before .before .before .before .before .before in
-    let a = b .before .before .before .before .before .before .before .before .before in
+    let y = b .before .before .before .before .before .before in
+    let x = y .before .before in
+    let a = x .before in
     let h = b .step-there .ensures in
-    let k = step-after _ _ _ (now (a .args .buf)) (a .args .ends) (a .args .from) (a .args .till)
+    let k = step-after _ _ (a .args .n) _ (now (a .args .buf)) (λ i. x .slice-known .given i .fits) (λ i. y .slice-known2 .given i .fits) (a .args .ends) (a .args .from) (a .args .till)
     (h .0) (h .1 .0) (a .pre .1 .0) (a .pre .1 .1 .0) in
     let w = c .before .before .wait .ensures in
     (k .order, (k .cells, (w .0, (w .1 .0, omega (arith, w .1 .1, a .pre .1 .1 .1 .0)))))
@@ -78,9 +80,11 @@ same-length-6 c = search needs
 returns-2 : tie.Need-returns-2
 returns-2 c =
     let b = c .before .before .before .before .before .before .before .before in
-    let a = b .before .before .before .before .before .before .before .before .before in
+    let y = b .before .before .before .before .before .before in
+    let x = y .before .before in
+    let a = x .before in
     let h = b .step-there .ensures in
-    let k = step-after _ _ _ (now (a .args .buf)) (a .args .ends) (a .args .from) (a .args .till)
+    let k = step-after _ _ (a .args .n) _ (now (a .args .buf)) (λ i. x .slice-known .given i .fits) (λ i. y .slice-known2 .given i .fits) (a .args .ends) (a .args .from) (a .args .till)
     (h .0) (h .1 .0) (a .pre .1 .0) (a .pre .1 .1 .0) in
     let w = c .in-hand .ensures in (
       k .order,
@@ -99,27 +103,33 @@ note-requires c κs = search needs
 add-gather : tie.Need-add-gather
 add-gather c =
     let b = c .before .before .before .before .before .before .before .before in
-    let a = b .before .before .before .before .before .before .before .before .before in
+    let y = b .before .before .before .before .before .before in
+    let x = y .before .before in
+    let a = x .before in
     let h = b .step-there .ensures in
-    let k = step-after _ _ _ _ _ _ (a .args .till)
+    let k = step-after _ _ (a .args .n) _ _ (λ i. x .slice-known .given i .fits) (λ i. y .slice-known2 .given i .fits) _ _ (a .args .till)
     (h .0) (h .1 .0) (a .pre .1 .0) (a .pre .1 .1 .0) in
     omega (arith, k .used-few, a .pre .1 .1 .1 .1 .0, a .pre .1 .1 .1 .1 .1)
 
 add-gather-2 : tie.Need-add-gather-2
 add-gather-2 c =
     let b = c .before .before .before .before .before .before .before .before in
-    let a = b .before .before .before .before .before .before .before .before .before in
+    let y = b .before .before .before .before .before .before in
+    let x = y .before .before in
+    let a = x .before in
     let h = b .step-there .ensures in
-    let k = step-after _ _ _ (now (a .args .buf)) (a .args .ends) (a .args .from) (a .args .till)
+    let k = step-after _ _ (a .args .n) _ (now (a .args .buf)) (λ i. x .slice-known .given i .fits) (λ i. y .slice-known2 .given i .fits) (a .args .ends) (a .args .from) (a .args .till)
     (h .0) (h .1 .0) (a .pre .1 .0) (a .pre .1 .1 .0) in
-    omega (arith, k .written-few, a .pre .1 .1 .1 .0, a .good .1 .1 .1 .1 .1 .1 .1 .1 .0 .0)
+    omega (arith, k .written-few, a .pre .1 .1 .1 .0, a .good .1 .1 .1 .1 .1 .1 .1 .1 .1 .0 .0)
 
 gather-requires : tie.Need-gather-requires
 gather-requires c κs =
     let b = c .before .before .before .before .before .before .before .before .before .before in
-    let a = b .before .before .before .before .before .before .before .before .before in
+    let y = b .before .before .before .before .before .before in
+    let x = y .before .before in
+    let a = x .before in
     let h = b .step-there .ensures in
-    let k = step-after _ _ _ (now (a .args .buf)) (a .args .ends) (a .args .from) (a .args .till)
+    let k = step-after _ _ (a .args .n) _ (now (a .args .buf)) (λ i. x .slice-known .given i .fits) (λ i. y .slice-known2 .given i .fits) (a .args .ends) (a .args .from) (a .args .till)
     (h .0) (h .1 .0) (a .pre .1 .0) (a .pre .1 .1 .0) in
     let l = b .step-there .kept .1 .1 .1 .1 .1 .1 .0 in
     (omega (arith, l, k .written-few, a .pre .1 .1 .1 .0), omega (arith, l, a .pre .1 .1 .1 .0))
@@ -136,9 +146,11 @@ same-length-9 c = search needs
 returns-3 : tie.Need-returns-3
 returns-3 c =
     let b = c .before .before .before .before .before .before .before .before .before .before .before in
-    let a = b .before .before .before .before .before .before .before .before .before in
+    let y = b .before .before .before .before .before .before in
+    let x = y .before .before in
+    let a = x .before in
     let h = b .step-there .ensures in
-    let k = step-after _ _ _ _ _ _ (a .args .till)
+    let k = step-after _ _ (a .args .n) _ _ (λ i. x .slice-known .given i .fits) (λ i. y .slice-known2 .given i .fits) _ _ (a .args .till)
     (h .0) (h .1 .0) (a .pre .1 .0) (a .pre .1 .1 .0) in
     let l = b .step-there .kept .1 .1 .1 .1 .1 .1 .0 in
     let w = c .gather .ensures in (

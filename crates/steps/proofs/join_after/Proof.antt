@@ -6,7 +6,8 @@ use mathlib.Core.Path.{ap, _∙_}
 use lib.ListN.{length}
 use Rattle.join.specs.Joining.{joining, storeJoined}
 use Rattle.join.specs.Told.{joinedOf}
-use Rattle.join.proofs.Inner.{joining-open, store-open, out-open}
+use Rattle.join.specs.Inner.{isLate}
+use Rattle.join.proofs.Inner.{arrives, joining-open, store-open, out-open}
 use Rattle.steps.proofs.Joins.{lent-long, behind-out}
 use borrow.Author.Needs.{needs}
 use Rattle.steps.proofs.join_after.Statement.{statement}
@@ -42,9 +43,12 @@ returns c =
       h .0 ∙ ap joinedOf (joining-open _ _ _ _ (k .0) (k .1 .0) _ ∙ ap
           (λ (m : ℕ). joining (g .args .s) (length (now (g .args .zero))) (now (g .args .store)) (now (g .args .p)) m) l),
       (
-        h .1 .0 ∙ store-open _ _ _ _ (k .0) (k .1 .0) _ ∙ ap (λ (m : ℕ). storeJoined (g .args .s) (length (now (g .args .zero))) (now (g .args .store))
-            (now (g .args .p)) m) l,
-        behind-out _ _ _ _ _ (k .1 .1) (h .1 .1 ∙ out-open _ _ _ _ (k .0) (k .1 .0) _),
+        h .1 .0 ∙ ap isLate (arrives _ _ _ _ (k .0) (k .1 .0)),
+        (
+          h .1 .1 .0 ∙ store-open _ _ _ _ (k .0) (k .1 .0) _ ∙ ap (λ (m : ℕ). storeJoined (g .args .s) (length (now (g .args .zero))) (now (g .args .store))
+              (now (g .args .p)) m) l,
+          behind-out _ _ _ _ _ (k .1 .1) (h .1 .1 .1 ∙ out-open _ _ _ _ (k .0) (k .1 .0) _),
+        ),
       ),
     )
 

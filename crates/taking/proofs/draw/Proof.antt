@@ -1,9 +1,9 @@
--- `taking::draw` meets its contract: the message is copied, and then the cells of its key and counters are made zero.
+-- `taking::draw` meets its contract: the message is copied, and then the cells of its key and counters are cleared.
 -- Assumes nothing.
 use denote.Ref.{now}
 use lib.ListN.{length}
 use native.Mathlib.Omega.{arith}
-use Rattle.taking.proofs.Drawn.{draw-cell, draw-opens, draw-header, draw-told, draw-out, draw-store}
+use Rattle.taking.proofs.Drawn.{draw-cell, draw-opens, draw-header, draw-told, draw-out, draw-fits, draw-store}
 use borrow.Author.Needs.{needs}
 use Rattle.taking.proofs.draw.Statement.{statement}
 use Rattle.taking.proofs.draw.Tie as tie
@@ -33,7 +33,16 @@ span-requires : tie.Need-span-requires
 span-requires c κs = search needs
 
 clear-requires : tie.Need-clear-requires
-clear-requires c κs = c .before .before .before .before .before .before .before .before .before .before .before .before .before .pre .0 .1
+clear-requires c κs =
+    let v = c .before .before .before .before .before .before .before in
+    let w = v .before .before .before .before .before in
+    let g = w .before in
+    let h = v .copy-message .ensures in
+    let k = g .pre .1 in (
+      g .pre .0 .1,
+      draw-fits _ _ _ (now (g .args .out)) _ _ _ (k .0) (k .1 .0 .0) (k .1 .0 .1) (k .1 .1) (λ j. w .slice-known .given j .fits) (h .0) (h .1)
+          (c .before .span .ensures),
+    )
 
 numbered-requires : tie.Need-numbered-requires
 numbered-requires c κs = search needs

@@ -18,7 +18,7 @@ order-by-requires c κs = (
 
 take-lowest-requires : tie.Need-take-lowest-requires
 take-lowest-requires c κs = (
-  (λ e. c .before .before .before .before .order-by .ensures .1 .1),
+  (λ e. c .before .before .before .before .order-by .ensures .1 .1 .1),
   c .before .before .before .before .before .before .before .before .before .before .before .pre .0,
 )
 

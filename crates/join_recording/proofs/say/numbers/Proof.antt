@@ -9,7 +9,7 @@ abbrev Inv-loop : tie.InvT-loop
 Inv-loop to counts k₀ k = Unit {0}
 
 abbrev μ-loop : tie.MeasureT-loop
-μ-loop to counts k₀ k = 11 - k
+μ-loop to counts k₀ k = 13 - k
 
 loop-holds : tie.Need-loop-holds Inv-loop μ-loop
 loop-holds c = search needs

@@ -6,10 +6,10 @@ use Rattle.join_recording.proofs.say.segments.Statement.{statement}
 use Rattle.join_recording.proofs.say.segments.Tie as tie
 
 abbrev Inv-loop : tie.InvT-loop
-Inv-loop to s store i₀ i = Unit {0}
+Inv-loop to s store n i₀ i = Unit {0}
 
 abbrev μ-loop : tie.MeasureT-loop
-μ-loop to s store i₀ i = 32 - i
+μ-loop to s store n i₀ i = n - i
 
 loop-holds : tie.Need-loop-holds Inv-loop μ-loop
 loop-holds c = search needs

@@ -1,9 +1,9 @@
--- `cells::is_held_row` meets its contract: its tests are the definition's.
+-- `cells::is_marked` meets its contract: its tests are the definition's.
 -- Assumes nothing.
 use borrow.Author.Needs.{needs}
-use Rattle.cells.proofs.is_held_row.Statement.{statement}
-use Rattle.cells.proofs.is_held_row.Tie as tie
-use Rattle.cells.specs.Inner.{heldRowTest}
+use Rattle.cells.proofs.is_marked.Statement.{statement}
+use Rattle.cells.proofs.is_marked.Tie as tie
+use Rattle.cells.specs.Inner.{markedTest}
 
 octet-requires : tie.Need-octet-requires
 octet-requires c κs = search needs
@@ -30,7 +30,7 @@ both-requires-3 : tie.Need-both-requires-3
 both-requires-3 c κs = search needs
 
 returns : tie.Need-returns
-unfolding heldRowTest
+unfolding markedTest
 returns c =
     let g = c .before .before .before in
     simp (
@@ -44,8 +44,8 @@ returns c =
       g .before .before .before .before .octet .ensures,
     )
 
-pub is-held-row-spec : {M : Type 1} → statement M
-is-held-row-spec =
+pub is-marked-spec : {M : Type 1} → statement M
+is-marked-spec =
     tie.close
     (tie.spec
     octet-requires
