@@ -13,9 +13,12 @@ use Rattle.octets.specs.Octets.{pick, alike}
 use Rattle.packet.specs.Numbers.{nextCounter}
 use Rattle.cells.specs.Rows.{Range, Cell, free, held, taken, broken, segmentIn, bySegment, rangeIn, byRange, rowAt, cellOf}
 
--- SPEC N-10: 1,024 octets a cell
+-- SPEC N-10: 1,024 octets a cell, and 2,048 a cell of the wide store
 abbrev pub cellSize : ℕ
 cellSize = 1024
+
+abbrev pub wideSize : ℕ
+wideSize = 2048
 
 -- 1 to 4,096 cells
 abbrev pub cellsMost : ℕ

@@ -36,8 +36,10 @@ use packet::SegmentCounter;
 use packet::UNSEGMENTED;
 use walk::Settings;
 
-// The octets of a cell.
+// The octets of a cell, and of one of the wide store.
 pub const CELL: usize = 1024;
+
+pub const CELL_WIDE: usize = 2048;
 
 // The most cells that a store has.
 pub const CELLS_MOST: usize = 4096;

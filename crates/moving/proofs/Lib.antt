@@ -1,0 +1,9 @@
+pub mod Padding
+pub mod Stores
+pub mod SameCells
+pub mod Passing
+pub mod Answers
+pub mod KeptOrder
+pub mod Kept
+pub mod Returns
+pub mod Calls
