@@ -22,7 +22,7 @@ VECTORS = pathlib.Path(os.environ.get("ORLYUKAN_VECTORS", ROOT.parent / "shared"
 FIGURE_14 = bytes.fromhex("18 05 C0 00 00 14 00 00 01 00 02 00 03 01 20 06 00 07 00 00 00 00 00 00 00 09 00")
 HUGE = (-1, 2**64, 2**64 + 5, -(2**70), 2**200)
 # The change requests that have landed and have cases of their own, in the order in which they landed.
-LANDED = ("T-01", "T-04", "T-12", "T-10", "T-09", "T-08", "T-02", "T-06")
+LANDED = ("T-01", "T-04", "T-12", "T-10", "T-09", "T-08", "T-02", "T-06", "T-14")
 # The cases' names for what the calls name otherwise.
 NAMES = {"seq": "sequence_count", "c": "counter"}
 PRESENCE = "source destination priority timestamp zone session_name domain authentication".split()
@@ -128,6 +128,32 @@ class Cases(unittest.TestCase):
             return answer | {"timestamp": timestamp["place"]}, {}
 
         self.each("read", run)
+
+    def test_once(self):
+        """Runs without forgetting: each tile comes out at most once, in the order told. Of a run that does not meet the conditions nothing
+        is asked."""
+
+        def run(case):
+            if case["expect"]["answer"]["unmet"]:
+                return {"refusal": 0}, {}
+            store = bytearray(1024 * case["cells"])
+            tiles = [(tile["sender"]["counter"], octets(tile["body"])) for tile in case["tiles"]]
+            handed = []
+            for call, *given in case["events"]:
+                out = bytearray(given[-1] if call != "arrive" else 0)
+                if call == "arrive":
+                    orlyukan.arrive(case["T"], store, octets(given[0]), **profile(case))
+                    continue
+                if call == "take":
+                    answer = orlyukan.take(case["T"], store, out, **profile(case))
+                else:
+                    answer = orlyukan.join(case["T"], store, octets(given[0]), out, **profile(case))
+                if answer.refusal == 0 and answer.B:
+                    body = bytes(out[2 + answer.H:2 + answer.H + answer.B])
+                    handed += [number for number, tile in enumerate(tiles) if tile == (answer.counter, body)]
+            return {"refusal": 0, "out": handed}, {}
+
+        self.each("once", run)
 
     def test_write(self):
         def run(case):

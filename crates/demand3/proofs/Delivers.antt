@@ -42,7 +42,7 @@ use Rattle.demand3.proofs.Simulates.{by-took, run-keeps, run-cells}
 use Rattle.sender.specs.Sending.{stepsOf}
 
 module _ {A B : Type 0} (f : A → B) where
-  map-split : (l : List A) (x : List B) (e : B) (y : List B) → map f l ≡ x ++ e ∷ y →
+  pub map-split : (l : List A) (x : List B) (e : B) (y : List B) → map f l ≡ x ++ e ∷ y →
       (p : List A) × (c : A) × (q : List A) × (l ≡ p ++ c ∷ q) × (map f p ≡ x) × (f c ≡ e)
   map-split [] [] e y h = absurd (let z : _≡_ {A = ℕ} 0 1 = cc in omega arith)
   map-split [] (b ∷ x) e y h = absurd (let z : _≡_ {A = ℕ} 0 1 = cc in omega arith)
@@ -54,7 +54,7 @@ module _ {A B : Type 0} (f : A → B) where
       (a ∷ v .0, v .1, v .2, ap (λ (z : List A). a ∷ z) {y = v .0 ++ v .1 ∷ v .2} (v .3), cc (v .4, g), v .5)
 
 -- what is written, and after it the output as it was
-written-out : (out w : List ℕ) (r : Run) → writing r ≡ w → length (writing r) ≤ length out → outWith out (message r) ≡ w ++ drop (length w) out
+pub written-out : (out w : List ℕ) (r : Run) → writing r ≡ w → length (writing r) ≤ length out → outWith out (message r) ≡ w ++ drop (length w) out
 unfolding outWith
 written-out out w r e l =
     let z : 0 + length (writing r) ≡ length (writing r) = omega arith in

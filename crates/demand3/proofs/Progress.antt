@@ -45,7 +45,7 @@ own-given-up r =
     ∙ ap (bySegment false (λ t. true)) (left-none r (held (r .head)))
 
 -- so each taking leaves fewer
-held-fewer : (r : Run) (cs : List Cell) → Held (r .head) cs → numberOf holdsOne (clear r cs) < numberOf holdsOne cs
+pub held-fewer : (r : Run) (cs : List Cell) → Held (r .head) cs → numberOf holdsOne (clear r cs) < numberOf holdsOne cs
 held-fewer r cs h = number-fewer holdsOne (freed r) (given-up r) cs (held (r .head)) h refl (own-given-up r)
 
 -- ---- takes, one after the other

@@ -45,7 +45,7 @@ free-cell x g f e = false≢true (ap isFree e ∙ f)
 -- ---- a range
 
 module _ (next : ℕ → ℕ) where
-  reaches-at : (n j c : ℕ) → j ≤ n → reaches next n c (stepsOf next j c) ≡ true
+  pub reaches-at : (n j c : ℕ) → j ≤ n → reaches next n c (stepsOf next j c) ≡ true
   unfolding reaches stepsOf
   reaches-at zero zero c l = eq-eqb c c refl
   reaches-at zero (suc j) c l = absurd (omega arith)

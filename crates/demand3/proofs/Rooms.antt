@@ -123,19 +123,22 @@ module _ (next : ℕ → ℕ) (span : ℕ) where
   after-used [] cs = omega arith
   after-used (e ∷ es) cs = omega (arith, after-used es (stepped next span cs e), step-used cs e, arrivals-cons e es)
 
-  pub roomy : (cells : ℕ) (es : List Event) → arrivals es ≤ cells → Room next span (empty cells) es
-  roomy cells es h p q t d v n = go (bool (hasFree (after next span (empty cells) p)))
+  -- fewer segments than cells leave one free
+  pub some-free : (cells : ℕ) (es : List Event) → arrivals es < cells → hasFree (after next span (empty cells) es) ≡ true
+  some-free cells es h = go (bool (hasFree (after next span (empty cells) es)))
     where
-      go : (hasFree (after next span (empty cells) p) ≡ true) ⊎ (hasFree (after next span (empty cells) p) ≡ false) →
-          hasFree (after next span (empty cells) p) ≡ true
+      go : (hasFree (after next span (empty cells) es) ≡ true) ⊎ (hasFree (after next span (empty cells) es) ≡ false) →
+          hasFree (after next span (empty cells) es) ≡ true
       go (inl e) = e
       go (inr e) =
-          let a : arrivals p < arrivals es = rw d (arrivals-split p q t) in
           absurd
           (omega (
             arith,
-            full-used (after next span (empty cells) p) e,
-            cells-length next span p cells,
-            after-used p (empty cells),
+            full-used (after next span (empty cells) es) e,
+            cells-length next span es cells,
+            after-used es (empty cells),
             empty-used cells,
           ))
+
+  pub roomy : (cells : ℕ) (es : List Event) → arrivals es ≤ cells → Room next span (empty cells) es
+  roomy cells es h p q t d v n = let a : arrivals p < arrivals es = rw d (arrivals-split p q t) in some-free cells p (omega arith)

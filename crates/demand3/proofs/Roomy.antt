@@ -1,21 +1,23 @@
 -- A store with as many cells as packets are handed over, by arrivals and joinings, has room for them, whatever is taken or
 -- forgotten: over the octets, from the same over cells.
 -- Assumes nothing.
-use Prim.Native.Nat.{ℕ, _+_, _≤_}
-use mathlib.Core.Path.{_≡_, refl}
+use Prim.Native.Nat.{ℕ, _+_, _≤_, _<_}
+use mathlib.Core.Path.{_≡_, refl, ap, _∙_}
 use mathlib.Core.Bool.{Bool, true, false}
 use mathlib.Core.List.{List, [], _∷_, _++_}
 use native.Mathlib.Omega.{arith}
 use Rattle.walk.specs.declared.Settings.{Settings}
 use Rattle.packet.specs.Numbers.{nextCounter, stepsMost}
 use Rattle.cells.specs.Order.{cellSize}
+use Rattle.demand3.specs.Cells.{hasFree}
 use Rattle.demand3.specs.Traffic.{Event, arrives, passes, takes, forgets}
-use Rattle.demand3.specs.Calls.{Call, arrival, taking, joining, forgetting, packetsIn, draws, storeBy}
-use Rattle.demand3.specs.Presupposed.{emptyStore}
+use Rattle.demand3.specs.Calls.{Call, arrival, taking, joining, forgetting, Plain, packetsIn, draws, storeBy}
+use Rattle.demand3.specs.Presupposed.{InUse, emptyStore, storeBehind, cellsIn}
 use Rattle.demand3.specs.Whole.{WholeRoom}
-use Rattle.demand3.proofs.Rooms.{arrivals, roomy}
+use Rattle.demand3.proofs.Rooms.{arrivals, some-free, roomy}
 use Rattle.demand3.proofs.Steps.{eventOf}
 use Rattle.demand3.proofs.Events.{before, drawing, eventsBy, eventsIn}
+use Rattle.demand3.proofs.Carried.{behind-cells}
 use Rattle.demand3.proofs.Acts.{room-told}
 
 arrivals-append : (a b : List Event) → arrivals (a ++ b) ≡ arrivals a + arrivals b
@@ -64,6 +66,13 @@ roomy-of : (Z : ℕ) → 1 ≤ Z → WholeRoom Z
 roomy-of Z one s n u cs o h =
     room-told s Z n one u cs o
     (roomy nextCounter stepsMost n (eventsIn s Z (emptyStore Z n) cs) (let l = few s Z cs (emptyStore Z n) in omega arith))
+
+-- after fewer packets than cells one is free
+pub free-left : (Z : ℕ) → 1 ≤ Z → (s : Settings) (n : ℕ) → InUse s n → (cs : List Call) → Plain cs → packetsIn cs < n →
+    hasFree (cellsIn s Z n (storeBehind s Z n cs)) ≡ true
+free-left Z one s n u cs o h =
+    ap hasFree (behind-cells s Z n one u cs o)
+    ∙ some-free nextCounter stepsMost n (eventsIn s Z (emptyStore Z n) cs) (let l = few s Z cs (emptyStore Z n) in omega arith)
 
 pub room·whole : WholeRoom cellSize
 room·whole = roomy-of cellSize (omega arith)

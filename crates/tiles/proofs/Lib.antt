@@ -8,3 +8,5 @@ pub mod Unsegmented
 pub mod Rooms
 pub mod DayRecording
 pub mod Calls
+pub mod Unfull
+pub mod Once

@@ -43,7 +43,7 @@ use Rattle.tiles.proofs.Comes.{came-taken, taken-came, in-use, one-octe
 use Rattle.tiles.proofs.Delivered.{run-counter, run-frame}
 
 -- a frame of a message is what its packet came to
-joined-came : (p : List ℕ) (y : Came) (k : List ℕ) (c : ℕ) (b : List ℕ) → List·Memᴰ (joined k c b) (framesBy p y) →
+pub joined-came : (p : List ℕ) (y : Came) (k : List ℕ) (c : ℕ) (b : List ℕ) → List·Memᴰ (joined k c b) (framesBy p y) →
     (r : Run) × (y ≡ messageOf r) × (joined k c b ≡ joined (r .head .key) (r .head .counter) (bodyOf r))
 joined-came p over k c b h = absurd (List·Memᴰ·not-nil h)
 joined-came p (refused n) k c b h = absurd (List·Memᴰ·not-nil h)
@@ -78,7 +78,7 @@ module _ (s : Settings) (range : SettingsInRange s) (ms : List Sending) (x : Lis
   plain : Plain calls
   plain = plain-calls s ps octets-in
 
-  traffic : Traffic s Z ms calls
+  pub traffic : Traffic s Z ms calls
   traffic =
       record {
         cut = g .cut;

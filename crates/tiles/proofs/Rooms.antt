@@ -29,7 +29,7 @@ use Rattle.tiles.proofs.Joinings.{output, short, callsFrom, callsOf, ca
 use Rattle.tiles.proofs.Comes.{in-use, plain-calls}
 
 -- no more joinings than packets
-calls-most : (s : Settings) (ps : List (List ℕ)) (st : List ℕ) → packetsIn (callsFrom s st ps) ≤ length ps
+pub calls-most : (s : Settings) (ps : List (List ℕ)) (st : List ℕ) → packetsIn (callsFrom s st ps) ≤ length ps
 unfolding callsFrom packetsIn
 calls-most s [] st = omega arith
 calls-most s (p ∷ ps) st = go (calls-most s ps (stepStore s Z st p)) (short p) (isFull (joiningOf s Z st p room))

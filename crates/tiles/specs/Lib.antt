@@ -1,2 +1,3 @@
 pub mod Along
 pub mod Written
+pub mod Once
