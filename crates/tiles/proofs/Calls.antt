@@ -1,11 +1,11 @@
 -- Over the contract of the call on a whole recording: if it is not refused, the octets that it tells as written are what the recording
--- comes to, and so have every message all of whose segments are in it.
+-- comes to, and so have every message all of whose segments are in it, and exactly once if no packet is refused by 19.
 -- Assumes nothing.
 use Prim.Native.Nat.{ℕ, _+_}
 use mathlib.Core.Path.{_≡_, refl, ap, sym, _∙_}
 use mathlib.Core.Logic.{⊎-elim}
 use mathlib.Core.Bool.{false}
-use mathlib.Core.List.{List, _++_, List·Memᴰ}
+use mathlib.Core.List.{List, _++_, map, List·Memᴰ}
 use native.Mathlib.Omega.{arith}
 use contract.Lifetimes as L
 use lib.ListN.{length, take, drop}
@@ -13,6 +13,7 @@ use lib.Seq.{sets, sets-eq, take-append-seam}
 use lib.Dec.{eqb}
 use borrow.Author.Tests.{eqb-true, eq-eqb}
 use Rattle.octets.specs.Octets.{Octets}
+use Rattle.octets.specs.Laying.{together}
 use Rattle.octets.proofs.Lists.{bool}
 use Rattle.walk.specs.declared.Settings.{Settings}
 use Rattle.walk.specs.Walk.{begun}
@@ -27,8 +28,12 @@ use Rattle.recording.proofs.Shorter.{recorded-most}
 use Rattle.recording.proofs.Tested.{passed}
 use Rattle.recording.proofs.Arguments.{all-call, all-output}
 use Rattle.recording.proofs.join_all.Reads as alls
+use Rattle.tiles.specs.Along.{frameOctets, framesOf}
 use Rattle.tiles.specs.Written.{AllIn, RecordingOf, RoomAlong, Stands}
+use Rattle.tiles.specs.Once.{NoneFull, WrittenOnce}
+use Rattle.tiles.proofs.Framing.{recording-frames}
 use Rattle.tiles.proofs.Recordings.{recording-has}
+use Rattle.tiles.proofs.Once.{recording-once}
 
 module _ (s : Settings) (x out : List ℕ) (o : Octets x) where
   abbrev by : ℕ
@@ -83,3 +88,18 @@ all-delivers κs a r s k e ms g room m h all =
     let d = ap (λ (v : Recorded). v .refusal .number) (sym (k .0)) ∙ e in
     let v = recording-has (c .settings) (in-range (c .settings) (c .recording) (c .output) (g .octets) d) ms (c .recording) g room m h all in
     (v .0, v .1, all-writes κs a r s k (g .octets) e ∙ v .2)
+
+-- if no packet is refused by 19, just the frames of the recording stand there, and each such message's is among them exactly once
+pub all-once :
+    (κs : L.Lfts 2) (a : _) (r : _) (s : _) → alls.Post κs a r s → r .refusal .number ≡ 0 → (ms : List Sending) →
+    RecordingOf (all-call κs a .settings) ms (all-call κs a .recording) → NoneFull (all-call κs a .settings) (all-call κs a .recording) →
+    (m : Sending) → List·Memᴰ m ms → AllIn (all-call κs a .settings) m (all-call κs a .recording) →
+    (take (r .written) (all-output κs s) ≡ together (map frameOctets (framesOf (all-call κs a .settings) (all-call κs a .recording)))) ×
+    WrittenOnce (all-call κs a .settings) m (all-call κs a .recording)
+all-once κs a r s k e ms g never m h all =
+    let c = all-call κs a in
+    let d = ap (λ (v : Recorded). v .refusal .number) (sym (k .0)) ∙ e in
+    let range = in-range (c .settings) (c .recording) (c .output) (g .octets) d in (
+      all-writes κs a r s k (g .octets) e ∙ recording-frames (c .settings) (c .recording),
+      recording-once (c .settings) range ms (c .recording) g never m h all,
+    )
