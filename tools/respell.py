@@ -22,7 +22,7 @@ OTHERS = {"bodyAt": "body_start", "Call-at": "CallAt", "Read-there": "ReadThere"
 
 def in_snake_case(name):
     words = re.sub(r"(?<=[a-z0-9])[A-Z]", lambda m: "_" + m[0].lower(), name)
-    return words.replace("-", "_")
+    return words.replace("-", "_").lower()
 
 
 def read(path):
@@ -53,9 +53,13 @@ def imported(text):
 def table(paths):
     names = {}
     for p in paths:
-        if not p.endswith(".antt") or os.path.basename(p) in ("Proof.antt", "Answers.antt", "Invariants.antt"):
+        if not p.endswith((".antt", ".rt")):
             continue
-        t = re.sub(r"--[^\n]*", "", read(p))
+        t = re.sub(r"--[^\n]*|//[^\n]*", "", read(p))
+        for m in re.finditer(rf"[{{,] *{WORD} as ([a-z]{WORD})", t):
+            names.setdefault(m[1], set()).add(p)
+        if p.endswith(".rt") or re.search(r"/proofs/.+/(Proof|Answers|Invariants)\.antt$", p):
+            continue
         for m in DECL.finditer(t):
             w = m[2]
             if w in ("let", "where", "in", "use", "module", "record", "data"):
@@ -114,7 +118,10 @@ def main(argv):
             new = t
             if antt:
                 new = TOKEN.sub(lambda m: lemmas.get(m[0], m[0]) if t[m.start() - 1] != "." else m[0], t)
-            new = TOKEN.sub(lambda m: here.get(m[0], m[0]), new)
+            new = "".join(
+                TOKEN.sub(lambda m: here.get(m[0], m[0]) if k % 2 == 0 or not re.search(r"^[a-z]+-[a-z]+$", m[0]) else m[0], part)
+                for k, part in enumerate(re.split(r"(--[^\n]*)" if antt else r"(//[^\n]*)", new))
+            )
             if new != t:
                 with open(p, "w", encoding="utf-8") as f:
                     f.write(new)

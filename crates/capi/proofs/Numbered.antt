@@ -15,7 +15,7 @@ use Rattle.write.specs.Writing.{write_answer}
 use Rattle.cut.specs.Cutting.{count_answer, packet_answer}
 use Rattle.flat.specs.Told.{read_numbers}
 use Rattle.flat.specs.Given.{sender_fits}
-use Rattle.flat.specs.Answers.{nextNumbers, writeFits, write_numbers, afterPacketNumbers, afterSegmentNumbers, cutFits, countNumbers, packetNumbers}
+use Rattle.flat.specs.Answers.{next_numbers, write_fits, write_numbers, after_packet_numbers, after_segment_numbers, cut_fits, count_numbers, packet_numbers}
 use Rattle.cells.specs.Order.{cell_size, gate}
 use Rattle.flat_store.specs.Numbers.{order_numbers}
 use Rattle.flat_store.specs.Views.{inside_numbers, view_numbers}
@@ -54,8 +54,8 @@ Refuses k l = Numbered k (refusal_in l)
 
 -- ---- over the numbers
 
-next : (count : ℕ) → Refuses of_widths (nextNumbers count)
-unfolding nextNumbers
+next : (count : ℕ) → Refuses of_widths (next_numbers count)
+unfolding next_numbers
 next count = picked (Refuses of_widths) (leb count _) _ _ (among (0 ∷ of_widths) 0 refl) (among (0 ∷ of_widths) 22 refl)
 
 read : (s : Settings) (p : List ℕ) → Refuses of_reading (read_numbers (read_packet s p))
@@ -65,24 +65,24 @@ read s p = reading s p
 write : (s : Settings) (h : List ℕ) (x : Lent) (flags count counter : ℕ) (body : List ℕ) (room : ℕ) → Refuses of_writing (write_numbers s h x flags count counter body room)
 unfolding write_numbers write_answer
 write s h x flags count counter body room =
-    picked (Refuses of_writing) (writeFits h flags count counter) _ _ (writing _ _ _ _ _ _ _) (write_wide s)
+    picked (Refuses of_writing) (write_fits h flags count counter) _ _ (writing _ _ _ _ _ _ _) (write_wide s)
 
-after_packet_lem : (d : List ℕ) → Refuses of_widths (afterPacketNumbers d)
-unfolding afterPacketNumbers
+after_packet_lem : (d : List ℕ) → Refuses of_widths (after_packet_numbers d)
+unfolding after_packet_numbers
 after_packet_lem d = picked (Refuses of_widths) (sender_fits d) _ _ (among (0 ∷ of_widths) 0 refl) (among (0 ∷ of_widths) 22 refl)
 
-after_segment_lem : (d : List ℕ) → Refuses of_widths (afterSegmentNumbers d)
-unfolding afterSegmentNumbers
+after_segment_lem : (d : List ℕ) → Refuses of_widths (after_segment_numbers d)
+unfolding after_segment_numbers
 after_segment_lem d = picked (Refuses of_widths) (sender_fits d) _ _ (among (0 ∷ of_widths) 0 refl) (among (0 ∷ of_widths) 22 refl)
 
-cut_count : (s : Settings) (P : ℕ) (h : List ℕ) (x : Lent) (B : ℕ) (d : List ℕ) → Refuses of_count (countNumbers s P h x B d)
-unfolding countNumbers count_answer
-cut_count s P h x B d = picked (Refuses of_count) (cutFits h d) _ _ (count _ _ _ _ _ _ _) (count_wide s P)
+cut_count : (s : Settings) (P : ℕ) (h : List ℕ) (x : Lent) (B : ℕ) (d : List ℕ) → Refuses of_count (count_numbers s P h x B d)
+unfolding count_numbers count_answer
+cut_count s P h x B d = picked (Refuses of_count) (cut_fits h d) _ _ (count _ _ _ _ _ _ _) (count_wide s P)
 
-cut_packet : (s : Settings) (P : ℕ) (h : List ℕ) (x : Lent) (body d : List ℕ) (i room : ℕ) → Refuses of_cutting (packetNumbers s P h x body d i room)
-unfolding packetNumbers packet_answer
+cut_packet : (s : Settings) (P : ℕ) (h : List ℕ) (x : Lent) (body d : List ℕ) (i room : ℕ) → Refuses of_cutting (packet_numbers s P h x body d i room)
+unfolding packet_numbers packet_answer
 cut_packet s P h x body d i room =
-    picked (Refuses of_cutting) (cutFits h d) _ _ (cutting _ _ _ _ _ _ _ _ _) (cut_wide s P)
+    picked (Refuses of_cutting) (cut_fits h d) _ _ (cutting _ _ _ _ _ _ _ _ _) (cut_wide s P)
 
 inside : (n place long : ℕ) → Refuses of_widths (inside_numbers n place long)
 unfolding inside_numbers

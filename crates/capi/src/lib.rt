@@ -12,12 +12,12 @@ ghost use Rattle.packet.specs.Reading.{read_packet};
 ghost use Rattle.write.specs.Given.{lent};
 ghost use Rattle.walk.specs.Walk.{settings_of};
 ghost use Rattle.flat.specs.Told.{read_numbers};
-ghost use Rattle.flat.specs.Answers.{nextNumbers, write_numbers, write_out, afterPacketNumbers, afterSegmentNumbers, countNumbers, packetNumbers, packetOut};
+ghost use Rattle.flat.specs.Answers.{next_numbers, write_numbers, write_out, after_packet_numbers, after_segment_numbers, count_numbers, packet_numbers, packet_out};
 
 // The next sequence count: 0 follows 16,383.
 #[unsafe(no_mangle)]
 pub extern "C" fn orl_next_sequence_count(sequence_count: u64, answer: &mut [u64; 2])
-    ensures { answer.new ≡ nextNumbers sequence_count }
+    ensures { answer.new ≡ next_numbers sequence_count }
 {
     *answer = flat::next_sequence_count(sequence_count);
 }
@@ -75,7 +75,7 @@ pub extern "C" fn orl_write(
 // The sender's numbers after an unsegmented packet.
 #[unsafe(no_mangle)]
 pub extern "C" fn orl_after_packet(sender: &[u64; 2], answer: &mut [u64; 3])
-    ensures { answer.new ≡ afterPacketNumbers sender.now }
+    ensures { answer.new ≡ after_packet_numbers sender.now }
 {
     *answer = flat::after_packet(sender);
 }
@@ -83,7 +83,7 @@ pub extern "C" fn orl_after_packet(sender: &[u64; 2], answer: &mut [u64; 3])
 // The sender's numbers after a segment.
 #[unsafe(no_mangle)]
 pub extern "C" fn orl_after_segment(sender: &[u64; 2], answer: &mut [u64; 3])
-    ensures { answer.new ≡ afterSegmentNumbers sender.now }
+    ensures { answer.new ≡ after_segment_numbers sender.now }
 {
     *answer = flat::after_segment(sender);
 }
@@ -105,7 +105,7 @@ pub extern "C" fn orl_cut_count(
     sender: &[u64; 2],
     answer: &mut [u64; 4],
 )
-    ensures { answer.new ≡ countNumbers (settings_of t profile) p header.now
+    ensures { answer.new ≡ count_numbers (settings_of t profile) p header.now
         (lent timestamp.now zone.now name.now domain.now lengths.now
         authentication.now) body sender.now }
 {
@@ -146,8 +146,8 @@ pub extern "C" fn orl_cut_packet(
 )
     ensures { let x = lent timestamp.now zone.now name.now domain.now lengths.now
         authentication.now in let s = settings_of t profile in
-        (answer.new ≡ packetNumbers s p header.now x body.now sender.now i (length out.old))
-        × (out.new ≡ packetOut s p header.now x body.now sender.now i out.old) }
+        (answer.new ≡ packet_numbers s p header.now x body.now sender.now i (length out.old))
+        × (out.new ≡ packet_out s p header.now x body.now sender.now i out.old) }
 {
     *answer = laying::cut_packet(
         t,

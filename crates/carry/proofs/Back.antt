@@ -37,9 +37,9 @@ use Rattle.carry.proofs.Only.{settings_only}
 use Rattle.carry.proofs.Written.{settings_fine}
 
 -- what is given to the writer is the header of the PDU's message
-pub given_head : (l : Route) (p : List ℕ) (h : Header) → message_head l p h ≡ head_for l (values_of p h)
+pub given_head_lem : (l : Route) (p : List ℕ) (h : Header) → message_head l p h ≡ head_for l (values_of p h)
 unfolding message_head head_of message_values lent_of head_for values_of
-given_head l p h = rw (split_together (parts_of p h.texts)) refl
+given_head_lem l p h = rw (split_together (parts_of p h.texts)) refl
 
 stamp_only : (b : Bool) (t : ℕ) → pick b (eqb t timestamp_size) true ≡ true → b ≡ true → t ≡ timestamp_size
 stamp_only true t h z = eqb-true _ _ h
@@ -175,7 +175,7 @@ module _ (s : Settings) (l : Route) (p : List ℕ) (room : ℕ) where
       let b = only_writing p o k.read in
       let c = value_only s p (read_pdu p) k.values in
       let d = size_only s (message_head l p (read_pdu p)) (content p (read_pdu p).body) room k.sizes in
-      let e = given_head l p (read_pdu p) in
+      let e = given_head_lem l p (read_pdu p) in
       record {
         settings = a.0;
         route = a.1;
@@ -252,7 +252,7 @@ module _ (s : Settings) (l : Route) {p : List ℕ} (room : ℕ) (c : Returns s l
       }
 
   pub head_is : message_head l p (read_pdu p) ≡ its_head
-  head_is = given_head l p (read_pdu p) ∙ ap (head_for l) read_is.1
+  head_is = given_head_lem l p (read_pdu p) ∙ ap (head_for l) read_is.1
 
   pub body_is : content p (read_pdu p).body ≡ c.pdu.body
   unfolding values_of

@@ -26,7 +26,7 @@ use Rattle.write.specs.Given.{Lent, head_of, packet_of}
 use Rattle.write.specs.Writing.{given_packet, fine}
 use Rattle.write.specs.Inner.{primary_pieces, name_pieces, routing_pieces, front_pieces, middle_pieces, end_pieces, packet_pieces}
 use Rattle.write.proofs.Tests.{unless_fine}
-use Rattle.write.proofs.Answers.{below-cap, unless-same}
+use Rattle.write.proofs.Answers.{below_cap, unless_same}
 use Rattle.write.proofs.Pieces.{packet_together}
 use Rattle.carry.specs.declared.Carried.{Carried}
 use Rattle.carry.specs.Message.{message_octets}
@@ -73,7 +73,7 @@ module _ (s : Settings) (v : HeaderValues) (t : Lent) (body : List ℕ) {h : ℕ
 
   module _ (room : ℕ) {q : Tested} (eq : q ≡ unless (leb (2 + h + length body) room) 21 (unless (leb h header_most) 12 none_failed)) where
     head_test : leb h header_most ≡ leb (length (header_octets s head)) header_most
-    head_test = ap (λ (n : ℕ). leb n header_most) eh ∙ below-cap (length (header_octets s head)) header_most (omega arith)
+    head_test = ap (λ (n : ℕ). leb n header_most) eh ∙ below_cap (length (header_octets s head)) header_most (omega arith)
 
     abbrev inner : Tested
     inner = unless (leb (length (header_octets s head)) header_most) 12 none_failed
@@ -91,7 +91,7 @@ module _ (s : Settings) (v : HeaderValues) (t : Lent) (body : List ℕ) {h : ℕ
 
     pub refusal_is : q ≡ size_test s head body room
     unfolding size_test
-    refusal_is = eq ∙ rw head_test (unless-same 21 inner room_test)
+    refusal_is = eq ∙ rw head_test (unless_same 21 inner room_test)
 
     -- where nothing refused at all
     pub record Fits : Type 0 where

@@ -15,10 +15,10 @@ use Rattle.walk.specs.Walk.{Reading, going}
 use Rattle.fields.specs.Fields.{nowhere, parts_most, opt, no_parts, domain}
 use Rattle.packet.specs.declared.Present.{Present}
 use Rattle.packet.specs.declared.Header.{Header as PacketHeader}
-use Rattle.packet.specs.Reading.{texts_of, refused_header as refusedPacket}
+use Rattle.packet.specs.Reading.{texts_of, refused_header as refused_packet}
 use Rattle.format.proofs.Domain.{domain_count, domain_all}
 use Rattle.pdu.specs.declared.Header.{Header as PduHeader}
-use Rattle.pdu.specs.Reading.{read_pdu, accepted_header, refused_header, refusal_of as pduRefusal, ended as pduEnded}
+use Rattle.pdu.specs.Reading.{read_pdu, accepted_header, refused_header, refusal_of as pdu_refusal, ended as pdu_ended}
 use Rattle.carry.specs.Inner.{Few}
 use Rattle.carry.specs.Message.{read_message, accepted_message, refusal_of, ended}
 
@@ -55,10 +55,10 @@ unfolding accepted_message
 accepted_few s e m = (texts_few s _ _ m _, texts_none s _ _ m _)
 
 pub message_few : (s : Settings) (e : ℕ) (m : List ℕ) → FewPacket (read_message s e m)
-unfolding read_message refusedPacket
+unfolding read_message refused_packet
 message_few s e m = go (going (ended s e m))
   where
-    go : (b : Bool) → FewPacket (pick b (accepted_message s e m) (refusedPacket (refusal_of (ended s e m))))
+    go : (b : Bool) → FewPacket (pick b (accepted_message s e m) (refused_packet (refusal_of (ended s e m))))
     go true = accepted_few s e m
     go false = ((omega arith, length-replicate 16 nowhere), λ q. refl)
 
@@ -72,8 +72,8 @@ accepted_pdu p = (texts_few _ _ _ p _, texts_none _ _ _ p _)
 
 pub pdu_few : (p : List ℕ) → FewPdu (read_pdu p)
 unfolding read_pdu refused_header
-pdu_few p = go (going (pduEnded p))
+pdu_few p = go (going (pdu_ended p))
   where
-    go : (b : Bool) → FewPdu (pick b (accepted_header p) (refused_header (pduRefusal p (pduEnded p))))
+    go : (b : Bool) → FewPdu (pick b (accepted_header p) (refused_header (pdu_refusal p (pdu_ended p))))
     go true = accepted_pdu p
     go false = ((omega arith, length-replicate 16 nowhere), λ q. refl)

@@ -15,7 +15,7 @@ ghost use Rattle.octets.specs.Laying.{laid, together, Lays};
 ghost use Rattle.walk.specs.Inner.{as_walk, of_walk};
 ghost use Rattle.walk.specs.Walk.{unless, none_failed};
 ghost use Rattle.packet.specs.Format.{header_most};
-ghost use Rattle.format.specs.Told.{content as contentOf};
+ghost use Rattle.format.specs.Told.{content as content_of};
 ghost use Rattle.write.specs.Given.{lent, head_of};
 ghost use Rattle.carry.specs.Digits.{digits, value_of, is_id, id_text, id_value, id_fits};
 ghost use Rattle.carry.specs.Message.{message_bound, start_at, refusal_of, primary_of, timestamp_fits, read_message, parts_of};
@@ -302,7 +302,7 @@ fn read_message(s: Settings, encoding: u16, m: &[u8]) -> packet::Header
 
 // The octets at a place.
 fn content(p: &[u8], a: Place) -> &[u8]
-    ensures { result.now ≡ contentOf p.now a }
+    ensures { result.now ≡ content_of p.now a }
 {
     let from = octets::within(p.len(), 0, a.at);
     let to = octets::within(p.len(), from, a.length);

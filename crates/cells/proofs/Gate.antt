@@ -17,7 +17,7 @@ use Rattle.walk.specs.declared.Refusal.{Refusal}
 use Rattle.walk.specs.Walk.{Reading, goes, refused, going, begun, check, refusal}
 use Rattle.walk.specs.Inner.{as_walk}
 use Rattle.cells.specs.Segments.{both}
-use Rattle.cells.specs.Order.{cells_most, length_fits, count_in, sound as allSound, distinct, untaken, in_order, gate, through}
+use Rattle.cells.specs.Order.{cells_most, length_fits, count_in, sound as all_sound, distinct, untaken, in_order, gate, through}
 use Rattle.cells.proofs.Held.{both_true}
 use Rattle.cells.specs.declared.opening.Opened.{Opened}
 use Rattle.cells.specs.Opening.{opened_of}
@@ -31,7 +31,7 @@ module _ (s : Settings) (Z : ℕ) (st : List ℕ) where
   pub record Ordered : Type 0 where
     pub least : 1 ≤ count_in Z st
     pub most : count_in Z st ≤ cells_most
-    pub sound : allSound s Z st (count_in Z st) ≡ true
+    pub sound : all_sound s Z st (count_in Z st) ≡ true
     pub apart : distinct s Z st (count_in Z st) ≡ true
     pub clear : untaken s Z st (count_in Z st) ≡ true
 
@@ -39,10 +39,10 @@ module _ (s : Settings) (Z : ℕ) (st : List ℕ) where
   unfolding in_order length_fits
   order_has e =
       let n = count_in Z st in
-      let a = both_true (length_fits Z (length st)) (both (allSound s Z st n) (both (distinct s Z st n) (untaken s Z st n))) e in
+      let a = both_true (length_fits Z (length st)) (both (all_sound s Z st n) (both (distinct s Z st n) (untaken s Z st n))) e in
       let b = both_true (eqb (length st % Z) 0) (both (leb 1 (count_in Z st)) (leb (count_in Z st) cells_most)) a.0 in
       let d = both_true (leb 1 (count_in Z st)) (leb (count_in Z st) cells_most) b.1 in
-      let c = both_true (allSound s Z st n) (both (distinct s Z st n) (untaken s Z st n)) a.1 in
+      let c = both_true (all_sound s Z st n) (both (distinct s Z st n) (untaken s Z st n)) a.1 in
       let f = both_true (distinct s Z st n) (untaken s Z st n) c.1 in
       record {
         least = leb-true 1 (count_in Z st) d.0;

@@ -25,7 +25,7 @@ use Rattle.write.specs.Given.{Lent, head_of, packet_of}
 use Rattle.write.specs.Writing.{given_packet, fine}
 use Rattle.write.specs.Inner.{packet_pieces}
 use Rattle.write.proofs.Tests.{unless_fine}
-use Rattle.write.proofs.Answers.{unless-same, size_is, packet_laid, packet-length, secondary-length, packet-least}
+use Rattle.write.proofs.Answers.{unless_same, size_is, packet_laid, packet_length, secondary_length, packet_least}
 use Rattle.cut.specs.declared.Plan.{Plan}
 use Rattle.cut.specs.Cutting.{counter_at, single, chunk, packets, header_length, count_refusal, flags_at, body_start, packet_at, given_at, packet_refusal, packet_answer, packet_output}
 use Rattle.cut.specs.Inner.{plan_of, counter_of, from_of, to_of, values_of}
@@ -87,7 +87,7 @@ packet_most_lem s P v t body d i g =
     let w = given_at s P v t body d i in
     let a = fits_limit (single P H (length body)) P H (length body) (length (part body (i * chunk P H) (chunk P H))) refl g (part_most (chunk P H) _) in
     let l = pick_length (single P H (length body)) body (part body (i * chunk P H) (chunk P H)) in
-    omega (arith, packet-length s w, secondary-length s w, counter_flag P H (length body) i)
+    omega (arith, packet_length s w, secondary_length s w, counter_flag P H (length body) i)
 
 -- ---- the code's packet
 
@@ -129,7 +129,7 @@ module _ (old : Bool) (s : Settings) (P : ℕ) (v : HeaderValues) (t : Lent) (bo
       first_same : x ≡ unless (ltb i (packets P (header_length s v t) (length body))) 26 (count_refusal old s P v t (length body) d)
       first_same =
           ex
-          ∙ unless-same 26 q.tested (λ g. ap (ltb i) (planned old s P v t (length body) d er eh eq g).count_is)
+          ∙ unless_same 26 q.tested (λ g. ap (ltb i) (planned old s P v t (length body) d er eh eq g).count_is)
           ∙ ap (unless (ltb i (packets P (header_length s v t) (length body))) 26) (refusal_same old s P v t (length body) d er eh eq)
 
       pub reached : fine x ≡ true → (fine q.tested ≡ true) × (i < q.count)
@@ -141,12 +141,12 @@ module _ (old : Bool) (s : Settings) (P : ℕ) (v : HeaderValues) (t : Lent) (bo
       unfolding packet_refusal
       packet_refusal_lem =
           ey
-          ∙ unless-same 21 x (λ g. let k = reached g in ap (λ (n : ℕ). leb n room) (size_exact k.0 k.1))
+          ∙ unless_same 21 x (λ g. let k = reached g in ap (λ (n : ℕ). leb n room) (size_exact k.0 k.1))
           ∙ ap (unless (leb (length (octets_of s (given_at s P v t body d i))) room) 21) first_same
 
-      pub refused_packet : (y.number ≡ 0 → ⊥) → record { refusal = refusal y.number; length = 0; sender = d } ≡ packet_answer old s P v t body d i room
+      pub refused_packet_lem : (y.number ≡ 0 → ⊥) → record { refusal = refusal y.number; length = 0; sender = d } ≡ packet_answer old s P v t body d i room
       unfolding packet_answer
-      refused_packet n =
+      refused_packet_lem n =
           let f : fine (packet_refusal old s P v t body d i room) ≡ false = ap fine (sym packet_refusal_lem) ∙ ne_eqb y.number 0 n in
           λ j. record { refusal = refusal (packet_refusal_lem j).number; length = ap (λ (b : Bool). pick b (length (octets_of s (given_at s P v t body d i))) 0) (sym f) j; sender = d }
 
@@ -167,7 +167,7 @@ module _ (old : Bool) (s : Settings) (P : ℕ) (v : HeaderValues) (t : Lent) (bo
             size_is_length = e;
             fits_room = omega arith;
             same = made_same k.0 k.1;
-            least = omega (arith, packet-least s (given_at s P v t body d i));
+            least = omega (arith, packet_least s (given_at s P v t body d i));
           }
 
       pub made_packet : y.number ≡ 0 → record { refusal = refusal 0; length = size; sender = d } ≡ packet_answer old s P v t body d i room

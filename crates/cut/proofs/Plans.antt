@@ -26,7 +26,7 @@ use Rattle.write.specs.declared.HeaderValues.{HeaderValues}
 use Rattle.write.specs.Given.{Lent, header_checks, utf8_checks, unless_all}
 use Rattle.write.specs.Writing.{settings_test, zone_fits, zone_test, parts_test, text_test, fine}
 use Rattle.write.proofs.Tests.{unless_true, unless_fine, unless_all_fine, AllHold}
-use Rattle.write.proofs.Answers.{shut, below-cap, cap_middle}
+use Rattle.write.proofs.Answers.{shut, below_cap, cap_middle}
 use Rattle.cut.specs.declared.Plan.{Plan}
 use Rattle.cut.specs.Cutting.{single, chunk, packets, limit_test, value_tests, message_tests, header_length, count_refusal, sender_after, count_answer, body_most, limit_least}
 use Rattle.cut.proofs.Counting.{sent_on}
@@ -96,7 +96,7 @@ module _ (P H B : ℕ) {h : ℕ} (eh : h ≡ capped H) (top : P ≤ packet_most)
   single_same =
       ap (λ (n : ℕ). leb (capped (6 + n + B)) P) eh
       ∙ ap (λ (n : ℕ). leb n P) (cap_middle H B)
-      ∙ below-cap (6 + H + B) P (omega arith)
+      ∙ below_cap (6 + H + B) P (omega arith)
 
   pub chunk_same : chunk P h ≡ chunk P H
   chunk_same = omega arith
@@ -106,10 +106,10 @@ module _ (P H B : ℕ) {h : ℕ} (eh : h ≡ capped H) (top : P ≤ packet_most)
   packets_same = ap₂ (λ (o : Bool) (c : ℕ). packets_of o B c) single_same chunk_same
 
   head_same : (one : Bool) → leb (pick one h (capped (h + 4))) header_most ≡ leb (pick one H (H + 4)) header_most
-  head_same true = ap (λ (n : ℕ). leb n header_most) eh ∙ below-cap H header_most (omega arith)
+  head_same true = ap (λ (n : ℕ). leb n header_most) eh ∙ below_cap H header_most (omega arith)
   head_same false =
       let e : capped (h + 4) ≡ capped (H + 4) = omega arith in
-      ap (λ (n : ℕ). leb n header_most) e ∙ below-cap (H + 4) header_most (omega arith)
+      ap (λ (n : ℕ). leb n header_most) e ∙ below_cap (H + 4) header_most (omega arith)
 
   tests_same : (r : Tested) → plan_refusal (single_of P h B) h B (chunk P h) r ≡ message_tests P H B r
   unfolding plan_refusal message_tests

@@ -10,7 +10,7 @@ use Rattle.octets.specs.Octets.{pick}
 use Rattle.walk.specs.declared.Settings.{Settings}
 use Rattle.arrival.specs.Arriving.{Arrived, whole, stored, again, late, refused, arrived, store_with}
 use Rattle.taking.specs.Taking.{took, out_with}
-use Rattle.join.specs.Joining.{less_taken, store_by as storeJoinedBy, out_by as outJoinedBy, store_joined, out_joined}
+use Rattle.join.specs.Joining.{less_taken, store_by as store_joined_by, out_by as out_joined_by, store_joined, out_joined}
 use Rattle.demand3.specs.Calls.{Call, arrival, taking, joining, forgetting, out_of, goes_on, draws, store_at, store_by, out_by}
 
 module _ (s : Settings) (Z : ℕ) (st : List ℕ) where
@@ -22,7 +22,7 @@ module _ (s : Settings) (Z : ℕ) (st : List ℕ) where
   store_by_lem (joining p out) = by (arrived s Z st p)
     where
       by : (a : Arrived) →
-          storeJoinedBy s Z st p (length out) a ≡ pick (goes_on a) (less_taken s Z (store_with Z st p a) (length out)) (store_with Z st p a)
+          store_joined_by s Z st p (length out) a ≡ pick (goes_on a) (less_taken s Z (store_with Z st p a) (length out)) (store_with Z st p a)
       by whole = refl
       by (stored i) = refl
       by again = refl
@@ -36,7 +36,7 @@ module _ (s : Settings) (Z : ℕ) (st : List ℕ) where
   out_by_lem (forgetting i) = refl
   out_by_lem (joining p out) = by (arrived s Z st p)
     where
-      by : (a : Arrived) → outJoinedBy s Z st p out a ≡ pick (goes_on a) (out_with out (took s Z (store_with Z st p a) (length out))) out
+      by : (a : Arrived) → out_joined_by s Z st p out a ≡ pick (goes_on a) (out_with out (took s Z (store_with Z st p a) (length out))) out
       by whole = refl
       by (stored i) = refl
       by again = refl

@@ -21,7 +21,7 @@ use Rattle.taking.specs.Taking.{message}
 use Rattle.demand3.specs.Cells.{has_free, range_by, recorded}
 use Rattle.cells.proofs.Empty.{empty_cells, empty_count, empty_order}
 use Rattle.demand3.specs.Traffic.{Sent, run_of, segments_of, Event, arrives, takes, forgets, empty, taken_from, after, OneOf, Room as CellRoom, steps_in}
-use Rattle.demand3.specs.Promise.{Anew as CellAnew, fresh as cell-fresh, forgot as cell-forgot, Untaken as CellUntaken, AllCame as CellAllCame}
+use Rattle.demand3.specs.Promise.{Anew as CellAnew, fresh as cell_fresh, forgot as cell_forgot, Untaken as CellUntaken, AllCame as CellAllCame}
 use Rattle.demand3.specs.Promise.{RecordAt as CellRecordAt, Remembered as CellRemembered}
 use Rattle.demand3.specs.Base.{Traffic01}
 use Rattle.demand3.specs.Calls.{Call, forgetting, Handed, Plain, out_of, store_by, store_after, took_by}
@@ -52,7 +52,7 @@ begins s Z n one u =
 -- ---- the messages and the arrivals
 
 module _ (s : Settings) (Z : ℕ) (ms : List Sending) where
-  -- a segment that arrives is one of theirs, or other_keyed
+  -- a segment that arrives is one of theirs, or other-keyed
   seg_source : (p : List ℕ) (t : Seg) → ((m : Sending) → Memᴰ m ms → IsCut s Z m) → MayCome s Z ms p → ReadsAs s p t → 2 + length p ≤ Z →
       OneOf next_counter (map (sent_of s) ms) t ⊎ ((m : Sent) → Memᴰ m (map (sent_of s) ms) → t.key ≢ m.key)
   unfolding seg_of
@@ -246,10 +246,10 @@ module _ (s : Settings) (Z n : ℕ) where
     pub anew_of : (m : Sending) → IsCut s Z m → (cs : List Call) → Plain cs → Anew s Z n m cs →
         CellAnew next_counter steps_most n (sent_of s m) (events_in s Z zeros cs)
     unfolding events_in
-    anew_of m c cs pl fresh = cell-fresh
+    anew_of m c cs pl fresh = cell_fresh
     anew_of m c cs pl (forgot x i r) =
         subst (CellAnew next_counter steps_most n (sent_of s m)) (sym d)
-        (cell-forgot (events_in s Z zeros x) i
+        (cell_forgot (events_in s Z zeros x) i
         (subst (λ (l : List Cell). CellRecordAt next_counter steps_most (sent_of s m) l i) (behind_cells x (plain_left x (forgetting i ∷ []) pl)) (record_of_lem m c (store_behind s Z n x) i r)))
       where
         d : events_in s Z zeros (x ++ forgetting i ∷ []) ≡ events_in s Z zeros x ++ forgets i ∷ []

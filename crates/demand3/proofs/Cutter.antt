@@ -111,8 +111,8 @@ module _ (s : Settings) (Z : ℕ) (m : Cutting) (k : Succeeds s Z m) where
     pub sequence_count_fits : sequence_count_of i < 16384
     sequence_count_fits = given_range.sequence_count
 
-    cut_fits : 2 + length (packet_with s (sending_of s m) i 0) ≤ Z
-    cut_fits =
+    cut_fits_lem : 2 + length (packet_with s (sending_of s m) i 0) ≤ Z
+    cut_fits_lem =
         omega (
           arith,
           k.fits i (omega (arith, cutter_many)),
@@ -127,7 +127,7 @@ module _ (s : Settings) (Z : ℕ) (m : Cutting) (k : Succeeds s Z m) where
         many = omega (arith, cutter_many, k.many);
         most = omega (arith, cutter_many, many_is, segments_most_lem m.old s P m.values m.texts m.body m.sender no_refusal_lem is_cut);
         range = λ i l. recounted_range s (values_at s (sending_of s m) i (sequence_count_of i)) 0 (omega arith) (given_range i l);
-        fits = cut_fits;
+        fits = cut_fits_lem;
       }
 
   -- so packet i arrives as segment i

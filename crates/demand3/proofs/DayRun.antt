@@ -1,5 +1,5 @@
 -- The run of `Day`, of which demand 3 speaks (J-8): interleaved arrivals at fewer cells than segments, cells used
--- again after a take, repeats with another sequence count, a whole, a malformed, an over_long and an other_keyed packet, a take
+-- again after a take, repeats with another sequence count, a whole, a malformed, an over-long and an other-keyed packet, a take
 -- refused by 21, joinings, late repeats of a message that was taken, forgettings.
 -- Assumes nothing.
 use Prim.Native.Nat.{ℕ, ◌+◌, ◌≤◌}
@@ -37,7 +37,7 @@ abbrev pub lent_out : ℕ → List ℕ
 lent_out n = replicate n 0xEE
 
 -- the last comes first; a take before anything is complete; a malformed and a whole packet; a joining that stores; a repeat with
--- another sequence count; an over_long packet
+-- another sequence count; an over-long packet
 abbrev pub dawn : List Call
 dawn =
     arrival (of_three 2 2) ∷ taking (lent_out 100) ∷ arrival (of_two 0 3) ∷ arrival stub ∷ arrival single ∷ joining (of_three 0 0) (lent_out 100)

@@ -11,7 +11,7 @@ use lib.ListN.{length}
 use Rattle.octets.specs.Octets.{wide, alike}
 use Rattle.octets.proofs.Has.{octets_nil}
 use Rattle.utf8.specs.Test.{ended, begins, follows, accepts, is_text}
-use Rattle.varint.specs.Varint.{write, octets_of as varintOctets}
+use Rattle.varint.specs.Varint.{write, octets_of as varint_octets}
 use Rattle.walk.specs.Walk.{unless}
 use Rattle.fields.specs.Form.{uinteger_octets, blob_octets, text_octets, split, all_text}
 use Rattle.packet.specs.Format.{Values, presence, identification, fixed_octets, front_octets, back_octets, header_octets}
@@ -22,7 +22,7 @@ use Rattle.write.specs.declared.HeaderValues.{HeaderValues}
 use Rattle.write.specs.Given.{Lent, lent, head_of, sum, name_checks, routing_checks, id_checks, text_checks, utf8_checks, header_checks, unless_all}
 use Rattle.write.specs.Writing.{settings_test, zone_test, parts_test, text_test}
 use Rattle.write.specs.Lending.{Lends}
-use Rattle.format.specs.Told.{values_of, head_of as toldHead}
+use Rattle.format.specs.Told.{values_of, head_of as told_head}
 use Rattle.format.proofs.TwoWay.{reads_back}
 use Rattle.format.proofs.Accepting.{written}
 use Rattle.cut.specs.Cutting.{packets, rounded, limit_test, value_tests, message_tests, count_refusal, count_answer, body_start}
@@ -105,19 +105,19 @@ zoned = sending_of settings cutting
 pub cutter_refuses : (count_answer false settings 39 values texts 10 cutting.sender).refusal.number ≡ 30
 unfolding count_answer count_refusal message_tests limit_test value_tests settings_test zone_test parts_test text_test utf8_checks all_text is_text accepts follows begins ended
     unless unless_all header_checks name_checks routing_checks id_checks text_checks sum packets rounded head_of split header_octets fixed_octets
-    front_octets back_octets text_octets blob_octets uinteger_octets write varintOctets wide
+    front_octets back_octets text_octets blob_octets uinteger_octets write varint_octets wide
 cutter_refuses = refl
 
 counts : (count_of settings cutting).refusal.number ≡ 0
 unfolding count_answer count_refusal message_tests limit_test value_tests settings_test zone_test parts_test text_test utf8_checks all_text is_text accepts follows begins ended
     unless unless_all header_checks name_checks routing_checks id_checks text_checks sum packets rounded head_of split header_octets fixed_octets
-    front_octets back_octets text_octets blob_octets uinteger_octets write varintOctets wide
+    front_octets back_octets text_octets blob_octets uinteger_octets write varint_octets wide
 counts = refl
 
 count : (count_of settings cutting).count ≡ 2
 unfolding count_answer count_refusal message_tests limit_test value_tests settings_test zone_test parts_test text_test utf8_checks all_text is_text accepts follows begins ended
     unless unless_all header_checks name_checks routing_checks id_checks text_checks sum packets rounded head_of split header_octets fixed_octets
-    front_octets back_octets text_octets blob_octets uinteger_octets write varintOctets wide
+    front_octets back_octets text_octets blob_octets uinteger_octets write varint_octets wide
 count = refl
 
 most : (i : ℕ) → length (packet_of settings cutting i) ≤ 39
@@ -153,7 +153,7 @@ many_is = cutter_many settings cell_size cutting succeeds ∙ count
 
 -- reading tells the kind of each of its packets, whatever the sequence count
 pub zoned_told : (i : ℕ) → i < 2 → (c : ℕ) → c < 16384 → (read_packet settings (packet_with settings zoned i c)).withdrawn ≡ true
-unfolding values_of toldHead head_of
+unfolding values_of told_head head_of
 zoned_told i l c h =
     let v = values_at settings zoned i c in
     let r = recounted_range settings (values_at settings zoned i 0) c h (zoned_cut.range i (omega (arith, many_is))) in
@@ -180,13 +180,13 @@ arrives_as i l t e c h =
 is_first : (c : ℕ) → c < 16384 → event_of settings cell_size (packet_with settings zoned 0 c) ≡ arrives opens
 unfolding steps_of flags_in first_of body_start count_answer count_refusal message_tests limit_test value_tests settings_test zone_test parts_test text_test
     utf8_checks all_text is_text accepts follows begins ended unless unless_all header_checks name_checks routing_checks id_checks text_checks sum packets rounded
-    head_of split header_octets fixed_octets front_octets back_octets text_octets blob_octets uinteger_octets write varintOctets wide identification presence next_counter
+    head_of split header_octets fixed_octets front_octets back_octets text_octets blob_octets uinteger_octets write varint_octets wide identification presence next_counter
 is_first = arrives_as 0 (omega arith) opens refl
 
 is_last : (c : ℕ) → c < 16384 → event_of settings cell_size (packet_with settings zoned 1 c) ≡ arrives closes
 unfolding steps_of flags_in first_of body_start count_answer count_refusal message_tests limit_test value_tests settings_test zone_test parts_test text_test
     utf8_checks all_text is_text accepts follows begins ended unless unless_all header_checks name_checks routing_checks id_checks text_checks sum packets rounded
-    head_of split header_octets fixed_octets front_octets back_octets text_octets blob_octets uinteger_octets write varintOctets wide identification presence next_counter
+    head_of split header_octets fixed_octets front_octets back_octets text_octets blob_octets uinteger_octets write varint_octets wide identification presence next_counter
 is_last = arrives_as 1 (omega arith) closes refl
 
 -- the last segment, once more with another sequence count, and the first

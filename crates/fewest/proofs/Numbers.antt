@@ -23,7 +23,7 @@ use Rattle.write.specs.Given.{Lent}
 use Rattle.write.specs.Lending.{Lends}
 use Rattle.write.specs.Writing.{settings_test, fine}
 use Rattle.write.proofs.Tests.{unless_fine}
-use Rattle.write.proofs.Answers.{secondary-length}
+use Rattle.write.proofs.Answers.{secondary_length}
 use Rattle.cut.specs.Cutting.{counter_at, single, chunk, packets, header_length, count_refusal, flags_at, body_start, packet_at, given_at}
 use Rattle.cut.proofs.Plans.{before, Good, good, Cuts, cuts}
 use Rattle.cut.proofs.Packets.{counter_flag, packet_most_lem}
@@ -145,7 +145,7 @@ module _ (old : Bool) (s : Settings) (P : ℕ) (v : HeaderValues) (t : Lent) (bo
         body = body_octets w.octets.body i (single P H B);
         packet = omega (arith, packet_most_lem s P v t body d i cuts_well.some, k.top);
         header =
-            omega (arith, secondary-length s (given_at s P v t body d i), counter_flag P H B i, cuts_well.header, four (single P H B));
+            omega (arith, secondary_length s (given_at s P v t body d i), counter_flag P H B i, cuts_well.header, four (single P H B));
         some = λ e. body_some i l (single P H B) refl (sym g ∙ e);
       }
     where

@@ -9,13 +9,13 @@ use Rattle.walk.specs.declared.Settings.{Settings}
 use Rattle.walk.specs.declared.Bound.{Bound}
 use Rattle.walk.specs.declared.UInteger.{UInteger}
 use Rattle.walk.specs.Walk.{Reading, Step, check, uinteger}
-use Rattle.walk.specs.Inner.{of_walk, as_uInteger}
+use Rattle.walk.specs.Inner.{of_walk, as_uinteger}
 use Rattle.fields.specs.Fields.{parts_most, no_parts, parts_to, domain}
 
 abbrev of_number : UInteger → Step ℕ
 of_number n = record { walk = of_walk n.walk; value = n.value }
 
-module _ (s : Settings) (b : Bound) (p : List ℕ) (w : Reading) {n : UInteger} (e : n ≡ as_uInteger (uinteger s b p w)) where
+module _ (s : Settings) (b : Bound) (p : List ℕ) (w : Reading) {n : UInteger} (e : n ≡ as_uinteger (uinteger s b p w)) where
   pub domain_parts :
       n.value ≤ parts_most →
       domain s b p w ≡ parts_to s b p n.value (record { walk = of_walk n.walk; value = no_parts n.value })

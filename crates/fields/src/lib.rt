@@ -13,7 +13,7 @@ ghost use Rattle.octets.specs.Octets.{part as stretch};
 ghost use Rattle.octets.specs.Laying.{laid, Lays};
 ghost use Rattle.utf8.specs.Test.{is_text};
 ghost use Rattle.varint.specs.Varint.{write};
-ghost use Rattle.walk.specs.Inner.{of_walk, as_uInteger};
+ghost use Rattle.walk.specs.Inner.{of_walk, as_uinteger};
 ghost use Rattle.walk.specs.Walk.{uinteger};
 ghost use Rattle.fields.specs.Fields.{nowhere, opt, block, blob, text, part, no_parts, parts_to, domain};
 ghost use Rattle.fields.specs.Form.{uinteger_octets, domain_octets, split, all_text};
@@ -53,7 +53,7 @@ pub struct Domain {
 
 // A number if it is there, else 0.
 pub fn uinteger_if(there: bool, s: Settings, b: Bound, p: &[u8], w: Walk) -> UInteger
-    ensures { result ≡ as_uInteger (opt there 0 (uinteger s b p.now) (of_walk w)) }
+    ensures { result ≡ as_uinteger (opt there 0 (uinteger s b p.now) (of_walk w)) }
 {
     if there {
         return walk::read_uinteger(s, b, p, w);

@@ -6,7 +6,7 @@ use mathlib.Core.List.{[], ◌∷◌, ◌++◌, map}
 use lib.ListN.{take, drop}
 use Rattle.octets.specs.Octets.{wide, number as number_at}
 use Rattle.utf8.specs.Test.{ended, accepts, is_text}
-use Rattle.varint.specs.Varint.{write, octets_of as varintOctets, final, after, read}
+use Rattle.varint.specs.Varint.{write, octets_of as varint_octets, final, after, read}
 use Rattle.walk.specs.Walk.{begun, check, octets, field_from, unless, uinteger, varint_field, varint_step}
 use Rattle.fields.specs.Form.{split, all_text}
 use Rattle.packet.specs.Numbers.{next_count, count_at, next_counter}
@@ -19,12 +19,12 @@ use Rattle.write.specs.Writing.{settings_test, zone_test, parts_test, text_test,
 use Rattle.cut.specs.Cutting.{counter_at, sender_after, packets, rounded, limit_test, value_tests, message_tests}
 use Rattle.cut.specs.Cutting.{count_refusal, count_answer, flags_at, body_start, packet_at, packet_refusal, packet_answer, packet_output}
 use Rattle.recording.proofs.Figure.{figure_14}
-use Rattle.figures.specs.Table.{Said, octets as said-octets, Row, table}
+use Rattle.figures.specs.Table.{Said, octets as said_octets, Row, table}
 use Rattle.figures.proofs.Thirteen.{thirteen}
 use Rattle.sender.specs.Sending.{steps_of, after_segments, after_segment}
 
 pub figures : map (λ (r : Row). r.computed) table ≡ map (λ (r : Row). r.said) table
-unfolding next_count wide number_at write varintOctets final after read begun check octets unless uinteger varint_field varint_step split presence identification
+unfolding next_count wide number_at write varint_octets final after read begun check octets unless uinteger varint_field varint_step split presence identification
     fixed_octets front_octets counter_octets back_octets header_octets secondary_octets data_octets octets_of primary_tests primary_of octet_field wide_field
     sdu_field after_sdu after_area after_service after_operation after_version after_session after_secondary field_from after_qualifier after_transaction
     after_presence fixed_of flags_of present_of ids_of texts_of body_test refused_header accepted_header read_packet head_of packet_of sum name_checks
@@ -33,4 +33,4 @@ unfolding next_count wide number_at write varintOctets final after read begun ch
     count_refusal count_answer flags_at body_start packet_at packet_refusal packet_answer packet_output next_counter sender_after after_segments after_segment
 figures =
     ap₂ (λ (x y : Said). map (λ (r : Row). r.said) (take 29 table) ++ (x ∷ map (λ (r : Row). r.said) (take 2 (drop 30 table)) ++ (y ∷ [])))
-    thirteen (ap said-octets figure_14)
+    thirteen (ap said_octets figure_14)

@@ -17,7 +17,7 @@ use Rattle.varint.proofs.Steps.{step_final}
 use Rattle.walk.specs.declared.Settings.{Settings}
 use Rattle.walk.specs.declared.UInteger.{UInteger}
 use Rattle.walk.specs.Walk.{Reading, Step, goes, going, header_bound, header_end, octets, check, field_from, varint_step, varint_field, wide_field, uinteger}
-use Rattle.walk.specs.Inner.{as_uInteger}
+use Rattle.walk.specs.Inner.{as_uinteger}
 use Rattle.walk.proofs.Steps.{octets_goes, check_ok, field_goes, number_found}
 use Rattle.fields.specs.Fields.{place, opt, block, blob, text, marked_text, part}
 use Rattle.packet.specs.FixedPart.{octet_field}
@@ -111,7 +111,7 @@ module _ (s : Settings) (p : List ℕ) {lim at : ℕ} (w : Within p lim at) wher
 
   -- a number told by its reader
   pub number_read :
-      {n : UInteger} → n ≡ as_uInteger (uinteger s header_bound p (goes at)) → n.walk.refused ≡ 0 → n.walk.at ≤ lim →
+      {n : UInteger} → n ≡ as_uinteger (uinteger s header_bound p (goes at)) → n.walk.refused ≡ 0 → n.walk.at ≤ lim →
       Found p (uinteger s header_bound p (goes at)) lim n.walk.at n.value
   number_read {n} e z t =
       record {

@@ -25,7 +25,7 @@ use Rattle.packet.specs.Reading.{accepted_header, read_packet}
 use Rattle.packet.proofs.Whole.{accepts}
 use Rattle.flat.specs.Told.{primary_numbers, name_numbers, routing_numbers, present_numbers, ids_numbers, text_numbers, place_numbers, places_to}
 use Rattle.flat.specs.Told.{told_beside, read_numbers}
-use Rattle.flat.proofs.Answers.{header_laid, texts-laid}
+use Rattle.flat.proofs.Answers.{header_laid, texts_laid}
 use Rattle.light.specs.Light.{Ready, fixed_here, no_texts}
 use Rattle.light.proofs.Header.{the_header, header_is}
 use Rattle.light.proofs.Plain.{no_texts_there}
@@ -80,7 +80,7 @@ module _ (s : Settings) (has : Present) (p : List ℕ) (v : Reading) {lim : ℕ}
         walk = λ j. ap (λ (x : Step Texts). x.walk) texts_is ∙ ie.walk j;
         same =
             λ j.
-            texts-laid _ l 28 m1 m2 m3 m4 m (ia.same za) (ib.same zb) (ic.same zc) (id.same zd) (ie.same j)
+            texts_laid _ l 28 m1 m2 m3 m4 m (ia.same za) (ib.same zb) (ic.same zc) (id.same zd) (ie.same j)
             ∙ ap (λ (x : Step Texts). sets l 28 (text_numbers x.value)) (sym texts_is);
       }
 

@@ -17,7 +17,7 @@ use Rattle.walk.specs.declared.Settings.{Settings}
 use Rattle.sender.specs.declared.Sender.{Sender}
 use Rattle.flat.specs.Given.{header_of, packet_of, sender_of}
 use Rattle.flat.specs.Told.{written_numbers, counted_numbers, cut_numbers}
-use Rattle.flat.specs.Answers.{writeFits, writeRefused, write_numbers, write_out, cutFits, cutRefused, countNumbers, packetNumbers, packetOut}
+use Rattle.flat.specs.Answers.{write_fits, write_refused, write_numbers, write_out, cut_fits, cut_refused, count_numbers, packet_numbers, packet_out}
 use Rattle.flat.proofs.Fitting.{both_held}
 
 -- two tests made together
@@ -33,12 +33,12 @@ module _ (a b ok x y : Bool) (e : a ≡ x) (f : b ≡ y) (g : ok ≡ pick a b fa
 
 -- ---- writing
 
-module _ (s : Settings) (h : List ℕ) (x : Lent) (flags count counter : ℕ) (body : List ℕ) (ok : Bool) (e : ok ≡ writeFits h flags count counter) where
+module _ (s : Settings) (h : List ℕ) (x : Lent) (flags count counter : ℕ) (body : List ℕ) (ok : Bool) (e : ok ≡ write_fits h flags count counter) where
   module _ (f : ok ≡ false) where
-    pub write_refused :
-        (room : ℕ) (r : List ℕ) → r ≡ writeRefused s → r ≡ write_numbers s h x flags count counter body room
+    pub write_refused_lem :
+        (room : ℕ) (r : List ℕ) → r ≡ write_refused s → r ≡ write_numbers s h x flags count counter body room
     unfolding write_numbers
-    write_refused room r g = rw (sym e, f) g
+    write_refused_lem room r g = rw (sym e, f) g
 
     pub write_kept : (out : List ℕ) → out ≡ write_out s h x flags count counter body out
     unfolding write_out
@@ -58,35 +58,35 @@ module _ (s : Settings) (h : List ℕ) (x : Lent) (flags count counter : ℕ) (b
 
 -- ---- cutting
 
-module _ (s : Settings) (P : ℕ) (h : List ℕ) (x : Lent) (d : List ℕ) (ok : Bool) (e : ok ≡ cutFits h d) where
-  module _ (f : ok ≡ false) (r : List ℕ) (g : r ≡ cutRefused s P d) where
-    pub count_refused : (B : ℕ) → r ≡ countNumbers s P h x B d
-    unfolding countNumbers
+module _ (s : Settings) (P : ℕ) (h : List ℕ) (x : Lent) (d : List ℕ) (ok : Bool) (e : ok ≡ cut_fits h d) where
+  module _ (f : ok ≡ false) (r : List ℕ) (g : r ≡ cut_refused s P d) where
+    pub count_refused : (B : ℕ) → r ≡ count_numbers s P h x B d
+    unfolding count_numbers
     count_refused B = rw (sym e, f) g
 
-    pub packet_refused : (body : List ℕ) (i room : ℕ) → r ≡ packetNumbers s P h x body d i room
-    unfolding packetNumbers
+    pub packet_refused : (body : List ℕ) (i room : ℕ) → r ≡ packet_numbers s P h x body d i room
+    unfolding packet_numbers
     packet_refused body i room = rw (sym e, f) g
 
-  pub packet_kept : ok ≡ false → (body : List ℕ) (i : ℕ) (out : List ℕ) → out ≡ packetOut s P h x body d i out
-  unfolding packetOut
+  pub packet_kept : ok ≡ false → (body : List ℕ) (i : ℕ) (out : List ℕ) → out ≡ packet_out s P h x body d i out
+  unfolding packet_out
   packet_kept f body i out = rw (sym e, f)
 
   module _ (f : ok ≡ true) (v : HeaderValues) (a : Sender) (g : v ≡ header_of h) (k : a ≡ sender_of d) where
     pub count_told :
         (B : ℕ) (w : Counted) (r : List ℕ) → w ≡ count_answer false s P v x B a → r ≡ counted_numbers w →
-        r ≡ countNumbers s P h x B d
-    unfolding countNumbers
+        r ≡ count_numbers s P h x B d
+    unfolding count_numbers
     count_told B w r m n = rw (sym e, f, sym g, sym k, sym m) n
 
     pub packet_told :
         (body : List ℕ) (i room : ℕ) (w : Cut) (r : List ℕ) → w ≡ packet_answer false s P v x body a i room → r ≡ cut_numbers w →
-        r ≡ packetNumbers s P h x body d i room
-    unfolding packetNumbers
+        r ≡ packet_numbers s P h x body d i room
+    unfolding packet_numbers
     packet_told body i room w r m n = rw (sym e, f, sym g, sym k, sym m) n
 
     pub packet_laid :
         (body : List ℕ) (i : ℕ) (out after : List ℕ) → after ≡ packet_output false s P v x body a i out →
-        after ≡ packetOut s P h x body d i out
-    unfolding packetOut
+        after ≡ packet_out s P h x body d i out
+    unfolding packet_out
     packet_laid body i out after m = rw (sym e, f, sym g, sym k) m

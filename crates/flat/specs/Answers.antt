@@ -15,31 +15,31 @@ use Rattle.flat.specs.Given.{header_fits, header_of, packet_fits, packet_of, sen
 use Rattle.flat.specs.Told.{written_numbers, sender_numbers, counted_numbers, cut_numbers}
 
 -- a number does not fit: 22, unless it is refused already
-abbrev pub tooWide : Tested → ℕ
-tooWide r = (unless false 22 r).number
+abbrev pub too_wide : Tested → ℕ
+too_wide r = (unless false 22 r).number
 
 -- the refusal, and the next sequence count
-unfoldable pub nextNumbers : ℕ → List ℕ
-nextNumbers count = pick (leb count most16) (0 ∷ (next_sequence_count (record { 0 = count })).0 ∷ []) (22 ∷ 0 ∷ [])
+unfoldable pub next_numbers : ℕ → List ℕ
+next_numbers count = pick (leb count most16) (0 ∷ (next_sequence_count (record { 0 = count })).0 ∷ []) (22 ∷ 0 ∷ [])
 
 -- ---- writing one packet
 
-abbrev pub writeFits : List ℕ → ℕ → ℕ → ℕ → Bool
-writeFits h flags count counter = pick (header_fits h) (packet_fits flags count counter) false
+abbrev pub write_fits : List ℕ → ℕ → ℕ → ℕ → Bool
+write_fits h flags count counter = pick (header_fits h) (packet_fits flags count counter) false
 
-abbrev pub writeRefused : Settings → List ℕ
-writeRefused s = tooWide (settings_test s none_failed) ∷ 0 ∷ []
+abbrev pub write_refused : Settings → List ℕ
+write_refused s = too_wide (settings_test s none_failed) ∷ 0 ∷ []
 
 -- the refusal, and the octets written
 unfoldable pub write_numbers : Settings → List ℕ → Lent → ℕ → ℕ → ℕ → List ℕ → ℕ → List ℕ
 write_numbers s h x flags count counter body room =
-    pick (writeFits h flags count counter)
+    pick (write_fits h flags count counter)
     (written_numbers (write_answer false s (header_of h) (packet_of flags count counter) x body room))
-    (writeRefused s)
+    (write_refused s)
 
 unfoldable pub write_out : Settings → List ℕ → Lent → ℕ → ℕ → ℕ → List ℕ → List ℕ → List ℕ
 write_out s h x flags count counter body out =
-    pick (writeFits h flags count counter)
+    pick (write_fits h flags count counter)
     (write_output false s (header_of h) (packet_of flags count counter) x body out)
     out
 
@@ -50,31 +50,31 @@ abbrev pub given : List ℕ → List ℕ
 given d = number_at d 0 ∷ number_at d 1 ∷ []
 
 -- the refusal, and the numbers after an unsegmented packet
-unfoldable pub afterPacketNumbers : List ℕ → List ℕ
-afterPacketNumbers d = pick (sender_fits d) (0 ∷ sender_numbers (after_packet (sender_of d))) (22 ∷ given d)
+unfoldable pub after_packet_numbers : List ℕ → List ℕ
+after_packet_numbers d = pick (sender_fits d) (0 ∷ sender_numbers (after_packet (sender_of d))) (22 ∷ given d)
 
 -- and after a segment
-unfoldable pub afterSegmentNumbers : List ℕ → List ℕ
-afterSegmentNumbers d = pick (sender_fits d) (0 ∷ sender_numbers (after_segment (sender_of d))) (22 ∷ given d)
+unfoldable pub after_segment_numbers : List ℕ → List ℕ
+after_segment_numbers d = pick (sender_fits d) (0 ∷ sender_numbers (after_segment (sender_of d))) (22 ∷ given d)
 
 -- ---- cutting
 
-abbrev pub cutFits : List ℕ → List ℕ → Bool
-cutFits h d = pick (header_fits h) (sender_fits d) false
+abbrev pub cut_fits : List ℕ → List ℕ → Bool
+cut_fits h d = pick (header_fits h) (sender_fits d) false
 
-abbrev pub cutRefused : Settings → ℕ → List ℕ → List ℕ
-cutRefused s P d = tooWide (limit_test s P none_failed) ∷ 0 ∷ given d
+abbrev pub cut_refused : Settings → ℕ → List ℕ → List ℕ
+cut_refused s P d = too_wide (limit_test s P none_failed) ∷ 0 ∷ given d
 
 -- the refusal, the count of packets, and the sender's numbers moved on
-unfoldable pub countNumbers : Settings → ℕ → List ℕ → Lent → ℕ → List ℕ → List ℕ
-countNumbers s P h x B d =
-    pick (cutFits h d) (counted_numbers (count_answer false s P (header_of h) x B (sender_of d))) (cutRefused s P d)
+unfoldable pub count_numbers : Settings → ℕ → List ℕ → Lent → ℕ → List ℕ → List ℕ
+count_numbers s P h x B d =
+    pick (cut_fits h d) (counted_numbers (count_answer false s P (header_of h) x B (sender_of d))) (cut_refused s P d)
 
 -- the refusal, the octets of packet i, and the sender's numbers
-unfoldable pub packetNumbers : Settings → ℕ → List ℕ → Lent → List ℕ → List ℕ → ℕ → ℕ → List ℕ
-packetNumbers s P h x body d i room =
-    pick (cutFits h d) (cut_numbers (packet_answer false s P (header_of h) x body (sender_of d) i room)) (cutRefused s P d)
+unfoldable pub packet_numbers : Settings → ℕ → List ℕ → Lent → List ℕ → List ℕ → ℕ → ℕ → List ℕ
+packet_numbers s P h x body d i room =
+    pick (cut_fits h d) (cut_numbers (packet_answer false s P (header_of h) x body (sender_of d) i room)) (cut_refused s P d)
 
-unfoldable pub packetOut : Settings → ℕ → List ℕ → Lent → List ℕ → List ℕ → ℕ → List ℕ → List ℕ
-packetOut s P h x body d i out =
-    pick (cutFits h d) (packet_output false s P (header_of h) x body (sender_of d) i out) out
+unfoldable pub packet_out : Settings → ℕ → List ℕ → Lent → List ℕ → List ℕ → ℕ → List ℕ → List ℕ
+packet_out s P h x body d i out =
+    pick (cut_fits h d) (packet_output false s P (header_of h) x body (sender_of d) i out) out

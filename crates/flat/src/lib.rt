@@ -8,8 +8,8 @@ ghost use Rattle.walk.specs.Walk.{settings_of};
 ghost use Rattle.packet.specs.Reading.{read_packet};
 ghost use Rattle.write.specs.Given.{lent};
 ghost use Rattle.flat.specs.Given.{fits_to, header_fits, present_of, header_of, packet_fits, packet_of, sender_fits, sender_of};
-ghost use Rattle.flat.specs.Answers.{tooWide, nextNumbers, writeRefused, write_numbers, write_out, afterPacketNumbers};
-ghost use Rattle.flat.specs.Answers.{afterSegmentNumbers, cutRefused, countNumbers, packetNumbers, packetOut};
+ghost use Rattle.flat.specs.Answers.{too_wide, next_numbers, write_refused, write_numbers, write_out, after_packet_numbers};
+ghost use Rattle.flat.specs.Answers.{after_segment_numbers, cut_refused, count_numbers, packet_numbers, packet_out};
 ghost use Rattle.flat.specs.Told.{primary_numbers, name_numbers, routing_numbers, present_numbers, ids_numbers, place_numbers, places_to};
 ghost use Rattle.flat.specs.Told.{text_numbers, read_numbers, written_numbers, sender_numbers, counted_numbers, cut_numbers};
 
@@ -324,7 +324,7 @@ fn cut_numbers(r: Cut) -> [u64; CUT]
 
 // The next sequence count.
 pub fn next_sequence_count(sequence_count: u64) -> [u64; 2]
-    ensures { result ≡ nextNumbers sequence_count }
+    ensures { result ≡ next_numbers sequence_count }
 {
     if MOST_16 < sequence_count {
         return [TOO_WIDE, 0];
@@ -335,14 +335,14 @@ pub fn next_sequence_count(sequence_count: u64) -> [u64; 2]
 
 // The refusal of a number that does not fit, after that of the settings.
 fn too_wide(r: Tested) -> u64
-    ensures { result ≡ tooWide r }
+    ensures { result ≡ too_wide r }
 {
     let q = walk::unless(r, false, REFUSED_VALUE);
     q.number as u64
 }
 
 fn write_too_wide(s: Settings) -> [u64; 2]
-    ensures { result ≡ writeRefused s }
+    ensures { result ≡ write_refused s }
 {
     let none = Tested { number: 0 };
     let number = too_wide(write::test_settings(s, none));
@@ -406,7 +406,7 @@ pub fn write(
 
 // The sender's numbers after an unsegmented packet.
 pub fn after_packet(sender: &[u64; SENDER]) -> [u64; AFTER]
-    ensures { result ≡ afterPacketNumbers sender.now }
+    ensures { result ≡ after_packet_numbers sender.now }
 {
     if !sender_fits(sender) {
         return [TOO_WIDE, sender[0], sender[1]];
@@ -417,7 +417,7 @@ pub fn after_packet(sender: &[u64; SENDER]) -> [u64; AFTER]
 
 // The sender's numbers after a segment.
 pub fn after_segment(sender: &[u64; SENDER]) -> [u64; AFTER]
-    ensures { result ≡ afterSegmentNumbers sender.now }
+    ensures { result ≡ after_segment_numbers sender.now }
 {
     if !sender_fits(sender) {
         return [TOO_WIDE, sender[0], sender[1]];
@@ -427,7 +427,7 @@ pub fn after_segment(sender: &[u64; SENDER]) -> [u64; AFTER]
 }
 
 fn cut_too_wide(s: Settings, p: u64, sender: &[u64; SENDER]) -> [u64; CUT]
-    ensures { result ≡ cutRefused s p sender.now }
+    ensures { result ≡ cut_refused s p sender.now }
 {
     let none = Tested { number: 0 };
     let number = too_wide(cut::test_limit(s, p as usize, none));
@@ -449,7 +449,7 @@ pub fn cut_count(
     body: u64,
     sender: &[u64; SENDER],
 ) -> [u64; CUT]
-    ensures { result ≡ countNumbers (settings_of t profile) p header.now
+    ensures { result ≡ count_numbers (settings_of t profile) p header.now
         (lent timestamp.now zone.now name.now domain.now lengths.now
         authentication.now) body sender.now }
 {
@@ -495,8 +495,8 @@ pub fn cut_packet(
 ) -> [u64; CUT]
     ensures { let x = lent timestamp.now zone.now name.now domain.now lengths.now
         authentication.now in let s = settings_of t profile in
-        (result ≡ packetNumbers s p header.now x body.now sender.now i (length out.old))
-        × (out.new ≡ packetOut s p header.now x body.now sender.now i out.old) }
+        (result ≡ packet_numbers s p header.now x body.now sender.now i (length out.old))
+        × (out.new ≡ packet_out s p header.now x body.now sender.now i out.old) }
 {
     let s = Settings {
         t: t as usize,

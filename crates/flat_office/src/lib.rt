@@ -6,7 +6,7 @@ ghost use Rattle.std.specs.Prelude.{◌≡◌, length};
 ghost use Rattle.walk.specs.Walk.{settings_of};
 ghost use Rattle.carry.specs.There.{to_pdu_answer, to_pdu_output};
 ghost use Rattle.carry.specs.Back.{to_message_answer, to_message_output};
-ghost use Rattle.flat_office.specs.Numbers.{widest16, within as withinOf, route_of, written_numbers, carried_numbers};
+ghost use Rattle.flat_office.specs.Numbers.{widest16, within as within_of, route_of, written_numbers, carried_numbers};
 
 use carry::{Carried, Route};
 use packet::{Apid, SecondaryApid};
@@ -22,7 +22,7 @@ const WIDEST_32: u64 = 4294967295;
 
 // A number, or the widest if it is wider.
 fn within(most: u64, n: u64) -> u64
-    ensures { result ≡ withinOf most n }
+    ensures { result ≡ within_of most n }
 {
     if most < n {
         return most;
@@ -73,8 +73,8 @@ fn carried_numbers(c: Carried) -> [u64; 6]
 
 // A message is carried to the office: the refusal, the octets written, those before the body, the place beside 6.
 pub fn to_pdu(t: u64, profile: u64, message: &[u8], encoding: u64, out: &mut [u8]) -> [u64; 4]
-    ensures value { result ≡ written_numbers (to_pdu_answer (settings_of t profile) (withinOf widest16 encoding) message.now (length out.old)) }
-    ensures out_after { out.new ≡ to_pdu_output (settings_of t profile) (withinOf widest16 encoding) message.now out.old }
+    ensures value { result ≡ written_numbers (to_pdu_answer (settings_of t profile) (within_of widest16 encoding) message.now (length out.old)) }
+    ensures out_after { out.new ≡ to_pdu_output (settings_of t profile) (within_of widest16 encoding) message.now out.old }
 {
     let s = Settings {
         t: t as usize,

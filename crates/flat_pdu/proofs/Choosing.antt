@@ -12,9 +12,9 @@ use Rattle.flat_pdu.specs.Numbers.{pdu_fits, values_of, written_numbers, write_n
 
 module _ (h source destination : List ℕ) (x : Lent) (body : List ℕ) (ok : Bool) (e : ok ≡ pdu_fits h) where
   module _ (f : ok ≡ false) where
-    pub write_refused : (room : ℕ) → 22 ∷ 0 ∷ 0 ∷ [] ≡ write_numbers h source destination x body room
+    pub write_refused_lem : (room : ℕ) → 22 ∷ 0 ∷ 0 ∷ [] ≡ write_numbers h source destination x body room
     unfolding write_numbers
-    write_refused room = rw (sym e, f)
+    write_refused_lem room = rw (sym e, f)
 
     pub write_kept : (out : List ℕ) → out ≡ write_out h source destination x body out
     unfolding write_out

@@ -8,7 +8,7 @@ use lib.ListN.{length, length-append, set}
 use lib.Seq.{sets}
 use Rattle.pdu.specs.declared.Header.{Header}
 use Rattle.flat.specs.Told.{present_numbers, place_numbers, text_numbers, told_beside}
-use Rattle.flat.proofs.Answers.{sets-all, then-laid, texts-length}
+use Rattle.flat.proofs.Answers.{sets_all, then_laid, texts_length}
 use Rattle.flat_pdu.specs.Numbers.{fixed_numbers, ids_numbers, read_numbers}
 
 -- the numbers before the texts
@@ -29,9 +29,9 @@ module _ (h : Header) (l m1 m2 m3 m4 m5 m6 : List ℕ) where
       let y = text_numbers h.texts in
       let z = (h.variable ∷ []) ++ (place_numbers h.body ++ told_beside h.refusal) in
       let a : m3 ≡ sets l 0 x = rw (e3, e2, e1) in
-      let b = then-laid l 0 24 x y m3 m4 a refl e4 in
-      let k : length (x ++ y) ≡ 65 = length-append x y ∙ rw (texts-length h.texts) in
+      let b = then_laid l 0 24 x y m3 m4 a refl e4 in
+      let k : length (x ++ y) ≡ 65 = length-append x y ∙ rw (texts_length h.texts) in
       let j : 65 ≡ 0 + length (x ++ y) = omega (arith, k) in
       let d : m6 ≡ sets m4 65 z = e6 ∙ rw e5 in
       let f : length ((x ++ y) ++ z) ≡ length l = length-append (x ++ y) z ∙ rw (k, n) in
-      then-laid l 0 65 (x ++ y) z m4 m6 b j d ∙ sets-all l ((x ++ y) ++ z) f ∙ append_assoc x y z
+      then_laid l 0 65 (x ++ y) z m4 m6 b j d ∙ sets_all l ((x ++ y) ++ z) f ∙ append_assoc x y z

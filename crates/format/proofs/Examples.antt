@@ -10,7 +10,7 @@ use Rattle.octets.specs.Octets.{wide}
 use Rattle.octets.proofs.Has.{octets_nil, octets_one, octets_append}
 use Rattle.utf8.specs.Test.{ended, begins, follows, accepts, is_text}
 use Rattle.utf8.proofs.Laws.{is_text_lem}
-use Rattle.varint.specs.Varint.{octets_of as varintOctets, write}
+use Rattle.varint.specs.Varint.{octets_of as varint_octets, write}
 use Rattle.walk.specs.declared.Settings.{Settings}
 use Rattle.walk.specs.Profile.{varint_profile}
 use Rattle.packet.specs.declared.Header.{Header}
@@ -112,12 +112,12 @@ pub full_octets :
     ∷ 255 ∷ 255 ∷ 255 ∷ 255 ∷ 255 ∷ 255 ∷ 255 ∷ 255 ∷ 255
     ∷ 255 ∷ 1 ∷ 255 ∷ 255 ∷ 255 ∷ 255 ∷ 0xAC ∷ 2 ∷ 1 ∷ 2 ∷ 1 ∷ 65 ∷ 0 ∷ 2 ∷ 1 ∷ 1 ∷ 66 ∷ 1 ∷ 0 ∷ 2 ∷ 255 ∷ 0 ∷ 7 ∷ []
 unfolding octets_of identification data_octets secondary_octets fixed_octets presence front_octets counter_octets back_octets wide uinteger_octets blob_octets
-    text_octets part_octets joined domain_octets write varintOctets
+    text_octets part_octets joined domain_octets write varint_octets
 full_octets = refl
 
 pub full_in_range : InRange two full
 unfolding octets_of identification data_octets secondary_octets fixed_octets presence front_octets counter_octets back_octets wide uinteger_octets blob_octets
-    text_octets part_octets joined domain_octets write varintOctets Each is_text accepts ended begins follows
+    text_octets part_octets joined domain_octets write varint_octets Each is_text accepts ended begins follows
 full_in_range =
     record {
       settings = record { t_low = omega arith; t_top = omega arith; profile_top = omega arith };

@@ -100,12 +100,12 @@ module _ (t : Taken) where
   as_refused h =
       ap (λ (b : Bool). pick b (taken t) (joined_of (unjoined t.refusal))) (sym (ne_eqb t.refusal.number 0 h))
 
-  pub as_taken :
+  pub as_taken_lem :
       {r : Refusal} → t.refusal.number ≡ 0 → r ≡ refusal 0 →
       record { refusal = r; which = InJoined; place = 2 + t.header; length = t.body; header = t.header; body = t.body; counter = t.counter }
       ≡ taken_as t
   unfolding taken_as
-  as_taken e q =
+  as_taken_lem e q =
       ap (λ (x : Refusal). record { refusal = x; which = InJoined; place = 2 + t.header; length = t.body; header = t.header; body = t.body; counter = t.counter }) q
       ∙ ap (λ (b : Bool). pick b (taken t) (joined_of (unjoined t.refusal))) (sym (eq-eqb t.refusal.number 0 e))
 

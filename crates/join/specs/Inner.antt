@@ -9,7 +9,7 @@ use Rattle.packet.specs.declared.Header.{Header}
 use Rattle.arrival.specs.declared.Kind.{Kind}
 use Rattle.arrival.specs.declared.Kind.TheVariants.{Whole, Stored, Held, Taken as Late}
 use Rattle.arrival.specs.declared.Arrival.{Arrival}
-use Rattle.arrival.specs.Told.{said as saidBy}
+use Rattle.arrival.specs.Told.{said as said_by}
 use Rattle.taking.specs.declared.Taken.{Taken}
 use Rattle.arrival.specs.Arriving.{Arrived, whole, stored, again, late, refused, arrived_in, store_with}
 use Rattle.taking.specs.Taking.{took_in, store_less, out_with}
@@ -19,7 +19,7 @@ use Rattle.join.specs.Told.{taken, joined_of}
 
 -- the refusal of an arrival; none if it is answered
 abbrev pub refusal_in : Arrival → Refusal
-refusal_in a = (saidBy a).refusal
+refusal_in a = (said_by a).refusal
 
 -- the body that reading tells of
 abbrev pub body_in : Header → Joined

@@ -21,7 +21,7 @@ use Rattle.write.specs.Given.{Lent, head_of, number_fits, exact_fits, packet_of 
 use Rattle.write.specs.Inner.{primary_pieces, present_octet, front_pieces, middle_pieces, end_pieces, packet_pieces}
 use Rattle.write.specs.Writing.{given_packet, size_tests, write_refusal, fine, write_answer, write_output}
 use Rattle.write.proofs.Tests.{unless_true}
-use Rattle.write.proofs.Answers.{secondary-length, packet-length, packet-least, packet_laid}
+use Rattle.write.proofs.Answers.{secondary_length, packet_length, packet_least, packet_laid}
 use Rattle.flat.specs.Given.{fits_to, packet_fits, header_of, packet_of, present_of}
 use Rattle.flat.specs.Answers.{write_numbers, write_out}
 use Rattle.flat.proofs.Choosing.{write_told, write_laid}
@@ -146,7 +146,7 @@ module _ {s : Settings} {h : List ℕ} {t : Lent} (r : Ready s h t) {flags count
   unfolding values_of
   size_is =
       let w = given_packet (header_of h) (packet_of flags count counter) t body in
-      omega (arith, packet-length s w, secondary-length s w)
+      omega (arith, packet_length s w, secondary_length s w)
 
   passes :
       (room : ℕ) → H + C ≤ 256 → length body ≤ 65280 → 6 + (H + C) + length body ≤ room → (segment flags ≡ true → 1 ≤ length body) →
@@ -155,7 +155,7 @@ module _ {s : Settings} {h : List ℕ} {t : Lent} (r : Ready s h t) {flags count
   passes room a b c d =
       let w = given_packet (header_of h) (packet_of flags count counter) t body in
       let l = size_is in
-      let k = secondary-length s w in
+      let k = secondary_length s w in
       ap fine
       (unless_true _ 21 _ (le-leb (length (octets_of s w)) room (omega arith))
       ∙ (unless_true _ 14 _ (body_fits_lem (segment flags) (length body) d)
@@ -172,7 +172,7 @@ module _ {s : Settings} {h : List ℕ} {t : Lent} (r : Ready s h t) {flags count
         own = o.own;
         fits = rw (header_fits_lem r.numbers.limited) (packet_fits_lem o);
         passes = passes room a b c d;
-        least = omega (arith, size_is, packet-least s w);
+        least = omega (arith, size_is, packet_least s w);
         size_is = size_is;
         size_room = c;
       }

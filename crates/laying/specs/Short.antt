@@ -12,7 +12,7 @@ use Rattle.write.specs.Given.{Lent, number_fits, exact_fits, lengths_fit}
 use Rattle.write.specs.Writing.{given_packet, write_refusal, fine}
 use Rattle.write.specs.Inner.{primary_pieces, name_pieces, routing_pieces}
 use Rattle.flat.specs.Given.{most64, fits_to, header_of, packet_of}
-use Rattle.flat.specs.Answers.{writeFits}
+use Rattle.flat.specs.Answers.{write_fits}
 
 -- the largest value of each of a header's 24 numbers; the fifth presence flag is the zone's
 abbrev pub limits : List ℕ
@@ -99,7 +99,7 @@ pub record Owned (flags count counter : ℕ) : Type 0 where
 pub record Writes (s : Settings) (h : List ℕ) (t : Lent) (flags count counter : ℕ) (body : List ℕ) (room size : ℕ) : Type 0 where
   pub ready : Ready s h t
   pub own : Own flags count
-  pub fits : writeFits h flags count counter ≡ true
+  pub fits : write_fits h flags count counter ≡ true
   pub passes : fine (write_refusal false s (header_of h) (packet_of flags count counter) t body room) ≡ true
   pub least : 27 ≤ size
   pub size_is : size ≡ length (octets_of s (given_packet (header_of h) (packet_of flags count counter) t body))

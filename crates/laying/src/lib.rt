@@ -14,7 +14,7 @@ ghost use Rattle.packet.specs.Format.{when, header_octets, segment};
 ghost use Rattle.write.specs.Given.{lent, head_of};
 ghost use Rattle.write.specs.Inner.{primary_pieces, name_pieces, routing_pieces, present_octet, packet_pieces};
 ghost use Rattle.flat.specs.Given.{header_of, packet_of, present_of};
-ghost use Rattle.flat.specs.Answers.{write_numbers, write_out, given, countNumbers, packetNumbers, packetOut};
+ghost use Rattle.flat.specs.Answers.{write_numbers, write_out, given, count_numbers, packet_numbers, packet_out};
 ghost use Rattle.laying.specs.Short.{InLimits, Numbers, Brief, Texts, Ready, fixed_pieces, plain_pieces, Own, Owned, Writes, CutReady};
 
 use flat::{CUT, HEADER, SENDER};
@@ -751,7 +751,7 @@ pub fn cut_count(
     body: u64,
     sender: &[u64; SENDER],
 ) -> [u64; CUT]
-    ensures { result ≡ countNumbers (settings_of t profile) p header.now
+    ensures { result ≡ count_numbers (settings_of t profile) p header.now
         (lent timestamp.now zone.now name.now domain.now lengths.now
         authentication.now) body sender.now }
 {
@@ -826,9 +826,9 @@ fn cut_short(
 ) -> usize
     ensures done { 0 < result → (let x = lent timestamp.now zone.now name.now domain.now
         lengths.now authentication.now in
-        (0 ∷ result ∷ given sender.now ≡ packetNumbers s p header.now x body.now sender.now i
+        (0 ∷ result ∷ given sender.now ≡ packet_numbers s p header.now x body.now sender.now i
         (length out.old))
-        × (out.new ≡ packetOut s p header.now x body.now sender.now i out.old)) }
+        × (out.new ≡ packet_out s p header.now x body.now sender.now i out.old)) }
     ensures kept { result ≡ 0 → out.new ≡ out.old }
 {
     if !cut_ready(
@@ -923,8 +923,8 @@ pub fn cut_packet(
 ) -> [u64; CUT]
     ensures { let x = lent timestamp.now zone.now name.now domain.now lengths.now
         authentication.now in let s = settings_of t profile in
-        (result ≡ packetNumbers s p header.now x body.now sender.now i (length out.old))
-        × (out.new ≡ packetOut s p header.now x body.now sender.now i out.old) }
+        (result ≡ packet_numbers s p header.now x body.now sender.now i (length out.old))
+        × (out.new ≡ packet_out s p header.now x body.now sender.now i out.old) }
 {
     let s = Settings {
         t: t as usize,

@@ -24,9 +24,9 @@ use Rattle.moving.specs.declared.Moved.{Moved}
 use Rattle.moving.specs.Moving.{rows_as, first_too_long, moved_in, moved_by, cell_by, target_by}
 use Rattle.moving.specs.Told.{moved_of}
 
-gate-not : (s : Settings) (Y : ℕ) (st : List ℕ) → gate s Y st ≡ 32 → ⊥
+gate_not : (s : Settings) (Y : ℕ) (st : List ℕ) → gate s Y st ≡ 32 → ⊥
 unfolding gate
-gate-not s Y st e = told (eqb (begun s).refused 0) (in_order s Y st) e
+gate_not s Y st e = told (eqb (begun s).refused 0) (in_order s Y st) e
   where
     told : (a b : Bool) → ◌≡◌ {A = ℕ} (pick a (pick b 0 16) 15) 32 → ⊥
     told true true e = omega arith
@@ -37,26 +37,26 @@ module _ (s : Settings) (Y Z : ℕ) (st : List ℕ) (m : ℕ) where
   abbrev n : ℕ
   n = count_in Y st
 
-  pub answer-shut : (gate s Y st ≡ 0 → ⊥) → moved_by s Y Z st m ≡ gate s Y st
+  pub answer_shut : (gate s Y st ≡ 0 → ⊥) → moved_by s Y Z st m ≡ gate s Y st
   unfolding moved_by
-  answer-shut h = through_shut (gate s Y st) (moved_in s Y Z st m) (λ k. k) h
+  answer_shut h = through_shut (gate s Y st) (moved_in s Y Z st m) (λ k. k) h
 
-  answer-open : gate s Y st ≡ 0 → moved_by s Y Z st m ≡ moved_in s Y Z st m
+  answer_open : gate s Y st ≡ 0 → moved_by s Y Z st m ≡ moved_in s Y Z st m
   unfolding moved_by
-  answer-open g = through_open (gate s Y st) (moved_in s Y Z st m) (λ k. k) g
+  answer_open g = through_open (gate s Y st) (moved_in s Y Z st m) (λ k. k) g
 
-  answer-by : {a b : Bool} → gate s Y st ≡ 0 → eqb m (n * Z) ≡ a → leb n (first_too_long s Y Z st n) ≡ b → moved_by s Y Z st m ≡ pick a (pick b 0 32) 16
+  answer_by_lem : {a b : Bool} → gate s Y st ≡ 0 → eqb m (n * Z) ≡ a → leb n (first_too_long s Y Z st n) ≡ b → moved_by s Y Z st m ≡ pick a (pick b 0 32) 16
   unfolding moved_in
-  answer-by g e f = answer-open g ∙ ap₂ (λ (a b : Bool). pick a (pick b 0 32) 16) e f
+  answer_by_lem g e f = answer_open g ∙ ap₂ (λ (a b : Bool). pick a (pick b 0 32) 16) e f
 
-  pub answer-16 : gate s Y st ≡ 0 → (m ≡ n * Z → ⊥) → moved_by s Y Z st m ≡ 16
-  answer-16 g h = answer-by g (ne_eqb m (n * Z) h) refl
+  pub answer_16 : gate s Y st ≡ 0 → (m ≡ n * Z → ⊥) → moved_by s Y Z st m ≡ 16
+  answer_16 g h = answer_by_lem g (ne_eqb m (n * Z) h) refl
 
-  pub answer-32 : gate s Y st ≡ 0 → m ≡ n * Z → first_too_long s Y Z st n < n → moved_by s Y Z st m ≡ 32
-  answer-32 g e h = answer-by g (eq-eqb m (n * Z) e) (lt-leb n (first_too_long s Y Z st n) h)
+  pub answer_32 : gate s Y st ≡ 0 → m ≡ n * Z → first_too_long s Y Z st n < n → moved_by s Y Z st m ≡ 32
+  answer_32 g e h = answer_by_lem g (eq-eqb m (n * Z) e) (lt-leb n (first_too_long s Y Z st n) h)
 
-  pub answer-0 : gate s Y st ≡ 0 → m ≡ n * Z → n ≤ first_too_long s Y Z st n → moved_by s Y Z st m ≡ 0
-  answer-0 g e h = answer-by g (eq-eqb m (n * Z) e) (le-leb n (first_too_long s Y Z st n) h)
+  pub answer_0 : gate s Y st ≡ 0 → m ≡ n * Z → n ≤ first_too_long s Y Z st n → moved_by s Y Z st m ≡ 0
+  answer_0 g e h = answer_by_lem g (eq-eqb m (n * Z) e) (le-leb n (first_too_long s Y Z st n) h)
 
   -- and what is known of a store that is moved
   pub record Passed : Type 0 where
@@ -75,12 +75,12 @@ module _ (s : Settings) (Y Z : ℕ) (st : List ℕ) (m : ℕ) where
       go : (eqb (gate s Y st) 0 ≡ true) ⊎ (eqb (gate s Y st) 0 ≡ false) → Passed
       go (inl a) =
           let g = eqb-true (gate s Y st) 0 a in
-          let t = tests (eqb m (n * Z)) (leb n (first_too_long s Y Z st n)) (sym (answer-by g refl refl) ∙ e) in
+          let t = tests (eqb m (n * Z)) (leb n (first_too_long s Y Z st n)) (sym (answer_by_lem g refl refl) ∙ e) in
           record { gated = g; long = eqb-true m (n * Z) t.0; short = leb-true n (first_too_long s Y Z st n) t.1 }
-      go (inr a) = absurd (shut-zero a)
+      go (inr a) = absurd (shut_zero a)
         where
-          shut-zero : eqb (gate s Y st) 0 ≡ false → ⊥
-          shut-zero a = let g = eqb-false (gate s Y st) 0 a in g (sym (answer-shut g) ∙ e)
+          shut_zero : eqb (gate s Y st) 0 ≡ false → ⊥
+          shut_zero a = let g = eqb-false (gate s Y st) 0 a in g (sym (answer_shut g) ∙ e)
 
   -- ---- as the code answers it
 
@@ -92,56 +92,56 @@ module _ (s : Settings) (Y Z : ℕ) (st : List ℕ) (m : ℕ) where
       ap (λ (x : ℕ). record { refusal = refusal k; cell = x }) (sym f)
       ∙ ap (λ (x : ℕ). record { refusal = refusal x; cell = pick (eqb x 32) (first_too_long s Y Z st n) 0 }) (sym e)
 
-  pub told-shut : {r : Refusal} → r ≡ refusal (gate s Y st) → (r.number ≡ 0 → ⊥) → record { refusal = r; cell = 0 } ≡ moved_of s Y Z st m
-  told-shut {r} e h =
+  pub told_shut : {r : Refusal} → r ≡ refusal (gate s Y st) → (r.number ≡ 0 → ⊥) → record { refusal = r; cell = 0 } ≡ moved_of s Y Z st m
+  told_shut {r} e h =
       ap (λ (x : Refusal). record { refusal = x; cell = 0 }) e
-      ∙ told_by_lem (answer-shut (λ g. h (ap (λ (x : Refusal). x.number) e ∙ g)))
-      (ap (λ (b : Bool). pick b (first_too_long s Y Z st n) 0) (ne_eqb (gate s Y st) 32 (gate-not s Y st)))
+      ∙ told_by_lem (answer_shut (λ g. h (ap (λ (x : Refusal). x.number) e ∙ g)))
+      (ap (λ (b : Bool). pick b (first_too_long s Y Z st n) 0) (ne_eqb (gate s Y st) 32 (gate_not s Y st)))
 
-  pub told-16 : moved_by s Y Z st m ≡ 16 → record { refusal = refusal 16; cell = 0 } ≡ moved_of s Y Z st m
-  told-16 e = told_by_lem e refl
+  pub told_16 : moved_by s Y Z st m ≡ 16 → record { refusal = refusal 16; cell = 0 } ≡ moved_of s Y Z st m
+  told_16 e = told_by_lem e refl
 
-  pub told-32 : {i : ℕ} → moved_by s Y Z st m ≡ 32 → i ≡ first_too_long s Y Z st n → record { refusal = refusal 32; cell = i } ≡ moved_of s Y Z st m
-  told-32 e f = told_by_lem e (sym f)
+  pub told_32 : {i : ℕ} → moved_by s Y Z st m ≡ 32 → i ≡ first_too_long s Y Z st n → record { refusal = refusal 32; cell = i } ≡ moved_of s Y Z st m
+  told_32 e f = told_by_lem e (sym f)
 
-  pub told-0 : moved_by s Y Z st m ≡ 0 → record { refusal = refusal 0; cell = 0 } ≡ moved_of s Y Z st m
-  told-0 e = told_by_lem e refl
+  pub told_0 : moved_by s Y Z st m ≡ 0 → record { refusal = refusal 0; cell = 0 } ≡ moved_of s Y Z st m
+  told_0 e = told_by_lem e refl
 
 -- ---- the target
 
 module _ (s : Settings) (Y Z : ℕ) (st t : List ℕ) where
-  pub target-kept : {k : ℕ} → moved_by s Y Z st (length t) ≡ k → (k ≡ 0 → ⊥) → target_by s Y Z st t ≡ t
+  pub target_kept : {k : ℕ} → moved_by s Y Z st (length t) ≡ k → (k ≡ 0 → ⊥) → target_by s Y Z st t ≡ t
   unfolding target_by
-  target-kept {k} e h = rw (e, ne_eqb k 0 h) refl
+  target_kept {k} e h = rw (e, ne_eqb k 0 h) refl
 
-  pub target-made : moved_by s Y Z st (length t) ≡ 0 → target_by s Y Z st t ≡ rows_as Y Z st (count_in Y st)
+  pub target_made : moved_by s Y Z st (length t) ≡ 0 → target_by s Y Z st t ≡ rows_as Y Z st (count_in Y st)
   unfolding target_by
-  target-made e = rw e refl
+  target_made e = rw e refl
 
 -- ---- by what the check of the store has told
 
 -- the octets of so many cells
-pub octets-top : {n z : ℕ} → n ≤ 4096 → z ≤ 2048 → n * z ≤ 8388608
-octets-top a b = mul-le-mul a b
+pub octets_top : {n z : ℕ} → n ≤ 4096 → z ≤ 2048 → n * z ≤ 8388608
+octets_top a b = mul-le-mul a b
 
 module _ (s : Settings) (Y Z : ℕ) (st : List ℕ) (m : ℕ) {o : Opened} (eo : o ≡ opened_of s Y st) where
   pub shut : (o.refusal.number ≡ 0 → ⊥) → record { refusal = o.refusal; cell = 0 } ≡ moved_of s Y Z st m
-  shut h = told-shut s Y Z st m (opened_refusal s Y st eo) h
+  shut h = told_shut s Y Z st m (opened_refusal s Y st eo) h
 
   module _ (z : o.refusal.number ≡ 0) where
     cells_are : o.cells ≡ count_in Y st
     cells_are = opened_cells s Y st eo z
 
-    open-gate : gate s Y st ≡ 0
-    open-gate = opened_gate s Y st eo z
+    open_gate : gate s Y st ≡ 0
+    open_gate = opened_gate s Y st eo z
 
     pub cells_most_lem : o.cells ≤ 4096
-    cells_most_lem = omega (arith, cells_are, (order_has s Y st (opened_order s Y st open-gate)).most)
+    cells_most_lem = omega (arith, cells_are, (order_has s Y st (opened_order s Y st open_gate)).most)
 
     pub other_length : {r : Refusal} → (m ≡ o.cells * Z → ⊥) → r ≡ refusal 16 → record { refusal = r; cell = 0 } ≡ moved_of s Y Z st m
     other_length h e =
         ap (λ (x : Refusal). record { refusal = x; cell = 0 }) e
-        ∙ told-16 s Y Z st m (answer-16 s Y Z st m open-gate (λ l. h (l ∙ ap (λ (c : ℕ). c * Z) (sym cells_are))))
+        ∙ told_16 s Y Z st m (answer_16 s Y Z st m open_gate (λ l. h (l ∙ ap (λ (c : ℕ). c * Z) (sym cells_are))))
 
     module _ (l : m ≡ o.cells * Z) {i : ℕ} (ei : i ≡ first_too_long s Y Z st o.cells) where
       long_is : m ≡ count_in Y st * Z
@@ -153,12 +153,12 @@ module _ (s : Settings) (Y Z : ℕ) (st : List ℕ) (m : ℕ) {o : Opened} (eo :
       pub packet_long : {r : Refusal} → i < o.cells → r ≡ refusal 32 → record { refusal = r; cell = i } ≡ moved_of s Y Z st m
       packet_long h e =
           ap (λ (x : Refusal). record { refusal = x; cell = i }) e
-          ∙ told-32 s Y Z st m (answer-32 s Y Z st m open-gate long_is (omega (arith, first_is, cells_are))) first_is
+          ∙ told_32 s Y Z st m (answer_32 s Y Z st m open_gate long_is (omega (arith, first_is, cells_are))) first_is
 
       pub all_short : {r : Refusal} → o.cells ≤ i → r ≡ refusal 0 → record { refusal = r; cell = 0 } ≡ moved_of s Y Z st m
       all_short h e =
           ap (λ (x : Refusal). record { refusal = x; cell = 0 }) e
-          ∙ told-0 s Y Z st m (answer-0 s Y Z st m open-gate long_is (omega (arith, first_is, cells_are)))
+          ∙ told_0 s Y Z st m (answer_0 s Y Z st m open_gate long_is (omega (arith, first_is, cells_are)))
 
 -- ---- by the answer
 
@@ -168,8 +168,8 @@ unfolding moved_of
 number_told s Y Z st m e = ap (λ (x : Moved). x.refusal.number) (sym e)
 
 module _ (s : Settings) (Y Z : ℕ) (st t : List ℕ) {r : Moved} (er : r ≡ moved_of s Y Z st (length t)) where
-  pub refused-kept : (r.refusal.number ≡ 0 → ⊥) → t ≡ target_by s Y Z st t
-  refused-kept h = sym (target-kept s Y Z st t (number_told s Y Z st (length t) er) h)
+  pub refused_kept : (r.refusal.number ≡ 0 → ⊥) → t ≡ target_by s Y Z st t
+  refused_kept h = sym (target_kept s Y Z st t (number_told s Y Z st (length t) er) h)
 
   module _ (z : r.refusal.number ≡ 0) {n : ℕ} (en : n ≡ pick (length_fits Y (length st)) (length st / Y) 0) where
     moves : moved_by s Y Z st (length t) ≡ 0
@@ -181,8 +181,8 @@ module _ (s : Settings) (Y Z : ℕ) (st t : List ℕ) {r : Moved} (er : r ≡ mo
     count_is : n ≡ count_in Y st
     count_is = en ∙ ap (λ (b : Bool). pick b (length st / Y) 0) (order_tells s Y st (opened_order s Y st pass.gated)).fits
 
-    pub target-long : length t ≡ n * Z
-    target-long = pass.long ∙ ap (λ (c : ℕ). c * Z) (sym count_is)
+    pub target_long : length t ≡ n * Z
+    target_long = pass.long ∙ ap (λ (c : ℕ). c * Z) (sym count_is)
 
-    pub accepted-made : {x : List ℕ} → x ≡ rows_as Y Z st n → x ≡ target_by s Y Z st t
-    accepted-made ex = ex ∙ ap (rows_as Y Z st) count_is ∙ sym (target-made s Y Z st t moves)
+    pub accepted_made : {x : List ℕ} → x ≡ rows_as Y Z st n → x ≡ target_by s Y Z st t
+    accepted_made ex = ex ∙ ap (rows_as Y Z st) count_is ∙ sym (target_made s Y Z st t moves)

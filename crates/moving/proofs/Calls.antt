@@ -19,7 +19,7 @@ use Rattle.moving.specs.declared.Moved.{Moved}
 use Rattle.moving.specs.Moving.{first_too_long, moved_in, moved_by, target_by}
 use Rattle.moving.specs.Told.{moved_of}
 use Rattle.moving.proofs.SameCells.{record_most}
-use Rattle.moving.proofs.Answers.{answer-shut, told-0, number_told}
+use Rattle.moving.proofs.Answers.{answer_shut, told_0, number_told}
 use Rattle.moving.proofs.Returns.{wider_answers, back_moves, back_same}
 use Rattle.moving.proofs.there.Reads as theres
 use Rattle.moving.proofs.back.Reads as backs
@@ -35,7 +35,7 @@ plain_journey s Y Z y z st t o r x er ex n p u ep l q w eq ew =
     let e : moved_by s Y Z st (length t) ≡ 0 = number_told s Y Z st (length t) er ∙ n in
     let f = ep ∙ ex in
     let k = back_moves s Y Z y z st o t e u l in (
-      eq ∙ ap (λ (v : List ℕ). moved_of s Z Y v (length u)) f ∙ sym (told-0 s Z Y (target_by s Y Z st t) (length u) k),
+      eq ∙ ap (λ (v : List ℕ). moved_of s Z Y v (length u)) f ∙ sym (told_0 s Z Y (target_by s Y Z st t) (length u) k),
       ew ∙ ap (λ (v : List ℕ). target_by s Z Y v u) f ∙ back_same s Y Z y z st o t e u l,
     )
 
@@ -79,7 +79,7 @@ moved_by_lem P a b c d s Y Z st m =
 wider_by : (P : ℕ → Type 0) → P 0 → P 15 → P 16 → (s : Settings) (Y Z : ℕ) → Y ≤ Z → (st : List ℕ) (m : ℕ) → P (moved_by s Y Z st m)
 wider_by P a b c s Y Z l st m =
     ⊎_elim
-    (λ h. subst P (sym (answer-shut s Y Z st m h)) (gated P a b c s Y st))
+    (λ h. subst P (sym (answer_shut s Y Z st m h)) (gated P a b c s Y st))
     (λ h. ⊎_elim (λ e. subst P (sym e) c) (λ e. subst P (sym e) a) h)
     (wider_answers s Y Z st m l)
 

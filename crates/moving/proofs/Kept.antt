@@ -30,7 +30,7 @@ use Rattle.moving.proofs.Padding.{Padded}
 use Rattle.moving.proofs.Stores.{rows_long, row_as_lem}
 use Rattle.moving.proofs.SameCells.{record_most, sound_or, zero_padded, zero_same, held_padded, held_same, held_packet, record_padded, record_same}
 use Rattle.moving.proofs.Passing.{fits_not}
-use Rattle.moving.proofs.Answers.{Passed, passed, target-made}
+use Rattle.moving.proofs.Answers.{Passed, passed, target_made}
 use Rattle.moving.proofs.KeptOrder.{cells_same, order_kept}
 
 -- ---- one that is too long
@@ -122,7 +122,7 @@ module _ (s : Settings) (Y Z : ℕ) (y : record_most ≤ Y) (z : record_most ≤
     ordered = (open_true s Y st p.gated).1
 
     made : x ≡ rows_as Y Z st n
-    made = target-made s Y Z st t e
+    made = target_made s Y Z st t e
 
     pub moved_long : length x ≡ n * Z
     moved_long = ap length made ∙ rows_long Y Z st n

@@ -26,7 +26,7 @@ use Rattle.cells.proofs.Gate.{opened_order}
 use Rattle.moving.specs.Moving.{row_as, rows_as, too_long, first_too_long, moved_by, target_by}
 use Rattle.moving.proofs.Stores.{rows_back}
 use Rattle.moving.proofs.SameCells.{record_most}
-use Rattle.moving.proofs.Answers.{passed, answer-0, answer-16, target-made, target-kept}
+use Rattle.moving.proofs.Answers.{passed, answer_0, answer_16, target_made, target_kept}
 use Rattle.moving.proofs.Kept.{wider_not, each_short, each_goes, moved_row, moved_count, moved_gate}
 
 -- a store in order is as long as its cells
@@ -47,7 +47,7 @@ module _ (s : Settings) (Y Z : ℕ) (st : List ℕ) (m : ℕ) (l : Y ≤ Z) wher
 
   -- a store in order moves
   pub wider_moves : gate s Y st ≡ 0 → m ≡ count_in Y st * Z → moved_by s Y Z st m ≡ 0
-  wider_moves g e = answer-0 s Y Z st m g e wider_short
+  wider_moves g e = answer_0 s Y Z st m g e wider_short
 
   -- so the answer is 15 or 16 of the store, 16 of the target's length, or 0
   pub wider_answers : (gate s Y st ≡ 0 → ⊥) ⊎ ((moved_by s Y Z st m ≡ 16) ⊎ (moved_by s Y Z st m ≡ 0))
@@ -58,7 +58,7 @@ module _ (s : Settings) (Y Z : ℕ) (st : List ℕ) (m : ℕ) (l : Y ≤ Z) wher
       inr
       (⊎_elim
       (λ b. inr (wider_moves g (eqb-true m (count_in Y st * Z) b)))
-      (λ b. inl (answer-16 s Y Z st m g (eqb-false m (count_in Y st * Z) b)))
+      (λ b. inl (answer_16 s Y Z st m g (eqb-false m (count_in Y st * Z) b)))
       (bool (eqb m (count_in Y st * Z)))))
       (λ a. inl (eqb-false (gate s Y st) 0 a))
       (bool (eqb (gate s Y st) 0))
@@ -85,16 +85,16 @@ module _ (s : Settings) (Y Z : ℕ) (y : record_most ≤ Y) (z : record_most ≤
     -- it may go back into any store as long as it was
     pub back_moves : moved_by s Z Y x (length u) ≡ 0
     back_moves =
-        answer-0 s Z Y x (length u) (moved_gate s Y Z y z st o t e)
+        answer_0 s Z Y x (length u) (moved_gate s Y Z y z st o t e)
         (l ∙ store_long ∙ ap (λ (k : ℕ). k * Y) (sym (moved_count s Y Z y z st o t e)))
         (each_short s Z Y x (count_in Z x) none_long)
 
     -- and is what it was
     pub back_same : target_by s Z Y x u ≡ st
     back_same =
-        target-made s Z Y x u back_moves
+        target_made s Z Y x u back_moves
         ∙ ap (rows_as Z Y x) (moved_count s Y Z y z st o t e)
-        ∙ ap (λ (w : List ℕ). rows_as Z Y w n) (target-made s Y Z st t e)
+        ∙ ap (λ (w : List ℕ). rows_as Z Y w n) (target_made s Y Z st t e)
         ∙ rows_back Y Z st n (λ i h. (each_goes s Y Z y z st o t e i h).padded) n (omega arith)
         ∙ take_all (n * Y) st (omega (arith, store_long))
 
@@ -113,6 +113,6 @@ rows_octets Y Z st (suc n) o =
 pub moved_octets : (s : Settings) (Y Z : ℕ) (st t : List ℕ) → Octets st → Octets t → Octets (target_by s Y Z st t)
 moved_octets s Y Z st t o p =
     ⊎_elim
-    (λ e. subst Octets (sym (target-made s Y Z st t (eqb-true (moved_by s Y Z st (length t)) 0 e))) (rows_octets Y Z st (count_in Y st) o))
-    (λ e. subst Octets (sym (target-kept s Y Z st t refl (eqb-false (moved_by s Y Z st (length t)) 0 e))) p)
+    (λ e. subst Octets (sym (target_made s Y Z st t (eqb-true (moved_by s Y Z st (length t)) 0 e))) (rows_octets Y Z st (count_in Y st) o))
+    (λ e. subst Octets (sym (target_kept s Y Z st t refl (eqb-false (moved_by s Y Z st (length t)) 0 e))) p)
     (bool (eqb (moved_by s Y Z st (length t)) 0))

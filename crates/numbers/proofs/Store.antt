@@ -13,7 +13,7 @@ use Rattle.walk.specs.Walk.{begun, refusal}
 use Rattle.packet.specs.Reading.{read_packet, segmented}
 use Rattle.cells.specs.Segments.{Seg, seg_of, same_rest, both}
 use Rattle.cells.specs.Order.{cell_at, untaken_to, in_order, count_in, gate}
-use Rattle.cells.specs.Messages.{Run, cells_of, look, picked as pickedFrom}
+use Rattle.cells.specs.Messages.{Run, cells_of, look, picked as picked_from}
 use Rattle.arrival.specs.Arriving.{Arrived, whole, stored, again, late, refused, placed, beside, lowest_free, segment_arrived, segment_came}
 use Rattle.arrival.specs.Arriving.{arrived_in, arrived, store_with}
 use Rattle.taking.specs.Taking.{Took, message, unable, writing, drawn, took_in, took}
@@ -23,7 +23,7 @@ use Rattle.taking.specs.Told.{taken_of}
 use Rattle.join.specs.Joining.{took_as, joined_by, joining}
 use Rattle.join.specs.Told.{joined_of}
 use Rattle.recording.specs.declared.Recorded.{Recorded}
-use Rattle.recording.specs.Ending.{refused_by as byRecording, recorded_of}
+use Rattle.recording.specs.Ending.{refused_by as by_recording, recorded_of}
 use Rattle.numbers.specs.Lists.{Numbered, of_reading, of_arrival, of_taking, of_forgetting, of_joining, of_order, of_recording}
 use Rattle.format.proofs.Refusals.{picked}
 use Rattle.numbers.proofs.Among.{has, among, among_all}
@@ -77,7 +77,7 @@ some_taken n e = among (0 ∷ of_taking) n e
 pub taking : (s : Settings) (Z : ℕ) (st : List ℕ) (long : ℕ) → Numbered of_taking (taken_of (took s Z st long)).refusal.number
 unfolding took took_in
 taking s Z st long =
-    picked Taken (eqb (gate s Z st) 0) _ (unable (gate s Z st)) (go (pickedFrom next_counter steps_most (cells_of s Z st (count_in Z st))))
+    picked Taken (eqb (gate s Z st) 0) _ (unable (gate s Z st)) (go (picked_from next_counter steps_most (cells_of s Z st (count_in Z st))))
     (gated of_taking refl refl s Z st)
   where
     go : (o : Option Run) → Taken (drawn o long)
@@ -120,8 +120,8 @@ order s Z st =
     picked (Numbered of_order) (eqb (begun s).refused 0) _ 15
     (picked (Numbered of_order) (in_order s Z st) 0 16 (among (0 ∷ of_order) 0 refl) (among (0 ∷ of_order) 16 refl)) (among (0 ∷ of_order) 15 refl)
 
-all_by : (s : Settings) (n long : ℕ) → Numbered of_recording (byRecording s n long)
-unfolding byRecording
+all_by : (s : Settings) (n long : ℕ) → Numbered of_recording (by_recording s n long)
+unfolding by_recording
 all_by s n long =
     picked (Numbered of_recording) (eqb (begun s).refused 0) _ 15
     (picked (Numbered of_recording) (leb n long) 0 21 (among (0 ∷ of_recording) 0 refl) (among (0 ∷ of_recording) 21 refl))
@@ -130,5 +130,5 @@ all_by s n long =
 pub all : (s : Settings) (long : ℕ) (x : List ℕ) → Numbered of_recording (recorded_of s long x).refusal.number
 unfolding recorded_of
 all s long x =
-    picked (λ (r : Recorded). Numbered of_recording r.refusal.number) (eqb (byRecording s (length x) long) 0) _ _ (among (0 ∷ of_recording) 0 refl)
+    picked (λ (r : Recorded). Numbered of_recording r.refusal.number) (eqb (by_recording s (length x) long) 0) _ _ (among (0 ∷ of_recording) 0 refl)
     (all_by s (length x) long)

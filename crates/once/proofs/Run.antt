@@ -27,9 +27,9 @@ use Rattle.demand3.proofs.Acts.{EachPacket, each_packet, Act, comes, draw, meets
 use Rattle.demand3.proofs.Day.{settings, three, two, messages, of_three, of_two, other, stray}
 use Rattle.demand3.proofs.Day.{is_three_first, is_three_next, is_three_last, is_two_first, is_two_last, is_other}
 use Rattle.demand3.proofs.DayComes.{Fine, three_fine, two_fine, other_fine}
-use Rattle.demand3.proofs.DayRun.{lent_out, noon, evening as laterDay, night, day, three_first, three_next, three_last, two_first, two_last}
+use Rattle.demand3.proofs.DayRun.{lent_out, noon, evening as later_day, night, day, three_first, three_next, three_last, two_first, two_last}
 use Rattle.demand3.proofs.DayRun.{noon_acts, noon_acts_lem, consed, met, in_use_lem, one, events_are}
-use Rattle.demand3.proofs.DayGiven.{traffic as day-traffic}
+use Rattle.demand3.proofs.DayGiven.{traffic as day_traffic}
 use Rattle.once.specs.Once.{NoneForgets, Unforgotten, Once}
 use Rattle.once.proofs.Lists.{before_others}
 use Rattle.once.proofs.Each.{each_once·whole}
@@ -107,13 +107,13 @@ fine p h = go (Memᴰ.append_cases noon h')
 
     go : Memᴰ h.0 noon ⊎ Memᴰ h.0 (afternoon ++ evening) → Fine p
     go (inl k) =
-        let v : Handed p day = (h.0, Memᴰ.append_left night (Memᴰ.append_left laterDay k), h.2) in
-        (day-traffic.octets p v, day-traffic.packets p v)
+        let v : Handed p day = (h.0, Memᴰ.append_left night (Memᴰ.append_left later_day k), h.2) in
+        (day_traffic.octets p v, day_traffic.packets p v)
     go (inr k) = each_packet Fine (afternoon ++ evening) after_fine p (h.0, k, h.2)
 
 pub traffic : Traffic settings Z messages whole
 traffic =
-    record { cut = day-traffic.cut; apart = day-traffic.apart; octets = λ p h. (fine p h).0; packets = λ p h. (fine p h).1 }
+    record { cut = day_traffic.cut; apart = day_traffic.apart; octets = λ p h. (fine p h).0; packets = λ p h. (fine p h).1 }
 
 has_room : room_in next_counter steps_most (empty 4) (act_events (empty 4) (ripe_acts ++ evening_acts)) ≡ true
 unfolding act_events room_in after stepped taken_from look carries same_rest alike put has_free pick_in run_from rest_from role_of bodies among next_counter recorded spans

@@ -20,7 +20,7 @@ ghost use Rattle.walk.specs.Inner.{as_walk, of_walk};
 ghost use Rattle.fields.specs.Fields.{opt};
 ghost use Rattle.packet.specs.Numbers.{next_sequence_count, sequence_count_at, next_segment_counter};
 ghost use Rattle.packet.specs.FixedPart.{flags_of, octet_field, wide_field, sdu_field};
-ghost use Rattle.packet.specs.Reading.{primary_tests, primary_of, ids_of, texts_of, body_test, segmented as segmentedOf, counter_size};
+ghost use Rattle.packet.specs.Reading.{primary_tests, primary_of, ids_of, texts_of, body_test, segmented as segmented_of, counter_size};
 ghost use Rattle.packet.specs.Reading.{refusal_of, refused_header, no_fixed, read_packet};
 ghost use Rattle.packet.specs.Inner.{held_count, names_of, routing_of, fixed_step, as_octet, as_word, as_counter, as_ids, as_texts};
 
@@ -432,7 +432,7 @@ fn counter_if(there: bool, b: Bound, p: &[u8], w: Walk) -> Counter
 
 // Whether the sequence flags aren't 11.
 fn segmented(p: &[u8]) -> bool
-    ensures { result ≡ segmentedOf p.now }
+    ensures { result ≡ segmented_of p.now }
 {
     octets::octet(p, 2) / 64 != 3
 }

@@ -20,7 +20,7 @@ use Rattle.walk.specs.Walk.{refusal, unless}
 use Rattle.write.specs.Given.{Lent}
 use Rattle.write.specs.Writing.{fine}
 use Rattle.write.proofs.Tests.{unless_fine}
-use Rattle.write.proofs.Answers.{unless-same}
+use Rattle.write.proofs.Answers.{unless_same}
 use Rattle.pdu.specs.declared.PduValues.{PduValues}
 use Rattle.pdu.specs.Format.{Pdu, variable_octets, rest_octets, fixed_octets, head_octets, octets_of}
 use Rattle.pdu.specs.Given.{pdu_of}
@@ -30,19 +30,19 @@ use Rattle.pdu.proofs.FixedPart.{fixed_long}
 use Rattle.pdu.proofs.Back.{octets_long, rest_long}
 use Rattle.pdu.proofs.Pieces.{pdu_together, variable_size_lem}
 
-below-cap : (n : ℕ) → leb (small n) most32 ≡ leb n most32
-below-cap n =
+below_cap : (n : ℕ) → leb (small n) most32 ≡ leb n most32
+below_cap n =
     ⊎_elim
     (λ k. lt-leb (small n) most32 (omega arith) ∙ sym (lt-leb n most32 k))
     (λ k. le-leb (small n) most32 (omega arith) ∙ sym (le-leb n most32 k))
     (below_or most32 n)
 
-cap-left : (a b : ℕ) → small (small a + b) ≡ small (a + b)
-cap-left a b = omega arith
+cap_left : (a b : ℕ) → small (small a + b) ≡ small (a + b)
+cap_left a b = omega arith
 
-head-long : (v : Pdu) → length (head_octets v) ≡ 23 + length (variable_octets v)
+head_long : (v : Pdu) → length (head_octets v) ≡ 23 + length (variable_octets v)
 unfolding head_octets
-head-long v = simp (length-append, fixed_long)
+head_long v = simp (length-append, fixed_long)
 
 module _ (v : PduValues) (source destination : List ℕ) (t : Lent) (body : List ℕ) {variable rest : ℕ}
     (ev : variable ≡ variable_size v source destination t)
@@ -54,19 +54,19 @@ module _ (v : PduValues) (source destination : List ℕ) (t : Lent) (body : List
   unfolding pdu_of
   body_is = refl
 
-  variable-is : variable ≡ small (length (variable_octets whole))
-  variable-is = ev ∙ variable_size_lem v source destination t body
+  variable_is : variable ≡ small (length (variable_octets whole))
+  variable_is = ev ∙ variable_size_lem v source destination t body
 
   rest_is : rest ≡ small (length (rest_octets whole))
   rest_is =
-      er ∙ ap (λ (n : ℕ). small (n + length body)) variable-is ∙ cap-left (length (variable_octets whole)) (length body)
+      er ∙ ap (λ (n : ℕ). small (n + length body)) variable_is ∙ cap_left (length (variable_octets whole)) (length body)
       ∙ ap small (ap (λ (l : List ℕ). length (variable_octets whole) + length l) (sym body_is) ∙ sym (rest_long whole))
 
   -- the tests on sizes are the definition's
   module _ (room : ℕ) {r q : Tested} (et : r ≡ value_refusal v source destination t)
       (eq : q ≡ unless (leb (23 + rest) room) 21 (unless (leb rest most32) 23 r)) where
-    large-test : leb rest most32 ≡ leb (length (rest_octets whole)) most32
-    large-test = ap (λ (n : ℕ). leb n most32) rest_is ∙ below-cap (length (rest_octets whole))
+    large_test : leb rest most32 ≡ leb (length (rest_octets whole)) most32
+    large_test = ap (λ (n : ℕ). leb n most32) rest_is ∙ below_cap (length (rest_octets whole))
 
     abbrev inner : Tested
     inner = unless (leb (length (rest_octets whole)) most32) 23 r
@@ -84,13 +84,13 @@ module _ (v : PduValues) (source destination : List ℕ) (t : Lent) (body : List
     pub refusal_is : q ≡ write_refusal v source destination t body room
     unfolding write_refusal size_tests
     refusal_is =
-        eq ∙ rw large-test (unless-same 21 inner room_test)
+        eq ∙ rw large_test (unless_same 21 inner room_test)
         ∙ ap (λ (x : Tested). unless (leb (length (octets_of whole)) room) 21 (unless (leb (length (rest_octets whole)) most32) 23 x)) et
 
     -- where nothing refused at all
     pub record Fits : Type 0 where
-      pub rest-exact : rest ≡ length (rest_octets whole)
-      pub variable-exact : variable ≡ length (variable_octets whole)
+      pub rest_exact : rest ≡ length (rest_octets whole)
+      pub variable_exact : variable ≡ length (variable_octets whole)
       pub fits_room : length (octets_of whole) ≤ room
 
     pub fits : q.number ≡ 0 → Fits
@@ -103,8 +103,8 @@ module _ (v : PduValues) (source destination : List ℕ) (t : Lent) (body : List
         let b = unless_fine (leb (length (rest_octets whole)) most32) 22 r i in
         let l = leb-true (length (rest_octets whole)) most32 b.held in
         record {
-          rest-exact = exact i;
-          variable-exact = omega (arith, variable-is, rest_long whole);
+          rest_exact = exact i;
+          variable_exact = omega (arith, variable_is, rest_long whole);
           fits_room = leb-true (length (octets_of whole)) room a.held;
         }
 
@@ -127,8 +127,8 @@ module _ (v : PduValues) (source destination : List ℕ) (t : Lent) (body : List
         let f : fine (write_refusal v source destination t body room) ≡ true = ap fine (sym refusal_is) ∙ eq-eqb q.number 0 z in
         let n : 0 ≡ (write_refusal v source destination t body room).number = sym z ∙ ap (λ (x : Tested). x.number) refusal_is in
         let k = fits z in
-        let a : 23 + rest ≡ length (octets_of whole) = ap (λ (j : ℕ). 23 + j) k.rest-exact ∙ sym (octets_long whole) in
-        let b : 23 + variable ≡ length (head_octets whole) = ap (λ (j : ℕ). 23 + j) k.variable-exact ∙ sym (head-long whole) in
+        let a : 23 + rest ≡ length (octets_of whole) = ap (λ (j : ℕ). 23 + j) k.rest_exact ∙ sym (octets_long whole) in
+        let b : 23 + variable ≡ length (head_octets whole) = ap (λ (j : ℕ). 23 + j) k.variable_exact ∙ sym (head_long whole) in
         λ i.
         record {
           refusal = refusal (n i);
@@ -154,7 +154,7 @@ module _ (v : PduValues) (source destination : List ℕ) (t : Lent) (body : List
         ap fine (sym (refusal_is (length out) et eq)) ∙ eq-eqb q.number 0 z in
         let k = fits (length out) et eq z in
         let p : together (pdu_pieces v source destination t rest body) ≡ octets_of whole =
-        ap (λ (j : ℕ). together (pdu_pieces v source destination t j body)) k.rest-exact ∙ pdu_together v source destination t body in
+        ap (λ (j : ℕ). together (pdu_pieces v source destination t j body)) k.rest_exact ∙ pdu_together v source destination t body in
         let room = k.fits_room in
         let c = (lays_all a (omega (arith, ap length p))).1 in
         rw f

@@ -20,7 +20,7 @@ ghost use Rattle.walk.specs.Inner.{as_walk, of_walk};
 ghost use Rattle.walk.specs.Walk.{unless};
 ghost use Rattle.fields.specs.Form.{split};
 ghost use Rattle.write.specs.Given.{lent, unless_all};
-ghost use Rattle.pdu.specs.Format.{pdu_settings as pduSettingsOf};
+ghost use Rattle.pdu.specs.Format.{pdu_settings as pdu_settings_of};
 ghost use Rattle.pdu.specs.Reading.{bound_of, fixed_tests, fixed_of, ids_of, refusal_of, refused_header, no_fixed, read_pdu};
 ghost use Rattle.pdu.specs.Given.{empty_unless, name_checks, flag_checks, text_checks, word_checks};
 ghost use Rattle.pdu.specs.Lending.{Lends};
@@ -139,7 +139,7 @@ pub struct Written {
 
 // What both sides agreed on: six octets of timestamp, Varints.
 pub fn pdu_settings() -> Settings
-    ensures { result ≡ pduSettingsOf }
+    ensures { result ≡ pdu_settings_of }
 {
     Settings {
         t: TIMESTAMP,

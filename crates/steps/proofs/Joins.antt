@@ -25,7 +25,7 @@ use Rattle.join.specs.Told.{joined_of}
 use Rattle.join.proofs.Views.{held_two}
 use Rattle.steps.specs.declared.What.TheVariants.{Refused, Kept, Late, Whole, Joined as Made}
 use Rattle.steps.specs.declared.Done.{Done}
-use Rattle.steps.specs.Stepping.{room, refused as passed, kept, late as comeLate, came_by, without, wrote}
+use Rattle.steps.specs.Stepping.{room, refused as passed, kept, late as come_late, came_by, without, wrote}
 use Rattle.steps.specs.Told.{done_came}
 use Rattle.steps.specs.Inner.{taken_in, left_as}
 use Rattle.steps.proofs.Frames.{sets_part, frame_before, framed_long}
@@ -121,12 +121,12 @@ module _ (p out : List ℕ) (l : Bool) where
             (pick m (record { what = Late; refusal = refusal 0; used = 2 + length p; written = 0 })
             (record { what = Kept; refusal = refusal 0; used = 2 + length p; written = 0 }))
             (record { what = Refused; refusal = k; used = 2 + length p; written = 0 })
-            ≡ done_came p (pick b (pick m comeLate kept) (passed k))
+            ≡ done_came p (pick b (pick m come_late kept) (passed k))
         answer true true = refl
         answer true false = refl
         answer false m = refl
 
-        output : (b m : Bool) → out ≡ sets out 0 (wrote p (pick b (pick m comeLate kept) (passed k)))
+        output : (b m : Bool) → out ≡ sets out 0 (wrote p (pick b (pick m come_late kept) (passed k)))
         output true true = refl
         output true false = refl
         output false m = refl

@@ -16,7 +16,7 @@ ghost use Rattle.arrival.specs.Arriving.{arrived};
 ghost use Rattle.taking.specs.Forgetting.{lowest_record, forgot};
 ghost use Rattle.steps.specs.Stepping.{found_in, begins, room, longest, unrecorded, roomed, came_at, came_of, store_after};
 ghost use Rattle.steps.specs.Stepping.{without, wrote, stepped, store_behind, written_by};
-ghost use Rattle.steps.specs.Told.{stands_of, still as stillAs, done_came, done_of};
+ghost use Rattle.steps.specs.Told.{stands_of, still as still_as, done_came, done_of};
 ghost use Rattle.steps.specs.Inner.{taken_in, left_as, framed_as, stop_as};
 ghost use Rattle.packet.specs.Format.{packet_most};
 
@@ -98,7 +98,7 @@ pub fn look(x: &[u8]) -> Stands
 
 // A step that uses up no octet and writes none.
 fn still(what: What) -> Done
-    ensures { result ≡ stillAs what }
+    ensures { result ≡ still_as what }
 {
     Done {
         what: what,

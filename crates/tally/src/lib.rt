@@ -13,7 +13,7 @@ ghost use Rattle.cells.specs.Rows.{zero_row, cell_of};
 ghost use Rattle.cells.specs.Order.{cell_at, cells_most, cell_size};
 ghost use Rattle.cells.specs.Inner.{Asked};
 ghost use Rattle.taking.specs.Forgetting.{is_record};
-ghost use Rattle.tally.specs.Counting.{is_held, keyed as keyedAs, new_key_to, new_key_in, segments_in, keys_in, left_in, records_to, records_in};
+ghost use Rattle.tally.specs.Counting.{is_held, keyed as keyed_as, new_key_to, new_key_in, segments_in, keys_in, left_in, records_to, records_in};
 ghost use Rattle.cells.specs.Segments.{seg_of};
 ghost use Rattle.tally.specs.Telling.{key_at, told_by, told_at};
 
@@ -50,7 +50,7 @@ fn held(s: Settings, row: &[u8], zero: &[u8]) -> bool
 fn keyed(s: Settings, row: &[u8], zero: &[u8], q: &[u8], body_at: usize) -> bool
     requires zero_value { zero.now ≡ zero_row (length zero.now) }
     requires asked { Asked s q.now body_at }
-    ensures { result ≡ keyedAs (key_of q.now (read_packet s q.now)) (cell_of s (length zero.now) row.now) }
+    ensures { result ≡ keyed_as (key_of q.now (read_packet s q.now)) (cell_of s (length zero.now) row.now) }
 {
     let t = cells::judge(s, row, zero);
     if !cells::is_held(t) {

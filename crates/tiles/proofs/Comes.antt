@@ -17,11 +17,11 @@ use Rattle.packet.specs.Format.{SettingsInRange}
 use Rattle.walk.specs.Walk.{refusal}
 use Rattle.packet.specs.Numbers.{next_counter, steps_most}
 use Rattle.cells.specs.Messages.{Run, picked}
-use Rattle.arrival.specs.Arriving.{Arrived, whole, stored, again, late as asTaken, refused, arrived, store_with}
+use Rattle.arrival.specs.Arriving.{Arrived, whole, stored, again, late as as_taken, refused, arrived, store_with}
 use Rattle.taking.specs.Taking.{Took, message, unable, writing, took}
-use Rattle.join.specs.Joining.{took_as, joined_by, joining as joiningOf}
+use Rattle.join.specs.Joining.{took_as, joined_by, joining as joining_of}
 use Rattle.join.specs.Inner.{is_late}
-use Rattle.steps.specs.Stepping.{room, roomed, over, kept, late, refused as refused_by, message as messageOf, came_by, came_at, came_of}
+use Rattle.steps.specs.Stepping.{room, roomed, over, kept, late, refused as refused_by, message as message_of, came_by, came_at, came_of}
 use Rattle.recording.specs.Recording.{cell_count, empty_store}
 use Rattle.recording.proofs.Rooms.{message_fits}
 use Rattle.demand3.specs.Traffic.{taken_from}
@@ -44,29 +44,29 @@ abbrev taken_by : Settings → List ℕ → List ℕ → ℕ → Arrived → Opt
 taken_by s st p long a = pick (goes_on a) (some (took s Z (store_with Z st p a) long)) none
 
 -- a refusal is no message
-no_message : (k : Refusal) (r : Run) (l b : Bool) → pick b (pick l late kept) (refused_by k) ≡ messageOf r → ⊥
+no_message : (k : Refusal) (r : Run) (l b : Bool) → pick b (pick l late kept) (refused_by k) ≡ message_of r → ⊥
 no_message k r true true d = let z : ◌≡◌ {A = ℕ} 0 1 = cc d in omega arith
 no_message k r false true d = let z : ◌≡◌ {A = ℕ} 0 1 = cc d in omega arith
 no_message k r l false d = let z : ◌≡◌ {A = ℕ} 0 1 = cc d in omega arith
 
-took_by_lem : (l : Bool) (t : Took) (r : Run) → came_by l (took_as t) ≡ messageOf r → t ≡ message r
+took_by_lem : (l : Bool) (t : Took) (r : Run) → came_by l (took_as t) ≡ message_of r → t ≡ message r
 took_by_lem l (message q) r e = let d : q ≡ r = cc e in ap message d
 took_by_lem l (unable k) r e = absurd (no_message (refusal k) r l (eqb k 20) e)
 
 module _ (s : Settings) (st p : List ℕ) (l : Bool) (r : Run) where
-  came_by_lem : (a : Arrived) → came_by l (joined_by s Z st p room a) ≡ messageOf r → taken_by s st p room a ≡ some (message r)
+  came_by_lem : (a : Arrived) → came_by l (joined_by s Z st p room a) ≡ message_of r → taken_by s st p room a ≡ some (message r)
   came_by_lem whole e = let z : ◌≡◌ {A = ℕ} 0 1 = cc e in absurd (omega arith)
   came_by_lem (stored i) e = ap some (took_by_lem l (took s Z (store_with Z st p (stored i)) room) r e)
   came_by_lem again e = ap some (took_by_lem l (took s Z (store_with Z st p again) room) r e)
-  came_by_lem asTaken e = ap some (took_by_lem l (took s Z (store_with Z st p asTaken) room) r e)
+  came_by_lem as_taken e = ap some (took_by_lem l (took s Z (store_with Z st p as_taken) room) r e)
   came_by_lem (refused k) e = absurd (no_message k r l (eqb k.number 20) e)
 
-  by_came : (a : Arrived) → taken_by s st p room a ≡ some (message r) → came_by l (joined_by s Z st p room a) ≡ messageOf r
+  by_came : (a : Arrived) → taken_by s st p room a ≡ some (message r) → came_by l (joined_by s Z st p room a) ≡ message_of r
   by_came whole e = let z : ◌≡◌ {A = ℕ} 0 1 = cc e in absurd (omega arith)
   by_came (stored i) e =
       let d : took s Z (store_with Z st p (stored i)) room ≡ message r = cc e in ap (λ (t : Took). came_by l (took_as t)) d
   by_came again e = let d : took s Z (store_with Z st p again) room ≡ message r = cc e in ap (λ (t : Took). came_by l (took_as t)) d
-  by_came asTaken e = let d : took s Z (store_with Z st p asTaken) room ≡ message r = cc e in ap (λ (t : Took). came_by l (took_as t)) d
+  by_came as_taken e = let d : took s Z (store_with Z st p as_taken) room ≡ message r = cc e in ap (λ (t : Took). came_by l (took_as t)) d
   by_came (refused k) e = let z : ◌≡◌ {A = ℕ} 0 1 = cc e in absurd (omega arith)
 
 module _ (s : Settings) (st p : List ℕ) (r : Run) where
@@ -81,17 +81,17 @@ module _ (s : Settings) (st p : List ℕ) (r : Run) where
   unfolding took_by
   taken_is = ap (λ (n : ℕ). taken_by s to p n (arrived s Z to p)) output_long
 
-  pub came_taken : came_of s Z st p ≡ messageOf r → (short p ≡ true) × (took_by s Z to c ≡ some (message r))
-  unfolding came_of came_at joiningOf
+  pub came_taken : came_of s Z st p ≡ message_of r → (short p ≡ true) × (took_by s Z to c ≡ some (message r))
+  unfolding came_of came_at joining_of
   came_taken e = go (short p) e
     where
-      go : (b : Bool) → pick b (came_by (is_late (arrived s Z to p)) (joined_by s Z to p room (arrived s Z to p))) over ≡ messageOf r →
+      go : (b : Bool) → pick b (came_by (is_late (arrived s Z to p)) (joined_by s Z to p room (arrived s Z to p))) over ≡ message_of r →
           (b ≡ true) × (took_by s Z to c ≡ some (message r))
       go true d = (refl, taken_is ∙ came_by_lem s to p (is_late (arrived s Z to p)) r (arrived s Z to p) d)
       go false d = let z : ◌≡◌ {A = ℕ} 0 1 = cc d in absurd (omega arith)
 
-  pub taken_came : short p ≡ true → took_by s Z to c ≡ some (message r) → came_of s Z st p ≡ messageOf r
-  unfolding came_of came_at joiningOf
+  pub taken_came : short p ≡ true → took_by s Z to c ≡ some (message r) → came_of s Z st p ≡ message_of r
+  unfolding came_of came_at joining_of
   taken_came f e =
       ap (λ (b : Bool). pick b (came_by (is_late (arrived s Z to p)) (joined_by s Z to p room (arrived s Z to p))) over) f
       ∙ by_came s to p (is_late (arrived s Z to p)) r (arrived s Z to p) (sym taken_is ∙ e)

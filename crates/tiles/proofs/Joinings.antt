@@ -15,8 +15,8 @@ use Rattle.octets.specs.Octets.{pick}
 use Rattle.walk.specs.declared.Settings.{Settings}
 use Rattle.cells.specs.Order.{count_in}
 use Rattle.taking.specs.Forgetting.{lowest_record}
-use Rattle.join.specs.Joining.{store_joined, joining as joiningOf}
-use Rattle.steps.specs.Stepping.{longest, room, is_full, unrecorded, roomed, store_after as stepStore}
+use Rattle.join.specs.Joining.{store_joined, joining as joining_of}
+use Rattle.steps.specs.Stepping.{longest, room, is_full, unrecorded, roomed, store_after as step_store}
 use Rattle.recording.specs.Recording.{cell_count, empty_store}
 use Rattle.demand3.specs.Calls.{Call, arrival, joining, forgetting, Brings, Handed, store_by, store_after}
 use Rattle.demand3.specs.Presupposed.{store_behind}
@@ -41,14 +41,14 @@ short p = leb (length p) longest
 module _ (s : Settings) where
   -- if a packet finds no room, the record in the lowest cell is forgotten first
   abbrev pub forgets_for : List ℕ → List ℕ → List Call
-  forgets_for st p = pick (is_full (joiningOf s Z st p room)) (forgetting (lowest_record s Z st (count_in Z st)) ∷ []) []
+  forgets_for st p = pick (is_full (joining_of s Z st p room)) (forgetting (lowest_record s Z st (count_in Z st)) ∷ []) []
 
   abbrev call_for : List ℕ → List ℕ → List Call
   call_for st p = pick (short p) (forgets_for st p ++ joining p output ∷ []) []
 
   unfoldable pub calls_from : List ℕ → List (List ℕ) → List Call
   calls_from st [] = []
-  calls_from st (p ∷ ps) = call_for st p ++ calls_from (stepStore s Z st p) ps
+  calls_from st (p ∷ ps) = call_for st p ++ calls_from (step_store s Z st p) ps
 
   -- from the empty store on
   abbrev pub calls_of : List (List ℕ) → List Call
@@ -58,22 +58,22 @@ module _ (s : Settings) where
   unfolding calls_from store_from
   calls_append [] b st = refl
   calls_append (p ∷ a) b st =
-      ap (λ (l : List Call). call_for st p ++ l) (calls_append a b (stepStore s Z st p))
-      ∙ sym (append_assoc (call_for st p) (calls_from (stepStore s Z st p) a) (calls_from (store_from s (stepStore s Z st p) a) b))
+      ap (λ (l : List Call). call_for st p ++ l) (calls_append a b (step_store s Z st p))
+      ∙ sym (append_assoc (call_for st p) (calls_from (step_store s Z st p) a) (calls_from (store_from s (step_store s Z st p) a) b))
 
   -- ---- the store along the packets
 
   -- that a packet is joined to
   pub forgets_store : (st p : List ℕ) → store_after s Z st (forgets_for st p) ≡ roomed s Z st p
   unfolding store_after store_by roomed
-  forgets_store st p = go (is_full (joiningOf s Z st p room))
+  forgets_store st p = go (is_full (joining_of s Z st p room))
     where
       go : (b : Bool) → store_after s Z st (pick b (forgetting (lowest_record s Z st (count_in Z st)) ∷ []) []) ≡ pick b (unrecorded s Z st) st
       go true = refl
       go false = refl
 
-  call_store : (st p : List ℕ) → store_after s Z st (call_for st p) ≡ stepStore s Z st p
-  unfolding store_after store_by stepStore
+  call_store : (st p : List ℕ) → store_after s Z st (call_for st p) ≡ step_store s Z st p
+  unfolding store_after store_by step_store
   call_store st p = go (short p)
     where
       go : (b : Bool) → store_after s Z st (pick b (forgets_for st p ++ joining p output ∷ []) []) ≡ pick b (store_joined s Z (roomed s Z st p) p room) st
@@ -87,9 +87,9 @@ module _ (s : Settings) where
   unfolding calls_from store_from store_after
   calls_from_lem [] st = refl
   calls_from_lem (p ∷ ps) st =
-      store_append s Z (call_for st p) (calls_from (stepStore s Z st p) ps) st
-      ∙ ap (λ (x : List ℕ). store_after s Z x (calls_from (stepStore s Z st p) ps)) (call_store st p)
-      ∙ calls_from_lem ps (stepStore s Z st p)
+      store_append s Z (call_for st p) (calls_from (step_store s Z st p) ps) st
+      ∙ ap (λ (x : List ℕ). store_after s Z x (calls_from (step_store s Z st p) ps)) (call_store st p)
+      ∙ calls_from_lem ps (step_store s Z st p)
 
   pub calls_store : (ps : List (List ℕ)) → store_behind s Z cell_count (calls_of ps) ≡ store_from s empty_store ps
   calls_store ps = calls_from_lem ps empty_store
@@ -120,12 +120,12 @@ module _ (s : Settings) where
       CallAt st ps x c ⊎ ((i : ℕ) × (c ≡ forgetting i))
   unfolding calls_from store_from
   call_at [] st x c y e = absurd (none_split c x y e)
-  call_at (p ∷ ps) st x c y e = go (call_at ps (stepStore s Z st p)) (append_split (call_for st p) (calls_from (stepStore s Z st p) ps) x c y e)
+  call_at (p ∷ ps) st x c y e = go (call_at ps (step_store s Z st p)) (append_split (call_for st p) (calls_from (step_store s Z st p) ps) x c y e)
     where
       joins : short p ≡ true → (v : List Call) →
           ((w : List Call) × (forgets_for st p ≡ x ++ c ∷ w)) ⊎ ((w : List Call) × (x ≡ forgets_for st p ++ w) × (joining p output ∷ [] ≡ w ++ c ∷ v)) →
           CallAt st (p ∷ ps) x c ⊎ ((i : ℕ) × (c ≡ forgetting i))
-      joins f v (inl w) = inr (by (is_full (joiningOf s Z st p room)) w.1)
+      joins f v (inl w) = inr (by (is_full (joining_of s Z st p room)) w.1)
         where
           by : (b : Bool) → pick b (forgetting (lowest_record s Z st (count_in Z st)) ∷ []) [] ≡ x ++ c ∷ w.0 → (i : ℕ) × (c ≡ forgetting i)
           by true d = (lowest_record s Z st (count_in Z st), sym (one_split (forgetting (lowest_record s Z st (count_in Z st))) c x w.0 d).1)
@@ -148,7 +148,7 @@ module _ (s : Settings) where
       first true f v d = joins f v (append_split (forgets_for st p) (joining p output ∷ []) x c v d)
       first false f v d = absurd (none_split c x v d)
 
-      on : (w : List Call) → x ≡ call_for st p ++ w → CallAt (stepStore s Z st p) ps w c ⊎ ((i : ℕ) × (c ≡ forgetting i)) →
+      on : (w : List Call) → x ≡ call_for st p ++ w → CallAt (step_store s Z st p) ps w c ⊎ ((i : ℕ) × (c ≡ forgetting i)) →
           CallAt st (p ∷ ps) x c ⊎ ((i : ℕ) × (c ≡ forgetting i))
       on w d (inr i) = inr i
       on w d (inl o) =
@@ -161,25 +161,25 @@ module _ (s : Settings) where
             fits = o.fits;
             call = o.call;
             earlier = d ∙ ap (λ (l : List Call). call_for st p ++ l) o.earlier
-                ∙ sym (append_assoc (call_for st p) (calls_from (stepStore s Z st p) o.before) (forgets_for (store_from s (stepStore s Z st p) o.before) o.packet));
+                ∙ sym (append_assoc (call_for st p) (calls_from (step_store s Z st p) o.before) (forgets_for (store_from s (step_store s Z st p) o.before) o.packet));
           })
 
-      go : ((x' : List Call) (c' : Call) (y' : List Call) → calls_from (stepStore s Z st p) ps ≡ x' ++ c' ∷ y' →
-          CallAt (stepStore s Z st p) ps x' c' ⊎ ((i : ℕ) × (c' ≡ forgetting i))) →
-          ((v : List Call) × (call_for st p ≡ x ++ c ∷ v)) ⊎ ((w : List Call) × (x ≡ call_for st p ++ w) × (calls_from (stepStore s Z st p) ps ≡ w ++ c ∷ y)) →
+      go : ((x' : List Call) (c' : Call) (y' : List Call) → calls_from (step_store s Z st p) ps ≡ x' ++ c' ∷ y' →
+          CallAt (step_store s Z st p) ps x' c' ⊎ ((i : ℕ) × (c' ≡ forgetting i))) →
+          ((v : List Call) × (call_for st p ≡ x ++ c ∷ v)) ⊎ ((w : List Call) × (x ≡ call_for st p ++ w) × (calls_from (step_store s Z st p) ps ≡ w ++ c ∷ y)) →
           CallAt st (p ∷ ps) x c ⊎ ((i : ℕ) × (c ≡ forgetting i))
       go ih (inl v) = first (short p) refl v.0 v.1
       go ih (inr w) = on w.0 w.1 (ih w.0 c y w.2)
 
   -- and the other way
   pub at_call : (a : List (List ℕ)) (p : List ℕ) (b : List (List ℕ)) → short p ≡ true →
-      calls_of (a ++ p ∷ b) ≡ calls_to a p ++ joining p output ∷ calls_from (stepStore s Z (store_from s empty_store a) p) b
+      calls_of (a ++ p ∷ b) ≡ calls_to a p ++ joining p output ∷ calls_from (step_store s Z (store_from s empty_store a) p) b
   unfolding calls_from
   at_call a p b e =
       calls_append a (p ∷ b) empty_store
-      ∙ ap (λ (k : Bool). calls_of a ++ (pick k (forgets_for at p ++ joining p output ∷ []) [] ++ calls_from (stepStore s Z at p) b)) e
-      ∙ ap (λ (l : List Call). calls_of a ++ l) (append_assoc (forgets_for at p) (joining p output ∷ []) (calls_from (stepStore s Z at p) b))
-      ∙ sym (append_assoc (calls_of a) (forgets_for at p) (joining p output ∷ calls_from (stepStore s Z at p) b))
+      ∙ ap (λ (k : Bool). calls_of a ++ (pick k (forgets_for at p ++ joining p output ∷ []) [] ++ calls_from (step_store s Z at p) b)) e
+      ∙ ap (λ (l : List Call). calls_of a ++ l) (append_assoc (forgets_for at p) (joining p output ∷ []) (calls_from (step_store s Z at p) b))
+      ∙ sym (append_assoc (calls_of a) (forgets_for at p) (joining p output ∷ calls_from (step_store s Z at p) b))
     where
       at : List ℕ
       at = store_from s empty_store a
@@ -187,7 +187,7 @@ module _ (s : Settings) where
   -- ---- the packets handed over
 
   pub forgets_none : (st p q : List ℕ) → Handed q (forgets_for st p) → ⊥
-  forgets_none st p q h = go (is_full (joiningOf s Z st p room)) h.1
+  forgets_none st p q h = go (is_full (joining_of s Z st p room)) h.1
     where
       brings : (c : Call) (i : ℕ) → c ≡ forgetting i → Brings q c → ⊥
       brings c i e (inl d) = let f : forgetting i ≡ arrival q = sym e ∙ d in let z : ◌≡◌ {A = ℕ} 0 1 = cc f in omega arith
@@ -220,27 +220,27 @@ module _ (s : Settings) where
   pub handed_in : (ps : List (List ℕ)) (st q : List ℕ) → Handed q (calls_from st ps) → Memᴰ q ps
   unfolding calls_from
   handed_in [] st q h = absurd (Memᴰ.not-nil h.1)
-  handed_in (p ∷ ps) st q h = go (handed_in ps (stepStore s Z st p) q) (Memᴰ.append_cases (call_for st p) h.1)
+  handed_in (p ∷ ps) st q h = go (handed_in ps (step_store s Z st p) q) (Memᴰ.append_cases (call_for st p) h.1)
     where
-      go : (Handed q (calls_from (stepStore s Z st p) ps) → Memᴰ q ps) →
-          Memᴰ h.0 (call_for st p) ⊎ Memᴰ h.0 (calls_from (stepStore s Z st p) ps) → Memᴰ q (p ∷ ps)
+      go : (Handed q (calls_from (step_store s Z st p) ps) → Memᴰ q ps) →
+          Memᴰ h.0 (call_for st p) ⊎ Memᴰ h.0 (calls_from (step_store s Z st p) ps) → Memᴰ q (p ∷ ps)
       go ih (inl k) = Memᴰ.head (for_packet st p q h.0 k h.2)
       go ih (inr k) = Memᴰ.tail (ih (h.0, k, h.2))
 
   pub in_handed : (ps : List (List ℕ)) (st q : List ℕ) → Memᴰ q ps → short q ≡ true → Handed q (calls_from st ps)
   unfolding calls_from
   in_handed [] st q h e = absurd (Memᴰ.not-nil h)
-  in_handed (p ∷ ps) st q h e = go (λ k. in_handed ps (stepStore s Z st p) q k e) (Memᴰ.cases_cons h)
+  in_handed (p ∷ ps) st q h e = go (λ k. in_handed ps (step_store s Z st p) q k e) (Memᴰ.cases_cons h)
     where
-      first : (b : Bool) → b ≡ true → q ≡ p → Handed q (pick b (forgets_for st p ++ joining p output ∷ []) [] ++ calls_from (stepStore s Z st p) ps)
+      first : (b : Bool) → b ≡ true → q ≡ p → Handed q (pick b (forgets_for st p ++ joining p output ∷ []) [] ++ calls_from (step_store s Z st p) ps)
       first true f d = (
         joining p output,
-        Memᴰ.append_left (calls_from (stepStore s Z st p) ps) (Memᴰ.append_right (forgets_for st p) (Memᴰ.head refl)),
+        Memᴰ.append_left (calls_from (step_store s Z st p) ps) (Memᴰ.append_right (forgets_for st p) (Memᴰ.head refl)),
         inr (output, ap (λ (k : List ℕ). joining k output) (sym d)),
       )
       first false f d = let z : ◌≡◌ {A = ℕ} 0 1 = cc f in absurd (omega arith)
 
-      go : (Memᴰ q ps → Handed q (calls_from (stepStore s Z st p) ps)) → (q ≡ p) ⊎ Memᴰ q ps →
-          Handed q (call_for st p ++ calls_from (stepStore s Z st p) ps)
+      go : (Memᴰ q ps → Handed q (calls_from (step_store s Z st p) ps)) → (q ≡ p) ⊎ Memᴰ q ps →
+          Handed q (call_for st p ++ calls_from (step_store s Z st p) ps)
       go ih (inl d) = first (short p) (ap short (sym d) ∙ e) d
       go ih (inr k) = let v = ih k in (v.0, Memᴰ.append_right (call_for st p) v.1, v.2)

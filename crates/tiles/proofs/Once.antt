@@ -15,8 +15,8 @@ use Rattle.packet.specs.Format.{SettingsInRange}
 use Rattle.cells.specs.Order.{count_in}
 use Rattle.cells.specs.Messages.{body_of, or}
 use Rattle.taking.specs.Forgetting.{lowest_record}
-use Rattle.join.specs.Joining.{joining as joiningOf}
-use Rattle.steps.specs.Stepping.{room, is_full, Came, over, refused, kept, late, wholly, message as messageOf, came_of, store_after as stepStore}
+use Rattle.join.specs.Joining.{joining as joining_of}
+use Rattle.steps.specs.Stepping.{room, is_full, Came, over, refused, kept, late, wholly, message as message_of, came_of, store_after as step_store}
 use Rattle.recording.specs.Recording.{cell_count, empty_store}
 use Rattle.demand3.specs.Calls.{Call, joining, forgetting, took_by}
 use Rattle.demand3.specs.Sendings.{Sending, whole_body, key_in, start_of}
@@ -54,7 +54,7 @@ one_frame p (refused k) = inl refl
 one_frame p kept = inl refl
 one_frame p late = inl refl
 one_frame p wholly = inr (whole_packet p, refl)
-one_frame p (messageOf r) = inr (joined r.head.key r.head.counter (body_of r), refl)
+one_frame p (message_of r) = inr (joined r.head.key r.head.counter (body_of r), refl)
 
 module _ (s : Settings) where
   -- it comes from two packets, one after the other
@@ -71,12 +71,12 @@ module _ (s : Settings) where
   twice : (ps : List (List ℕ)) (st : List ℕ) (w : Frame) (a b : List Frame) → frames_from s st ps ≡ a ++ w ∷ b → Memᴰ w b → Twice st ps w
   unfolding frames_from store_from
   twice [] st w a b e h = absurd (none_split w a b e)
-  twice (p ∷ ps) st w a b e h = go (twice ps (stepStore s Z st p) w) (one_frame p (came_of s Z st p))
+  twice (p ∷ ps) st w a b e h = go (twice ps (step_store s Z st p) w) (one_frame p (came_of s Z st p))
     where
       rest : List Frame
-      rest = frames_from s (stepStore s Z st p) ps
+      rest = frames_from s (step_store s Z st p) ps
 
-      on : Twice (stepStore s Z st p) ps w → Twice st (p ∷ ps) w
+      on : Twice (step_store s Z st p) ps w → Twice st (p ∷ ps) w
       on v =
           record {
             before = p ∷ v.before;
@@ -89,7 +89,7 @@ module _ (s : Settings) where
             second = v.second;
           }
 
-      here : Memᴰ w (frames_by p (came_of s Z st p)) → Framed s (stepStore s Z st p) ps w → Twice st (p ∷ ps) w
+      here : Memᴰ w (frames_by p (came_of s Z st p)) → Framed s (step_store s Z st p) ps w → Twice st (p ∷ ps) w
       here k v =
           record {
             before = [];
@@ -102,15 +102,15 @@ module _ (s : Settings) where
             second = v.its;
           }
 
-      by : ((a' b' : List Frame) → rest ≡ a' ++ w ∷ b' → Memᴰ w b' → Twice (stepStore s Z st p) ps w) → (f : Frame) →
+      by : ((a' b' : List Frame) → rest ≡ a' ++ w ∷ b' → Memᴰ w b' → Twice (step_store s Z st p) ps w) → (f : Frame) →
           frames_by p (came_of s Z st p) ≡ f ∷ [] → (a' : List Frame) → f ∷ rest ≡ a' ++ w ∷ b → Twice st (p ∷ ps) w
       by ih f d [] q =
           let k : w ≡ f = cc q in
           let t : rest ≡ b = cc q in
-          here (subst (Memᴰ w) (sym d) (Memᴰ.head k)) (frame_at s ps (stepStore s Z st p) w (subst (Memᴰ w) (sym t) h))
+          here (subst (Memᴰ w) (sym d) (Memᴰ.head k)) (frame_at s ps (step_store s Z st p) w (subst (Memᴰ w) (sym t) h))
       by ih f d (y ∷ a') q = let t : rest ≡ a' ++ w ∷ b = cc q in on (ih a' b t h)
 
-      go : ((a' b' : List Frame) → rest ≡ a' ++ w ∷ b' → Memᴰ w b' → Twice (stepStore s Z st p) ps w) →
+      go : ((a' b' : List Frame) → rest ≡ a' ++ w ∷ b' → Memᴰ w b' → Twice (step_store s Z st p) ps w) →
           (frames_by p (came_of s Z st p) ≡ []) ⊎ ((f : Frame) × (frames_by p (came_of s Z st p) ≡ f ∷ [])) → Twice st (p ∷ ps) w
       go ih (inl d) = on (ih a b (sym (ap (λ (l : List Frame). l ++ rest) d) ∙ e) h)
       go ih (inr f) = by ih f.0 f.1 a (sym (ap (λ (l : List Frame). l ++ rest) f.1) ∙ e)
@@ -118,12 +118,12 @@ module _ (s : Settings) where
   -- ---- no forgetting
 
   none_forgets : (ps : List (List ℕ)) (st : List ℕ) →
-      ((before after : List (List ℕ)) (p : List ℕ) → ps ≡ before ++ p ∷ after → is_full (joiningOf s Z (store_from s st before) p room) ≡ false) →
+      ((before after : List (List ℕ)) (p : List ℕ) → ps ≡ before ++ p ∷ after → is_full (joining_of s Z (store_from s st before) p room) ≡ false) →
       NoneForgets (calls_from s st ps)
   unfolding calls_from store_from
   none_forgets [] st f i h = Memᴰ.not-nil h
   none_forgets (p ∷ ps) st f i h =
-      go (none_forgets ps (stepStore s Z st p) (λ a b q e. f (p ∷ a) b q (ap (λ (l : List (List ℕ)). p ∷ l) e)) i)
+      go (none_forgets ps (step_store s Z st p) (λ a b q e. f (p ∷ a) b q (ap (λ (l : List (List ℕ)). p ∷ l) e)) i)
       (Memᴰ.append_cases (pick (short p) (forgets_for s st p ++ joining p output ∷ []) []) h)
     where
       no_join : (forgetting i ≡ joining p output) ⊎ Memᴰ (forgetting i) [] → ⊥
@@ -135,16 +135,16 @@ module _ (s : Settings) where
       full false e k = Memᴰ.not-nil k
 
       parts : Memᴰ (forgetting i) (forgets_for s st p) ⊎ Memᴰ (forgetting i) (joining p output ∷ []) → ⊥
-      parts (inl k) = full (is_full (joiningOf s Z st p room)) (f [] ps p refl) k
+      parts (inl k) = full (is_full (joining_of s Z st p room)) (f [] ps p refl) k
       parts (inr k) = no_join (Memᴰ.cases_cons k)
 
       own : (c : Bool) → Memᴰ (forgetting i) (pick c (forgets_for s st p ++ joining p output ∷ []) []) → ⊥
       own true k = parts (Memᴰ.append_cases (forgets_for s st p) k)
       own false k = Memᴰ.not-nil k
 
-      go : (Memᴰ (forgetting i) (calls_from s (stepStore s Z st p) ps) → ⊥) →
+      go : (Memᴰ (forgetting i) (calls_from s (step_store s Z st p) ps) → ⊥) →
           Memᴰ (forgetting i) (pick (short p) (forgets_for s st p ++ joining p output ∷ []) []) ⊎
-          Memᴰ (forgetting i) (calls_from s (stepStore s Z st p) ps) → ⊥
+          Memᴰ (forgetting i) (calls_from s (step_store s Z st p) ps) → ⊥
       go ih (inl k) = own (short p) k
       go ih (inr k) = ih k
 
@@ -194,13 +194,13 @@ module _ (s : Settings) (range : SettingsInRange s) (ms : List Sending) (x : Lis
       to = calls_to s v.before p
 
       amid : List Call
-      amid = calls_from s (stepStore s Z (store_from s empty_store v.before) p) v.middle
+      amid = calls_from s (step_store s Z (store_from s empty_store v.before) p) v.middle
 
       between : List Call
       between = amid ++ forgets_for s (store_from s empty_store ahead) q
 
       later : List Call
-      later = calls_from s (stepStore s Z (store_from s empty_store ahead) q) v.after
+      later = calls_from s (step_store s Z (store_from s empty_store ahead) q) v.after
 
       to_are : calls_to s ahead q ≡ to ++ joining p output ∷ between
       to_are =

@@ -21,7 +21,7 @@ use Rattle.cells.specs.Order.{cell_at, untaken_to}
 use Rattle.cells.specs.Messages.{Run, body_of, look}
 use Rattle.taking.specs.Taking.{message}
 use Rattle.demand3.specs.Cells.{has_free}
-use Rattle.steps.specs.Stepping.{longest, roomed, Came, over, refused, kept, late, wholly, message as messageOf, came_of, store_after as storeAfter'}
+use Rattle.steps.specs.Stepping.{longest, roomed, Came, over, refused, kept, late, wholly, message as message_of, came_of, store_after as store_after'}
 use Rattle.recording.specs.Recording.{cell_count, empty_store}
 use Rattle.demand3.specs.Calls.{Call, arrival, joining, forgetting, Brings, Handed, Plain, arrived_store, took_by, store_after}
 use Rattle.sender.specs.Sending.{steps_of}
@@ -44,7 +44,7 @@ use Rattle.tiles.proofs.Delivered.{run_counter, run_frame}
 
 -- a frame of a message is what its packet came to
 pub joined_came : (p : List ℕ) (y : Came) (k : List ℕ) (c : ℕ) (b : List ℕ) → Memᴰ (joined k c b) (frames_by p y) →
-    (r : Run) × (y ≡ messageOf r) × (joined k c b ≡ joined r.head.key r.head.counter (body_of r))
+    (r : Run) × (y ≡ message_of r) × (joined k c b ≡ joined r.head.key r.head.counter (body_of r))
 joined_came p over k c b h = absurd (Memᴰ.not-nil h)
 joined_came p (refused n) k c b h = absurd (Memᴰ.not-nil h)
 joined_came p kept k c b h = absurd (Memᴰ.not-nil h)
@@ -54,7 +54,7 @@ joined_came p wholly k c b h = absurd (go (Memᴰ.cases_cons h))
     go : (joined k c b ≡ whole_packet p) ⊎ Memᴰ (joined k c b) [] → ⊥
     go (inl e) = let z : ◌≡◌ {A = ℕ} 0 1 = cc e in omega arith
     go (inr e) = Memᴰ.not-nil e
-joined_came p (messageOf r) k c b h = (r, refl, go (Memᴰ.cases_cons h))
+joined_came p (message_of r) k c b h = (r, refl, go (Memᴰ.cases_cons h))
   where
     own : Frame
     own = joined r.head.key r.head.counter (body_of r)
@@ -225,7 +225,7 @@ module _ (s : Settings) (range : SettingsInRange s) (ms : List Sending) (x : Lis
       a : Framed s empty_store ps (joined k c b)
       a = frame_at s ps empty_store (joined k c b) f
 
-      v : (r : Run) × (came_of s Z (store_along s a.before) a.packet ≡ messageOf r) ×
+      v : (r : Run) × (came_of s Z (store_along s a.before) a.packet ≡ message_of r) ×
           (joined k c b ≡ joined r.head.key r.head.counter (body_of r))
       v = joined_came a.packet (came_of s Z (store_along s a.before) a.packet) k c b a.its
 
@@ -239,7 +239,7 @@ module _ (s : Settings) (range : SettingsInRange s) (ms : List Sending) (x : Lis
       u = calls_to s a.before a.packet
 
       later : List Call
-      later = calls_from s (storeAfter' s Z (store_from s empty_store a.before) a.packet) a.after
+      later = calls_from s (store_after' s Z (store_from s empty_store a.before) a.packet) a.after
 
       st : List ℕ
       st = store_behind s Z cell_count u

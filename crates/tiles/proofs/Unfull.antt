@@ -22,8 +22,8 @@ use Rattle.packet.specs.Format.{SettingsInRange}
 use Rattle.cells.specs.Rows.{Cell, free, held, taken, broken}
 use Rattle.cells.specs.Order.{is_free, cell_at, untaken_to}
 use Rattle.cells.specs.Messages.{look, or}
-use Rattle.arrival.specs.Arriving.{Arrived, whole, stored, late as asTaken, refused as refused19, lowest_free, placed, beside, segment_arrived, segment_came, arrived_in}
-use Rattle.join.specs.Joining.{joined_by, joining as joiningOf}
+use Rattle.arrival.specs.Arriving.{Arrived, whole, stored, late as as_taken, refused as refused19, lowest_free, placed, beside, segment_arrived, segment_came, arrived_in}
+use Rattle.join.specs.Joining.{joined_by, joining as joining_of}
 use Rattle.steps.specs.Stepping.{room, is_full, unrecorded, roomed, refused}
 use Rattle.steps.proofs.Enough.{free_joins}
 use Rattle.recording.specs.Recording.{cell_count, empty_store}
@@ -53,7 +53,7 @@ unfolding arrived_in segment_came segment_arrived placed
 arrived_19 s st p ok seg fit out new none_free =
     ap (λ (k : ℕ). pick (eqb k 0) (pick (segmented p) (segment_came s Z st n t (length p)) whole) (refused19 (read_packet s p).refusal)) ok
     ∙ ap (λ (b : Bool). pick b (segment_came s Z st n t (length p)) whole) seg
-    ∙ ap (λ (b : Bool). pick b (pick (leb (2 + length p) Z) (segment_arrived s Z st n t) (refused19 (refusal 17))) asTaken) out
+    ∙ ap (λ (b : Bool). pick b (pick (leb (2 + length p) Z) (segment_arrived s Z st n t) (refused19 (refusal 17))) as_taken) out
     ∙ ap (λ (b : Bool). pick b (segment_arrived s Z st n t) (refused19 (refusal 17))) (le-leb (2 + length p) Z fit)
     ∙ ap (λ (o : Option Seg). beside o t (placed n (lowest_free s Z st n))) new
     ∙ ap (λ (b : Bool). pick b (stored (lowest_free s Z st n)) (refused19 (refusal 19))) none_free
@@ -68,8 +68,8 @@ arrived_19 s st p ok seg fit out new none_free =
 full_19 : (s : Settings) (st p : List ℕ) → Kept s Z cell_count st → (read_packet s p).refusal.number ≡ 0 → segmented p ≡ true → 2 + length p ≤ Z →
     untaken_to s Z st cell_count (seg_of p (read_packet s p)).key (seg_of p (read_packet s p)).counter ≡ true →
     look (cells_in s Z cell_count st) (seg_of p (read_packet s p)).key (seg_of p (read_packet s p)).counter ≡ none →
-    has_free (cells_in s Z cell_count st) ≡ false → is_full (joiningOf s Z st p room) ≡ true
-unfolding joiningOf
+    has_free (cells_in s Z cell_count st) ≡ false → is_full (joining_of s Z st p room) ≡ true
+unfolding joining_of
 full_19 s st p k ok seg fit out new no-free = ap (λ (a : Arrived). is_full (joined_by s Z st p room a)) (arrived_is s Z cell_count st k p ∙ refused_19)
   where
     refused_19 : arrived_in s Z st cell_count p ≡ refused19 (refusal 19)

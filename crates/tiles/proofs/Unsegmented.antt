@@ -19,12 +19,12 @@ use Rattle.packet.specs.Reading.{read_packet, segmented}
 use Rattle.cells.specs.Segments.{Seg, seg_of, same_rest}
 use Rattle.cells.specs.Order.{untaken_to}
 use Rattle.cells.specs.Messages.{cells_of, look, body_of}
-use Rattle.arrival.specs.Arriving.{Arrived, whole, stored, again, late as asTaken, refused, placed, beside, lowest_free}
+use Rattle.arrival.specs.Arriving.{Arrived, whole, stored, again, late as as_taken, refused, placed, beside, lowest_free}
 use Rattle.arrival.specs.Arriving.{segment_arrived, segment_came, arrived_in, arrived, store_with}
 use Rattle.taking.specs.Taking.{Took, message, unable, took}
-use Rattle.join.specs.Joining.{took_as, joined_by, joining as joiningOf}
+use Rattle.join.specs.Joining.{took_as, joined_by, joining as joining_of}
 use Rattle.join.specs.Inner.{is_late}
-use Rattle.steps.specs.Stepping.{longest, room, roomed, Came, over, kept, late, wholly, refused as refused_by, message as messageOf, came_by, came_at, came_of}
+use Rattle.steps.specs.Stepping.{longest, room, roomed, Came, over, kept, late, wholly, refused as refused_by, message as message_of, came_by, came_at, came_of}
 use Rattle.recording.specs.Recording.{cell_count, empty_store}
 use Rattle.demand3.proofs.Steps.{Kept, arrived_is}
 use Rattle.demand3.proofs.Carried.{behind_keeps}
@@ -61,7 +61,7 @@ module _ (s : Settings) (st p : List ℕ) where
       k = (read_packet s p).refusal.number
 
       go : (a : Bool) → eqb (read_packet s p).refusal.number 0 ≡ a → (b u c : Bool) →
-          pick a (pick b (pick u (pick c (segment_arrived s Z st n (seg_of p (read_packet s p))) (refused (refusal 17))) asTaken) whole) (refused (read_packet s p).refusal)
+          pick a (pick b (pick u (pick c (segment_arrived s Z st n (seg_of p (read_packet s p))) (refused (refusal 17))) as_taken) whole) (refused (read_packet s p).refusal)
           ≡ whole →
           ((read_packet s p).refusal.number ≡ 0) × (b ≡ false)
       go true f false u c d = (eqb-true k 0 f, refl)
@@ -89,7 +89,7 @@ module _ (s : Settings) (st p : List ℕ) where
   wholly_by l whole e = refl
   wholly_by l (stored i) e = absurd (took_no l (took s Z (store_with Z st p (stored i)) room) e)
   wholly_by l again e = absurd (took_no l (took s Z (store_with Z st p again) room) e)
-  wholly_by l asTaken e = absurd (took_no l (took s Z (store_with Z st p asTaken) room) e)
+  wholly_by l as_taken e = absurd (took_no l (took s Z (store_with Z st p as_taken) room) e)
   wholly_by l (refused k) e = absurd (not_wholly k l (eqb k.number 20) e)
 
 -- joined to the store with room for it
@@ -98,7 +98,7 @@ module _ (s : Settings) (st p : List ℕ) where
   to = roomed s Z st p
 
   came_whole : came_of s Z st p ≡ wholly → (short p ≡ true) × (arrived s Z to p ≡ whole)
-  unfolding came_of came_at joiningOf
+  unfolding came_of came_at joining_of
   came_whole e = go (short p) e
     where
       go : (b : Bool) → pick b (came_by (is_late (arrived s Z to p)) (joined_by s Z to p room (arrived s Z to p))) over ≡ wholly →
@@ -107,7 +107,7 @@ module _ (s : Settings) (st p : List ℕ) where
       go false d = let z : ◌≡◌ {A = ℕ} 0 1 = cc d in absurd (omega arith)
 
   whole_came : short p ≡ true → arrived s Z to p ≡ whole → came_of s Z st p ≡ wholly
-  unfolding came_of came_at joiningOf
+  unfolding came_of came_at joining_of
   whole_came a b =
       ap (λ (k : Bool). pick k (came_by (is_late (arrived s Z to p)) (joined_by s Z to p room (arrived s Z to p))) over) a
       ∙ ap (λ (k : Arrived). came_by (is_late k) (joined_by s Z to p room k)) b
@@ -124,7 +124,7 @@ whole_frame p q wholly h = go (mathlib.Core.List.Memᴰ.cases_cons h)
     go : (whole_packet p ≡ whole_packet q) ⊎ Memᴰ (whole_packet p) [] → (wholly ≡ wholly) × (p ≡ q)
     go (inl e) = (refl, cc e)
     go (inr e) = absurd (mathlib.Core.List.Memᴰ.not-nil e)
-whole_frame p q (messageOf r) h = absurd (go (mathlib.Core.List.Memᴰ.cases_cons h))
+whole_frame p q (message_of r) h = absurd (go (mathlib.Core.List.Memᴰ.cases_cons h))
   where
     go : (whole_packet p ≡ joined r.head.key r.head.counter (body_of r)) ⊎ Memᴰ (whole_packet p) [] → ⊥
     go (inl e) = let z : ◌≡◌ {A = ℕ} 0 1 = cc e in omega arith

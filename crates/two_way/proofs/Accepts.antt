@@ -22,7 +22,7 @@ use Rattle.write.specs.declared.PacketValues.{PacketValues}
 use Rattle.write.specs.Given.{Lent, head_of, packet_of, header_checks, packet_checks}
 use Rattle.write.specs.Writing.{settings_test, zone_fits, zone_test, parts_test, text_test, body_fits, given_packet, size_tests, value_refusal, write_refusal}
 use Rattle.write.proofs.Tests.{unless_fine, unless_true, AllHold, unless_all_fine, unless_all_true}
-use Rattle.write.proofs.Answers.{secondary-length}
+use Rattle.write.proofs.Answers.{secondary_length}
 use Rattle.write.specs.Lending.{Bits64, LentOctets}
 use Rattle.two_way.specs.Writable.{Writable}
 use Rattle.two_way.proofs.Fits.{number_opt, opt_number_lem, opt_parts}
@@ -88,11 +88,11 @@ module _ (old : Bool) (s : Settings) (v : HeaderValues) (o : PacketValues) (t : 
     header_checks_lem : AllHold (header_checks s v t)
     unfolding packet_of
     header_checks_lem =
-        range_checks s v t k.range.head k.adds (omega (arith, k.range.header, secondary-length s whole))
+        range_checks s v t k.range.head k.adds (omega (arith, k.range.header, secondary_length s whole))
 
     utf8_checks_lem : AllHold (texts28 s v t)
     unfolding packet_of
-    utf8_checks_lem = range_utf8 s v t k.range.head k.adds (omega (arith, k.range.header, secondary-length s whole))
+    utf8_checks_lem = range_utf8 s v t k.range.head k.adds (omega (arith, k.range.header, secondary_length s whole))
 
     packet_checks_lem : AllHold (packet_checks o)
     unfolding packet_of packet_checks AllHold

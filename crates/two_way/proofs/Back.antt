@@ -13,9 +13,9 @@ use Rattle.packet.specs.Format.{Values, octets_of}
 use Rattle.packet.specs.Reading.{read_packet}
 use Rattle.write.specs.declared.HeaderValues.{HeaderValues}
 use Rattle.write.specs.declared.PacketValues.{PacketValues}
-use Rattle.write.specs.Given.{Lent, head_of as givenHead, packet_of, sum}
+use Rattle.write.specs.Given.{Lent, head_of as given_head, packet_of, sum}
 use Rattle.write.specs.Writing.{given_packet, write_refusal}
-use Rattle.format.specs.Told.{content, head_of as toldHead, values_of}
+use Rattle.format.specs.Told.{content, head_of as told_head, values_of}
 use Rattle.format.specs.Accepted.{Accepted}
 use Rattle.format.proofs.TwoWay.{reads_back, writes_octets, one_value}
 use Rattle.format.proofs.Accepting.{accepted}
@@ -33,7 +33,7 @@ use Rattle.two_way.proofs.Outputs.{written_is}
 pub told_same :
     (s : Settings) (p : List ℕ) (h : Header) (v : HeaderValues) (o : PacketValues) (t : Lent) (b : List ℕ) → h.refusal.number ≡ 0 →
     Accepted s p h → sum t.lengths ≡ length t.domain → values_of p h ≡ given_packet v o t b → SameRead p h v o t b
-unfolding values_of toldHead packet_of givenHead
+unfolding values_of told_head packet_of given_head
 told_same s p h v o t b z a n e =
     let d : map (content p) (part_places h) ≡ split t.lengths t.domain = ap (λ (u : Values). u.head.domain) e in
     record {

@@ -9,7 +9,7 @@ use mathlib.Core.List.{List, [], ◌∷◌, ◌++◌, map}
 use native.Mathlib.Omega.{arith}
 use lib.ListN.{length, take}
 use Rattle.octets.specs.Octets.{octet_at, wide}
-use Rattle.utf8.specs.Test.{ended, accepts as acceptsFrom, is_text}
+use Rattle.utf8.specs.Test.{ended, accepts as accepts_from, is_text}
 use Rattle.walk.specs.Walk.{unless, no_refusal, refusal}
 use Rattle.fields.specs.Form.{split, all_text}
 use Rattle.packet.specs.declared.Header.{Header}
@@ -45,7 +45,7 @@ pub figure_written :
     ∷ record { refusal = refusal 21; length = 0 }
     ∷ [])
     × ((outputs 27 ≡ packet) × ((outputs 30 ≡ packet ++ (0 ∷ 0 ∷ 0 ∷ [])) × (outputs 26 ≡ zeros 26)))
-unfolding write_answer write_output write_refusal size_tests value_refusal parts_test zone_test text_test utf8_checks all_text is_text acceptsFrom ended settings_test
+unfolding write_answer write_output write_refusal size_tests value_refusal parts_test zone_test text_test utf8_checks all_text is_text accepts_from ended settings_test
     unless_all unless header_checks name_checks routing_checks id_checks text_checks packet_checks head_of packet_of split sum octets_of identification
     data_octets secondary_octets fixed_octets presence front_octets counter_octets back_octets wide
 figure_written = (refl, (refl, (refl, refl)))

@@ -16,9 +16,9 @@ use Rattle.packet.specs.declared.Header.{Header}
 use Rattle.packet.specs.declared.Present.{Present}
 use Rattle.packet.specs.Format.{Values, octets_of, InRange}
 use Rattle.packet.specs.Reading.{read_packet}
-use Rattle.write.specs.Given.{head_of as givenHead, packet_of, sum}
+use Rattle.write.specs.Given.{head_of as given_head, packet_of, sum}
 use Rattle.write.specs.Writing.{zone_fits, given_packet, write_refusal, write_answer, write_output}
-use Rattle.format.specs.Told.{head_of as toldHead, values_of}
+use Rattle.format.specs.Told.{head_of as told_head, values_of}
 use Rattle.format.specs.Accepted.{Accepted}
 use Rattle.format.proofs.TwoWay.{only_writing}
 use Rattle.format.proofs.Accepting.{accepted}
@@ -42,7 +42,7 @@ module _ (s : Settings) (p : List ℕ) (h : Header) (a : Accepted s p h) where
 
   -- they are the values that were told
   pub again_values : again ≡ values_of p h
-  unfolding packet_of givenHead again_header again_packet again_texts again_domain again_lengths values_of toldHead
+  unfolding packet_of given_head again_header again_packet again_texts again_domain again_lengths values_of told_head
   again_values = rw (split_joined p (part_places h) inside)
 
   adds_up : sum (again_texts p h).lengths ≡ length (again_texts p h).domain

@@ -16,7 +16,7 @@ use Rattle.write.specs.declared.PacketValues.{PacketValues}
 use Rattle.write.specs.declared.Written.{Written}
 use Rattle.write.specs.Given.{Lent, header_checks, packet_checks, unless_all}
 use Rattle.write.specs.Writing.{settings_test, zone_test, parts_test, text_test, given_packet, size_tests, value_refusal, write_refusal, fine, write_answer, write_output}
-use Rattle.write.proofs.Answers.{shut, all-shut}
+use Rattle.write.proofs.Answers.{shut, all_shut}
 
 -- a test that fails leaves a refusal, its own or the one before
 pub refuses : (k : ℕ) (r : Tested) → fine (failed k) ≡ false → fine (unless false k r) ≡ false
@@ -30,7 +30,7 @@ refuses k r e = go (fine r) refl
 -- and the tests after it change nothing
 pub text_stays : (t : Lent) (r : Tested) → fine r ≡ false → text_test t (parts_test t r) ≡ r
 unfolding text_test parts_test
-text_stays t r e = ap (unless_all _ 28) (shut _ 13 r e) ∙ all-shut _ 28 r e
+text_stays t r e = ap (unless_all _ 28) (shut _ 13 r e) ∙ all_shut _ 28 r e
 
 module _ (s : Settings) (v : HeaderValues) (o : PacketValues) (t : Lent) (body : List ℕ) where
   -- 15 and 22

@@ -53,7 +53,7 @@ three_scalar d e f h t u =
     (λ k. inl (omega (arith, t.most, u.most)))
     (λ k.
     ⊎_elim
-    (λ m. inl (omega (arith, t.after_eD m, u.most)))
+    (λ m. inl (omega (arith, t.after_ed m, u.most)))
     (λ m. inr (omega arith, omega (arith, t.most, u.most)))
     (same_or d 0xED))
     (below_or d 0xED)

@@ -60,7 +60,7 @@ any_tail h k l =
       most = l;
       after_e0 = λ e. omega arith;
       after_f0 = λ e. omega arith;
-      after_eD = λ e. omega arith;
+      after_ed = λ e. omega arith;
       after_f4 = λ e. omega arith;
     }
 
@@ -72,7 +72,7 @@ module _ (s : ℕ) where
         most = omega arith;
         after_e0 = λ e. omega arith;
         after_f0 = λ e. omega arith;
-        after_eD = λ e. ⊎_elim (λ x. omega arith) (λ x. omega (arith, x.0)) v;
+        after_ed = λ e. ⊎_elim (λ x. omega arith) (λ x. omega (arith, x.0)) v;
         after_f4 = λ e. omega arith;
       }
 
@@ -83,7 +83,7 @@ module _ (s : ℕ) where
         most = omega arith;
         after_e0 = λ e. omega arith;
         after_f0 = λ e. omega arith;
-        after_eD = λ e. omega arith;
+        after_ed = λ e. omega arith;
         after_f4 = λ e. omega arith;
       }
 

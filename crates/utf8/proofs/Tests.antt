@@ -73,29 +73,29 @@ pub record Continues (c d : ℕ) : Type 0 where
   pub most : d ≤ 0xBF
   pub after_e0 : c ≡ 0xE0 → 0xA0 ≤ d
   pub after_f0 : c ≡ 0xF0 → 0x90 ≤ d
-  pub after_eD : c ≡ 0xED → d ≤ 0x9F
+  pub after_ed : c ≡ 0xED → d ≤ 0x9F
   pub after_f4 : c ≡ 0xF4 → d ≤ 0x8F
 
 module _ (c : ℕ) where
-  lowest_E0 : c ≡ 0xE0 → lowest c ≡ 0xA0
+  lowest_e0 : c ≡ 0xE0 → lowest c ≡ 0xA0
   unfolding lowest
-  lowest_E0 e = simp (eq-eqb c 0xE0 e)
+  lowest_e0 e = simp (eq-eqb c 0xE0 e)
 
-  lowest_F0 : c ≡ 0xF0 → lowest c ≡ 0x90
+  lowest_f0 : c ≡ 0xF0 → lowest c ≡ 0x90
   unfolding lowest
-  lowest_F0 e = simp (ne_eqb c 0xE0 (λ h. omega arith), eq-eqb c 0xF0 e)
+  lowest_f0 e = simp (ne_eqb c 0xE0 (λ h. omega arith), eq-eqb c 0xF0 e)
 
   lowest_else : (c ≡ 0xE0 → ⊥) → (c ≡ 0xF0 → ⊥) → lowest c ≡ 0x80
   unfolding lowest
   lowest_else h k = simp (ne_eqb c 0xE0 h, ne_eqb c 0xF0 k)
 
-  highest_ED : c ≡ 0xED → highest c ≡ 0x9F
+  highest_ed : c ≡ 0xED → highest c ≡ 0x9F
   unfolding highest
-  highest_ED e = simp (eq-eqb c 0xED e)
+  highest_ed e = simp (eq-eqb c 0xED e)
 
-  highest_F4 : c ≡ 0xF4 → highest c ≡ 0x8F
+  highest_f4 : c ≡ 0xF4 → highest c ≡ 0x8F
   unfolding highest
-  highest_F4 e = simp (ne_eqb c 0xED (λ h. omega arith), eq-eqb c 0xF4 e)
+  highest_f4 e = simp (ne_eqb c 0xED (λ h. omega arith), eq-eqb c 0xF4 e)
 
   highest_else : (c ≡ 0xED → ⊥) → (c ≡ 0xF4 → ⊥) → highest c ≡ 0xBF
   unfolding highest
@@ -105,15 +105,15 @@ module _ (c : ℕ) where
   by_lowest : (P : ℕ → Type 0) → (c ≡ 0xE0 → P 0xA0) → (c ≡ 0xF0 → P 0x90) → P 0x80 → P (lowest c)
   by_lowest P f g h =
       ⊎_elim
-      (λ e. rw (lowest_E0 e) (f e))
-      (λ n. ⊎_elim (λ e. rw (lowest_F0 e) (g e)) (λ m. rw (lowest_else n m) h) (same_or c 0xF0))
+      (λ e. rw (lowest_e0 e) (f e))
+      (λ n. ⊎_elim (λ e. rw (lowest_f0 e) (g e)) (λ m. rw (lowest_else n m) h) (same_or c 0xF0))
       (same_or c 0xE0)
 
   by_highest : (P : ℕ → Type 0) → (c ≡ 0xED → P 0x9F) → (c ≡ 0xF4 → P 0x8F) → P 0xBF → P (highest c)
   by_highest P f g h =
       ⊎_elim
-      (λ e. rw (highest_ED e) (f e))
-      (λ n. ⊎_elim (λ e. rw (highest_F4 e) (g e)) (λ m. rw (highest_else n m) h) (same_or c 0xF4))
+      (λ e. rw (highest_ed e) (f e))
+      (λ n. ⊎_elim (λ e. rw (highest_f4 e) (g e)) (λ m. rw (highest_else n m) h) (same_or c 0xF4))
       (same_or c 0xED)
 
   lowest_least : 0x80 ≤ lowest c
@@ -127,7 +127,7 @@ module _ (c : ℕ) where
   continues_yes {d} h =
       simp (
         le-leb (lowest c) d (by_lowest (λ x. x ≤ d) h.after_e0 h.after_f0 h.least),
-        le-leb d (highest c) (by_highest (λ x. d ≤ x) h.after_eD h.after_f4 h.most),
+        le-leb d (highest c) (by_highest (λ x. d ≤ x) h.after_ed h.after_f4 h.most),
       )
 
   pub continues_true : (d : ℕ) → continues c d ≡ true → Continues c d
@@ -139,10 +139,10 @@ module _ (c : ℕ) where
       record {
         least = omega (arith, lowest_least);
         most = omega (arith, highest_most);
-        after_e0 = λ k. omega (arith, lowest_E0 k);
-        after_f0 = λ k. omega (arith, lowest_F0 k);
-        after_eD = λ k. omega (arith, highest_ED k);
-        after_f4 = λ k. omega (arith, highest_F4 k);
+        after_e0 = λ k. omega (arith, lowest_e0 k);
+        after_f0 = λ k. omega (arith, lowest_f0 k);
+        after_ed = λ k. omega (arith, highest_ed k);
+        after_f4 = λ k. omega (arith, highest_f4 k);
       }
 
 -- ---- the octet that may stand next

@@ -7,8 +7,8 @@
 // nothing else, so that places are tested many at a time: the loops carry a flag and do not leave early. Blocks of single octets,
 // which most texts have, are known by a shorter test.
 ghost use Rattle.std.specs.Prelude.{◌≡◌, ◌+◌, ◌≤◌, ◌<◌, length};
-ghost use Rattle.utf8.specs.Test.{is_text, ended as endedTest, begins as beginsTest, continues as continuesTest, follows as followsTest};
-ghost use Rattle.utf8.specs.Test.{both as bothOf, lowest as lowestOf, highest as highestOf, all_single};
+ghost use Rattle.utf8.specs.Test.{is_text, ended as ended_test, begins as begins_test, continues as continues_test, follows as follows_test};
+ghost use Rattle.utf8.specs.Test.{both as both_of, lowest as lowest_of, highest as highest_of, all_single};
 ghost use Rattle.utf8.specs.Places.{octet_before, ended_at, follows_at, single_at, all};
 
 use octets::{both, either};
@@ -19,21 +19,21 @@ const BLOCK: usize = 32;
 
 // No character is unfinished after three octets.
 fn ended(a: u8, b: u8, c: u8) -> bool
-    ensures { result ≡ endedTest a b c }
+    ensures { result ≡ ended_test a b c }
 {
     both(a < 0xf0, both(b < 0xe0, c < 0xc0))
 }
 
 // A character begins with this octet.
 fn begins(d: u8) -> bool
-    ensures { result ≡ beginsTest d }
+    ensures { result ≡ begins_test d }
 {
     either(d < 0x80, both(0xc2 <= d, d <= 0xf4))
 }
 
 // The least octet after another inside a character.
 fn lowest(c: u8) -> u8
-    ensures { result ≡ lowestOf c }
+    ensures { result ≡ lowest_of c }
 {
     if c == 0xe0 {
         return 0xa0;
@@ -46,7 +46,7 @@ fn lowest(c: u8) -> u8
 
 // The largest one.
 fn highest(c: u8) -> u8
-    ensures { result ≡ highestOf c }
+    ensures { result ≡ highest_of c }
 {
     if c == 0xed {
         return 0x9f;
@@ -58,14 +58,14 @@ fn highest(c: u8) -> u8
 }
 
 fn continues(c: u8, d: u8) -> bool
-    ensures { result ≡ continuesTest c d }
+    ensures { result ≡ continues_test c d }
 {
     both(lowest(c) <= d, d <= highest(c))
 }
 
 // Whether d may stand after a, b, c. Both answers are there before the choice, so that the loops have no branch.
 fn follows(a: u8, b: u8, c: u8, d: u8) -> bool
-    ensures { result ≡ followsTest a b c d }
+    ensures { result ≡ follows_test a b c d }
 {
     let first = begins(d);
     let next = continues(c, d);
@@ -169,7 +169,7 @@ fn all_follow(x: &[u8], at: usize, n: usize) -> bool
 // The same for the last octets, and no character is unfinished at the end.
 fn rest_ends(x: &[u8], at: usize, n: usize) -> bool
     requires { at + n ≤ length x.now }
-    ensures { result ≡ bothOf (all (follows_at x.now) at n) (ended_at x.now (at + n)) }
+    ensures { result ≡ both_of (all (follows_at x.now) at n) (ended_at x.now (at + n)) }
 {
     if singles(x, at, n) {
         return ended_at(x, at);

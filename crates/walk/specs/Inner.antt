@@ -11,5 +11,5 @@ as_walk w = record { at = w.at; refused = w.refused }
 abbrev pub of_walk : Walk → Reading
 of_walk w = record { at = w.at; refused = w.refused }
 
-abbrev pub as_uInteger : Step ℕ → UInteger
-as_uInteger n = record { walk = as_walk n.walk; value = n.value }
+abbrev pub as_uinteger : Step ℕ → UInteger
+as_uinteger n = record { walk = as_walk n.walk; value = n.value }

@@ -6,11 +6,11 @@
 // Lengths, counts and the priority are read by `read_uinteger`, and nothing else asks how they are written: each is a Varint, or under the
 // first pods' profile four octets.
 ghost use Rattle.std.specs.Prelude.{◌≡◌, min, length};
-ghost use Rattle.walk.specs.Walk.{goes as goes_at, refused as refused_by, octets as octets_of, check as checkOf, uinteger, begun};
+ghost use Rattle.walk.specs.Walk.{goes as goes_at, refused as refused_by, octets as octets_of, check as check_of, uinteger, begun};
 ghost use Rattle.walk.specs.Walk.{varint_field, wide_field};
 ghost use Rattle.walk.specs.Profile.{uinteger_size};
-ghost use Rattle.walk.specs.Walk.{unless as unlessOf, refusal as refusal_of, header_bound, past as past_of, ended_by, field_from};
-ghost use Rattle.walk.specs.Inner.{as_walk, of_walk, as_uInteger};
+ghost use Rattle.walk.specs.Walk.{unless as unless_of, refusal as refusal_of, header_bound, past as past_of, ended_by, field_from};
+ghost use Rattle.walk.specs.Inner.{as_walk, of_walk, as_uinteger};
 
 use varint::Found;
 
@@ -194,7 +194,7 @@ pub fn numbered(k: u8) -> Refusal
 
 // The refusal k unless the test holds; one that is there stays.
 pub fn unless(r: Tested, ok: bool, k: u8) -> Tested
-    ensures { result ≡ unlessOf ok k r }
+    ensures { result ≡ unless_of ok k r }
 {
     if r.number != 0 {
         return r;
@@ -264,7 +264,7 @@ impl Walk {
 
     // Refused by k unless the test holds.
     pub fn check(self, ok: bool, k: u8) -> Walk
-        ensures { result ≡ as_walk (checkOf ok k (of_walk self)) }
+        ensures { result ≡ as_walk (check_of ok k (of_walk self)) }
     {
         if self.refused != 0 {
             return self;
@@ -308,7 +308,7 @@ fn end_refusal(b: Bound, p: &[u8]) -> u8
 
 // A Varint of at most 32 bits at the place, refused past the bound, by 6 or 10.
 fn read_varint(b: Bound, p: &[u8], w: Walk) -> UInteger
-    ensures { result ≡ as_uInteger (varint_field b p.now (of_walk w)) }
+    ensures { result ≡ as_uinteger (varint_field b p.now (of_walk w)) }
 {
     if w.refused != 0 {
         return UInteger { walk: w, value: 0 };
@@ -344,7 +344,7 @@ fn read_varint(b: Bound, p: &[u8], w: Walk) -> UInteger
 
 // Four octets as a number at the place, refused past the bound or by 6 as a whole.
 pub fn read_four(b: Bound, p: &[u8], w: Walk) -> UInteger
-    ensures { result ≡ as_uInteger (wide_field uinteger_size b p.now (of_walk w)) }
+    ensures { result ≡ as_uinteger (wide_field uinteger_size b p.now (of_walk w)) }
 {
     let walk = w.octets(b, p, UINTEGER);
     let value = octets::be32(p, w.at);
@@ -356,7 +356,7 @@ pub fn read_four(b: Bound, p: &[u8], w: Walk) -> UInteger
 
 // An unsigned number of at most 32 bits at the place, as the profile has it.
 pub fn read_uinteger(s: Settings, b: Bound, p: &[u8], w: Walk) -> UInteger
-    ensures { result ≡ as_uInteger (uinteger s b p.now (of_walk w)) }
+    ensures { result ≡ as_uinteger (uinteger s b p.now (of_walk w)) }
 {
     if s.profile == PROFILE_FIXED {
         return read_four(b, p, w);

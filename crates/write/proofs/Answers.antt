@@ -37,21 +37,21 @@ use Rattle.write.proofs.Pieces.{packet_together}
 between : (a b c d : ℕ) → a + (b + (c + d)) ≡ a + (b + d) + c
 between a b c d = omega arith
 
-pub secondary-length : (s : Settings) (v : Values) → length (secondary_octets s v) ≡ length (header_octets s v.head) + pick (segment v.flags) 4 0
+pub secondary_length : (s : Settings) (v : Values) → length (secondary_octets s v) ≡ length (header_octets s v.head) + pick (segment v.flags) 4 0
 unfolding secondary_octets header_octets
-secondary-length s v = simp (length-append, counter_long v) (between _ _ _ _)
+secondary_length s v = simp (length-append, counter_long v) (between _ _ _ _)
 
-pub packet-length : (s : Settings) (v : Values) → length (octets_of s v) ≡ 6 + length (secondary_octets s v) + length v.body
+pub packet_length : (s : Settings) (v : Values) → length (octets_of s v) ≡ 6 + length (secondary_octets s v) + length v.body
 unfolding octets_of identification data_octets
-packet-length s v = simp (length-append, wide_length) (omega arith)
+packet_length s v = simp (length-append, wide_length) (omega arith)
 
-pub packet-least : (s : Settings) (v : Values) → 27 ≤ length (octets_of s v)
-packet-least s v = omega (arith, packet-length s v, secondary-length s v, header_length_lem s v.head)
+pub packet_least : (s : Settings) (v : Values) → 27 ≤ length (octets_of s v)
+packet_least s v = omega (arith, packet_length s v, secondary_length s v, header_length_lem s v.head)
 
 -- ---- tests on sizes that are told up to the limit
 
-pub below-cap : (n m : ℕ) → m < size_most → leb (capped n) m ≡ leb n m
-below-cap n m h =
+pub below_cap : (n m : ℕ) → m < size_most → leb (capped n) m ≡ leb n m
+below_cap n m h =
     ⊎_elim
     (λ k. lt-leb (capped n) m (omega arith) ∙ sym (lt-leb n m k))
     (λ k. le-leb (capped n) m (omega arith) ∙ sym (le-leb n m k))
@@ -61,20 +61,20 @@ pub shut : (x : Bool) (k : ℕ) (r : Tested) → fine r ≡ false → unless x k
 unfolding unless
 shut x k r e = simp e
 
-pub all-shut : (bs : List Bool) (k : ℕ) (r : Tested) → fine r ≡ false → unless_all bs k r ≡ r
+pub all_shut : (bs : List Bool) (k : ℕ) (r : Tested) → fine r ≡ false → unless_all bs k r ≡ r
 unfolding unless_all
-all-shut [] k r e = refl
-all-shut (b ∷ bs) k r e = ap (unless_all bs k) (shut b k r e) ∙ all-shut bs k r e
+all_shut [] k r e = refl
+all_shut (b ∷ bs) k r e = ap (unless_all bs k) (shut b k r e) ∙ all_shut bs k r e
 
-cap-left : (a b : ℕ) → capped (capped a + b) ≡ capped (a + b)
-cap-left a b = omega arith
+cap_left : (a b : ℕ) → capped (capped a + b) ≡ capped (a + b)
+cap_left a b = omega arith
 
 pub cap_middle : (a b : ℕ) → capped (6 + capped a + b) ≡ capped (6 + a + b)
 cap_middle a b = omega arith
 
 -- a test matters only where nothing refused before
-pub unless-same : (k : ℕ) (r : Tested) {a b : Bool} → (fine r ≡ true → a ≡ b) → unless a k r ≡ unless b k r
-unless-same k r {a} {b} h =
+pub unless_same : (k : ℕ) (r : Tested) {a b : Bool} → (fine r ≡ true → a ≡ b) → unless a k r ≡ unless b k r
+unless_same k r {a} {b} h =
     ⊎_elim
     (λ e. ap (λ (x : Bool). unless x k r) (h e))
     (λ e. shut a k r e ∙ sym (shut b k r e))
@@ -89,7 +89,7 @@ pub packet_laid :
 unfolding packet_of
 packet_laid s v o t body out {size} e room a =
     let w = given_packet v o t body in
-    let n : size - 7 ≡ length (data_octets s w) - 1 = omega (arith, packet-length s w, data_long s w) in
+    let n : size - 7 ≡ length (data_octets s w) - 1 = omega (arith, packet_length s w, data_long s w) in
     let p : together (packet_pieces s v o t (size - 7) body) ≡ octets_of s w =
     ap (λ (j : ℕ). together (packet_pieces s v o t j body)) n ∙ packet_together s v o t body in
     let c = (lays_all a (omega (arith, ap length p))).1 in
@@ -106,23 +106,23 @@ module _ (s : Settings) (v : HeaderValues) (o : PacketValues) (t : Lent) (body :
   second_is : second ≡ capped (length (secondary_octets s whole))
   unfolding packet_of
   second_is =
-      es ∙ ap (λ (n : ℕ). capped (n + pick (segment o.flags) 4 0)) eh ∙ cap-left (length (header_octets s (head_of v t))) (pick (segment o.flags) 4 0)
-      ∙ ap capped (sym (secondary-length s whole))
+      es ∙ ap (λ (n : ℕ). capped (n + pick (segment o.flags) 4 0)) eh ∙ cap_left (length (header_octets s (head_of v t))) (pick (segment o.flags) 4 0)
+      ∙ ap capped (sym (secondary_length s whole))
 
   pub size_is : size ≡ capped (length (octets_of s whole))
   unfolding packet_of
   size_is =
       ez ∙ ap (λ (n : ℕ). capped (6 + n + length body)) second_is ∙ cap_middle (length (secondary_octets s whole)) (length body)
-      ∙ ap capped (sym (packet-length s whole))
+      ∙ ap capped (sym (packet_length s whole))
 
   -- the tests on sizes are the definition's
   module _ (old : Bool) (room : ℕ) {r q : Tested} (er : r ≡ value_refusal old s v o t)
       (eq : q ≡ unless (leb size room) 21 (unless (body_fits o.flags (length body)) 14 (unless (leb second header_most) 12 (unless (leb size packet_most) 23 r)))) where
     long_test : leb size packet_most ≡ leb (length (octets_of s whole)) packet_most
-    long_test = ap (λ (n : ℕ). leb n packet_most) size_is ∙ below-cap (length (octets_of s whole)) packet_most (omega arith)
+    long_test = ap (λ (n : ℕ). leb n packet_most) size_is ∙ below_cap (length (octets_of s whole)) packet_most (omega arith)
 
     head_test : leb second header_most ≡ leb (length (secondary_octets s whole)) header_most
-    head_test = ap (λ (n : ℕ). leb n header_most) second_is ∙ below-cap (length (secondary_octets s whole)) header_most (omega arith)
+    head_test = ap (λ (n : ℕ). leb n header_most) second_is ∙ below_cap (length (secondary_octets s whole)) header_most (omega arith)
 
     abbrev inner : Tested
     inner =
@@ -141,7 +141,7 @@ module _ (s : Settings) (v : HeaderValues) (o : PacketValues) (t : Lent) (body :
     pub refusal_is : q ≡ write_refusal old s v o t body room
     unfolding write_refusal size_tests packet_of
     refusal_is =
-        eq ∙ rw (long_test, head_test) (unless-same 21 inner (λ g. ap (λ (n : ℕ). leb n room) (exact g)))
+        eq ∙ rw (long_test, head_test) (unless_same 21 inner (λ g. ap (λ (n : ℕ). leb n room) (exact g)))
         ∙ ap
         (λ (x : Tested).
         unless (leb (length (octets_of s whole)) room) 21
@@ -162,7 +162,7 @@ module _ (s : Settings) (v : HeaderValues) (o : PacketValues) (t : Lent) (body :
         let a = unless_fine (leb (length (octets_of s whole)) room) 20 _ g in
         let e = exact (ap (λ (x : Tested). fine (unless (body_fits o.flags (length body)) 14
         (unless (leb (length (secondary_octets s whole)) header_most) 12 (unless (leb (length (octets_of s whole)) packet_most) 23 x)))) er ∙ a.before) in
-        record { size_exact = e; fits_room = leb-true (length (octets_of s whole)) room a.held; least = omega (arith, packet-least s whole) }
+        record { size_exact = e; fits_room = leb-true (length (octets_of s whole)) room a.held; least = omega (arith, packet_least s whole) }
 
     pub refused_answer : (q.number ≡ 0 → ⊥) → record { refusal = refusal q.number; length = 0 } ≡ write_answer old s v o t body room
     unfolding write_answer

@@ -3,7 +3,7 @@
 use borrow.Author.Rules.{rules}
 use lib.ListN.{length}
 use native.Mathlib.Omega.{arith}
-use Rattle.cut.proofs.Packets.{part_inside, refused_packet, refused_output, made_packet, made_output_lem, done}
+use Rattle.cut.proofs.Packets.{part_inside, refused_packet_lem, refused_output, made_packet, made_output_lem, done}
 use Rattle.cut.proofs.packet_by.Statement.{statement}
 use Rattle.cut.proofs.packet_by.Tie as tie
 use Rattle.write.specs.Given.{lent}
@@ -69,7 +69,7 @@ returns c =
     let e = l.before.before.before.before in
     let a = e.before.before.before.before.before.before in
     let g = a.before.args in (
-      rw c.told.ensures (refused_packet g.old g.s g.p g.v _ _ _ g.i l.before.before.test-message.ensures l.before.header_size_lem.ensures
+      rw c.told.ensures (refused_packet_lem g.old g.s g.p g.v _ _ _ g.i l.before.before.test-message.ensures l.before.header_size_lem.ensures
           l.plan-of.ensures h.before.before.values-at.ensures h.before.from-of.ensures h.to-of.ensures
           k.before.before.before.before.secondary-size.ensures k.before.before.before.packet-size.ensures _ k.before.unless.ensures
           k.unless2.ensures c.before.if1.true),

@@ -3,7 +3,7 @@
 use Rattle.filling.proofs.Fields.{not_found, number_read}
 use Rattle.filling.proofs.number_long.Statement.{statement}
 use Rattle.filling.proofs.number_long.Tie as tie
-use Rattle.walk.specs.Inner.{as_uInteger, of_walk}
+use Rattle.walk.specs.Inner.{as_uinteger, of_walk}
 use Rattle.walk.specs.Walk.{uinteger}
 use Rattle.walk.specs.declared.Bound.{Bound}
 use Rattle.walk.specs.declared.Walk.{Walk}
@@ -43,7 +43,7 @@ returns-3 c =
     let a = ten in
     let p = a.args.p.now in
     let e =
-    ap₂ (λ (b : Bound) (v : Walk). as_uInteger (uinteger a.args.s b p (of_walk v))) five.before.before.before.header-bound.ensures
+    ap₂ (λ (b : Bound) (v : Walk). as_uinteger (uinteger a.args.s b p (of_walk v))) five.before.before.before.header-bound.ensures
     five.before.before.goes.ensures in
     number_read a.args.s p a.requires (five.before.read-uinteger.ensures ∙ e) c.before.before.if1.false c.if2.false
 

@@ -3,7 +3,7 @@
 use borrow.Author.Rules.{rules}
 use borrow.Author.Tests.{not-true, not-false}
 use mathlib.Core.Path.{sym, ◌∙◌}
-use Rattle.flat.specs.Answers.{afterPacketNumbers}
+use Rattle.flat.specs.Answers.{after_packet_numbers}
 use Rattle.flat.proofs.after_packet.Statement.{statement}
 use Rattle.flat.proofs.after_packet.Tie as tie
 
@@ -17,7 +17,7 @@ element-copy-out-t10 : tie.Need-element-copy-out-t10
 element-copy-out-t10 c = search rules
 
 returns : tie.Need-returns
-unfolding afterPacketNumbers
+unfolding after_packet_numbers
 returns c = rw (sym c.before.before.before.sender_fits_lem.ensures ∙ not-true _ c.before.before.if1.true)
 
 sender-of-requires : tie.Need-sender-of-requires
@@ -36,7 +36,7 @@ array-read-t19 : tie.Need-array-read-t19
 array-read-t19 c = search rules
 
 returns-2 : tie.Need-returns-2
-unfolding afterPacketNumbers
+unfolding after_packet_numbers
 returns-2 c =
     rw (sym c.before.before.before.before.sender_fits_lem.ensures ∙ not-false _ c.before.before.before.if1.false)
     (simp (c.sender-numbers.ensures, c.before.after_packet_lem.ensures, c.before.before.sender-of.ensures))

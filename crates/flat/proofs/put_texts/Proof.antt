@@ -1,7 +1,7 @@
 -- `flat::put_texts` meets its contract: its pieces lie one after the other.
 -- Assumes nothing.
 use borrow.Author.Rules.{rules}
-use Rattle.flat.proofs.Answers.{texts-laid}
+use Rattle.flat.proofs.Answers.{texts_laid}
 use Rattle.flat.proofs.put_texts.Statement.{statement}
 use Rattle.flat.proofs.put_texts.Tie as tie
 
@@ -26,7 +26,7 @@ put-place-requires-4 c κs = search rules
 returns : tie.Need-returns
 returns c =
     let g = c.before.before.before.before.before.before in
-    texts-laid g.before.before.before.before.before.args.texts g.before.before.before.before.before.args.answer.now 28 _ _ _ _ _
+    texts_laid g.before.before.before.before.before.args.texts g.before.before.before.before.before.args.answer.now 28 _ _ _ _ _
     g.before.before.put-place.ensures
     g.put-place2.ensures
     c.before.before.before.before.put-place3.ensures

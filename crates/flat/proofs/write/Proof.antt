@@ -2,7 +2,7 @@
 -- Assumes nothing.
 use borrow.Author.Rules.{rules}
 use borrow.Author.Tests.{not-true, not-false}
-use Rattle.flat.proofs.Choosing.{together, first_held, second_held, write_refused, write_kept, write_told, write_laid}
+use Rattle.flat.proofs.Choosing.{together, first_held, second_held, write_refused_lem, write_kept, write_told, write_laid}
 use Rattle.flat.proofs.write.Statement.{statement}
 use Rattle.flat.proofs.write.Tie as tie
 use Rattle.flat.proofs.write.Reads as reads
@@ -32,7 +32,7 @@ returns c =
     let e = together _ _ _ _ _ c.before.before.before.before.header_fits_lem.ensures c.before.before.before.packet_fits_lem.ensures
     c.before.before.both.ensures in
     let f = not-true _ c.before.if1.true in
-    (write_refused _ _ _ _ _ _ _ _ e f _ _ c.write-too-wide.ensures, write_kept _ _ _ _ _ _ _ _ e f _)
+    (write_refused_lem _ _ _ _ _ _ _ _ e f _ _ c.write-too-wide.ensures, write_kept _ _ _ _ _ _ _ _ e f _)
 
 header-of-requires : tie.Need-header-of-requires
 header-of-requires c κs =

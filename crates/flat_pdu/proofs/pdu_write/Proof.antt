@@ -3,7 +3,7 @@
 use mathlib.Core.Path.{sym, ◌∙◌}
 use borrow.Author.Rules.{rules}
 use borrow.Author.Tests.{not-true, not-false}
-use Rattle.flat_pdu.proofs.Choosing.{write_refused, write_kept, write_told, write_laid}
+use Rattle.flat_pdu.proofs.Choosing.{write_refused_lem, write_kept, write_told, write_laid}
 use Rattle.flat_pdu.proofs.pdu_write.Statement.{statement}
 use Rattle.flat_pdu.proofs.pdu_write.Tie as tie
 
@@ -14,7 +14,7 @@ returns : tie.Need-returns
 returns c =
     let e = c.before.values-fit.ensures in
     let f = not-true _ c.if1.true in
-    (write_refused _ _ _ _ _ _ e f _, write_kept _ _ _ _ _ _ e f _)
+    (write_refused_lem _ _ _ _ _ _ e f _, write_kept _ _ _ _ _ _ e f _)
 
 values-of-requires : tie.Need-values-of-requires
 values-of-requires c κs = sym c.before.values-fit.ensures ∙ not-false _ c.if1.false

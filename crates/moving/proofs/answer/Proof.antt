@@ -2,7 +2,7 @@
 -- Assumes nothing.
 use native.Mathlib.Omega.{arith}
 use lib.ListN.{length}
-use Rattle.moving.proofs.Answers.{octets-top, shut, cells_most_lem, other_length, packet_long, all_short}
+use Rattle.moving.proofs.Answers.{octets_top, shut, cells_most_lem, other_length, packet_long, all_short}
 use borrow.Author.Rules.{rules}
 use Rattle.moving.proofs.answer.Statement.{statement}
 use Rattle.moving.proofs.answer.Tie as tie
@@ -17,7 +17,7 @@ mul-if2 : tie.Need-overflow-mul-if2
 mul-if2 c =
     let a = c.before.before.before.before.before.before in
     let n = cells_most_lem _ _ a.args.z _ a.args.len c.before.before.before.check.ensures c.if1.false in
-    let k = octets-top n a.requires.1 in
+    let k = octets_top n a.requires.1 in
     record { fits = omega arith }
 
 numbered-requires : tie.Need-numbered-requires

@@ -2,7 +2,7 @@
 -- Assumes nothing.
 use native.Mathlib.Omega.{arith}
 use lib.ListN.{length}
-use Rattle.moving.proofs.Answers.{refused-kept, target-long, accepted-made}
+use Rattle.moving.proofs.Answers.{refused_kept, target_long, accepted_made}
 use borrow.Author.Rules.{rules}
 use Rattle.moving.proofs.move_by.Statement.{statement}
 use Rattle.moving.proofs.move_by.Tie as tie
@@ -15,7 +15,7 @@ returns c =
     let a = c.before.before.before.before.before.before.before.before.args in
     let e = c.before.before.before.answer.ensures in
     let w = c.if1.true in
-    (e, refused-kept _ _ (length a.to.now) _ a.target.now e (λ z. omega (arith, w, z)))
+    (e, refused_kept _ _ (length a.to.now) _ a.target.now e (λ z. omega (arith, w, z)))
 
 count-requires : tie.Need-count-requires
 count-requires c κs = search rules
@@ -24,7 +24,7 @@ put-rows-requires : tie.Need-put-rows-requires
 put-rows-requires c κs =
     let h = c.before.before in
     let a = h.before.before.before.before.before.before.before.before in
-    (a.requires.1.0, target-long _ _ (length a.args.to.now) _ a.args.target.now h.before.before.before.answer.ensures h.if1.false c.before.count.ensures)
+    (a.requires.1.0, target_long _ _ (length a.args.to.now) _ a.args.target.now h.before.before.before.answer.ensures h.if1.false c.before.count.ensures)
 
 same_length : tie.Need-same-length
 same_length c = search rules
@@ -35,7 +35,7 @@ returns-2 c =
     let h = g.before.before.before in
     let a = h.before.before.before.before.before.before.before.before.args in
     let e = h.before.before.before.answer.ensures in
-    (e, accepted-made _ _ (length a.to.now) _ a.target.now e h.if1.false g.before.before.count.ensures g.put-rows.ensures)
+    (e, accepted_made _ _ (length a.to.now) _ a.target.now e h.if1.false g.before.before.count.ensures g.put-rows.ensures)
 
 pub move-by-spec : {M : Type 1} → statement M
 move-by-spec = tie.close (tie.spec answer-requires returns count-requires put-rows-requires same_length returns-2)

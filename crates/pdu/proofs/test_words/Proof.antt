@@ -5,12 +5,12 @@ use Rattle.pdu.proofs.test_words.Statement.{statement}
 use Rattle.pdu.proofs.test_words.Tie as tie
 use mathlib.Core.Path.{sym}
 use borrow.Author.Tests.{ne_eqb}
-use Rattle.write.proofs.Answers.{all-shut}
+use Rattle.write.proofs.Answers.{all_shut}
 use Rattle.write.specs.Given.{unless_all}
 use Rattle.pdu.specs.Given.{word_checks}
 
 returns : tie.Need-returns
-returns c = sym (all-shut _ 28 _ (ne_eqb _ 0 c.if1.true))
+returns c = sym (all_shut _ 28 _ (ne_eqb _ 0 c.if1.true))
 
 is-text-requires : tie.Need-is-text-requires
 is-text-requires c κs = search rules

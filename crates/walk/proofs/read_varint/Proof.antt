@@ -8,11 +8,11 @@ use native.Mathlib.Omega.{arith}
 use Rattle.walk.proofs.Steps.{number_refused, number_got, number_told, number_small}
 use Rattle.walk.proofs.read_varint.Statement.{statement}
 use Rattle.walk.proofs.read_varint.Tie as tie
-use Rattle.walk.specs.Inner.{of_walk, as_uInteger}
+use Rattle.walk.specs.Inner.{of_walk, as_uinteger}
 use Rattle.walk.specs.Walk.{varint_step}
 
 returns : tie.Need-returns
-returns c = ap as_uInteger (sym (number_refused _ _ _ (ne_eqb _ _ c.if1.true)))
+returns c = ap as_uinteger (sym (number_refused _ _ _ (ne_eqb _ _ c.if1.true)))
 
 before-bound-requires : tie.Need-before-bound-requires
 before-bound-requires c κs = search rules

@@ -3,13 +3,13 @@
 use mathlib.Core.Path.{sym}
 use borrow.Author.Rules.{rules}
 use borrow.Author.Tests.{ne_eqb}
-use Rattle.write.proofs.Answers.{all-shut}
+use Rattle.write.proofs.Answers.{all_shut}
 use Rattle.write.proofs.test_utf8.Statement.{statement}
 use Rattle.write.proofs.test_utf8.Tie as tie
 use Rattle.write.specs.Given.{utf8_checks, unless_all}
 
 returns : tie.Need-returns
-returns c = sym (all-shut _ 28 _ (ne_eqb _ 0 c.if1.true))
+returns c = sym (all_shut _ 28 _ (ne_eqb _ 0 c.if1.true))
 
 is-text-requires : tie.Need-is-text-requires
 is-text-requires c κs = search rules
