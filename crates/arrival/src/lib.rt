@@ -2,6 +2,8 @@
 //
 // The store is any octets here, and the size of a cell is that of the zero cell lent: settings and the store's order are tested by
 // `store::arrive`, or by whoever keeps a store in order.
+#![tactic(auto)]
+
 ghost use Rattle.std.specs.Prelude.{◌≡◌, ◌+◌, ◌≤◌, length};
 ghost use Rattle.octets.specs.Octets.{alike};
 ghost use Rattle.cells.specs.Segments.{same_rest};
@@ -21,7 +23,7 @@ use packet::{Header, UNSEGMENTED};
 use walk::{REFUSED_CELL, REFUSED_CONTRADICTS, REFUSED_FULL, Refusal, Settings};
 
 // What an arrival that is not refused is answered.
-#[derive(Drop)]
+#[derive(Clone, Copy)]
 pub enum Kind {
     Whole,
     Stored,
@@ -29,7 +31,7 @@ pub enum Kind {
     Taken,
 }
 
-#[derive(Drop)]
+#[derive(Clone, Copy)]
 pub enum Arrival {
     Answer(Kind),
     Refused(Refusal),

@@ -3,6 +3,8 @@
 // Each export hands its numbers and slices to a call of crate `flat`, or of `filling` or `laying` for what goes a short way; in `stored` of
 // `flat_store`, in `office` of `flat_office` and in `pdus` of `flat_pdu`; and puts what it answers into the lent array, the refusal first.
 // A slice is a pointer and a length, an array is one pointer; no struct goes by value and no reference comes back.
+#![tactic(auto)]
+
 mod office;
 mod pdus;
 mod stored;

@@ -8,6 +8,8 @@
 // there. The body is carried as it is: the encoding id must say what it is. An id, one octet in a packet, is its decimal digits in a PDU.
 // On a refusal the output is as it was.
 // As parameters, `time` is the timestamp, `zone` the network zone, `name` the session name and `id` the authentication id.
+#![tactic(auto)]
+
 ghost use Rattle.std.specs.Prelude.{◌≡◌, false, map, ◌+◌, ◌-◌, ◌≤◌, length, take, leb};
 ghost use Rattle.std.proofs.lemmas.List.Edits.{sets};
 ghost use Rattle.octets.specs.Octets.{Octets, octet_at};
@@ -70,7 +72,7 @@ const TYPE_UNIT: u64 = 4096;
 const SECONDARY_FLAG: u64 = 2048;
 
 // What a packet says and a PDU has no field for, lent for the way back.
-#[derive(Drop)]
+#[derive(Clone, Copy)]
 pub struct Route {
     pub packet_type: u8,
     pub apid: Apid,
@@ -79,7 +81,7 @@ pub struct Route {
 }
 
 // What the way back answers: H, the octets of the body, the encoding id; or a refusal and zeros.
-#[derive(Drop)]
+#[derive(Clone, Copy)]
 pub struct Carried {
     pub refusal: Refusal,
     pub header: usize,
@@ -88,7 +90,7 @@ pub struct Carried {
 }
 
 // Up to three digits.
-#[derive(Drop)]
+#[derive(Clone, Copy)]
 struct IdDigits {
     length: usize,
     octets: [u8; 3],

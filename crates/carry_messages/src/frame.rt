@@ -33,7 +33,7 @@ const VARIABLE_AT: usize = 19;
 const VERSION_UNIT: u8 = 32;
 
 // What is carried stands in the octets in hand from `head` up to `used`; what is longer than the window has `long` octets in all.
-#[derive(Drop)]
+#[derive(Clone, Copy)]
 pub struct Frame {
     pub what: u8,
     pub head: usize,

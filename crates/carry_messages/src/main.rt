@@ -12,6 +12,8 @@
 //
 // Proved here: the program is safe and ends. Module frame says where a message or PDU ends, counts has the numbers of the findings, say
 // tells them. What is written of a message or PDU is crate `carry`.
+#![tactic(auto)]
+
 mod counts;
 mod frame;
 mod say;
@@ -59,7 +61,7 @@ const MARK: u64 = 19789;
 const IDENTIFICATION: u64 = 2;
 
 // Which way, and what it wants.
-#[derive(Drop)]
+#[derive(Clone, Copy)]
 struct Job {
     is_back: bool,
     settings: Settings,
@@ -69,7 +71,7 @@ struct Job {
 
 // The octets in hand, from a place of the window up to another; how many octets are gathered; how many are passed over next; whether the
 // file ends with those in hand; why it stops, 0 if it goes on.
-#[derive(Drop)]
+#[derive(Clone, Copy)]
 struct Hand {
     from: usize,
     till: usize,
@@ -263,7 +265,7 @@ fn why(what: u8) -> u8 {
 }
 
 // What is gathered, up to a place; why it stops, 0 if it goes on.
-#[derive(Drop)]
+#[derive(Clone, Copy)]
 struct Gathered {
     at: usize,
     stop: u8,

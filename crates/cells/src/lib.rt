@@ -8,6 +8,8 @@
 //
 // Chains lead through the held cells, so that a key and a counter are found without a look at every cell: a number mixed from both
 // chooses the chain, `heads` has the highest cell of each chain and `links` the next lower one of each cell; 0 is none, and cell i is i + 1.
+#![tactic(auto)]
+
 pub mod messages;
 pub mod opening;
 mod untaken;
@@ -189,7 +191,7 @@ fn is_marked(row: &[u8], mark: u8, n: usize, zero: &[u8]) -> bool
 }
 
 // What stands in a cell: zeros, a segment, the record of a message that was taken, or none of these.
-#[derive(Drop)]
+#[derive(Clone, Copy)]
 pub enum Content {
     Free,
     Held,
@@ -198,7 +200,7 @@ pub enum Content {
 }
 
 // What a row is; of a held one where the body begins, and the segment counter; of a record how long its header is.
-#[derive(Drop)]
+#[derive(Clone, Copy)]
 pub struct Judged {
     pub content: Content,
     pub at: usize,
@@ -296,7 +298,7 @@ fn steps_between(c: SegmentCounter, d: SegmentCounter) -> u32
 }
 
 // The counter at a place of a row, and how many steps lead from it to the one after it.
-#[derive(Drop)]
+#[derive(Clone, Copy)]
 struct Run {
     first: SegmentCounter,
     steps: u32,
@@ -868,7 +870,7 @@ pub fn distinct_by(
 }
 
 // Whether cells are all sound, whether no two of them have equal key and counter, and whether no segment lies in the range of a record.
-#[derive(Drop)]
+#[derive(Clone, Copy)]
 pub struct Orderly {
     pub sound: bool,
     pub distinct: bool,

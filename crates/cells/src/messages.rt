@@ -7,7 +7,7 @@ ghost use Rattle.cells.specs.Pieces.{piece_of};
 use walk::Settings;
 
 // A segment in its cell: its flags, and where its body stands in its packet.
-#[derive(Drop)]
+#[derive(Clone, Copy)]
 pub struct Piece {
     pub flags: u8,
     pub at: usize,

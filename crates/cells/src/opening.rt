@@ -9,7 +9,7 @@ ghost use Rattle.cells.specs.Chains.{bucket_at, Chained};
 use walk::{REFUSED_ORDER, Refusal, Settings};
 
 // A store whose settings and order were checked: 15 or 16, or how many cells it has.
-#[derive(Drop)]
+#[derive(Clone, Copy)]
 pub struct Opened {
     pub refusal: Refusal,
     pub cells: usize,

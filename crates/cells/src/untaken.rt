@@ -21,7 +21,7 @@ use walk::Settings;
 const LEVELS_MOST: u32 = 12;
 
 // A block of counters: its level, and its number among those of the level.
-#[derive(Drop)]
+#[derive(Clone, Copy)]
 struct Block {
     level: u32,
     number: u32,

@@ -7,6 +7,8 @@
 // sender before the message, which it leaves as it is. A refusal leaves the sender and the output as they were. The sender is that of
 // crate `sender`; the tests on a header, its size and its octets are those of crate `write`. A network zone is withdrawn, which is 30;
 // `count_by` and `packet_by` are the old cutter too, which writes it, for laws and tests.
+#![tactic(auto)]
+
 ghost use Rattle.std.specs.Prelude.{◌≡◌, false, suc, ◌+◌, length, eqb};
 ghost use Rattle.fields.specs.Inner.{capped};
 ghost use Rattle.octets.specs.Octets.{pick};
@@ -35,7 +37,7 @@ pub const BODY_MOST: usize = 1048576;
 const AROUND: usize = packet::PRIMARY + packet::COUNTER;
 
 // What the count answers: a refusal, or the number of packets; and the sender.
-#[derive(Drop)]
+#[derive(Clone, Copy)]
 pub struct Counted {
     pub refusal: Refusal,
     pub count: usize,
@@ -43,7 +45,7 @@ pub struct Counted {
 }
 
 // What a packet's writing answers: a refusal, or the octets written; and the sender as it was.
-#[derive(Drop)]
+#[derive(Clone, Copy)]
 pub struct Cut {
     pub refusal: Refusal,
     pub length: usize,
@@ -51,7 +53,7 @@ pub struct Cut {
 }
 
 // A message's plan: whether one packet is enough, the body octets of a packet if it is not, and how many packets.
-#[derive(Drop)]
+#[derive(Clone, Copy)]
 pub struct Plan {
     pub tested: Tested,
     pub single: bool,

@@ -4,3 +4,4 @@
 // (`Cutter`); and what holds of joinings alone (`Joins`). `proofs/` has the laws. Before them stand those of a single call: the cells after
 // an arrival, a taking and a forgetting (`After`, `Zeroed`, over `specs/Cells`), what leaves a store as it was (`Untouched`), and that freed
 // cells are used again and late repeats told as taken (`Repeats`).
+#![tactic(auto)]

@@ -5,6 +5,8 @@
 //
 // What a line tells of a packet stands at places that its first octets say, so the packet is not read again. A line's pieces are laid one
 // after another, each whole or not at all: whoever lends room for the longest line gets a whole one.
+#![tactic(auto)]
+
 ghost use Rattle.std.specs.Prelude.{◌≡◌, [], ◌∷◌, eqb};
 ghost use Rattle.octets.specs.Octets.{pick};
 ghost use Rattle.octets.specs.Laying.{laid, Lays};
@@ -35,7 +37,7 @@ const LAST: u8 = 2;
 const UNSEGMENTED: u8 = 3;
 
 // Whose a packet is: APID, transaction id, sequence flags, and the segment counter, 0 if it has none.
-#[derive(Drop)]
+#[derive(Clone, Copy)]
 pub struct Identity {
     pub apid: u16,
     pub transaction: u64,

@@ -8,6 +8,8 @@
 // takes any buffer and any place: piece by piece, each whole or not at all, and answers the place after it. A `blob` is octets of any
 // value; a `text` is written the same, and its octets are well-formed UTF-8, by crate `utf8`. Reading tests that; who writes has tested
 // it before.
+#![tactic(auto)]
+
 ghost use Rattle.std.specs.Prelude.{◌≡◌, ◌+◌, ◌<◌, ◌≤◌, length, [], ◌∷◌};
 ghost use Rattle.octets.specs.Octets.{part as stretch};
 ghost use Rattle.octets.specs.Laying.{laid, Lays};
@@ -32,19 +34,19 @@ pub const PARTS: usize = 16;
 pub const SIZE_MOST: usize = 65543;
 
 // Where a content stands and how long it is; zeros if there is none.
-#[derive(Drop)]
+#[derive(Clone, Copy)]
 pub struct Place {
     pub at: usize,
     pub length: usize,
 }
 
-#[derive(Drop)]
+#[derive(Clone, Copy)]
 pub struct Text {
     pub walk: Walk,
     pub place: Place,
 }
 
-#[derive(Drop)]
+#[derive(Clone, Copy)]
 pub struct Domain {
     pub walk: Walk,
     pub count: usize,

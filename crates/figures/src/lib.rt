@@ -1,1 +1,2 @@
 // Laws: SPEC's figures as one table. No code.
+#![tactic(auto)]

@@ -1,6 +1,8 @@
 // What the programs do with files, arguments and words. A call that a signal interrupts is made again.
 //
 // Proved here: each function is safe and ends, and what is said of its answer. What a file holds is the system's.
+#![tactic(auto)]
+
 ghost use Rattle.std.specs.Prelude.{◌≡◌, ◌+◌, ◌-◌, ◌≤◌, length, get_or};
 ghost use Rattle.std.proofs.lemmas.List.Edits.{sets};
 ghost use Rattle.octets.specs.Octets.{part};

@@ -2,6 +2,8 @@
 // the long way. The long way is `flat::read`. It makes every refusal; here is only what is accepted.
 //
 // The fixed part is tested once and then read at its own places. A UInteger is told at once if it is a Varint of one octet or has four.
+#![tactic(auto)]
+
 ghost use Rattle.std.specs.Prelude.{◌≡◌, true, List, ◌∷◌, ℕ, ◌+◌, ◌-◌, ◌≤◌, ◌<◌, length};
 ghost use Rattle.std.proofs.lemmas.List.Edits.{sets};
 ghost use Rattle.octets.specs.Octets.{pick, octet_at, number as number_of, part as stretch};
@@ -25,7 +27,7 @@ use walk::{HEADER_END, PROFILE_FIXED, Settings, UINTEGER};
 const BLOCK: usize = 32;
 
 // A UInteger, and the place after it; 0 for the long way.
-#[derive(Drop)]
+#[derive(Clone, Copy)]
 struct Number {
     next: usize,
     value: usize,

@@ -2,6 +2,8 @@
 //
 // Every number is one of 64 bits, and an answer is an array of them, the refusal first. A number that is too wide for the type of its field
 // stands for the widest, which no field of a packet or PDU has either: so it is 22, in its turn.
+#![tactic(auto)]
+
 ghost use Rattle.std.specs.Prelude.{◌≡◌, length};
 ghost use Rattle.walk.specs.Walk.{settings_of};
 ghost use Rattle.carry.specs.There.{to_pdu_answer, to_pdu_output};

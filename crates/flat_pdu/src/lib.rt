@@ -2,6 +2,8 @@
 //
 // Every number is one of 64 bits, and an answer is an array of them, the refusal first. A number is tested against the type of its
 // field before it is made narrower: one too wide is 22. Then the call itself is made, and its answer told.
+#![tactic(auto)]
+
 ghost use Rattle.std.specs.Prelude.{◌≡◌, true, ◌+◌, ◌≤◌, length};
 ghost use Rattle.std.proofs.lemmas.List.Edits.{sets};
 ghost use Rattle.write.specs.Given.{lent};

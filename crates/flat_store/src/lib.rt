@@ -2,6 +2,8 @@
 //
 // Every number is one of 64 bits, and none is made narrower before it is tested. An answer is an array of numbers, the refusal first;
 // if the call is refused the others are 0, but for what a refusal of reading tells, which stands last.
+#![tactic(auto)]
+
 pub mod recordings;
 
 ghost use Rattle.std.specs.Prelude.{◌≡◌, length};

@@ -3,6 +3,8 @@
 // Joining tells where the body is: in which buffer, from which place on, how long; the view hands that part out, read only. For a
 // packet that came whole neither the store nor the output is touched. If taking refuses, the arrived segment stays in the store. Settings
 // and the store's order are checked once; what follows is an inner function that takes any octets, for whoever keeps a store in order.
+#![tactic(auto)]
+
 ghost use Rattle.std.specs.Prelude.{◌≡◌, ◌<◌, length};
 ghost use Rattle.cells.specs.Rows.{zero_row};
 ghost use Rattle.cells.specs.Order.{cell_size};
@@ -19,7 +21,7 @@ use taking::Taken;
 use walk::{Refusal, Settings};
 
 // Which buffer holds a body: the packet as it arrived, or the one where it was joined; nothing if there is no body.
-#[derive(Drop)]
+#[derive(Clone, Copy)]
 pub enum Which {
     Packet,
     Joined,
@@ -28,7 +30,7 @@ pub enum Which {
 
 // What joining answers: the buffer, place and length of the body; and H, the octets of the body and the first segment's counter of a
 // message that was taken.
-#[derive(Drop)]
+#[derive(Clone, Copy)]
 pub struct Joined {
     pub refusal: Refusal,
     pub which: Which,
@@ -40,7 +42,7 @@ pub struct Joined {
 }
 
 // What the inner joining answers: beside that, whether the packet is of a message that was taken before.
-#[derive(Drop)]
+#[derive(Clone, Copy)]
 pub struct Came {
     pub joined: Joined,
     pub late: bool,

@@ -12,6 +12,8 @@
 //
 // Proved here: the program is safe and ends, and each step meets what it asks: the settings are in range, and the store stays in order
 // from the first step to the last. Module output writes, counts has the numbers of the findings, say tells them.
+#![tactic(auto)]
+
 mod counts;
 mod output;
 mod say;
@@ -50,7 +52,7 @@ const GATHERED: usize = 262144;
 
 // The octets in hand, from a place of the window up to another; how many octets are gathered; whether the recording ends with those in
 // hand; why it stops, 0 if it goes on.
-#[derive(Drop)]
+#[derive(Clone, Copy)]
 struct Hand {
     from: usize,
     till: usize,

@@ -3,6 +3,8 @@
 //
 // The short way is for Varints, and for texts whose octets are characters by themselves and whose lengths are of one octet.
 // As parameters, `time` is the timestamp, `zone` the network zone, `name` the session name and `id` the authentication id.
+#![tactic(auto)]
+
 ghost use Rattle.std.specs.Prelude.{◌≡◌, true, [], ◌∷◌, ◌+◌, ◌*◌, ◌≤◌, ◌<◌, length, leb};
 ghost use Rattle.std.proofs.lemmas.List.Edits.{sets};
 ghost use Rattle.octets.specs.Octets.{pick, wide, octet_at as number_at};

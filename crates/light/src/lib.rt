@@ -2,6 +2,8 @@
 //
 // If all up to the presence octet is there and accepted, and no flag is set, nothing else is looked at: `ready` tests the fixed part once,
 // and what follows has its own places. Every other packet is read whole, by `packet::read`, which makes all refusals.
+#![tactic(auto)]
+
 ghost use Rattle.std.specs.Prelude.{◌≡◌, true, ◌+◌, ◌/◌, ◌≤◌, ◌<◌, length};
 ghost use Rattle.octets.specs.Octets.{octet_at, number};
 ghost use Rattle.packet.specs.Reading.{segmented, read_packet};
@@ -11,7 +13,7 @@ use packet::{SegmentCounter, UNSEGMENTED};
 use walk::Settings;
 
 // What a light reading answers; of a refused packet all but the refusal's number is 0.
-#[derive(Drop)]
+#[derive(Clone, Copy)]
 pub struct Light {
     pub refusal: u8,
     pub flags: u8,

@@ -3,6 +3,8 @@
 // Each cell goes to the cell of its number in a store that is lent, with zeros after what it held; free cells, held segments and taken records
 // stay what they are. What the other store held before does not matter, and the one that is moved is not changed. A move that is refused
 // writes nothing. The way back is refused by 32 if a packet is too long for the smaller cells, and names the lowest cell with such a one.
+#![tactic(auto)]
+
 ghost use Rattle.std.specs.Prelude.{◌≡◌, ◌*◌, ◌≤◌, length};
 ghost use Rattle.std.proofs.lemmas.List.Edits.{sets};
 ghost use Rattle.octets.specs.Octets.{Octets};
@@ -18,7 +20,7 @@ use walk::{REFUSED_ORDER, Refusal, Settings};
 pub const REFUSED_PACKET_LONG: u8 = 32;
 
 // What a move answers: beside 32 the cell, and else 0.
-#[derive(Drop)]
+#[derive(Clone, Copy)]
 pub struct Moved {
     pub refusal: Refusal,
     pub cell: usize,

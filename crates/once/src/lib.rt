@@ -2,3 +2,4 @@
 // handed out at most once, it is out or complete exactly if all its segments have arrived, and takings up to refusal 20 hand out all that are
 // complete. Theorems only, no function. `specs/` says it over a store's octets; `proofs/` has the laws, a run that meets every condition, and
 // wrong programs that fail it.
+#![tactic(auto)]

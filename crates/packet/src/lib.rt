@@ -14,6 +14,8 @@
 //
 // `read` takes any settings and any slice. It answers every value and where every content stands, or one refusal and zeros.
 // Every field of the secondary header is one step of a walk, at the walk's own place (crate `walk`).
+#![tactic(auto)]
+
 ghost use Rattle.std.specs.Prelude.{◌≡◌, length};
 ghost use Rattle.octets.specs.Octets.{Octets};
 ghost use Rattle.walk.specs.Inner.{as_walk, of_walk};
@@ -39,16 +41,16 @@ pub const COUNTS: usize = 16384;
 // The most segments of a message.
 pub const SEGMENTS_MOST: usize = 4096;
 
-#[derive(Drop)]
+#[derive(Clone, Copy)]
 pub struct Apid(pub u16);
 
-#[derive(Drop)]
+#[derive(Clone, Copy)]
 pub struct SecondaryApid(pub u16);
 
-#[derive(Drop)]
+#[derive(Clone, Copy)]
 pub struct SequenceCount(pub u16);
 
-#[derive(Drop)]
+#[derive(Clone, Copy)]
 pub struct SegmentCounter(pub u32);
 
 // The sequence flags: what a packet is in its message.
@@ -73,7 +75,7 @@ pub const MARK_FIRST: u8 = 0x4d;
 pub const MARK_SECOND: u8 = 0x50;
 
 // The primary header: packet type, APID, sequence flags, sequence count.
-#[derive(Drop)]
+#[derive(Clone, Copy)]
 pub struct Primary {
     pub packet_type: u8,
     pub apid: Apid,
@@ -82,7 +84,7 @@ pub struct Primary {
 }
 
 // The fixed part of the secondary header, but for its presence flags.
-#[derive(Drop)]
+#[derive(Clone, Copy)]
 pub struct Fixed {
     pub sdu: u8,
     pub area: u16,
@@ -98,7 +100,7 @@ pub struct Fixed {
 }
 
 // The eight presence flags.
-#[derive(Drop)]
+#[derive(Clone, Copy)]
 pub struct Present {
     pub source: bool,
     pub destination: bool,
@@ -111,7 +113,7 @@ pub struct Present {
 }
 
 // The optional numbers; 0 if absent.
-#[derive(Drop)]
+#[derive(Clone, Copy)]
 pub struct Ids {
     pub source: u8,
     pub destination: u8,
@@ -120,7 +122,7 @@ pub struct Ids {
 }
 
 // Where the optional contents stand; a domain's parts each with its own place.
-#[derive(Drop)]
+#[derive(Clone, Copy)]
 pub struct Texts {
     pub timestamp: Place,
     pub zone: Place,
@@ -131,7 +133,7 @@ pub struct Texts {
 }
 
 // What reading answers. h is H, the octets of the secondary header without its counter. A header with a zone is of the withdrawn kind.
-#[derive(Drop)]
+#[derive(Clone, Copy)]
 pub struct Header {
     pub refusal: Refusal,
     pub primary: Primary,
@@ -145,7 +147,7 @@ pub struct Header {
 }
 
 // Steps of a reading with what they found.
-#[derive(Drop)]
+#[derive(Clone, Copy)]
 struct Names {
     walk: Walk,
     sdu: u8,
@@ -155,7 +157,7 @@ struct Names {
     version: u8,
 }
 
-#[derive(Drop)]
+#[derive(Clone, Copy)]
 struct Routing {
     walk: Walk,
     error: u8,
@@ -165,38 +167,38 @@ struct Routing {
     qualifier: u16,
 }
 
-#[derive(Drop)]
+#[derive(Clone, Copy)]
 pub struct FixedStep {
     pub walk: Walk,
     pub fixed: Fixed,
     pub has: Present,
 }
 
-#[derive(Drop)]
+#[derive(Clone, Copy)]
 struct Octet {
     walk: Walk,
     value: u8,
 }
 
-#[derive(Drop)]
+#[derive(Clone, Copy)]
 struct Word {
     walk: Walk,
     value: u16,
 }
 
-#[derive(Drop)]
+#[derive(Clone, Copy)]
 struct Counter {
     walk: Walk,
     value: SegmentCounter,
 }
 
-#[derive(Drop)]
+#[derive(Clone, Copy)]
 pub struct IdsStep {
     pub walk: Walk,
     pub ids: Ids,
 }
 
-#[derive(Drop)]
+#[derive(Clone, Copy)]
 pub struct TextsStep {
     pub walk: Walk,
     pub texts: Texts,

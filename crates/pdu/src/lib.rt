@@ -13,6 +13,8 @@
 // priority is a Varint. Source id and destination id are texts here. `read` takes any slice, which is one PDU exactly; a PDU is bound by
 // its 32-bit length alone. `write` takes any values, texts, body and output; on a refusal the output is as it was.
 // As parameters, `time` is the timestamp, `zone` the network zone, `name` the session name and `id` the authentication id.
+#![tactic(auto)]
+
 ghost use Rattle.std.specs.Prelude.{◌≡◌, ◌+◌, length, leb};
 ghost use Rattle.octets.specs.Octets.{Octets, most32};
 ghost use Rattle.octets.specs.Laying.{laid, Lays};
@@ -72,7 +74,7 @@ const MOST_8: u16 = 255;
 const MOST_16: u32 = 65535;
 
 // The fixed part, but for its presence flags and the variable length.
-#[derive(Drop)]
+#[derive(Clone, Copy)]
 pub struct Fixed {
     pub sdu: u8,
     pub area: u16,
@@ -87,7 +89,7 @@ pub struct Fixed {
 }
 
 // Where source id and destination id stand; the priority, 0 if absent.
-#[derive(Drop)]
+#[derive(Clone, Copy)]
 pub struct Ids {
     pub source: Place,
     pub destination: Place,
@@ -95,7 +97,7 @@ pub struct Ids {
 }
 
 // What reading answers.
-#[derive(Drop)]
+#[derive(Clone, Copy)]
 pub struct Header {
     pub refusal: Refusal,
     pub fixed: Fixed,
@@ -106,14 +108,14 @@ pub struct Header {
     pub body: Place,
 }
 
-#[derive(Drop)]
+#[derive(Clone, Copy)]
 struct IdsStep {
     walk: Walk,
     ids: Ids,
 }
 
 // The values of a PDU to write, but for its texts. A number that a PDU limits is held in a type wide enough for a bad value.
-#[derive(Drop)]
+#[derive(Clone, Copy)]
 pub struct PduValues {
     pub sdu: u8,
     pub area: u32,
@@ -130,7 +132,7 @@ pub struct PduValues {
 }
 
 // What writing answers: a refusal and zeros, or the octets written and those before the body.
-#[derive(Drop)]
+#[derive(Clone, Copy)]
 pub struct Written {
     pub refusal: Refusal,
     pub length: usize,

@@ -1,6 +1,8 @@
 // Joining a whole recording in hand, step by step, with a store of its own, under any settings.
 //
 // `steps` has the step. What comes out is never longer than the recording, so an output of its length is always enough.
+#![tactic(auto)]
+
 ghost use Rattle.std.specs.Prelude.{◌≡◌, ◌+◌, ◌≤◌, length};
 ghost use Rattle.std.proofs.lemmas.List.Edits.{sets};
 ghost use Rattle.walk.specs.Walk.{begun};
@@ -23,7 +25,7 @@ pub const STORE: usize = 32768;
 pub const TIMESTAMP: usize = 8;
 
 // Why a recording in hand was left: not said if it is refused; it ends there; no mark follows; a torn mark or packet follows.
-#[derive(Drop)]
+#[derive(Clone, Copy)]
 pub enum Why {
     Unsaid,
     Ended,
@@ -32,7 +34,7 @@ pub enum Why {
 }
 
 // What is told of a recording in hand: the refusal, why and at which place it stopped, and the octets of the output that are written.
-#[derive(Drop)]
+#[derive(Clone, Copy)]
 pub struct Recorded {
     pub refusal: Refusal,
     pub why: Why,
@@ -41,7 +43,7 @@ pub struct Recorded {
 }
 
 // How far the steps have come in a recording and in the output.
-#[derive(Drop)]
+#[derive(Clone, Copy)]
 struct Reached {
     place: usize,
     written: usize,

@@ -9,6 +9,8 @@
 // after it, or if the file ends with the part, so that what it lists is the file's.
 //
 // Few places have a mark: those without are passed over in blocks, and only at a mark is a packet read.
+#![tactic(auto)]
+
 ghost use Rattle.std.specs.Prelude.{◌≡◌, false, [], ◌∷◌, ◌++◌, ◌+◌, ◌*◌, ◌/◌, ◌≤◌, length, eqb};
 ghost use Rattle.std.proofs.lemmas.List.Edits.{sets};
 ghost use Rattle.octets.specs.Octets.{pick};
@@ -42,7 +44,7 @@ const BLOCK: usize = 256;
 
 // What a call answers: the refusal, the places that it tested, the entries that it listed, where the open stretch begins and which
 // place is next, and whether the whole file is listed.
-#[derive(Drop)]
+#[derive(Clone, Copy)]
 pub struct Salvaged {
     pub refusal: Refusal,
     pub tested: usize,

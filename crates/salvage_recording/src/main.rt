@@ -12,6 +12,8 @@
 //
 // Proved here: the program is safe and ends. Module counts has the numbers of the findings, say tells them. What is written of an entry is
 // crate `entries`.
+#![tactic(auto)]
+
 mod counts;
 mod say;
 
@@ -52,7 +54,7 @@ const LINES: usize = 32768;
 const PACKETS: usize = 131072;
 
 // Where things go: descriptors, 0 for nowhere.
-#[derive(Drop)]
+#[derive(Clone, Copy)]
 struct Sinks {
     list: i32,
     output: i32,
@@ -61,7 +63,7 @@ struct Sinks {
 
 // The octets in hand, from a place of the window up to another; the place in the recording of the first, which is tested next, and where the
 // open stretch begins; whether the recording ends with those in hand; why it stops, 0 if it goes on.
-#[derive(Drop)]
+#[derive(Clone, Copy)]
 struct Hand {
     from: usize,
     till: usize,
@@ -99,7 +101,7 @@ fn least(a: usize, b: usize) -> usize
 // ---- what is written
 
 // Lines or packets that are gathered, up to a place; why it stops, 0 if it goes on.
-#[derive(Drop)]
+#[derive(Clone, Copy)]
 struct Gathered {
     at: usize,
     stop: u8,

@@ -5,6 +5,8 @@
 // Without an argument all three are written, one after another. A sample is a list of acts; an act is a message, the number of one of
 // its packets, and what befalls the packet on the way: nothing, an octet that changes, or an end in its middle. Proved here: the
 // program is safe and ends.
+#![tactic(auto)]
+
 mod messages;
 
 ghost use Rattle.std.specs.Prelude.{◌≤◌};

@@ -3,6 +3,8 @@
 // `after_packet` and `after_segment` hand back the state after one packet, whole or a segment, `after_message` the state after a
 // message; they refuse nothing. After the largest of each number comes 0, so there is always a next one. How many packets a message takes
 // is for crate `cut`.
+#![tactic(auto)]
+
 ghost use Rattle.std.specs.Prelude.{◌≡◌};
 ghost use Rattle.sender.specs.Sending.{counter_after, after_packet, after_segment, after_segments, after_message};
 
@@ -12,14 +14,14 @@ use packet::{SegmentCounter, SequenceCount};
 const COUNTERS: u64 = 4294967296;
 
 // The sender's two running numbers.
-#[derive(Drop)]
+#[derive(Clone, Copy)]
 pub struct Sender {
     pub sequence_count: SequenceCount,
     pub counter: SegmentCounter,
 }
 
 // How a message is sent: as one unsegmented packet, or as so many segments.
-#[derive(Drop)]
+#[derive(Clone, Copy)]
 pub enum Sent {
     Whole,
     Segments(usize),

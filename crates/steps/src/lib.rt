@@ -4,6 +4,8 @@
 // how many of the output are to be written: for a message 4D 4D, the four-octet length of what follows, then what taking writes, and
 // for a whole packet likewise. It goes on only over a whole packet, so 65,544 octets in hand are always enough: the mark, and the
 // longest packet that a length field tells of. Settings and the store's order are checked once, by whoever begins; a step keeps them.
+#![tactic(auto)]
+
 ghost use Rattle.std.specs.Prelude.{◌≡◌, true, ◌∷◌, ◌+◌, ◌-◌, ◌≤◌, length};
 ghost use Rattle.std.proofs.lemmas.List.Edits.{sets};
 ghost use Rattle.octets.specs.Octets.{part, wide};
@@ -39,7 +41,7 @@ pub const SPACE: usize = 65542;
 // What a step comes to: more octets are wanted; the recording ends; no mark follows; a torn mark or packet follows; the packet is
 // passed over as too long; it is refused; it is stored or held already, and nothing is complete; it is of a message that was taken, and
 // nothing is complete; it came whole; a message is joined.
-#[derive(Drop)]
+#[derive(Clone, Copy)]
 pub enum What {
     More,
     Ended,
@@ -54,7 +56,7 @@ pub enum What {
 }
 
 // What a step answers: what it comes to, the refusal of the packet, the octets used up, and those of the output to be written.
-#[derive(Drop)]
+#[derive(Clone, Copy)]
 pub struct Done {
     pub what: What,
     pub refusal: Refusal,
@@ -63,7 +65,7 @@ pub struct Done {
 }
 
 // What stands at a place: no octet, no mark, a mark and packet that are not whole, or whole ones.
-#[derive(Drop)]
+#[derive(Clone, Copy)]
 pub enum Stands {
     Nothing,
     Other,

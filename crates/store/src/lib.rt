@@ -3,6 +3,8 @@
 // The store is lent memory of 1 to 4,096 cells of 1,024 octets; an empty one is all zeros. Each public call has settings and order
 // checked by `opening` before anything else, and then calls an inner function of `arrival` or `taking` that takes any octets, by the
 // chains that the check has made. Whoever keeps a store in order calls their like without chains, and saves the check.
+#![tactic(auto)]
+
 ghost use Rattle.std.specs.Prelude.{◌≡◌, length};
 ghost use Rattle.cells.specs.Order.{count_in, cell_size};
 ghost use Rattle.arrival.specs.Arriving.{arrived, store_with};

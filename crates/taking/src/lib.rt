@@ -3,6 +3,8 @@
 //
 // The store is any octets here, and the size of a cell is that of the zero cell lent: settings and the store's order are tested by
 // `store::take`, or by whoever keeps a store in order.
+#![tactic(auto)]
+
 pub mod clearing;
 pub mod forgetting;
 
@@ -35,7 +37,7 @@ const SEARCH_MOST: usize = 64;
 const STEPS_MOST: u32 = packet::SEGMENTS_MOST as u32 - 1;
 
 // What taking answers: H, the octets of the body, and the first segment's counter.
-#[derive(Drop)]
+#[derive(Clone, Copy)]
 pub struct Taken {
     pub refusal: Refusal,
     pub header: usize,
@@ -44,21 +46,21 @@ pub struct Taken {
 }
 
 // How long the body of a run is, if the run is complete.
-#[derive(Drop)]
+#[derive(Clone, Copy)]
 enum Measured {
     Long(usize),
     Incomplete,
 }
 
 // The complete message with its first in the lowest cell: that cell, and the octets of its body.
-#[derive(Drop)]
+#[derive(Clone, Copy)]
 enum Picked {
     Message { cell: usize, body: usize },
     Nothing,
 }
 
 // A message that was copied: H, the counter of its first segment, and how many segments follow it.
-#[derive(Drop)]
+#[derive(Clone, Copy)]
 struct Copied {
     header: usize,
     counter: SegmentCounter,

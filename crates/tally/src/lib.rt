@@ -4,6 +4,8 @@
 // All segments of a message have one key, so there are at least as many messages as keys; two messages of one key count once. A cell
 // that is neither free nor held counts for nothing, and a store whose length does not fit has no cells. Each held cell is looked for
 // among those below it, so the time grows with the square of the cells: this is for a store of a few dozen, looked at once.
+#![tactic(auto)]
+
 ghost use Rattle.std.specs.Prelude.{◌≡◌, ◌+◌, ◌≤◌, ◌<◌, length};
 ghost use Rattle.octets.specs.Octets.{pick};
 ghost use Rattle.packet.specs.Reading.{read_packet};
@@ -20,7 +22,7 @@ ghost use Rattle.tally.specs.Telling.{key_at, told_by, told_at};
 use walk::Settings;
 
 // The segments held, and the different keys among them.
-#[derive(Drop)]
+#[derive(Clone, Copy)]
 pub struct Tallied {
     pub segments: usize,
     pub keys: usize,
@@ -169,7 +171,7 @@ pub fn records(s: Settings, store: &[u8]) -> usize
 
 // What a cell tells, if it is held: the lowest cell of its key, which may be its own; packet type, APID, SDU type and transaction id; and
 // which segment it is, by sequence flags (1 first, 0 continuation, 2 last) and counter.
-#[derive(Drop)]
+#[derive(Clone, Copy)]
 pub struct Told {
     pub held: bool,
     pub key: usize,

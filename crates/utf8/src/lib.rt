@@ -6,6 +6,8 @@
 // The call takes any slice and answers for the whole of it. Whether an octet may stand at a place depends on the three before it and on
 // nothing else, so that places are tested many at a time: the loops carry a flag and do not leave early. Blocks of single octets,
 // which most texts have, are known by a shorter test.
+#![tactic(auto)]
+
 ghost use Rattle.std.specs.Prelude.{◌≡◌, ◌+◌, ◌≤◌, ◌<◌, length};
 ghost use Rattle.utf8.specs.Test.{is_text, ended as ended_test, begins as begins_test, continues as continues_test, follows as follows_test};
 ghost use Rattle.utf8.specs.Test.{both as both_of, lowest as lowest_of, highest as highest_of, all_single};

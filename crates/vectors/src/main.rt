@@ -13,6 +13,8 @@
 //
 // Module case reads a case, print writes; the others have the calls, most of them by way of `flat`, `flat_store` and `flat_pdu`,
 // whose answers are lists of numbers. A new call is a function beside the others, and a line of the function here that has its buffers.
+#![tactic(auto)]
+
 mod case;
 mod joins;
 mod packets;

@@ -5,6 +5,8 @@
 // `Bound` is where the fields end at the latest: a packet's header has a limit, and past it is 12. `Settings` is what both sides agreed on.
 // Lengths, counts and the priority are read by `read_uinteger`, and nothing else asks how they are written: each is a Varint, or under the
 // first pods' profile four octets.
+#![tactic(auto)]
+
 ghost use Rattle.std.specs.Prelude.{◌≡◌, min, length};
 ghost use Rattle.walk.specs.Walk.{goes as goes_at, refused as refused_by, octets as octets_of, check as check_of, uinteger, begun};
 ghost use Rattle.walk.specs.Walk.{varint_field, wide_field};
@@ -132,7 +134,7 @@ pub const REFUSED_RANGE: u8 = 35;
 pub const REFUSED_STATE: u8 = 40;
 
 // What both sides agreed on: T, the octets of a timestamp, and the profile.
-#[derive(Drop)]
+#[derive(Clone, Copy)]
 pub struct Settings {
     pub t: usize,
     pub profile: u64,
@@ -140,7 +142,7 @@ pub struct Settings {
 
 // A refusal: its number of SPEC's list, 0 if there is none; beside 5 and 27 the octets that are missing or left over; beside 6 the place in
 // the secondary header where the unfinished field began. What is not told is 0.
-#[derive(Drop)]
+#[derive(Clone, Copy)]
 pub struct Refusal {
     pub number: u8,
     pub octets: usize,
@@ -148,27 +150,27 @@ pub struct Refusal {
 }
 
 // What tests of values have come to so far: the number of the first refusal, 0 if there is none.
-#[derive(Drop)]
+#[derive(Clone, Copy)]
 pub struct Tested {
     pub number: u8,
 }
 
 // Where fields end at the latest, and whether that is the limit of a packet's header (12), else it is the end of what is read (6).
-#[derive(Drop)]
+#[derive(Clone, Copy)]
 pub struct Bound {
     pub end: usize,
     pub limit: bool,
 }
 
 // A reading: the next place; or the number of its refusal, and where it was refused: if octets were missing, where their field began.
-#[derive(Drop)]
+#[derive(Clone, Copy)]
 pub struct Walk {
     pub at: usize,
     pub refused: u8,
 }
 
 // A number that was read, and the reading after it.
-#[derive(Drop)]
+#[derive(Clone, Copy)]
 pub struct UInteger {
     pub walk: Walk,
     pub value: u32,

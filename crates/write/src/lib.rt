@@ -8,6 +8,8 @@
 //
 // Every test is made on the values as they are given; sizes are told up to one above the largest packet, so nothing overflows.
 // The pieces of the packet are then laid one after another. `cut` uses the parts marked inner.
+#![tactic(auto)]
+
 ghost use Rattle.std.specs.Prelude.{◌≡◌, false, [], ◌∷◌, ◌+◌, length, eqb, leb};
 ghost use Rattle.octets.specs.Octets.{pick, wide};
 ghost use Rattle.octets.specs.Laying.{laid, Lays};
@@ -69,7 +71,7 @@ const QOS_UNIT: u64 = 8192;
 const SESSION_UNIT: u64 = 2048;
 
 // The values that all packets of a message share, but for its texts.
-#[derive(Drop)]
+#[derive(Clone, Copy)]
 pub struct HeaderValues {
     pub packet_type: u8,
     pub apid: Apid,
@@ -91,7 +93,7 @@ pub struct HeaderValues {
 }
 
 // The values of one packet: sequence flags, sequence count, segment counter.
-#[derive(Drop)]
+#[derive(Clone, Copy)]
 pub struct PacketValues {
     pub flags: u8,
     pub sequence_count: SequenceCount,
@@ -99,7 +101,7 @@ pub struct PacketValues {
 }
 
 // What writing answers: a refusal and 0, or the octets written.
-#[derive(Drop)]
+#[derive(Clone, Copy)]
 pub struct Written {
     pub refusal: Refusal,
     pub length: usize,

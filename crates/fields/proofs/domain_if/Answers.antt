@@ -1,0 +1,11 @@
+-- `fields::domain_if` meets its contract: the test of the branch is the definition's.
+use borrow.Author.Rules.{rules}
+use Rattle.fields.proofs.domain_if.Goals as goal
+
+pub returns-then-there : goal.returns-then-there
+returns-then-there c =
+    simp c.if-there.true c.read_domain.ensures
+
+pub returns : goal.returns
+returns c =
+    simp (c.if-there.false, c.no_parts.ensures)

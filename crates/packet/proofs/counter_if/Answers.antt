@@ -1,0 +1,11 @@
+-- `packet::counter_if` meets its contract: the test of the branch is the definition's.
+use borrow.Author.Rules.{rules}
+use Rattle.packet.proofs.counter_if.Goals as goal
+
+pub returns-then-there : goal.returns-then-there
+returns-then-there c =
+    simp (c.if-there.true, c.read_four-n.ensures)
+
+pub returns : goal.returns
+returns c =
+    simp c.if-there.false

@@ -1,0 +1,9 @@
+-- `packet::read_primary` meets its contract: its values are the definition's.
+use borrow.Author.Rules.{rules}
+use Rattle.packet.specs.Reading.{primary_of}
+use Rattle.packet.proofs.read_primary.Goals as goal
+
+pub returns : goal.returns
+unfolding primary_of
+returns c =
+    simp (c.be16-2.ensures, c.be16.ensures, c.octet-third.ensures, c.octet-first.ensures)

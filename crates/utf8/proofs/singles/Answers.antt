@@ -1,0 +1,19 @@
+-- `utf8::singles` meets its contract. The loop's invariant: the flag tells whether the octets passed are single.
+use Prim.Native.Nat.{◌-◌}
+use borrow.Author.Rules.{rules}
+use Rattle.utf8.proofs.Passing.{Passing, passing_first, passing_turn, passing_done}
+use Rattle.utf8.specs.Places.{single_at}
+use Rattle.utf8.proofs.singles.Goals as goal
+
+pub loop-i-init : goal.loop-i-init
+loop-i-init c =
+    passing_first _ _ _
+
+pub loop-i-preserved : goal.loop-i-preserved
+unfolding single_at
+loop-i-preserved c =
+    rw c.both-so_far.ensures (passing_turn c.loop-i.invariant c.loop-i-test.true)
+
+pub returns : goal.returns
+returns c =
+    passing_done c.loop-i.invariant c.loop-i-test.false
