@@ -1,0 +1,12 @@
+-- `carry::join_parts` meets its contract. The loop's invariant, `Joining`: k parts are joined.
+use Prim.Native.Nat.{◌-◌}
+use borrow.Author.Rules.{rules}
+use native.Mathlib.Omega.{arith}
+use Rattle.carry.proofs.Joined.{Joining, joining_first, joining_next, joining_done}
+use Rattle.carry.proofs.join_parts.Given as goal
+
+abbrev pub invariant-loop-k : goal.invariant-loop-k
+invariant-loop-k l = Joining l.p l.parts l.n l.initial.text l.initial.lengths l.text l.lengths l.total l.k
+
+abbrev pub decreases-loop-k : goal.decreases-loop-k
+decreases-loop-k l = l.n - l.k

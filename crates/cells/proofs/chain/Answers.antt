@@ -1,0 +1,7 @@
+-- `cells::chain` meets its contract.
+use borrow.Author.Rules.{rules}
+use Rattle.cells.proofs.chain.Goals as goal
+
+pub returns : goal.returns
+returns c =
+    simp c.mix_in-x.ensures

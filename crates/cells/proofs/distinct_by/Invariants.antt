@@ -1,0 +1,14 @@
+-- `cells::distinct_by` meets its contract. The loop's invariant: whether the cells passed are apart, and that they are on their chains.
+use Prim.Native.Nat.{◌-◌}
+use lib.ListN.{length}
+use native.Mathlib.Omega.{arith}
+use Rattle.cells.proofs.Bodies.{body_top}
+use Rattle.cells.proofs.Ordering.{Ordering, ordering_first, ordering_turn, ordering_apart, ordering_chained}
+use borrow.Author.Rules.{rules}
+use Rattle.cells.proofs.distinct_by.Given as goal
+
+abbrev pub invariant-loop-i : goal.invariant-loop-i
+invariant-loop-i l = Ordering l.s (length l.zero) l.store l.n l.heads l.links l.apart l.i
+
+abbrev pub decreases-loop-i : goal.decreases-loop-i
+decreases-loop-i l = l.n - l.i

@@ -1,0 +1,18 @@
+-- `cells::find` meets its contract. The loop's invariant: none of the cells passed carries them.
+use Prim.Native.Nat.{ℕ, ◌-◌}
+use lib.ListN.{length}
+use mathlib.Core.List.{List}
+use mathlib.Core.Path.{ap, sym, ◌∙◌}
+use Rattle.cells.proofs.Scans.{Seeking, seeking_first, seeking_turn, seeking_found, seeking_none}
+use Rattle.cells.specs.Order.{carries_in, cell_at, found_in}
+use Rattle.cells.specs.Rows.{cell_of}
+use Rattle.packet.specs.Key.{key_of}
+use Rattle.packet.specs.Reading.{read_packet}
+use borrow.Author.Rules.{rules}
+use Rattle.cells.proofs.find.Given as goal
+
+abbrev pub invariant-loop-j : goal.invariant-loop-j
+invariant-loop-j l = Seeking (λ k. carries_in (key_of l.q (read_packet l.s l.q)) l.c.0 (cell_at l.s (length l.zero) l.store k)) l.n l.j
+
+abbrev pub decreases-loop-j : goal.decreases-loop-j
+decreases-loop-j l = l.n - l.j

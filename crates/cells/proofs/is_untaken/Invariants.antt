@@ -1,0 +1,19 @@
+-- `cells::is_untaken` meets its contract. The loop's invariant: none of the cells passed covers them.
+use Prim.Native.Nat.{ℕ, ◌-◌}
+use lib.ListN.{length}
+use mathlib.Core.Bool.{not}
+use mathlib.Core.List.{List}
+use mathlib.Core.Path.{ap, sym, ◌∙◌}
+use Rattle.cells.proofs.Passing.{Passing, passing_first, passing_turn, passing_fault, passing_all}
+use Rattle.cells.specs.Order.{covers_in, cell_at, untaken_to}
+use Rattle.cells.specs.Rows.{cell_of}
+use Rattle.packet.specs.Key.{key_of}
+use Rattle.packet.specs.Reading.{read_packet}
+use borrow.Author.Rules.{rules}
+use Rattle.cells.proofs.is_untaken.Given as goal
+
+abbrev pub invariant-loop-j : goal.invariant-loop-j
+invariant-loop-j l = Passing (λ k. not (covers_in (key_of l.q (read_packet l.s l.q)) l.c.0 (cell_at l.s (length l.zero) l.store k))) l.n l.j
+
+abbrev pub decreases-loop-j : goal.decreases-loop-j
+decreases-loop-j l = l.n - l.j

@@ -1,0 +1,14 @@
+-- `cells::lowest_free` meets its contract. The loop's invariant: none of the cells passed is free.
+use Prim.Native.Nat.{◌-◌}
+use borrow.Author.Rules.{rules}
+use lib.ListN.{length}
+use Rattle.cells.proofs.Scans.{Seeking, seeking_first, seeking_turn, seeking_found, seeking_none, row_free}
+use Rattle.cells.specs.Rows.{row_at}
+use Rattle.octets.specs.Octets.{alike}
+use Rattle.cells.proofs.lowest_free.Given as goal
+
+abbrev pub invariant-loop-i : goal.invariant-loop-i
+invariant-loop-i l = Seeking (λ j. alike (row_at (length l.zero) l.store j) l.zero) l.n l.i
+
+abbrev pub decreases-loop-i : goal.decreases-loop-i
+decreases-loop-i l = l.n - l.i

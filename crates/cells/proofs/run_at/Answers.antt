@@ -1,0 +1,9 @@
+-- `cells::run_at` meets its contract: the counters that stand there.
+use mathlib.Core.Path.{ap₂, ◌∙◌}
+use Rattle.cells.specs.Rows.{steps_between}
+use borrow.Author.Rules.{rules}
+use Rattle.cells.proofs.run_at.Goals as goal
+
+pub returns : goal.returns
+returns c =
+    record { first_value = c.be32.ensures; steps_value = c.steps_between.ensures ∙ ap₂ steps_between c.be32.ensures c.be32-2.ensures }

@@ -1,0 +1,17 @@
+-- `untaken::untaken_all` meets its contract. The loop's invariant: no segment of the cells passed lies in a range.
+use Prim.Native.Nat.{◌-◌}
+use lib.ListN.{length}
+use mathlib.Core.Path.{sym, ◌∙◌}
+use native.Mathlib.Omega.{arith}
+use borrow.Author.Tests.{not-true, not-false}
+use Rattle.cells.proofs.Bodies.{body_top}
+use Rattle.cells.proofs.Passing.{Passing, passing_first, passing_turn, passing_fault, passing_all}
+use Rattle.cells.specs.Order.{cell_at, untaken_in, untaken}
+use borrow.Author.Rules.{rules}
+use Rattle.cells.proofs.untaken.untaken_all.Given as goal
+
+abbrev pub invariant-loop-i : goal.invariant-loop-i
+invariant-loop-i l = Passing (λ k. untaken_in l.s (length l.zero) l.store l.n (cell_at l.s (length l.zero) l.store k)) l.n l.i
+
+abbrev pub decreases-loop-i : goal.decreases-loop-i
+decreases-loop-i l = l.n - l.i

@@ -1,0 +1,11 @@
+-- `cut::from_of` meets its contract: the test of the branch is the definition's.
+use borrow.Author.Rules.{rules}
+use Rattle.cut.proofs.from_of.Goals as goal
+
+pub returns-then-single : goal.returns-then-single
+returns-then-single c =
+    simp c.if-single.true
+
+pub returns : goal.returns
+returns c =
+    simp (c.if-single.false, c.place.ensures)

@@ -1,0 +1,7 @@
+-- `cut::sent_as` meets its contract.
+use borrow.Author.Rules.{rules}
+use Rattle.cut.proofs.sent_as.Goals as goal
+
+pub returns : goal.returns
+returns c =
+    simp c.if-single.false

@@ -1,0 +1,7 @@
+-- `cut::told` meets its contract.
+use borrow.Author.Rules.{rules}
+use Rattle.cut.proofs.told.Goals as goal
+
+pub returns : goal.returns
+returns c =
+    simp c.numbered.ensures

@@ -1,0 +1,7 @@
+-- `flat::counted_numbers` meets its contract.
+use borrow.Author.Rules.{rules}
+use Rattle.flat.proofs.counted_numbers.Goals as goal
+
+pub returns : goal.returns
+returns c =
+    simp c.sender_numbers-d.ensures

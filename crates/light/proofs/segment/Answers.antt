@@ -1,0 +1,10 @@
+-- `light::segment` meets its contract.
+use Prim.Native.Nat.{ℕ, ◌/◌}
+use borrow.Author.Rules.{rules}
+use mathlib.Core.Path.{ap}
+use Rattle.light.proofs.segment.Goals as goal
+
+pub returns : goal.returns
+returns c =
+    let f = ap (λ (x : ℕ). x / 64) c.octet-flags.ensures.value in
+    let n = c.double.ensures.value in λ i. record { refusal = 0; flags = f i; counter = record { 0 = n i }; body = 31 }

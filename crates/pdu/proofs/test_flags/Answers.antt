@@ -1,0 +1,17 @@
+-- `pdu::test_flags` meets its contract: its tests are the definition's, in its order.
+use borrow.Author.Rules.{rules}
+use Rattle.write.specs.Given.{unless_all}
+use Rattle.pdu.specs.Given.{flag_checks}
+use Rattle.pdu.proofs.test_flags.Goals as goal
+
+pub returns : goal.returns
+unfolding flag_checks unless_all
+returns c =
+    simp (
+      c.unless.ensures,
+      c.number_fits.ensures,
+      c.unless-d.ensures,
+      c.unless-c.ensures,
+      c.unless-b.ensures,
+      c.unless-a.ensures,
+    )

@@ -1,0 +1,122 @@
+-- `salvage::along` meets its contract. The loop's invariant: what is tested and listed so far, before what is left of the call, is the
+-- whole call, and the place lies in the part.
+use Prim.Native.Nat.{◌+◌, ◌-◌}
+use mathlib.Core.Path.{◌≡◌, refl}
+use native.Mathlib.Omega.{arith}
+use lib.ListN.{length}
+use borrow.Author.Rules.{rules}
+use Rattle.salvage.specs.Listing.{stop}
+use Rattle.salvage.proofs.Going.{going_long, going_room, going_space}
+use Rattle.salvage.proofs.Holding.{Held, held_first, held_end, held_passed, held_kept, held_done}
+use Rattle.salvage.proofs.along.Goals as goal
+
+-- a pair with the names of the clauses
+named : {A B : Type 0} → A × B → record { value : A; list_after : B }
+named p = record { value = p.0; list_after = p.1 }
+
+pub length_in-n-requires : goal.length_in-n-requires
+length_in-n-requires c =
+    c.requires.most
+
+pub till_in-till-requires : goal.till_in-till-requires
+till_in-till-requires c =
+    c.requires.most
+
+pub loop-at-init : goal.loop-at-init
+loop-at-init c =
+    (held_first _ _ _ _ _ _ (λ i. (c.type_inv.part i).fits) c.requires c.length_in-n.ensures c.till_in-till.ensures, refl)
+
+pub overflow_sub-grant : goal.overflow_sub-grant
+overflow_sub-grant c =
+    c.loop-at.invariant.0.going.spent
+
+pub overflow_sub-free : goal.overflow_sub-free
+overflow_sub-free c =
+    c.loop-at.invariant.0.going.room
+
+pub finish-requires : goal.finish-requires
+finish-requires c =
+    record { begin_le_place = c.loop-at.invariant.0.going.order; entries_in_bounds = going_room c.loop-at.invariant.0.going }
+
+pub returns-then-end-at : goal.returns-then-end-at
+returns-then-end-at c =
+    named (held_done c.loop-at.invariant.0 c.end_at-end.ensures c.if-end-at.true c.finish.ensures.value c.finish.ensures.list_after)
+
+pub overflow_sub-at : goal.overflow_sub-at
+overflow_sub-at c =
+    c.loop-at.invariant.0.low
+
+pub width-wide-requires : goal.width-wide-requires
+width-wide-requires c =
+    omega (arith, c.loop-at.invariant.0.low, c.loop-at.invariant.0.top)
+
+pub overflow_add-at : goal.overflow_add-at
+overflow_add-at c =
+    omega (arith, held_end c.loop-at.invariant.0 c.end_at-end.ensures c.if-end-at.false, c.loop-at.invariant.0.most)
+
+pub overflow_sub-at-then-wide-eq0 : goal.overflow_sub-at-then-wide-eq0
+overflow_sub-at-then-wide-eq0 c =
+    omega (arith, c.loop-at.invariant.0.low)
+
+pub overflow_sub-end : goal.overflow_sub-end
+overflow_sub-end c =
+    omega (arith, c.loop-at.invariant.0.low, c.if-end-at.false)
+
+pub pass-requires : goal.pass-requires
+pass-requires c =
+    record { from_le_end = omega (arith, c.if-end-at.false); end_in_bounds = omega (arith, held_end c.loop-at.invariant.0 c.end_at-end.ensures c.if-end-at.false) }
+
+pub overflow_add-next : goal.overflow_add-next
+overflow_add-next c =
+    omega (arith, c.pass.ensures.top, held_end c.loop-at.invariant.0 c.end_at-end.ensures c.if-end-at.false, c.loop-at.invariant.0.most)
+
+pub overflow_sub-tested : goal.overflow_sub-tested
+overflow_sub-tested c =
+    omega (arith, c.pass.ensures.low)
+
+pub overflow_add-tested : goal.overflow_add-tested
+overflow_add-tested c =
+    let k = held_passed c.loop-at.invariant.0 c.end_at-end.ensures c.if-end-at.false c.width-wide.ensures c.if-wide-eq0.true
+    c.pass.ensures in
+    omega (arith, k.going.spent)
+
+pub loop-at-smaller-then-wide-eq0 : goal.loop-at-smaller-then-wide-eq0
+loop-at-smaller-then-wide-eq0 c =
+    let k = held_passed c.loop-at.invariant.0 c.end_at-end.ensures c.if-end-at.false c.width-wide.ensures c.if-wide-eq0.true
+    c.pass.ensures in
+    omega (arith, k.top, c.pass.ensures.low)
+
+pub loop-at-preserved-then-wide-eq0 : goal.loop-at-preserved-then-wide-eq0
+loop-at-preserved-then-wide-eq0 c = (
+  held_passed c.loop-at.invariant.0 c.end_at-end.ensures c.if-end-at.false c.width-wide.ensures c.if-wide-eq0.true
+      c.pass.ensures,
+  c.loop-at.invariant.1,
+)
+
+pub put_kept-entries-requires : goal.put_kept-entries-requires
+put_kept-entries-requires c =
+    going_space c.loop-at.invariant.0.going c.end_at-end.ensures c.if-end-at.false
+
+pub overflow_add-tested-else-wide-eq0 : goal.overflow_add-tested-else-wide-eq0
+overflow_add-tested-else-wide-eq0 c =
+    let k = held_kept c.loop-at.invariant.0 c.end_at-end.ensures c.if-end-at.false
+    c.width-wide.ensures c.if-wide-eq0.false c.put_kept-entries.ensures in
+    omega (arith, k.going.spent)
+
+pub overflow_add-at-else-wide-eq0 : goal.overflow_add-at-else-wide-eq0
+overflow_add-at-else-wide-eq0 c =
+    let k = held_kept c.loop-at.invariant.0 c.end_at-end.ensures c.if-end-at.false
+    c.width-wide.ensures c.if-wide-eq0.false c.put_kept-entries.ensures in
+    omega (arith, k.top, k.most)
+
+pub loop-at-smaller : goal.loop-at-smaller
+loop-at-smaller c =
+    let k = held_kept c.loop-at.invariant.0 c.end_at-end.ensures c.if-end-at.false
+    c.width-wide.ensures c.if-wide-eq0.false c.put_kept-entries.ensures in
+    omega (arith, k.top, c.if-wide-eq0.false)
+
+pub loop-at-preserved : goal.loop-at-preserved
+loop-at-preserved c =
+    let k = held_kept c.loop-at.invariant.0 c.end_at-end.ensures c.if-end-at.false
+    c.width-wide.ensures c.if-wide-eq0.false c.put_kept-entries.ensures in
+    (k, going_long k.going)

@@ -1,0 +1,18 @@
+-- `salvage::pass` meets its contract. The loop's invariant: the places up to here have no mark.
+use Prim.Native.Nat.{◌-◌}
+use borrow.Author.Rules.{rules}
+use Rattle.salvage.specs.Inner.{Passed}
+use Rattle.salvage.proofs.Passing.{passed_one}
+use Rattle.salvage.proofs.pass.Goals as goal
+
+pub loop-at-init : goal.loop-at-init
+loop-at-init c =
+    c.pass_blocks-at.ensures
+
+pub loop-at-preserved : goal.loop-at-preserved
+loop-at-preserved c =
+    passed_one c.loop-at.invariant c.loop-at-test.true c.octet_after.ensures c.marked.ensures c.if-marked.false
+
+pub returns : goal.returns
+returns c =
+    c.loop-at.invariant

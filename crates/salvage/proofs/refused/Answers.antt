@@ -1,0 +1,7 @@
+-- `salvage::refused` meets its contract: the refusal of that number, and zeros.
+use borrow.Author.Rules.{rules}
+use Rattle.salvage.proofs.refused.Goals as goal
+
+pub returns : goal.returns
+returns c =
+    rw c.numbered.ensures

@@ -1,0 +1,7 @@
+-- `salvage::told` meets its contract: field by field.
+use borrow.Author.Rules.{rules}
+use Rattle.salvage.proofs.told.Goals as goal
+
+pub returns : goal.returns
+returns c =
+    rw (c.numbered.ensures, c.both.ensures)

@@ -1,0 +1,26 @@
+-- `salvage::width` meets its contract: answer by answer, the place is kept or it is not.
+use borrow.Author.Rules.{rules}
+use borrow.Author.Tests.{not-true, not-false}
+use Rattle.salvage.proofs.Testing.{width_short, width_unmarked, width_outside, width_refused, width_kept}
+use Rattle.salvage.proofs.width.Goals as goal
+
+pub returns-then-rest-lt-SHORTEST : goal.returns-then-rest-lt-SHORTEST
+returns-then-rest-lt-SHORTEST c =
+    width_short _ _ _ c.if-rest-lt-SHORTEST.true
+
+pub returns-then-not-marked : goal.returns-then-not-marked
+returns-then-not-marked c =
+    width_unmarked _ _ _ c.marked.ensures c.if-not-marked.true
+
+pub returns-then-rest-size : goal.returns-then-rest-size
+returns-then-rest-size c =
+    width_outside _ _ _ c.be16.ensures c.if-rest-size.true
+
+pub returns-then-refusal-ne0 : goal.returns-then-refusal-ne0
+returns-then-refusal-ne0 c =
+    width_refused _ _ _ c.be16.ensures c.read-h.ensures.answer c.if-refusal-ne0.true
+
+pub returns : goal.returns
+returns c =
+    width_kept _ _ _ c.be16.ensures c.read-h.ensures.answer c.marked.ensures c.if-not-marked.false c.if-rest-size.false
+    c.if-refusal-ne0.false

@@ -1,0 +1,17 @@
+-- `write::middle_size` meets its contract.
+use borrow.Author.Rules.{rules}
+use Rattle.write.specs.Inner.{middle_size}
+use Rattle.write.proofs.middle_size.Goals as goal
+
+pub returns : goal.returns
+unfolding middle_size
+returns c =
+    simp (
+      c.plus-2.ensures,
+      c.plus.ensures,
+      c.size_if-c.ensures,
+      c.text_size.ensures,
+      c.size_if-b.ensures,
+      c.size_if-a.ensures,
+      c.uinteger_size.ensures,
+    )

@@ -1,0 +1,7 @@
+-- `write::secondary_size` meets its contract.
+use borrow.Author.Rules.{rules}
+use Rattle.write.proofs.secondary_size.Goals as goal
+
+pub returns : goal.returns
+returns c =
+    simp (c.plus.ensures, c.size_if.ensures, c.segmented.ensures)

@@ -1,0 +1,17 @@
+-- `write::test_names` meets its contract: its tests are the definition's, in its order.
+use borrow.Author.Rules.{rules}
+use Rattle.write.specs.Given.{name_checks, unless_all}
+use Rattle.write.proofs.test_names.Goals as goal
+
+pub returns : goal.returns
+unfolding name_checks unless_all
+returns c =
+    simp (
+      c.unless.ensures,
+      c.unless-f.ensures,
+      c.unless-e.ensures,
+      c.unless-d.ensures,
+      c.unless-c.ensures,
+      c.unless-b.ensures,
+      c.unless-a.ensures,
+    )

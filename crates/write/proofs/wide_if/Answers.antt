@@ -1,0 +1,12 @@
+-- `write::wide_if` meets its contract: the test of the branch is the definition's.
+use borrow.Author.Rules.{rules}
+use Rattle.octets.proofs.Laying.{lays_none}
+use Rattle.write.proofs.wide_if.Goals as goal
+
+pub returns-then-there : goal.returns-then-there
+returns-then-there c =
+    rw c.if-there.true c.lay_number.ensures
+
+pub returns : goal.returns
+returns c =
+    rw c.if-there.false (lays_none _ _)
