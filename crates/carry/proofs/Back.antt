@@ -271,7 +271,7 @@ module _ (s : Settings) (l : Route) {p : List ℕ} (room : ℕ) (c : Returns s l
       ∙ back_answer_lem s l p (read_pdu p) room (value_fine s p (read_pdu p) sayable)
       ∙ ap (λ (h : Head). made_answer s h (content p (read_pdu p).body) (read_pdu p).fixed.encoding room) head_is
       ∙ ap₂ (λ (b : List ℕ) (n : ℕ). made_answer s its_head b n room) body_is encoding_is
-      ∙ made_answer_lem s its_head c.pdu.body c.pdu.encoding room (size_fine s its_head c.pdu.body room c.limit c.ranges)
+      ∙ made_answer_lem s its_head c.pdu.body c.pdu.encoding room (size_fine s its_head c.pdu.body room c.limit c.fits)
 
 -- exactly these
 pub returns_exactly :
@@ -287,4 +287,4 @@ returns_output s l {p} out c =
     to_output s l p out (read_pdu p) refl (read_is s l (length out) c).0 (route_fine s l c.settings c.route)
     ∙ back_output_lem s l p (read_pdu p) out (value_fine s p (read_pdu p) (sayable s l (length out) c))
     ∙ ap₂ (λ (h : Head) (b : List ℕ). made_output s h b out) (head_is s l (length out) c) (body_is s l (length out) c)
-    ∙ made_output_lem s (head_for l c.pdu) c.pdu.body out (size_fine s (head_for l c.pdu) c.pdu.body (length out) c.limit c.ranges)
+    ∙ made_output_lem s (head_for l c.pdu) c.pdu.body out (size_fine s (head_for l c.pdu) c.pdu.body (length out) c.limit c.fits)

@@ -163,7 +163,7 @@ module _ (s : Settings) (e : ℕ) (room : ℕ) {m : List ℕ} (c : Crosses s e m
       record {
         range = subst InRange (sym given_is) its_range;
         adds = sum_lent m (accepted_message s e m);
-        fits = subst (λ (v : Pdu). length (octets_of v) ≤ room) (sym given_is) c.ranges;
+        fits = subst (λ (v : Pdu). length (octets_of v) ≤ room) (sym given_is) c.fits;
       }
 
   -- what is answered

@@ -1,0 +1,7 @@
+-- `arrival::is_segment` meets its contract.
+use borrow.Author.Rules.{rules}
+use Rattle.arrival.proofs.is_segment.Goals as goal
+
+pub returns : goal.returns
+returns c =
+    c.both.ensures

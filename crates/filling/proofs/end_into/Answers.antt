@@ -1,0 +1,17 @@
+-- `filling::end_into` meets its contract.
+use Prim.Native.Nat.{◌/◌}
+use Rattle.filling.proofs.FixedPart.{bit_of}
+use Rattle.light.proofs.Header.{body_there}
+use Rattle.packet.specs.FixedPart.{flags_of}
+use borrow.Author.Rules.{rules}
+use mathlib.Core.Path.{◌∙◌}
+use Rattle.filling.proofs.end_into.Goals as goal
+
+pub returns : goal.returns
+unfolding flags_of
+returns c =
+    λ h.
+    record {
+      walk = body_there c.args.p.now c.args.at (λ q. c.has_body.ensures h (c.requires.seg_value ∙ q));
+      same = simp (c.less-h.ensures, c.less.ensures, c.counter_size.ensures, c.requires.seg_value, bit_of (c.args.f / 8));
+    }

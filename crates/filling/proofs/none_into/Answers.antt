@@ -1,0 +1,8 @@
+-- `filling::none_into` meets its contract.
+use borrow.Author.Rules.{rules}
+use Rattle.filling.proofs.Fields.{two}
+use Rattle.filling.proofs.none_into.Goals as goal
+
+pub returns : goal.returns
+returns c =
+    two c.args.answer.now c.args.k 0 0

@@ -1,0 +1,8 @@
+-- `filling::transaction` meets its contract.
+use borrow.Author.Rules.{rules}
+use Rattle.light.proofs.FixedPart.{number_eight}
+use Rattle.filling.proofs.transaction.Goals as goal
+
+pub returns : goal.returns
+returns c =
+    number_eight c.args.p.now c.double.ensures.value c.double-2.ensures.value

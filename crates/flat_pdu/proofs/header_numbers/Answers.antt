@@ -1,0 +1,17 @@
+-- `flat_pdu::header_numbers` meets its contract: its pieces fill the answer from the first number to the last.
+use Prim.Native.Nat.{ℕ}
+use mathlib.Core.Path.{refl}
+use borrow.Author.Rules.{rules}
+use lib.ListN.{replicate, length-replicate}
+use Rattle.flat_pdu.proofs.Laying.{header_laid}
+use Rattle.flat_pdu.proofs.header_numbers.Goals as goal
+
+pub returns : goal.returns
+returns c =
+    header_laid _ (replicate 70 0) _ _ _ _ _ _ (length-replicate {A = ℕ} 70 0)
+    c.put_fixed.ensures
+    c.put_present.ensures
+    c.put_ids.ensures
+    c.put_texts.ensures
+    c.put_place.ensures
+    refl

@@ -1,0 +1,12 @@
+-- `laying::uinteger_if` meets its contract.
+use Rattle.octets.proofs.Laying.{lays_none}
+use borrow.Author.Rules.{rules}
+use Rattle.laying.proofs.uinteger_if.Goals as goal
+
+pub returns-then-there : goal.returns-then-there
+returns-then-there c =
+    rw c.if-there.true c.put_uinteger.ensures
+
+pub returns : goal.returns
+returns c =
+    rw c.if-there.false (lays_none _ _)

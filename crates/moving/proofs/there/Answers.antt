@@ -1,0 +1,13 @@
+-- `moving::there` meets its contract: the move to cells of 2,048 octets, by zero cells of both sizes.
+use mathlib.Core.Path.{refl}
+use native.Mathlib.Omega.{arith}
+use borrow.Author.Rules.{rules}
+use Rattle.moving.proofs.there.Goals as goal
+
+pub move_by-requires : goal.move_by-requires
+move_by-requires c =
+    record { from_value = refl; to_value = refl; to_len_bound = omega arith }
+
+pub returns : goal.returns
+returns c =
+    record { value = c.move_by.ensures.value; after = c.move_by.ensures.target_after; octets = λ i. (c.type_inv.old i).fits }

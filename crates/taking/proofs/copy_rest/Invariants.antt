@@ -1,0 +1,20 @@
+-- `taking::copy_rest` meets its contract. The loop's invariant: what is left of the run, laid after what is laid, is the whole.
+use mathlib.Core.Path.{refl}
+use lib.ListN.{length}
+use native.Mathlib.Omega.{arith}
+use Rattle.packet.specs.Key.{key_of}
+use Rattle.packet.specs.Reading.{read_packet}
+use Rattle.packet.specs.Numbers.{next_counter, steps_most}
+use Rattle.packet.proofs.Rounds.{counter_next}
+use Rattle.taking.specs.Follow.{places_from}
+use Rattle.taking.proofs.Pieces.{piece_found}
+use Rattle.taking.proofs.Bodies.{Copying, copying_inside, copying_first, copying_ended, copying_room, copying_long, copying_last, copying_turn}
+use borrow.Author.Rules.{rules}
+use Rattle.taking.proofs.copy_rest.Given as goal
+
+abbrev pub invariant-loop-left : goal.invariant-loop-left
+invariant-loop-left l = Copying next_counter steps_most l.s (length l.zero) l.store l.n (key_of l.q (read_packet l.s l.q))
+    (places_from next_counter steps_most l.s (length l.zero) l.store l.n (key_of l.q (read_packet l.s l.q)) (next_counter l.initial.c.0)) l.place l.initial.out l.out l.c.0 l.left l.steps l.at
+
+abbrev pub decreases-loop-left : goal.decreases-loop-left
+decreases-loop-left l = l.left

@@ -1,0 +1,15 @@
+-- `forgetting::lowest_record` meets its contract. The loop's invariant: none of the cells passed has a record.
+use Prim.Native.Nat.{◌-◌}
+use lib.ListN.{length}
+use Rattle.cells.specs.Order.{cell_at}
+use Rattle.cells.proofs.Scans.{Seeking, seeking_first, seeking_turn, seeking_found, seeking_none}
+use Rattle.taking.specs.Forgetting.{is_record, lowest_record}
+use Rattle.taking.proofs.Forgets.{record_here}
+use borrow.Author.Rules.{rules}
+use Rattle.taking.proofs.forgetting.lowest_record.Given as goal
+
+abbrev pub invariant-loop-i : goal.invariant-loop-i
+invariant-loop-i l = Seeking (λ j. is_record (cell_at l.s (length l.zero) l.store j)) l.n l.i
+
+abbrev pub decreases-loop-i : goal.decreases-loop-i
+decreases-loop-i l = l.n - l.i

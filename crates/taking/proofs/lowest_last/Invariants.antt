@@ -1,0 +1,13 @@
+-- `taking::lowest_last` meets its contract. The loop's invariant: none of the cells passed holds a last.
+use Prim.Native.Nat.{◌-◌}
+use Rattle.cells.proofs.Scans.{Seeking, seeking_first, seeking_turn, seeking_found, seeking_none}
+use Rattle.taking.specs.Follow.{ends_at}
+use Rattle.taking.proofs.Ends.{ends_yes, ends_other}
+use borrow.Author.Rules.{rules}
+use Rattle.taking.proofs.lowest_last.Given as goal
+
+abbrev pub invariant-loop-i : goal.invariant-loop-i
+invariant-loop-i l = Seeking (ends_at l.z l.store) l.n l.i
+
+abbrev pub decreases-loop-i : goal.decreases-loop-i
+decreases-loop-i l = l.n - l.i

@@ -1,0 +1,13 @@
+-- `taking::pick_message` meets its contract. The loop's invariant: the cells passed open no complete message.
+use Prim.Native.Nat.{◌-◌}
+use lib.ListN.{length}
+use Rattle.packet.specs.Numbers.{next_counter, steps_most}
+use Rattle.taking.proofs.Picks.{Picking, picking_first, picking_turn, picking_found, picking_none}
+use borrow.Author.Rules.{rules}
+use Rattle.taking.proofs.pick_message.Given as goal
+
+abbrev pub invariant-loop-i : goal.invariant-loop-i
+invariant-loop-i l = Picking next_counter steps_most l.s (length l.zero) l.store l.n l.i
+
+abbrev pub decreases-loop-i : goal.decreases-loop-i
+decreases-loop-i l = l.n - l.i
