@@ -1,6 +1,5 @@
 -- `octets::after` meets its contract: the tests of the branches are the definition's.
 use Prim.Native.Nat.{◌+◌}
-use borrow.Author.Rules.{rules}
 use borrow.Author.Tests.{le-leb, lt-leb}
 use native.Mathlib.Omega.{arith}
 use Rattle.octets.proofs.after.Goals as goal

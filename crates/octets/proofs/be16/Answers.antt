@@ -1,5 +1,4 @@
 -- `octets::be16` meets its contract: a number of 2 octets fits 16 bits.
-use borrow.Author.Rules.{rules}
 use native.Mathlib.Omega.{arith}
 use Rattle.octets.proofs.Numbers.{number_top}
 use Rattle.octets.proofs.be16.Goals as goal

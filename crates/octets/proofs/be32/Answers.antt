@@ -1,5 +1,4 @@
 -- `octets::be32` meets its contract: a number of 4 octets fits 32 bits.
-use borrow.Author.Rules.{rules}
 use native.Mathlib.Omega.{arith}
 use Rattle.octets.proofs.Numbers.{number_top}
 use Rattle.octets.proofs.be32.Goals as goal

@@ -1,7 +1,5 @@
 -- `octets::copy` meets its contract. The loop's invariant: the octets that are left, laid over what is there now, give the whole.
-use Prim.Native.Nat.{◌-◌}
-use borrow.Author.Rules.{rules}
-use Rattle.octets.proofs.Writing.{Copying, copy_first, copy_turn, copy_done}
+use Rattle.octets.proofs.Writing.{copy_first, copy_turn, copy_done}
 use Rattle.octets.proofs.copy.Goals as goal
 
 pub loop-i-init : goal.loop-i-init

@@ -1,5 +1,4 @@
 -- `octets::lay` meets its contract: either all is copied or nothing.
-use borrow.Author.Rules.{rules}
 use Rattle.octets.proofs.Laying.{lay_made, lay_kept}
 use Rattle.octets.proofs.lay.Goals as goal
 

@@ -1,5 +1,4 @@
 -- `octets::lay_number` meets its contract: either all is written or nothing.
-use borrow.Author.Rules.{rules}
 use Rattle.octets.proofs.Laying.{lay_made, lay_kept}
 use Rattle.octets.proofs.Numbers.{wide_length}
 use Rattle.octets.specs.Octets.{wide}

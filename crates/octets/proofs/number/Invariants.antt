@@ -1,8 +1,6 @@
 -- `octets::number` meets its contract. The loop's invariant: the value is the number of the octets passed.
 use Prim.Native.Nat.{◌-◌}
-use borrow.Author.Rules.{rules}
-use native.Mathlib.Omega.{arith}
-use Rattle.octets.proofs.Reading.{Summing, summing_first, summing_turn, summing_fits, summing_done}
+use Rattle.octets.proofs.Reading.{Summing}
 use Rattle.octets.proofs.number.Given as goal
 
 abbrev pub invariant-loop-k : goal.invariant-loop-k

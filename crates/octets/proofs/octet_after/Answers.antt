@@ -1,5 +1,4 @@
 -- `octets::octet_after` meets its contract: past the end the list has its default.
-use borrow.Author.Rules.{rules}
 use lib.ListN.{get_or-eq_default}
 use mathlib.Core.Path.{sym}
 use native.Mathlib.Omega.{arith}

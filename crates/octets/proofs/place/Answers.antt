@@ -1,5 +1,4 @@
 -- `octets::place` meets its contract: past the end it is the end.
-use borrow.Author.Rules.{rules}
 use native.Mathlib.Omega.{arith}
 use Rattle.octets.proofs.Places.{place_nothing, place_past, place_inside}
 use Rattle.octets.proofs.place.Goals as goal

@@ -1,7 +1,6 @@
 -- `octets::put_number` meets its contract. The loop's invariant: the octets that are left, laid over what is there now, give the whole.
-use borrow.Author.Rules.{rules}
 use native.Mathlib.Omega.{arith}
-use Rattle.octets.proofs.Writing.{Putting, first, turn, done}
+use Rattle.octets.proofs.Writing.{first, turn, done}
 use Rattle.octets.proofs.put_number.Goals as goal
 
 pub loop-left-init : goal.loop-left-init

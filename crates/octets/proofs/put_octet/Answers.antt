@@ -1,5 +1,4 @@
 -- `octets::put_octet` meets its contract: past the end nothing is set.
-use borrow.Author.Rules.{rules}
 use lib.Seq.{set_out}
 use mathlib.Core.Path.{sym}
 use Rattle.octets.proofs.put_octet.Goals as goal
