@@ -28,7 +28,7 @@ returns-in_default c =
 pub returns-then-long-lt2 : goal.returns-then-long-lt2
 unfolding out_with store_less
 returns-then-long-lt2 c =
-    let k = c.args in let e = taking_short _ _ _ _ c.pick_message-m.ensures c.in-Message.is (λ i. (c.type_inv.store i).fits) c.row.ensures c.packet_in.ensures
+    let k = c.args in let e = taking_short _ _ _ _ c.pick_message-m.ensures c.in-Message.is (λ i. (c.slice_known-1.given i).fits) c.row.ensures c.packet_in.ensures
     c.read-h.ensures.answer (length k.out.now) (omega (arith, c.if-long-lt2.true)) in named ((
       c.not_taken-then-long-lt2.ensures ∙ ap taken_of (sym e),
       (ap (out_with k.out.now) (sym e), ap (store_less k.s (length k.zero.now) k.store.now k.n) (sym e)),
@@ -37,7 +37,7 @@ returns-then-long-lt2 c =
 pub returns-then-long-h : goal.returns-then-long-h
 unfolding out_with store_less
 returns-then-long-h c =
-    let k = c.args in let e = taking_short _ _ _ _ c.pick_message-m.ensures c.in-Message.is (λ i. (c.type_inv.store i).fits) c.row.ensures
+    let k = c.args in let e = taking_short _ _ _ _ c.pick_message-m.ensures c.in-Message.is (λ i. (c.slice_known-1.given i).fits) c.row.ensures
     c.packet_in.ensures
     c.read-h.ensures.answer (length k.out.now) (omega (arith, c.if-long-lt2.false, c.if-long-h.true)) in named ((
       c.not_taken-then-long-h.ensures ∙ ap taken_of (sym e),
@@ -47,7 +47,7 @@ returns-then-long-h c =
 pub returns-then-long-h-2 : goal.returns-then-long-h-2
 unfolding out_with store_less
 returns-then-long-h-2 c =
-    let k = c.args in let e = taking_short _ _ _ _ c.pick_message-m.ensures c.in-Message.is (λ i. (c.type_inv.store i).fits) c.row.ensures
+    let k = c.args in let e = taking_short _ _ _ _ c.pick_message-m.ensures c.in-Message.is (λ i. (c.slice_known-1.given i).fits) c.row.ensures
     c.packet_in.ensures
     c.read-h.ensures.answer (length k.out.now) (omega (arith, c.if-long-lt2.false, c.if-long-h.false, c.if-long-h-2.true)) in named ((
       c.not_taken-then-long-h-2.ensures ∙ ap taken_of (sym e),
@@ -62,7 +62,7 @@ draw-requires c =
         cell_is _ _ _ _ m d,
         (
           (taking_below _ _ _ _ m d, taking_body _ _ _ _ m d),
-          taking_room _ _ _ _ m d (λ i. (c.type_inv.store i).fits) c.row.ensures c.packet_in.ensures c.read-h.ensures.answer _
+          taking_room _ _ _ _ m d (λ i. (c.slice_known-1.given i).fits) c.row.ensures c.packet_in.ensures c.read-h.ensures.answer _
               (omega (arith, c.if-long-lt2.false, c.if-long-h.false, c.if-long-h-2.false)),
         ),
       ),

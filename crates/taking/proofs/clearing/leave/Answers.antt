@@ -17,18 +17,18 @@ returns-then-not-is_within c =
 pub returns-then-first-c : goal.returns-then-first-c
 returns-then-first-c c =
     let a = c.args in leave_zeros a.s a.store.now a.zero.now a.key.now a.first.0 a.steps a.i c.row-row.ensures
-    c.is_within.ensures c.if-not-is_within.false (λ j. (c.type_inv.store j).fits) c.packet_in.ensures
+    c.is_within.ensures c.if-not-is_within.false (λ j. (c.slice_known-1.given j).fits) c.packet_in.ensures
     c.counter_in-c.ensures c.requires.zero_value c.put_row.ensures c.if-first-c.true
 
 pub put_record-requires : goal.put_record-requires
 put_record-requires c =
     let a = c.args in leave_room a.s a.store.now a.zero.now a.key.now a.first.0 a.steps a.i c.row-row.ensures
-    c.is_within.ensures c.if-not-is_within.false (λ j. (c.type_inv.store j).fits) c.packet_in.ensures
+    c.is_within.ensures c.if-not-is_within.false (λ j. (c.slice_known-1.given j).fits) c.packet_in.ensures
     c.counter_in-c.ensures c.requires.zero_value c.put_row.ensures c.requires.counter_width_in_bounds
 
 pub returns : goal.returns
 returns c =
     let a = c.args in leave_record a.s a.store.now a.zero.now a.key.now a.first.0 a.steps a.i c.row-row.ensures
-    c.is_within.ensures c.if-not-is_within.false (λ j. (c.type_inv.store j).fits) c.packet_in.ensures
+    c.is_within.ensures c.if-not-is_within.false (λ j. (c.slice_known-1.given j).fits) c.packet_in.ensures
     c.counter_in-c.ensures c.requires.zero_value c.put_row.ensures c.requires.counter_width_in_bounds c.if-first-c.false c.requires.last_value
     c.put_record.ensures
