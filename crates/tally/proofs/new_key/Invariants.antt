@@ -1,0 +1,19 @@
+-- `tally::new_key` meets its contract. The loop's invariant: whether none of the cells passed has the key.
+use Prim.Native.Nat.{ℕ, ◌-◌}
+use borrow.Author.Rules.{rules}
+use lib.ListN.{length}
+use mathlib.Core.List.{List}
+use mathlib.Core.Path.{ap, ◌∙◌}
+use Rattle.packet.specs.Reading.{read_packet}
+use Rattle.packet.specs.Key.{key_of}
+use Rattle.cells.specs.Rows.{cell_of}
+use Rattle.cells.specs.Order.{cell_at}
+use Rattle.tally.specs.Counting.{keyed, new_key_to}
+use Rattle.tally.proofs.Passing.{Tested, tested_first, tested_turn, tested_done}
+use Rattle.tally.proofs.new_key.Given as goal
+
+abbrev pub invariant-loop-j : goal.invariant-loop-j
+invariant-loop-j l = Tested (λ k. keyed (key_of l.q (read_packet l.s l.q)) (cell_at l.s (length l.zero) l.store k)) l.n l.is_new l.j
+
+abbrev pub decreases-loop-j : goal.decreases-loop-j
+decreases-loop-j l = l.n - l.j

@@ -1,0 +1,8 @@
+-- `tally::taken` meets its contract: what is judged of a row tells it.
+use borrow.Author.Rules.{rules}
+use Rattle.taking.proofs.Forgets.{record_judged}
+use Rattle.tally.proofs.taken.Goals as goal
+
+pub returns : goal.returns
+returns c =
+    record_judged _ _ _ c.judge-t.ensures c.is_taken.ensures
