@@ -1,0 +1,7 @@
+-- `flat_store::recordings::salvaged_numbers` meets its contract.
+use borrow.Author.Rules.{rules}
+use Rattle.flat_store.proofs.recordings.salvaged_numbers.Goals as goal
+
+pub returns : goal.returns
+returns c =
+    cc
