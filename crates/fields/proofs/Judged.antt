@@ -1,6 +1,6 @@
 -- What is tested for text, on plain values: a content as it is read, and the invariant of the loop over the parts of a domain.
 -- Assumes nothing.
-use Prim.Native.Nat.{ℕ, suc, ◌+◌, ◌-◌, ◌≤◌, ◌<◌}
+use Prim.Native.Nat.{ℕ, ◌+◌, ◌-◌, ◌≤◌, ◌<◌}
 use mathlib.Core.Path.{◌≡◌, refl, ap, sym, ◌∙◌}
 use mathlib.Core.Bool.{Bool, true, false}
 use mathlib.Core.List.{List, [], ◌∷◌}
@@ -17,7 +17,7 @@ use Rattle.utf8.proofs.Single.{single_text, single_take, single_drop}
 use Rattle.walk.specs.declared.Settings.{Settings}
 use Rattle.walk.specs.declared.Bound.{Bound}
 use Rattle.walk.specs.declared.Walk.{Walk}
-use Rattle.walk.specs.Walk.{Reading, refused, going, check}
+use Rattle.walk.specs.Walk.{Reading, refused, going}
 use Rattle.walk.specs.Inner.{as_walk}
 use Rattle.walk.proofs.Steps.{check_refused, check_ok, check_fails}
 use Rattle.fields.specs.declared.Text.{Text}

@@ -1,5 +1,4 @@
 -- `fields::block_if` meets its contract: the test of the branch is the definition's.
-use borrow.Author.Rules.{rules}
 use Rattle.fields.specs.Fields.{block}
 use Rattle.fields.proofs.block_if.Goals as goal
 

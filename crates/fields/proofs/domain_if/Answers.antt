@@ -1,5 +1,4 @@
 -- `fields::domain_if` meets its contract: the test of the branch is the definition's.
-use borrow.Author.Rules.{rules}
 use Rattle.fields.proofs.domain_if.Goals as goal
 
 pub returns-then-there : goal.returns-then-there

@@ -1,9 +1,6 @@
 -- `fields::domain_size_to` meets its contract. The loop's invariant, `Sizing`: what is counted and what is left are the whole.
-use Prim.Native.Nat.{◌-◌}
-use borrow.Author.Rules.{rules}
-use lib.ListN.{length}
 use native.Mathlib.Omega.{arith}
-use Rattle.fields.proofs.Sized.{Sizing, sizing_first, sizing_turn, sizing_done}
+use Rattle.fields.proofs.Sized.{sizing_first, sizing_turn, sizing_done}
 use Rattle.fields.proofs.domain_size_to.Goals as goal
 
 pub loop-k-init : goal.loop-k-init

@@ -1,6 +1,5 @@
 -- `fields::is_text_at` meets its contract: past the end there are no octets, which are text; else the slice is the part.
 use mathlib.Core.Path.{ap, ◌∙◌}
-use borrow.Author.Rules.{rules}
 use native.Mathlib.Omega.{arith}
 use Rattle.octets.proofs.Places.{part_at}
 use Rattle.utf8.specs.Test.{is_text}

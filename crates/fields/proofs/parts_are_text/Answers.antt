@@ -1,11 +1,11 @@
 -- `fields::parts_are_text` meets its contract: parts of single octets are text. Else the loop's invariant, `Judged`: what is tested and
 -- what is left are all the parts.
-use Prim.Native.Nat.{◌-◌, ◌≤◌}
+use Prim.Native.Nat.{◌≤◌}
 use mathlib.Core.Path.{sym, ◌∙◌}
 use borrow.Author.Rules.{rules}
 use lib.ListN.{length, get_or}
 use native.Mathlib.Omega.{arith}
-use Rattle.fields.proofs.Judged.{Judged, judged_first, judged_inside, judged_turn, judged_done, single_parts}
+use Rattle.fields.proofs.Judged.{judged_first, judged_inside, judged_turn, judged_done, single_parts}
 use Rattle.fields.proofs.parts_are_text.Goals as goal
 
 pub returns-then-all_single : goal.returns-then-all_single

@@ -1,5 +1,5 @@
 -- `fields::parts_to` meets its contract. The loop's invariant: k parts are read, each in its place.
-use Prim.Native.Nat.{ℕ, ◌≤◌, ◌-◌}
+use Prim.Native.Nat.{ℕ}
 use borrow.Author.Rules.{rules}
 use lib.ListN.{set}
 use mathlib.Core.List.{List}

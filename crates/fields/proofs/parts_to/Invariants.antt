@@ -1,21 +1,12 @@
 -- `fields::parts_to` meets its contract. The loop's invariant: k parts are read, each in its place.
 use Prim.Native.Nat.{ℕ, ◌≤◌, ◌-◌}
-use borrow.Author.Rules.{rules}
-use lib.ListN.{set}
 use mathlib.Core.List.{List}
-use mathlib.Core.Path.{◌≡◌, refl, ap, ◌∙◌}
-use native.Mathlib.Nat.{le_antisymm}
-use native.Mathlib.Numerals.{add-one}
-use Rattle.walk.specs.declared.Settings.{Settings}
-use Rattle.walk.specs.declared.Bound.{Bound}
+use mathlib.Core.Path.{◌≡◌}
 use Rattle.walk.specs.declared.Walk.{Walk}
-use Rattle.walk.specs.Walk.{Step}
-use Rattle.walk.specs.Inner.{of_walk}
 use Rattle.fields.specs.declared.Domain.{Domain}
 use Rattle.fields.specs.declared.Place.{Place}
-use Rattle.fields.specs.declared.Text.{Text}
-use Rattle.fields.specs.Fields.{Parts, part, part_at, parts_to}
-use Rattle.fields.specs.Inner.{as_text, as_domain, of_domain}
+use Rattle.fields.specs.Fields.{parts_to}
+use Rattle.fields.specs.Inner.{as_domain, of_domain}
 use Rattle.fields.proofs.parts_to.Given as goal
 
 abbrev pub domain-of : Walk → ℕ → List Place → Domain

@@ -1,5 +1,4 @@
 -- `fields::put_blob` meets its contract: a length, and then the octets.
-use borrow.Author.Rules.{rules}
 use Rattle.fields.specs.Inner.{blob_pieces}
 use Rattle.octets.proofs.Laying.{lays_both}
 use Rattle.fields.proofs.put_blob.Goals as goal

@@ -1,5 +1,4 @@
 -- `fields::put_domain` meets its contract: a count, and then the parts.
-use borrow.Author.Rules.{rules}
 use Rattle.fields.proofs.Written.{length_split}
 use Rattle.fields.specs.Inner.{domain_pieces}
 use Rattle.octets.proofs.Laying.{lays_both}

@@ -1,5 +1,4 @@
 -- `fields::put_part` meets its contract: an octet of 1, and then a text.
-use borrow.Author.Rules.{rules}
 use Rattle.fields.specs.Inner.{part_pieces}
 use Rattle.octets.proofs.Laying.{lays_both}
 use Rattle.octets.specs.Octets.{wide}

@@ -1,11 +1,10 @@
 -- `fields::put_parts` meets its contract. The loop's invariant, `Parting`: what is written and what is left are all the pieces.
-use Prim.Native.Nat.{◌-◌, ◌≤◌}
-use Prim.Native.Nat.{◌-◌}
+use Prim.Native.Nat.{◌≤◌}
 use borrow.Author.Rules.{rules}
 use lib.ListN.{length, get_or}
 use lib.ListN.{length}
 use native.Mathlib.Omega.{arith}
-use Rattle.fields.proofs.Written.{Parting, parting_first, parting_inside, parting_turn, parting_done}
+use Rattle.fields.proofs.Written.{parting_first, parting_inside, parting_turn, parting_done}
 use Rattle.fields.proofs.put_parts.Goals as goal
 
 pub loop-k-init : goal.loop-k-init

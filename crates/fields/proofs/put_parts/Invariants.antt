@@ -1,11 +1,9 @@
 -- `fields::put_parts` meets its contract. The loop's invariant, `Parting`: what is written and what is left are all the pieces.
-use Prim.Native.Nat.{◌-◌, ◌≤◌}
 use Prim.Native.Nat.{◌-◌}
-use borrow.Author.Rules.{rules}
-use lib.ListN.{length, get_or}
+use Prim.Native.Nat.{◌-◌}
 use lib.ListN.{length}
-use native.Mathlib.Omega.{arith}
-use Rattle.fields.proofs.Written.{Parting, parting_first, parting_inside, parting_turn, parting_done}
+use lib.ListN.{length}
+use Rattle.fields.proofs.Written.{Parting}
 use Rattle.fields.proofs.put_parts.Given as goal
 
 abbrev pub invariant-loop-k : goal.invariant-loop-k

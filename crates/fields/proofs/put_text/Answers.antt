@@ -1,5 +1,4 @@
 -- `fields::put_text` meets its contract: a text is written as a blob.
-use borrow.Author.Rules.{rules}
 use Rattle.fields.specs.Inner.{text_pieces}
 use Rattle.fields.proofs.put_text.Goals as goal
 

@@ -1,5 +1,4 @@
 -- `fields::put_uinteger` meets its contract: the profile chooses as in the definition, and either writing is whole or not at all.
-use borrow.Author.Rules.{rules}
 use borrow.Author.Tests.{eq-eqb, ne_eqb}
 use Rattle.fields.specs.Form.{uinteger_octets}
 use Rattle.fields.proofs.put_uinteger.Goals as goal

@@ -1,5 +1,4 @@
 -- `fields::put_varint` meets its contract: the Varint is written whole or not at all.
-use borrow.Author.Rules.{rules}
 use Rattle.fields.proofs.Written.{number_done, number_full}
 use Rattle.fields.proofs.put_varint.Goals as goal
 

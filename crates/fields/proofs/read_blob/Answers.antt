@@ -1,5 +1,4 @@
 -- `fields::read_blob` meets its contract: its steps are the definition's.
-use borrow.Author.Rules.{rules}
 use Rattle.fields.specs.Fields.{blob}
 use Rattle.fields.proofs.read_blob.Goals as goal
 

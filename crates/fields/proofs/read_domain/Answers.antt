@@ -1,5 +1,4 @@
 -- `fields::read_domain` meets its contract: the test of the branch is the definition's.
-use borrow.Author.Rules.{rules}
 use Rattle.fields.proofs.Steps.{domain_parts, domain_many}
 use Rattle.fields.proofs.read_domain.Goals as goal
 

@@ -1,5 +1,4 @@
 -- `fields::read_part` meets its contract: its steps are the definition's.
-use borrow.Author.Rules.{rules}
 use Rattle.fields.specs.Fields.{marked_text, part}
 use Rattle.fields.proofs.read_part.Goals as goal
 

@@ -1,5 +1,4 @@
 -- `fields::read_text` meets its contract: a text is read as a blob, and then tested; after a refusal nothing is tested.
-use borrow.Author.Rules.{rules}
 use Rattle.fields.proofs.Judged.{text_refused, text_held, text_fails}
 use Rattle.fields.proofs.read_text.Goals as goal
 

@@ -1,5 +1,4 @@
 -- `fields::uinteger_if` meets its contract: the test of the branch is the definition's.
-use borrow.Author.Rules.{rules}
 use Rattle.fields.proofs.uinteger_if.Goals as goal
 
 pub returns-then-there : goal.returns-then-there

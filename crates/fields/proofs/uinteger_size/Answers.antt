@@ -1,5 +1,4 @@
 -- `fields::uinteger_size` meets its contract: the profile chooses as in the definition.
-use borrow.Author.Rules.{rules}
 use borrow.Author.Tests.{eq-eqb, ne_eqb}
 use Rattle.octets.proofs.Numbers.{wide_length}
 use Rattle.fields.specs.Form.{uinteger_octets}

@@ -1,5 +1,4 @@
 -- `packet::body_walk` meets its contract: the test of the branch is the definition's.
-use borrow.Author.Rules.{rules}
 use mathlib.Core.Path.{sym, ◌∙◌}
 use Rattle.packet.specs.Reading.{body_test}
 use Rattle.packet.proofs.body_walk.Goals as goal

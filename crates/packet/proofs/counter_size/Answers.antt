@@ -1,5 +1,4 @@
 -- `packet::counter_size` meets its contract: the test of the branch is the definition's.
-use borrow.Author.Rules.{rules}
 use mathlib.Core.Path.{sym, ◌∙◌}
 use Rattle.packet.proofs.counter_size.Goals as goal
 

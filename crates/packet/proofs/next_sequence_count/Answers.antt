@@ -1,5 +1,4 @@
 -- `packet::next_sequence_count` meets its contract: one packet on.
-use borrow.Author.Rules.{rules}
 use mathlib.Core.Path.{◌∙◌}
 use Rattle.packet.proofs.Counts.{count_next}
 use Rattle.packet.proofs.next_sequence_count.Goals as goal

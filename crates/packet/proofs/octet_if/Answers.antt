@@ -1,5 +1,4 @@
 -- `packet::octet_if` meets its contract: the test of the branch is the definition's.
-use borrow.Author.Rules.{rules}
 use Rattle.packet.specs.FixedPart.{octet_field}
 use Rattle.packet.proofs.octet_if.Goals as goal
 

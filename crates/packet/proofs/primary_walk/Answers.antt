@@ -1,5 +1,4 @@
 -- `packet::primary_walk` meets its contract: its tests are the definition's.
-use borrow.Author.Rules.{rules}
 use Rattle.packet.specs.Reading.{primary_tests}
 use Rattle.packet.proofs.primary_walk.Goals as goal
 

@@ -1,5 +1,4 @@
 -- `packet::read_fixed` meets its contract: its steps are the definition's.
-use borrow.Author.Rules.{rules}
 use Rattle.packet.specs.Inner.{fixed_step, names_of, routing_of}
 use Rattle.packet.specs.FixedPart.{fixed_of, present_of, after_presence, after_transaction}
 use Rattle.packet.proofs.read_fixed.Goals as goal

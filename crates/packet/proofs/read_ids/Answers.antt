@@ -1,5 +1,4 @@
 -- `packet::read_ids` meets its contract: its steps are the definition's.
-use borrow.Author.Rules.{rules}
 use Rattle.packet.specs.Reading.{ids_of}
 use Rattle.packet.proofs.read_ids.Goals as goal
 

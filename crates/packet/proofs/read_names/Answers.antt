@@ -1,5 +1,4 @@
 -- `packet::read_names` meets its contract: its steps are the definition's.
-use borrow.Author.Rules.{rules}
 use mathlib.Core.Path.{ap, sym}
 use Rattle.packet.specs.Inner.{names_of}
 use Rattle.packet.specs.FixedPart.{sdu_field, octet_field, wide_field, after_version, after_operation, after_service, after_area}

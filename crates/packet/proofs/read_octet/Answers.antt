@@ -1,5 +1,4 @@
 -- `packet::read_octet` meets its contract: its steps are the definition's.
-use borrow.Author.Rules.{rules}
 use Rattle.packet.specs.FixedPart.{octet_field}
 use Rattle.packet.proofs.read_octet.Goals as goal
 

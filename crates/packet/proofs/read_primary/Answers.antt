@@ -1,5 +1,4 @@
 -- `packet::read_primary` meets its contract: its values are the definition's.
-use borrow.Author.Rules.{rules}
 use Rattle.packet.specs.Reading.{primary_of}
 use Rattle.packet.proofs.read_primary.Goals as goal
 

@@ -1,5 +1,4 @@
 -- `packet::read_routing` meets its contract: its steps are the definition's.
-use borrow.Author.Rules.{rules}
 use Rattle.packet.specs.Inner.{routing_of}
 use Rattle.packet.specs.FixedPart.{octet_field, wide_field, after_qualifier, after_secondary, after_session}
 use Rattle.packet.proofs.read_routing.Goals as goal

@@ -1,5 +1,4 @@
 -- `packet::read_sdu` meets its contract: its steps are the definition's.
-use borrow.Author.Rules.{rules}
 use mathlib.Core.Path.{ap, sym}
 use Rattle.packet.specs.FixedPart.{sdu_field, after_sdu, octet_field}
 use Rattle.packet.specs.declared.Octet.{Octet}

@@ -1,5 +1,4 @@
 -- `packet::read_texts` meets its contract: its steps are the definition's.
-use borrow.Author.Rules.{rules}
 use mathlib.Core.Path.{ap, sym}
 use Rattle.fields.specs.Inner.{of_text, of_domain}
 use Rattle.packet.specs.Reading.{texts_of}

@@ -1,5 +1,4 @@
 -- `packet::read_word` meets its contract: its steps are the definition's.
-use borrow.Author.Rules.{rules}
 use Rattle.packet.specs.FixedPart.{wide_field}
 use Rattle.packet.proofs.read_word.Goals as goal
 

@@ -1,5 +1,4 @@
 -- `packet::refusal_of` meets its contract, case by case.
-use borrow.Author.Rules.{rules}
 use borrow.Author.Tests.{ne_eqb}
 use Rattle.packet.proofs.Whole.{ends_told}
 use Rattle.packet.specs.Reading.{refusal_of}

@@ -1,5 +1,4 @@
 -- `packet::refused_header` meets its contract: all else is zero, and no flag is set.
-use borrow.Author.Rules.{rules}
 use Rattle.packet.specs.FixedPart.{flags_of}
 use Rattle.packet.specs.Reading.{refused_header}
 use Rattle.packet.proofs.refused_header.Goals as goal

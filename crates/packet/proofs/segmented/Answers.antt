@@ -1,5 +1,4 @@
 -- `packet::segmented` meets its contract.
-use borrow.Author.Rules.{rules}
 use Rattle.packet.proofs.segmented.Goals as goal
 
 pub returns : goal.returns

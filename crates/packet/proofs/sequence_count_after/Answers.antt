@@ -1,5 +1,4 @@
 -- `packet::sequence_count_after` meets its contract: the closed form is the definition's steps.
-use borrow.Author.Rules.{rules}
 use native.Mathlib.Omega.{arith}
 use Rattle.packet.proofs.Counts.{count_here, count_after}
 use Rattle.packet.proofs.sequence_count_after.Goals as goal

@@ -1,5 +1,4 @@
 -- `sender::counter_after` meets its contract, case by case.
-use borrow.Author.Rules.{rules}
 use mathlib.Core.Path.{refl}
 use native.Mathlib.Omega.{arith}
 use Rattle.sender.proofs.Moving.{after_below, after_round}

@@ -1,5 +1,4 @@
 -- `utf8::all_follow` meets its contract: its two parts are the whole.
-use borrow.Author.Rules.{rules}
 use mathlib.Core.Path.{◌∙◌}
 use native.Mathlib.Omega.{arith}
 use Rattle.utf8.proofs.Passing.{all_at, all_parts}

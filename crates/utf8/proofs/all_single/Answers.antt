@@ -1,6 +1,5 @@
 -- `utf8::all_single` meets its contract: place by place is octet by octet.
 use mathlib.Core.Path.{◌∙◌}
-use borrow.Author.Rules.{rules}
 use Rattle.utf8.proofs.Single.{single_places}
 use Rattle.utf8.proofs.all_single.Goals as goal
 

@@ -1,5 +1,4 @@
 -- `utf8::begins` meets its contract: its tests are the definition's.
-use borrow.Author.Rules.{rules}
 use Rattle.utf8.specs.Test.{begins}
 use Rattle.utf8.proofs.begins.Goals as goal
 

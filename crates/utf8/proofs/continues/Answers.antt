@@ -1,5 +1,4 @@
 -- `utf8::continues` meets its contract: its tests are the definition's.
-use borrow.Author.Rules.{rules}
 use Rattle.utf8.specs.Test.{continues}
 use Rattle.utf8.proofs.continues.Goals as goal
 

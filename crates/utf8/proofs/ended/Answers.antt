@@ -1,5 +1,4 @@
 -- `utf8::ended` meets its contract: its tests are the definition's.
-use borrow.Author.Rules.{rules}
 use Rattle.utf8.specs.Test.{ended}
 use Rattle.utf8.proofs.ended.Goals as goal
 

@@ -1,5 +1,4 @@
 -- `utf8::ended_at` meets its contract, by what it calls.
-use borrow.Author.Rules.{rules}
 use Rattle.utf8.specs.Places.{ended_at}
 use Rattle.utf8.proofs.ended_at.Goals as goal
 

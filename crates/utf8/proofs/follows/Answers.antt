@@ -1,5 +1,4 @@
 -- `utf8::follows` meets its contract: the branch is the definition's.
-use borrow.Author.Rules.{rules}
 use mathlib.Core.Path.{sym}
 use Rattle.utf8.specs.Test.{follows}
 use Rattle.utf8.proofs.follows.Goals as goal

@@ -1,5 +1,4 @@
 -- `utf8::follows_at` meets its contract, by what it calls.
-use borrow.Author.Rules.{rules}
 use Rattle.utf8.specs.Places.{follows_at}
 use Rattle.utf8.proofs.follows_at.Goals as goal
 

@@ -1,11 +1,8 @@
 -- `utf8::is_text` meets its contract. The loop's invariant: one flag tells whether the octets passed may stand where they do, the other
 -- whether no character is unfinished after them.
 use Prim.Native.Nat.{◌-◌}
-use borrow.Author.Rules.{rules}
 use lib.ListN.{length}
-use mathlib.Core.Logic.{⊎_elim}
-use mathlib.Core.Path.{sym, ◌∙◌}
-use Rattle.utf8.proofs.Judging.{Judging, judging_first, judging_singles, judging_others, judging_done}
+use Rattle.utf8.proofs.Judging.{Judging}
 use Rattle.utf8.proofs.is_text.Given as goal
 
 abbrev pub invariant-loop-at : goal.invariant-loop-at

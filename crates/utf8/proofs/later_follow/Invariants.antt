@@ -1,8 +1,6 @@
 -- `utf8::later_follow` meets its contract. The loop's invariant: the flag tells whether the octets passed may stand where they do.
 use Prim.Native.Nat.{◌+◌, ◌-◌}
-use borrow.Author.Rules.{rules}
-use Rattle.utf8.proofs.Blocks.{follows_later}
-use Rattle.utf8.proofs.Passing.{Passing, passing_first, passing_turn, passing_done}
+use Rattle.utf8.proofs.Passing.{Passing}
 use Rattle.utf8.specs.Places.{follows_at}
 use Rattle.utf8.proofs.later_follow.Given as goal
 

@@ -1,5 +1,4 @@
 -- `utf8::octet_before` meets its contract: the test of the branch is the definition's.
-use borrow.Author.Rules.{rules}
 use borrow.Author.Tests.{le-leb, lt-leb}
 use Rattle.utf8.specs.Places.{octet_before}
 use Rattle.utf8.proofs.octet_before.Goals as goal

@@ -1,5 +1,4 @@
 -- `utf8::rest_ends` meets its contract: single octets may stand, and end, exactly if no character is unfinished before them.
-use borrow.Author.Rules.{rules}
 use mathlib.Core.Path.{sym, ◌∙◌}
 use Rattle.utf8.proofs.Blocks.{singles_rest}
 use Rattle.utf8.proofs.rest_ends.Goals as goal

@@ -1,7 +1,5 @@
 -- `utf8::singles` meets its contract. The loop's invariant: the flag tells whether the octets passed are single.
-use Prim.Native.Nat.{◌-◌}
-use borrow.Author.Rules.{rules}
-use Rattle.utf8.proofs.Passing.{Passing, passing_first, passing_turn, passing_done}
+use Rattle.utf8.proofs.Passing.{passing_first, passing_turn, passing_done}
 use Rattle.utf8.specs.Places.{single_at}
 use Rattle.utf8.proofs.singles.Goals as goal
 

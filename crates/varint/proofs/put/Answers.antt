@@ -1,8 +1,7 @@
 -- `varint::put` meets its contract. The loop's invariant, `Putting`: what is left to write, laid over what is there, is the whole.
-use borrow.Author.Rules.{rules}
 use lib.ListN.{length-set}
 use native.Mathlib.Omega.{arith}
-use Rattle.varint.proofs.Putting.{Putting, putting_first, no_room, inside, turn, put_last}
+use Rattle.varint.proofs.Putting.{putting_first, no_room, inside, turn, put_last}
 use Rattle.varint.proofs.put.Goals as goal
 
 -- a pair with the names of the clauses

@@ -1,5 +1,4 @@
 -- `varint::read16` meets its contract: its largest value is all ones.
-use borrow.Author.Rules.{rules}
 use Rattle.varint.proofs.Laws.{ones}
 use Rattle.varint.proofs.read16.Goals as goal
 

@@ -1,10 +1,7 @@
 -- `varint::read_to` meets its contract. The loop's invariant, `Going`: what is left to read, joined to what was, is the whole.
 use Prim.Native.Nat.{◌-◌}
 use lib.ListN.{length}
-use mathlib.Core.Path.{ap, sym}
-use native.Mathlib.Omega.{arith}
-use Rattle.varint.proofs.Turns.{Going, going_first, ended, sum_fits, over, wide, found_first, found_later, not_shortest, more}
-use Rattle.varint.specs.Answer.{found}
+use Rattle.varint.proofs.Turns.{Going}
 use Rattle.varint.proofs.read_to.Given as goal
 
 abbrev pub invariant-loop-i : goal.invariant-loop-i

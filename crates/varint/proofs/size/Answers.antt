@@ -1,10 +1,6 @@
 -- `varint::size` meets its contract. The loop's invariant: the octets counted and those left are all of them and one.
-use Prim.Native.Nat.{◌+◌, ◌≤◌}
-use lib.ListN.{length}
-use mathlib.Core.Path.{◌≡◌}
 use native.Mathlib.Omega.{arith}
 use Rattle.varint.proofs.Forms.{size_small, size_more, size_most_lem}
-use Rattle.varint.specs.Varint.{write}
 use Rattle.varint.proofs.size.Goals as goal
 
 pub loop-x-init : goal.loop-x-init

@@ -2,8 +2,6 @@
 use Prim.Native.Nat.{◌+◌, ◌≤◌}
 use lib.ListN.{length}
 use mathlib.Core.Path.{◌≡◌}
-use native.Mathlib.Omega.{arith}
-use Rattle.varint.proofs.Forms.{size_small, size_more, size_most_lem}
 use Rattle.varint.specs.Varint.{write}
 use Rattle.varint.proofs.size.Given as goal
 

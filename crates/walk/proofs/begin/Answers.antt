@@ -1,5 +1,4 @@
 -- `walk::begin` meets its contract: its steps are the definition's.
-use borrow.Author.Rules.{rules}
 use Rattle.walk.specs.Walk.{begun}
 use Rattle.walk.proofs.begin.Goals as goal
 

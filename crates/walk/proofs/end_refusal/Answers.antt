@@ -1,5 +1,4 @@
 -- `walk::end_refusal` meets its contract: the test of the branch is the definition's.
-use borrow.Author.Rules.{rules}
 use borrow.Author.Tests.{le-leb, lt-leb}
 use Rattle.walk.proofs.end_refusal.Goals as goal
 

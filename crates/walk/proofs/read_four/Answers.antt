@@ -1,5 +1,4 @@
 -- `walk::read_four` meets its contract: four octets and the number that they write.
-use borrow.Author.Rules.{rules}
 use Rattle.walk.specs.Walk.{wide_field}
 use Rattle.walk.proofs.read_four.Goals as goal
 

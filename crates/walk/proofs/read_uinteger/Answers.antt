@@ -1,5 +1,4 @@
 -- `walk::read_uinteger` meets its contract: the profile chooses as in the definition.
-use borrow.Author.Rules.{rules}
 use borrow.Author.Tests.{eq-eqb, ne_eqb}
 use Rattle.walk.specs.Walk.{uinteger}
 use Rattle.walk.proofs.read_uinteger.Goals as goal

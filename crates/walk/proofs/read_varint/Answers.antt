@@ -1,6 +1,5 @@
 -- `walk::read_varint` meets its contract: each case of the Varint's reading is the definition's, and a place within the limit and a
 -- value of 32 bits fit.
-use borrow.Author.Rules.{rules}
 use borrow.Author.Tests.{ne_eqb}
 use mathlib.Core.Path.{sym, ap}
 use native.Mathlib.Omega.{arith}

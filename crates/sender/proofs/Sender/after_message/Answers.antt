@@ -1,5 +1,4 @@
 -- `sender::Sender::after_message` meets its contract, case by case.
-use borrow.Author.Rules.{rules}
 use Rattle.sender.proofs.Moving.{message_whole, message_segments}
 use Rattle.sender.proofs.Sender.after_message.Goals as goal
 

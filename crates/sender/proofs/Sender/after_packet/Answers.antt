@@ -1,5 +1,4 @@
 -- `sender::Sender::after_packet` meets its contract.
-use borrow.Author.Rules.{rules}
 use Rattle.sender.specs.Sending.{after_packet}
 use Rattle.sender.proofs.Sender.after_packet.Goals as goal
 

@@ -1,5 +1,4 @@
 -- `sender::Sender::after_segment` meets its contract: one segment on.
-use borrow.Author.Rules.{rules}
 use mathlib.Core.Path.{◌∙◌}
 use Rattle.sender.proofs.Moving.{moved_one}
 use Rattle.sender.proofs.Sender.after_segment.Goals as goal

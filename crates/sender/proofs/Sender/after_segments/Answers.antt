@@ -1,5 +1,4 @@
 -- `sender::Sender::after_segments` meets its contract: the closed forms are the definition's steps.
-use borrow.Author.Rules.{rules}
 use Rattle.sender.proofs.Moving.{moved_both}
 use Rattle.sender.proofs.Sender.after_segments.Goals as goal
 
