@@ -1,7 +1,7 @@
 -- Whether a cell is a record that covers a key and a counter, as the code tests it.
 -- Assumes nothing.
 use Prim.Native.Nat.{ℕ, ◌+◌, ◌-◌, ◌≤◌, ◌<◌}
-use mathlib.Core.Path.{◌≡◌, refl, ap, ap₂, sym, ◌∙◌}
+use mathlib.Core.Path.{◌≡◌, ap, ap₂, sym, ◌∙◌}
 use mathlib.Core.Logic.{⊎_elim}
 use mathlib.Core.Bool.{Bool, true, false}
 use mathlib.Core.List.{List}
@@ -19,7 +19,7 @@ use Rattle.format.proofs.Frame.{identification_long}
 use Rattle.format.proofs.Accepting.{accepted}
 use Rattle.cells.specs.declared.Judged.{Judged}
 use Rattle.cells.specs.Segments.{both, reaches}
-use Rattle.cells.specs.Rows.{Cell, taken, by_range, cell_of, first_in, key_long, key_taken, first_taken, last_taken, steps_between, range_of}
+use Rattle.cells.specs.Rows.{Cell, by_range, cell_of, first_in, key_long, key_taken, first_taken, last_taken, steps_between, range_of}
 use Rattle.cells.specs.Order.{covers, covers_in}
 use Rattle.cells.specs.Inner.{body_in, judged_of, told_taken, Asked}
 use Rattle.cells.specs.Chains.{key_in}

@@ -2,7 +2,7 @@
 -- Assumes nothing.
 use Prim.Native.Nat.{ℕ, ◌+◌, ◌<◌}
 use mathlib.Core.Path.{◌≡◌, refl, ap, ap₂, sym, ◌∙◌}
-use mathlib.Core.Logic.{◌⊎◌, ⊎_elim}
+use mathlib.Core.Logic.{⊎_elim}
 use mathlib.Core.Bool.{Bool, true, false}
 use mathlib.Core.Option.{none}
 use mathlib.Core.List.{List}
@@ -18,7 +18,7 @@ use Rattle.packet.specs.Reading.{read_packet}
 use Rattle.packet.specs.Key.{key_of}
 use Rattle.cells.specs.declared.Judged.{Judged}
 use Rattle.cells.specs.Segments.{seg_of, both}
-use Rattle.cells.specs.Rows.{Cell, segment_in, by_segment, row_at, packet_in, cell_of}
+use Rattle.cells.specs.Rows.{segment_in, by_segment, row_at, packet_in, cell_of}
 use Rattle.cells.specs.Order.{cells_most, carries_in, cell_at, new_to, new_at, found_in, untaken_to, untaken_in}
 use Rattle.cells.specs.Inner.{counter_in, body_in, judged_of, told_held, body_start, Asked}
 use Rattle.cells.specs.Chains.{chains_all, bucket_of, key_in, bucket_in, bucket_at, Chained}

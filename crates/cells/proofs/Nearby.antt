@@ -2,7 +2,7 @@
 -- Assumes nothing.
 use Prim.Native.Nat.{ℕ, suc, ◌+◌, ◌-◌, ◌*◌, ◌/◌, ◌≤◌, ◌<◌}
 use mathlib.Core.Path.{◌≡◌, refl, ap, ap₂, sym, ◌∙◌}
-use mathlib.Core.Logic.{◌⊎◌, inl, inr, ⊎_elim}
+use mathlib.Core.Logic.{inr, ⊎_elim}
 use mathlib.Core.Bool.{Bool, true, false, not, false≢true}
 use mathlib.Core.List.{List}
 use native.Mathlib.Numerals.{add-one}
@@ -10,18 +10,17 @@ use native.Mathlib.Omega.{arith}
 use lib.ListN.{get_or}
 use lib.Dec.{eqb}
 use borrow.Author.Tests.{eqb-true, eq-eqb, not-true}
-use Rattle.octets.specs.Octets.{Octets, number, alike, most32}
+use Rattle.octets.specs.Octets.{Octets, alike, most32}
 use Rattle.octets.proofs.Has.{octets_part}
 use Rattle.octets.proofs.Lists.{bool, pick_false, alike_true}
 use Rattle.octets.proofs.Numbers.{number_top}
 use Rattle.walk.specs.declared.Settings.{Settings}
 use Rattle.packet.specs.Numbers.{next_counter}
-use Rattle.cells.specs.declared.untaken.Block.{Block}
 use Rattle.cells.specs.Segments.{both, reaches}
-use Rattle.cells.specs.Rows.{Range, Cell, taken, range_in, by_range, row_at, cell_of, key_long, range_of}
+use Rattle.cells.specs.Rows.{Range, by_range, row_at, cell_of, key_long, range_of}
 use Rattle.cells.specs.Order.{cells_most, cell_at, all_to, covers, covers_in, untaken_to}
 use Rattle.cells.specs.Chains.{mixed, mix_start, chains_all, Chained}
-use Rattle.cells.specs.Blocks.{levels_most, twos, halved, prior, block_of, block_chain, chain_by, range_chain, taken_at, hits, clear_on, clear_at, clear_by}
+use Rattle.cells.specs.Blocks.{levels_most, twos, halved, prior, block_of, block_chain, range_chain, taken_at, hits, clear_on, clear_at, clear_by}
 use Rattle.cells.proofs.Held.{both_true}
 use Rattle.cells.proofs.Apart.{all_at}
 use Rattle.cells.proofs.Lowest.{all_each, none_new}

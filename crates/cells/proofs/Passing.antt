@@ -7,7 +7,6 @@ use mathlib.Core.Bool.{Bool, true, false}
 use native.Mathlib.Numerals.{add-one}
 use native.Mathlib.Omega.{arith}
 use Rattle.octets.proofs.Lists.{bool}
-use Rattle.cells.specs.Segments.{both}
 use Rattle.cells.specs.Order.{all_to}
 use Rattle.cells.proofs.Carries.{not_held}
 use Rattle.cells.proofs.Apart.{all_at}

@@ -1,25 +1,22 @@
 -- A cell put on the chain of its block if it is a record, as the code does it; and a pass over the cells.
 -- Assumes nothing.
 use Prim.Native.Nat.{ℕ, ◌+◌, ◌≤◌, ◌<◌}
-use mathlib.Core.Path.{◌≡◌, refl, ap, ap₂, sym, ◌∙◌}
+use mathlib.Core.Path.{◌≡◌, ap, ap₂, sym, ◌∙◌}
 use mathlib.Core.Logic.{⊎_elim}
 use mathlib.Core.Bool.{Bool, true, false, not}
 use mathlib.Core.Option.{none}
 use mathlib.Core.List.{List}
-use native.Mathlib.Numerals.{add-one}
 use native.Mathlib.Omega.{arith}
 use lib.ListN.{get_or, set}
 use lib.Dec.{eqb}
 use borrow.Author.Tests.{eq-eqb, not-true}
 use Rattle.octets.specs.Octets.{Octets, octet_at, part, number}
-use Rattle.octets.proofs.Lists.{pick_false}
 use Rattle.walk.specs.declared.Settings.{Settings}
 use Rattle.cells.specs.declared.Judged.{Judged}
-use Rattle.cells.specs.Segments.{both}
-use Rattle.cells.specs.Rows.{Cell, range_in, by_range, row_at, cell_of, key_long, key_taken, steps_between, range_of}
-use Rattle.cells.specs.Order.{cells_most, cell_at, all_to, covers, covers_in, untaken_to, untaken_in, untaken}
+use Rattle.cells.specs.Rows.{Cell, range_in, by_range, row_at, cell_of, key_long, steps_between, range_of}
+use Rattle.cells.specs.Order.{cells_most, cell_at, untaken}
 use Rattle.cells.specs.Inner.{body_in, judged_of, told_taken}
-use Rattle.cells.specs.Chains.{mixed, mix_start, chains_all, Chained}
+use Rattle.cells.specs.Chains.{chains_all, Chained}
 use Rattle.cells.specs.Blocks.{block_of, block_chain, chain_by, range_chain, taken_at, no_marks}
 use Rattle.cells.proofs.Apart.{all_at}
 use Rattle.cells.proofs.Covered.{Clear, clear_untaken}

@@ -9,7 +9,7 @@ use mathlib.Core.List.{List, ◌∷◌, ◌++◌}
 use native.Mathlib.Omega.{arith}
 use lib.ListN.{length, drop, replicate, length-append, length-replicate, length-take}
 use lib.Dec.{eqb, leb}
-use borrow.Author.Tests.{eqb-true, leb-true, eq-eqb, le-leb}
+use borrow.Author.Tests.{eqb-true, leb-true, le-leb}
 use Rattle.octets.specs.Octets.{pick, Octets, octet_at, part, number, wide, alike}
 use Rattle.octets.proofs.Has.{Has, has_part, has_both, part_has, part_length}
 use Rattle.octets.proofs.Numbers.{wide_length, number_has}
@@ -19,7 +19,7 @@ use Rattle.packet.specs.declared.Header.{Header}
 use Rattle.packet.specs.Reading.{read_packet}
 use Rattle.cells.specs.declared.Judged.{Judged}
 use Rattle.cells.specs.Segments.{Seg, seg_of, both}
-use Rattle.cells.specs.Rows.{Range, free, held, taken, broken, range_in, by_range, zero_row, packet_in, held_row, may_hold, holds, cell_of, record_row}
+use Rattle.cells.specs.Rows.{Range, free, held, taken, broken, range_in, zero_row, packet_in, held_row, holds, cell_of, record_row}
 use Rattle.cells.specs.Rows.{first_in, key_long, key_taken, first_taken, last_taken, steps_between, range_of, records}
 use Rattle.cells.specs.Inner.{marked_test, body_in, judged_of, recorded_of}
 use Rattle.cells.proofs.Firsts.{header_top}

@@ -1,11 +1,10 @@
 -- How many steps lead from one counter to another, as the code counts them.
 -- Assumes nothing.
 use Prim.Native.Nat.{ℕ, suc, ◌+◌, ◌-◌, ◌≤◌, ◌<◌}
-use mathlib.Core.Path.{◌≡◌, refl, ap, sym, ◌∙◌}
-use mathlib.Core.Bool.{Bool}
+use mathlib.Core.Path.{◌≡◌, refl}
 use native.Mathlib.Omega.{arith}
 use borrow.Author.Tests.{le-leb, lt-leb}
-use Rattle.octets.specs.Octets.{pick, most32}
+use Rattle.octets.specs.Octets.{most32}
 use Rattle.cells.specs.Rows.{steps_between}
 
 pub steps_up : (c d : ℕ) → c ≤ d → d - c ≡ steps_between c d

@@ -1,7 +1,7 @@
 -- Blocks of counters: which chain a record belongs to, so that those that may cover a counter are found on few chains.
 -- No public promise speaks of them: they make the order's last test short.
 -- Assumes nothing: these are definitions.
-use Rattle.std.specs.Prelude.{ℕ, zero, suc, ◌-◌, ◌*◌, ◌/◌, List, Bool, true, false, not, eqb}
+use Rattle.std.specs.Prelude.{ℕ, zero, suc, ◌-◌, ◌*◌, ◌/◌, List, Bool, not, eqb}
 use Rattle.octets.specs.Octets.{pick, octet_at, most32}
 use Rattle.walk.specs.declared.Settings.{Settings}
 use Rattle.cells.specs.declared.untaken.Block.{Block}

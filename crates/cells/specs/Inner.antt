@@ -1,7 +1,7 @@
 -- The code's tests on a row, told by its octets; and its table of where the bodies begin.
 -- Assumes nothing: these are definitions.
 use Rattle.std.specs.Prelude.{ℕ, zero, suc, ◌+◌, ◌-◌, ◌/◌, ◌%◌, ◌<◌, ◌≡◌, List, Bool, true, false, length, get_or, drop, set, eqb}
-use Rattle.octets.specs.Octets.{pick, Octets, octet_at, part, number, alike}
+use Rattle.octets.specs.Octets.{Octets, octet_at, part, number, alike}
 use Rattle.walk.specs.declared.Settings.{Settings}
 use Rattle.packet.specs.Format.{primary_size, fixed_size, counter_width}
 use Rattle.packet.specs.Reading.{read_packet, segmented}

@@ -6,21 +6,20 @@ use mathlib.Core.Path.{◌≡◌, refl, ap, sym, ◌∙◌, subst}
 use mathlib.Core.List.{List, ◌++◌}
 use mathlib.Core.Bool.{Bool, true, false, not}
 use native.Mathlib.Omega.{arith}
-use lib.ListN.{length, take, drop, length-append, length-take}
+use lib.ListN.{length, take, length-append, length-take}
 use lib.Seq.{take-append-le}
 use lib.Dec.{eqb, ltb}
 use Rattle.octets.specs.Octets.{pick, Octets, wide, number, octet_at}
 use Rattle.octets.proofs.Has.{Has, has_self, has_first, has_second, octets_append, octets_take}
 use Rattle.octets.proofs.Numbers.{wide_length, wide_octets, number_back}
 use Rattle.walk.specs.declared.Settings.{Settings}
-use Rattle.walk.specs.Walk.{Reading, goes, refused, check, header_bound}
+use Rattle.walk.specs.Walk.{goes, refused, check, header_bound}
 use Rattle.walk.proofs.Steps.{check_refused}
-use Rattle.packet.specs.declared.Header.{Header}
 use Rattle.packet.specs.Format.{Values, segment, identification, secondary_octets, data_octets, octets_of, InRange}
 use Rattle.packet.specs.Began.{secondary_fields, began, cut_off}
 use Rattle.packet.specs.Reading.{segmented, start_at, texts_at, body_test, ended, refusal_of, refused_header, read_packet}
 use Rattle.format.proofs.Secondary.{secondary_f}
-use Rattle.format.proofs.Pairs.{pair_of, pair_form, pair_fit}
+use Rattle.format.proofs.Pairs.{pair_form, pair_fit}
 use Rattle.format.proofs.Start.{Opens, start_back}
 use Rattle.format.proofs.Frame.{word_is, secondary_plain}
 use Rattle.format.proofs.Only.{told_step}

@@ -10,8 +10,7 @@ use Rattle.walk.specs.declared.Settings.{Settings}
 use Rattle.walk.specs.Profile.{fixed_profile}
 use Rattle.walk.specs.Walk.{settings_of}
 use Rattle.fields.specs.Form.{uinteger_octets, blob_octets, text_octets, part_octets, joined, domain_octets}
-use Rattle.packet.specs.Reading.{ended, read_packet}
-use Rattle.format.proofs.Encoding.{strict}
+use Rattle.packet.specs.Reading.{read_packet}
 use Rattle.format.proofs.Refusals.{OfFields, OfStart, ended_has}
 use Rattle.format.proofs.Lengths.{number_is}
 

@@ -1,7 +1,7 @@
 -- A key tells what the packets of a message share, and nothing else: two heads in range with the same key are the same, and two
 -- accepted packets have the same key exactly if they tell the same head.
 -- Assumes nothing.
-use Prim.Native.Nat.{ℕ, ◌+◌, ◌-◌, ◌≤◌}
+use Prim.Native.Nat.{ℕ, ◌-◌, ◌≤◌}
 use mathlib.Core.Path.{◌≡◌, refl, ap, sym, ◌∙◌}
 use mathlib.Core.Logic.{◌↔◌}
 use mathlib.Core.List.{List, [], ◌++◌}

@@ -4,17 +4,15 @@
 use Prim.Native.Nat.{ℕ, suc, ◌+◌, ◌-◌, ◌≤◌, ◌<◌}
 use mathlib.Core.Path.{◌≡◌, refl, ap, sym, ◌∙◌}
 use mathlib.Core.Logic.{⊎_elim}
-use mathlib.Core.Bool.{Bool, true, false}
+use mathlib.Core.Bool.{false}
 use mathlib.Core.List.{List, ◌++◌}
 use native.Mathlib.Omega.{arith}
 use lib.ListN.{length, take, drop, length-append, length-take, take-append-drop}
-use lib.Dec.{leb}
-use borrow.Author.Tests.{leb-false, eqb-true, lt-leb}
-use Rattle.octets.specs.Octets.{pick, octet_at}
+use borrow.Author.Tests.{leb-false, lt-leb}
 use Rattle.octets.proofs.Lists.{bool, below_or}
 use Rattle.octets.proofs.Has.{Has, has_self, has_first, has_at_lem}
 use Rattle.walk.specs.declared.Settings.{Settings}
-use Rattle.walk.specs.Walk.{Reading, goes, refused, going, check, begun}
+use Rattle.walk.specs.Walk.{Reading, goes, going, check, begun}
 use Rattle.walk.proofs.Steps.{check_refused}
 use Rattle.packet.specs.Reading.{wanted, primary_tests, start_at, ended, refusal_of, refused_header, accepted_header, read_packet}
 use Rattle.format.proofs.Refusals.{OfFields, check_ok, fields_keep, ended_has}

@@ -1,6 +1,6 @@
 -- The values of a packet as the secondary header's field has them: the same octets, and in range exactly if they fit.
 -- Assumes nothing.
-use Prim.Native.Nat.{ℕ, ◌+◌, ◌<◌}
+use Prim.Native.Nat.{ℕ, ◌<◌}
 use mathlib.Core.Path.{◌≡◌, ap}
 use mathlib.Core.List.{List, ◌++◌, append_assoc}
 use Rattle.octets.specs.Octets.{wide}

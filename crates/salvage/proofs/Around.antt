@@ -11,7 +11,7 @@ use Rattle.octets.specs.Octets.{Octets, pick, part}
 use Rattle.octets.proofs.Has.{octets_nil, octets_one, octets_append}
 use Rattle.walk.specs.declared.Settings.{Settings}
 use Rattle.salvage.specs.Listing.{marked, kept, width_at, Stop}
-use Rattle.salvage.specs.Calling.{Called, calling, call_of}
+use Rattle.salvage.specs.Calling.{calling, call_of}
 use Rattle.salvage.specs.Inner.{Passed}
 use Rattle.salvage.specs.Parts.{longest, testable, till_in, around, length_in, call_in}
 use Rattle.salvage.proofs.Testing.{kept_has, is_kept}

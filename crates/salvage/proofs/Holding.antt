@@ -2,7 +2,7 @@
 -- in the part.
 -- Assumes nothing.
 use Prim.Native.Nat.{ℕ, ◌+◌, ◌-◌, ◌*◌, ◌/◌, ◌≤◌, ◌<◌}
-use mathlib.Core.Path.{◌≡◌, refl, ap, ap₂, sym, ◌∙◌, subst}
+use mathlib.Core.Path.{◌≡◌, ap, ap₂, sym, ◌∙◌}
 use mathlib.Core.Bool.{Bool}
 use mathlib.Core.List.{List, [], ◌∷◌, ◌++◌}
 use native.Mathlib.Omega.{arith}
@@ -12,7 +12,7 @@ use Rattle.octets.specs.Octets.{Octets, pick}
 use Rattle.walk.specs.declared.Settings.{Settings}
 use Rattle.salvage.specs.declared.Salvaged.{Salvaged}
 use Rattle.salvage.specs.Listing.{kept, width_at, kept_entry, Stop, stop, stretch}
-use Rattle.salvage.specs.Calling.{Called, ending, calling, flat, told_of}
+use Rattle.salvage.specs.Calling.{ending, calling, flat, told_of}
 use Rattle.salvage.specs.Inner.{Passed, end_at, Puts, told_after, Lies}
 use Rattle.salvage.specs.Parts.{off_most, testable, till_in, around, length_in, call_in}
 use Rattle.salvage.proofs.Going.{Going, going_first, going_lasts, going_passed, going_kept, going_done}

@@ -32,7 +32,7 @@ use Rattle.salvage.specs.Inner.{Lies}
 use Rattle.salvage.proofs.Answering.{holds_so}
 use Rattle.salvage.proofs.Running.{State, call_same}
 use Rattle.salvage.proofs.Bounds.{call_bounded}
-use Rattle.salvage.proofs.Parts.{Within, call_fair, done_there}
+use Rattle.salvage.proofs.Parts.{call_fair, done_there}
 use Rattle.salvage.proofs.Ending.{done_stop}
 use Rattle.salvage.proofs.Turns.{Turn, numbers_are, Fairly}
 

@@ -2,7 +2,7 @@
 -- so for the places tested. So calls over parts, one after another, list the file's list, however the parts were taken.
 -- Assumes nothing.
 use Prim.Native.Nat.{ℕ, zero, suc, ◌+◌, ◌-◌, ◌≤◌, ◌<◌}
-use mathlib.Core.Path.{◌≡◌, refl, ap, ap₂, sym, ◌∙◌, subst}
+use mathlib.Core.Path.{◌≡◌, ap, ap₂, sym, ◌∙◌, subst}
 use mathlib.Core.Logic.{⊎_elim}
 use mathlib.Core.Bool.{Bool, true, false}
 use mathlib.Core.List.{List, [], ◌∷◌, ◌++◌}
@@ -12,7 +12,7 @@ use Rattle.octets.specs.Octets.{Octets, pick, part}
 use Rattle.octets.proofs.Lists.{below_or, bool}
 use Rattle.octets.proofs.Has.{octets_part}
 use Rattle.walk.specs.declared.Settings.{Settings}
-use Rattle.salvage.specs.Listing.{kept, width_at, kept_entry, Entry, Stop, stop, stretch, listed, onward}
+use Rattle.salvage.specs.Listing.{kept, width_at, kept_entry, Stop, stop, stretch, listed, onward}
 use Rattle.salvage.specs.Calling.{Called, ending, calling, is_done}
 use Rattle.salvage.specs.Parts.{testable, till_in, around, length_in, call_in}
 use Rattle.salvage.proofs.Testing.{kept_has, onward_kept, onward_none}

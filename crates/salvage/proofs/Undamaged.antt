@@ -7,7 +7,7 @@ use mathlib.Core.List.{List, [], ◌∷◌, ◌++◌, append_assoc}
 use native.Mathlib.Omega.{arith}
 use lib.ListN.{length, length-append}
 use borrow.Author.Tests.{eq-eqb}
-use Rattle.octets.specs.Octets.{octet_at, number, part}
+use Rattle.octets.specs.Octets.{octet_at, part}
 use Rattle.octets.proofs.Has.{Has, has_second, has_first, has_at_lem, has_inside, has_self, part_has}
 use Rattle.walk.specs.declared.Settings.{Settings}
 use Rattle.packet.specs.Reading.{read_packet}

@@ -1,7 +1,7 @@
 -- A part of a file in hand is enough to test a place: if the mark and the longest packet lie in it, or if it goes to the file's end, the
 -- place is kept in the part as it is in the file, and as wide.
 -- Assumes nothing.
-use Prim.Native.Nat.{ℕ, ◌+◌, ◌-◌, ◌*◌, ◌≤◌, ◌<◌, ◌^◌}
+use Prim.Native.Nat.{ℕ, ◌+◌, ◌*◌, ◌≤◌, ◌<◌, ◌^◌}
 use mathlib.Core.Path.{◌≡◌, refl, ap, ap₂, sym, ◌∙◌}
 use mathlib.Core.Logic.{⊎_elim}
 use mathlib.Core.Bool.{Bool, true, false}
@@ -11,7 +11,7 @@ use lib.ListN.{length, take, drop, length-drop, take-append-drop}
 use lib.Seq.{get_or-take, get_or-drop, drop-drop, drop-append-le, take-append-le, take_all}
 use lib.Dec.{eqb, leb}
 use borrow.Author.Tests.{le-leb, lt-leb, leb-true}
-use Rattle.octets.specs.Octets.{Octets, pick, octet_at, number, part}
+use Rattle.octets.specs.Octets.{Octets, pick, octet_at, part}
 use Rattle.octets.proofs.Lists.{below_or}
 use Rattle.octets.proofs.Has.{part_length}
 use Rattle.octets.proofs.Numbers.{number_top}

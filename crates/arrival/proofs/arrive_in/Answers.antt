@@ -6,7 +6,6 @@ use mathlib.Core.Bool.{not}
 use Rattle.arrival.specs.Told.{arrival_of}
 use Rattle.arrival.specs.Arriving.{store_with}
 use Rattle.arrival.proofs.Arrivals.{unstored_store, told_asked, told_segment, told_other}
-use borrow.Author.Rules.{rules}
 use Rattle.arrival.proofs.arrive_in.Goals as goal
 
 pub returns-then-not-is_segment : goal.returns-then-not-is_segment

@@ -1,6 +1,5 @@
 -- `arrival::is_same` meets its contract.
 use Rattle.arrival.proofs.Arrivals.{rest_same}
-use borrow.Author.Rules.{rules}
 use Rattle.arrival.proofs.is_same.Goals as goal
 
 pub returns : goal.returns

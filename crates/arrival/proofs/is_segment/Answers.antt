@@ -1,5 +1,4 @@
 -- `arrival::is_segment` meets its contract.
-use borrow.Author.Rules.{rules}
 use Rattle.arrival.proofs.is_segment.Goals as goal
 
 pub returns : goal.returns

@@ -4,7 +4,6 @@ use lib.ListN.{length}
 use Rattle.arrival.specs.Told.{arrival_of}
 use Rattle.arrival.specs.Arriving.{store_with}
 use Rattle.arrival.proofs.Arrivals.{segment_new, segment_same, segment_other}
-use borrow.Author.Rules.{rules}
 use Rattle.arrival.proofs.store_found.Goals as goal
 
 pub store_new-requires : goal.store_new-requires

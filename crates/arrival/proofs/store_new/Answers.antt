@@ -4,7 +4,6 @@ use lib.ListN.{length}
 use Rattle.arrival.specs.Told.{arrival_of}
 use Rattle.arrival.specs.Arriving.{store_with}
 use Rattle.arrival.proofs.Arrivals.{new_full, new_there, new_inside, new_laid}
-use borrow.Author.Rules.{rules}
 use Rattle.arrival.proofs.store_new.Goals as goal
 
 -- a pair with the names of the clauses

@@ -5,7 +5,6 @@ use Rattle.arrival.specs.Told.{arrival_of}
 use Rattle.arrival.specs.Arriving.{store_with}
 use Rattle.arrival.specs.Inner.{seg_with}
 use Rattle.arrival.proofs.Arrivals.{came_fits, came_placed, came_unplaced, unplaced_store}
-use borrow.Author.Rules.{rules}
 use Rattle.arrival.proofs.store_segment.Goals as goal
 
 pub is_untaken-untaken-requires : goal.is_untaken-untaken-requires

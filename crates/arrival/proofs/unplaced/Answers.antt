@@ -3,7 +3,6 @@ use mathlib.Core.Path.{ap, sym, ◌∙◌}
 use mathlib.Core.Bool.{Bool}
 use Rattle.arrival.specs.Told.{arrival_of}
 use Rattle.arrival.specs.Inner.{unplaced_of}
-use borrow.Author.Rules.{rules}
 use Rattle.arrival.proofs.unplaced.Goals as goal
 
 pub returns-then-untaken : goal.returns-then-untaken

@@ -1,5 +1,4 @@
 -- `cells::bucket` meets its contract: the mixed key and the counter choose the chain.
-use borrow.Author.Rules.{rules}
 use Rattle.cells.proofs.Mixing.{bucket_told}
 use Rattle.cells.proofs.bucket.Goals as goal
 

@@ -1,8 +1,6 @@
 -- `cells::carries_at` meets its contract, case by case.
 use mathlib.Core.Path.{sym, ◌∙◌}
-use borrow.Author.Tests.{not-true, not-false}
 use Rattle.cells.proofs.Carries.{carries_free, carries_other, carries_apart, carries_not, carries_same}
-use borrow.Author.Rules.{rules}
 use Rattle.cells.proofs.carries_at.Goals as goal
 
 pub returns-then-octet-eq0 : goal.returns-then-octet-eq0

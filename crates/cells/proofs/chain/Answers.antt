@@ -1,5 +1,4 @@
 -- `cells::chain` meets its contract.
-use borrow.Author.Rules.{rules}
 use Rattle.cells.proofs.chain.Goals as goal
 
 pub returns : goal.returns

@@ -1,5 +1,4 @@
 -- `cells::count` meets its contract, test by test.
-use borrow.Author.Rules.{rules}
 use Rattle.cells.proofs.Scans.{fits_nothing, fits_all, fits_ragged, fits_none, fits_many}
 use Rattle.cells.proofs.count.Goals as goal
 

@@ -1,5 +1,4 @@
 -- `cells::counter_in` meets its contract.
-use borrow.Author.Rules.{rules}
 use Rattle.cells.specs.Inner.{counter_in}
 use Rattle.cells.proofs.counter_in.Goals as goal
 

@@ -1,5 +1,4 @@
 -- `cells::counter_place` meets its contract.
-use borrow.Author.Rules.{rules}
 use native.Mathlib.Omega.{arith}
 use Rattle.cells.specs.Inner.{place_in}
 use Rattle.cells.proofs.counter_place.Goals as goal

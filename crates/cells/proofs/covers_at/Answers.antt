@@ -1,9 +1,7 @@
 -- `cells::covers_at` meets its contract, case by case.
 use native.Mathlib.Omega.{arith}
 use mathlib.Core.Path.{sym, ◌∙◌}
-use borrow.Author.Tests.{not-true, not-false}
 use Rattle.cells.proofs.Covering.{header_small, place_small, covers_mark, covers_apart, covers_out, covers_none, covers_same}
-use borrow.Author.Rules.{rules}
 use Rattle.cells.proofs.covers_at.Goals as goal
 
 pub returns-then-octet-ne-MARK_TAKEN : goal.returns-then-octet-ne-MARK_TAKEN

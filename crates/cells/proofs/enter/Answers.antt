@@ -1,8 +1,6 @@
 -- `cells::enter` meets its contract: no segment, or one that goes onto its chain.
-use lib.ListN.{length}
 use Rattle.cells.proofs.Entering.{none_apart, none_off, asked_at, some_apart, some_on}
 use Rattle.cells.proofs.Mixing.{bucket_low}
-use borrow.Author.Rules.{rules}
 use Rattle.cells.proofs.enter.Goals as goal
 
 -- a pair with the names of the clauses

@@ -1,5 +1,4 @@
 -- `cells::find_by` meets its contract: the chain, where there is one, is that of the key and counter.
-use borrow.Author.Rules.{rules}
 use Rattle.cells.proofs.find_by.Goals as goal
 
 pub find_on-requires : goal.find_on-requires

@@ -1,9 +1,6 @@
 -- `cells::find_on` meets its contract. The loop's invariant: the best so far is the lowest of the cells that the walk has passed.
 use lib.ListN.{length}
-use mathlib.Core.Logic.{inl, inr, ⊎_elim}
-use native.Mathlib.Omega.{arith}
-use Rattle.cells.proofs.Finding.{Finding, chain_low, head_small, finding_first, finding_small, finding_down, finding_less, finding_turn, finding_done}
-use borrow.Author.Rules.{rules}
+use Rattle.cells.proofs.Finding.{Finding}
 use Rattle.cells.proofs.find_on.Given as goal
 
 abbrev pub invariant-loop-cur : goal.invariant-loop-cur

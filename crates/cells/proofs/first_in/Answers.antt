@@ -1,9 +1,7 @@
 -- `cells::first_in` meets its contract: its pieces are laid one after another, and all of them fit.
 use native.Mathlib.Omega.{arith}
-use lib.ListN.{length}
-use mathlib.Core.Path.{ap, refl}
+use mathlib.Core.Path.{refl}
 use Rattle.cells.proofs.Firsts.{long_small, lays_length, first_laid}
-use borrow.Author.Rules.{rules}
 use Rattle.cells.proofs.first_in.Goals as goal
 
 -- a pair with the names of the clauses

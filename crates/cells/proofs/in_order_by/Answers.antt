@@ -1,6 +1,5 @@
 -- `cells::in_order_by` meets its contract: first the length, then the cells, and those of a store in order are all chained.
 use native.Mathlib.Omega.{arith}
-use borrow.Author.Rules.{rules}
 use mathlib.Core.Path.{ap, sym, ◌∙◌}
 use Rattle.cells.specs.Segments.{both}
 use Rattle.cells.proofs.Ordered.{order_length, cells_most_lem, order_fault, order_held}

@@ -1,6 +1,5 @@
 -- `cells::is_free_lem` meets its contract: rows that differ in the first octet differ.
 use Rattle.cells.proofs.Scans.{first_differs}
-use borrow.Author.Rules.{rules}
 use Rattle.cells.proofs.is_free.Goals as goal
 
 pub returns-then-octet : goal.returns-then-octet

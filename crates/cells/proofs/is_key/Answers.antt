@@ -4,7 +4,6 @@ use native.Mathlib.Omega.{arith}
 use Rattle.cells.proofs.Held.{place_least}
 use Rattle.cells.proofs.Transactions.{key_apart}
 use Rattle.cells.proofs.Within.{key_tested}
-use borrow.Author.Rules.{rules}
 use Rattle.cells.proofs.is_key.Goals as goal
 
 pub returns-then-be64 : goal.returns-then-be64

@@ -1,5 +1,4 @@
 -- `cells::is_marked` meets its contract: its tests are the definition's.
-use borrow.Author.Rules.{rules}
 use Rattle.cells.specs.Inner.{marked_test}
 use Rattle.cells.proofs.is_marked.Goals as goal
 

@@ -1,7 +1,4 @@
 -- `cells::is_new` meets its contract: it is new where the search finds none below.
-use lib.ListN.{length}
-use Rattle.packet.specs.Key.{key_of}
-use Rattle.packet.specs.Reading.{read_packet}
 use Rattle.cells.proofs.Entering.{new_found, new_not}
 use Rattle.cells.proofs.is_new.Goals as goal
 

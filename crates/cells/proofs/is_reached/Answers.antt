@@ -1,5 +1,4 @@
 -- `cells::is_reached` meets its contract: from the first on by the difference, below it round the end.
-use borrow.Author.Rules.{rules}
 use native.Mathlib.Omega.{arith}
 use Rattle.cells.proofs.Reaches.{reaches_up, reaches_down}
 use Rattle.cells.proofs.is_reached.Goals as goal

@@ -1,15 +1,14 @@
 -- `cells::is_untaken` meets its contract. The loop's invariant: none of the cells passed covers them.
-use Prim.Native.Nat.{ℕ, ◌-◌}
+use Prim.Native.Nat.{ℕ}
 use lib.ListN.{length}
 use mathlib.Core.Bool.{not}
 use mathlib.Core.List.{List}
 use mathlib.Core.Path.{ap, sym, ◌∙◌}
-use Rattle.cells.proofs.Passing.{Passing, passing_first, passing_turn, passing_fault, passing_all}
-use Rattle.cells.specs.Order.{covers_in, cell_at, untaken_to}
+use Rattle.cells.proofs.Passing.{passing_first, passing_turn, passing_fault, passing_all}
+use Rattle.cells.specs.Order.{covers_in, untaken_to}
 use Rattle.cells.specs.Rows.{cell_of}
 use Rattle.packet.specs.Key.{key_of}
 use Rattle.packet.specs.Reading.{read_packet}
-use borrow.Author.Rules.{rules}
 use Rattle.cells.proofs.is_untaken.Goals as goal
 
 pub loop-j-init : goal.loop-j-init

@@ -1,8 +1,6 @@
 -- `cells::is_within` meets its contract, case by case.
 use mathlib.Core.Path.{sym, ◌∙◌}
-use borrow.Author.Tests.{not-true, not-false}
 use Rattle.cells.proofs.Within.{within_free, within_apart, within_out, within_not, within_same}
-use borrow.Author.Rules.{rules}
 use Rattle.cells.proofs.is_within.Goals as goal
 
 pub returns-then-octet-eq0 : goal.returns-then-octet-eq0

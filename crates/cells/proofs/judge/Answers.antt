@@ -6,7 +6,6 @@ use native.Mathlib.Omega.{arith}
 use Rattle.cells.proofs.Held.{part_room, told_free, told_held_lem, told_broken}
 use Rattle.cells.proofs.Records.{told_record, told_none}
 use Rattle.octets.specs.Octets.{number}
-use borrow.Author.Rules.{rules}
 use Rattle.cells.proofs.judge.Goals as goal
 
 pub returns-then-is_free : goal.returns-then-is_free

@@ -4,7 +4,6 @@ use mathlib.Core.Path.{ap, ap₂, refl, ◌∙◌}
 use Rattle.packet.specs.declared.Header.{Header}
 use Rattle.cells.specs.Inner.{recorded_of}
 use Rattle.cells.proofs.Records.{refused_record, record_tested, head_small}
-use borrow.Author.Rules.{rules}
 use Rattle.cells.proofs.judge_record.Goals as goal
 
 pub returns-then-refusal-ne0 : goal.returns-then-refusal-ne0

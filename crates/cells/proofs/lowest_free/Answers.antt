@@ -1,10 +1,5 @@
 -- `cells::lowest_free` meets its contract. The loop's invariant: none of the cells passed is free.
-use Prim.Native.Nat.{◌-◌}
-use borrow.Author.Rules.{rules}
-use lib.ListN.{length}
-use Rattle.cells.proofs.Scans.{Seeking, seeking_first, seeking_turn, seeking_found, seeking_none, row_free}
-use Rattle.cells.specs.Rows.{row_at}
-use Rattle.octets.specs.Octets.{alike}
+use Rattle.cells.proofs.Scans.{seeking_first, seeking_turn, seeking_found, seeking_none, row_free}
 use Rattle.cells.proofs.lowest_free.Goals as goal
 
 pub loop-i-init : goal.loop-i-init

@@ -1,8 +1,7 @@
 -- `cells::lowest_free` meets its contract. The loop's invariant: none of the cells passed is free.
 use Prim.Native.Nat.{◌-◌}
-use borrow.Author.Rules.{rules}
 use lib.ListN.{length}
-use Rattle.cells.proofs.Scans.{Seeking, seeking_first, seeking_turn, seeking_found, seeking_none, row_free}
+use Rattle.cells.proofs.Scans.{Seeking}
 use Rattle.cells.specs.Rows.{row_at}
 use Rattle.octets.specs.Octets.{alike}
 use Rattle.cells.proofs.lowest_free.Given as goal

@@ -1,8 +1,6 @@
 -- `cells::mix` meets its contract. The loop's invariant: what is left, mixed into the number so far, is the whole.
-use Prim.Native.Nat.{◌-◌}
 use borrow.Author.Rules.{rules}
-use lib.ListN.{length}
-use Rattle.cells.proofs.Mixing.{Mixing, mixing_first, mixing_turn, mixing_done}
+use Rattle.cells.proofs.Mixing.{mixing_first, mixing_turn, mixing_done}
 use Rattle.cells.proofs.mix.Goals as goal
 
 pub loop-i-init : goal.loop-i-init

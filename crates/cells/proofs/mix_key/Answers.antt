@@ -1,5 +1,4 @@
 -- `cells::mix_key` meets its contract: the three parts of the key are mixed one after the other.
-use borrow.Author.Rules.{rules}
 use native.Mathlib.Omega.{arith}
 use Rattle.cells.proofs.Held.{place_least}
 use Rattle.cells.proofs.Mixing.{key_mixed}

@@ -1,7 +1,5 @@
 -- `cells::order_by` meets its contract: the table that the first pass leaves is what the others ask for.
-use lib.ListN.{length}
 use Rattle.cells.proofs.Bodies.{bodies_left}
-use borrow.Author.Rules.{rules}
 use Rattle.cells.proofs.order_by.Goals as goal
 
 pub distinct_by-distinct-requires : goal.distinct_by-distinct-requires

@@ -1,5 +1,4 @@
 -- `cells::packet_in` meets its contract: the length field tells its size.
-use borrow.Author.Rules.{rules}
 use Rattle.cells.proofs.packet_in.Goals as goal
 
 pub returns : goal.returns

@@ -1,5 +1,4 @@
 -- `cells::put_cell` meets its contract: the mark and then the packet, where both fit.
-use borrow.Author.Rules.{rules}
 use Rattle.cells.proofs.Putting.{put_there}
 use Rattle.cells.proofs.put_cell.Goals as goal
 

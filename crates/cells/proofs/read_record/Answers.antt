@@ -4,7 +4,6 @@ use native.Mathlib.Omega.{arith}
 use lib.ListN.{length-replicate}
 use Rattle.cells.proofs.Firsts.{from_first}
 use mathlib.Core.Path.{ap, sym, ◌∙◌}
-use borrow.Author.Rules.{rules}
 use Rattle.packet.specs.Reading.{read_packet}
 use Rattle.cells.proofs.read_record.Goals as goal
 

@@ -1,5 +1,4 @@
 -- `cells::row` meets its contract: the two ends are kept inside.
-use borrow.Author.Rules.{rules}
 use native.Mathlib.Omega.{arith}
 use Rattle.octets.proofs.Places.{part_at}
 use Rattle.cells.proofs.row.Goals as goal

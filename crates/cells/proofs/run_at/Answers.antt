@@ -1,7 +1,6 @@
 -- `cells::run_at` meets its contract: the counters that stand there.
 use mathlib.Core.Path.{ap₂, ◌∙◌}
 use Rattle.cells.specs.Rows.{steps_between}
-use borrow.Author.Rules.{rules}
 use Rattle.cells.proofs.run_at.Goals as goal
 
 pub returns : goal.returns

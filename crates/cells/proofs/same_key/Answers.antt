@@ -1,5 +1,4 @@
 -- `cells::same_key_lem` meets its contract: with different transaction ids the keys differ; else its tests are the definition's.
-use borrow.Author.Rules.{rules}
 use native.Mathlib.Omega.{arith}
 use Rattle.cells.proofs.Held.{place_least}
 use Rattle.cells.proofs.Transactions.{spans_apart}

@@ -1,5 +1,4 @@
 -- `cells::same_rest` meets its contract.
-use borrow.Author.Rules.{rules}
 use Rattle.cells.proofs.same_rest.Goals as goal
 
 pub returns : goal.returns

@@ -1,9 +1,6 @@
 -- `cells::sound_by` meets its contract. The loop's invariant: whether the cells passed are all free, held or records, and their table.
-use Prim.Native.Nat.{◌-◌}
-use lib.ListN.{length}
 use native.Mathlib.Omega.{arith}
-use Rattle.cells.proofs.Soundness.{Sounding, sounding_first, place_small, sounding_turn, sounding_sound, sounding_bodies}
-use borrow.Author.Rules.{rules}
+use Rattle.cells.proofs.Soundness.{sounding_first, place_small, sounding_turn, sounding_sound, sounding_bodies}
 use Rattle.cells.proofs.sound_by.Goals as goal
 
 pub loop-i-init : goal.loop-i-init

@@ -1,9 +1,7 @@
 -- `cells::sound_by` meets its contract. The loop's invariant: whether the cells passed are all free, held or records, and their table.
 use Prim.Native.Nat.{◌-◌}
 use lib.ListN.{length}
-use native.Mathlib.Omega.{arith}
-use Rattle.cells.proofs.Soundness.{Sounding, sounding_first, place_small, sounding_turn, sounding_sound, sounding_bodies}
-use borrow.Author.Rules.{rules}
+use Rattle.cells.proofs.Soundness.{Sounding}
 use Rattle.cells.proofs.sound_by.Given as goal
 
 abbrev pub invariant-loop-i : goal.invariant-loop-i

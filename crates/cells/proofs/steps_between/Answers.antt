@@ -1,6 +1,5 @@
 -- `cells::steps_between` meets its contract: up, or round the end.
 use native.Mathlib.Omega.{arith}
-use borrow.Author.Rules.{rules}
 use Rattle.cells.proofs.Spans.{steps_up, steps_round}
 use Rattle.cells.proofs.steps_between.Goals as goal
 

@@ -1,5 +1,4 @@
 -- `cells::tail` meets its contract: past the end nothing is left.
-use borrow.Author.Rules.{rules}
 use native.Mathlib.Omega.{arith}
 use Rattle.cells.proofs.Held.{tail_is}
 use Rattle.cells.proofs.tail.Goals as goal

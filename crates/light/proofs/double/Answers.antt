@@ -1,5 +1,4 @@
 -- `light::double` meets its contract.
-use borrow.Author.Rules.{rules}
 use native.Mathlib.Omega.{arith}
 use Rattle.light.proofs.FixedPart.{number_four}
 use Rattle.light.proofs.double.Goals as goal

@@ -1,6 +1,5 @@
 -- `light::from_whole` meets its contract.
 use Rattle.light.specs.Light.{light_of}
-use borrow.Author.Rules.{rules}
 use mathlib.Core.Path.{ap}
 use Rattle.light.proofs.from_whole.Goals as goal
 

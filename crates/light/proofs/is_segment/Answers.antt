@@ -1,5 +1,4 @@
 -- `light::is_segment` meets its contract.
-use borrow.Author.Rules.{rules}
 use Rattle.light.proofs.is_segment.Goals as goal
 
 pub returns : goal.returns

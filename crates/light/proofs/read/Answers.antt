@@ -1,6 +1,5 @@
 -- `light::read` meets its contract.
 use Rattle.light.proofs.Plain.{segment_light, whole_light}
-use borrow.Author.Rules.{rules}
 use mathlib.Core.Path.{sym, ◌∙◌}
 use native.Mathlib.Omega.{arith}
 use Rattle.light.proofs.read.Goals as goal

@@ -1,6 +1,5 @@
 -- `light::segment` meets its contract.
 use Prim.Native.Nat.{ℕ, ◌/◌}
-use borrow.Author.Rules.{rules}
 use mathlib.Core.Path.{ap}
 use Rattle.light.proofs.segment.Goals as goal
 

@@ -1,5 +1,4 @@
 -- `light::word` meets its contract.
-use borrow.Author.Rules.{rules}
 use native.Mathlib.Omega.{arith}
 use Rattle.light.proofs.FixedPart.{number_two}
 use Rattle.light.proofs.word.Goals as goal

@@ -1,13 +1,9 @@
 -- `salvage::along` meets its contract. The loop's invariant: what is tested and listed so far, before what is left of the call, is the
 -- whole call, and the place lies in the part.
-use Prim.Native.Nat.{◌+◌, ◌-◌}
-use mathlib.Core.Path.{◌≡◌, refl}
+use mathlib.Core.Path.{refl}
 use native.Mathlib.Omega.{arith}
-use lib.ListN.{length}
-use borrow.Author.Rules.{rules}
-use Rattle.salvage.specs.Listing.{stop}
 use Rattle.salvage.proofs.Going.{going_long, going_room, going_space}
-use Rattle.salvage.proofs.Holding.{Held, held_first, held_end, held_passed, held_kept, held_done}
+use Rattle.salvage.proofs.Holding.{held_first, held_end, held_passed, held_kept, held_done}
 use Rattle.salvage.proofs.along.Goals as goal
 
 -- a pair with the names of the clauses

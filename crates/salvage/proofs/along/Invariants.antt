@@ -1,13 +1,10 @@
 -- `salvage::along` meets its contract. The loop's invariant: what is tested and listed so far, before what is left of the call, is the
 -- whole call, and the place lies in the part.
 use Prim.Native.Nat.{◌+◌, ◌-◌}
-use mathlib.Core.Path.{◌≡◌, refl}
-use native.Mathlib.Omega.{arith}
+use mathlib.Core.Path.{◌≡◌}
 use lib.ListN.{length}
-use borrow.Author.Rules.{rules}
 use Rattle.salvage.specs.Listing.{stop}
-use Rattle.salvage.proofs.Going.{going_long, going_room, going_space}
-use Rattle.salvage.proofs.Holding.{Held, held_first, held_end, held_passed, held_kept, held_done}
+use Rattle.salvage.proofs.Holding.{Held}
 use Rattle.salvage.proofs.along.Given as goal
 
 abbrev pub invariant-loop-at : goal.invariant-loop-at

@@ -1,10 +1,7 @@
 -- `salvage::any_mark` meets its contract. The loop's invariant: if none is found, the places up to here have no mark.
 use Prim.Native.Nat.{◌-◌, ◌≤◌}
-use native.Mathlib.Omega.{arith}
 use lib.ListN.{length}
-use borrow.Author.Rules.{rules}
 use Rattle.salvage.specs.Inner.{Unmarked}
-use Rattle.salvage.proofs.Passing.{none_yet, one_more, all_of}
 use Rattle.salvage.proofs.any_mark.Given as goal
 
 abbrev pub invariant-loop-i : goal.invariant-loop-i

@@ -1,5 +1,4 @@
 -- `salvage::end_at` meets its contract: the least of what is granted and what is left, if two entries are free.
-use borrow.Author.Rules.{rules}
 use Rattle.salvage.proofs.Stepping.{end_low, end_here, end_grant, end_till}
 use Rattle.salvage.proofs.end_at.Goals as goal
 

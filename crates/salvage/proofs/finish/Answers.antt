@@ -1,6 +1,5 @@
 -- `salvage::finish` meets its contract: the stretch is listed at the file's end if one is open and an entry is free.
 use native.Mathlib.Omega.{arith}
-use borrow.Author.Rules.{rules}
 use Rattle.salvage.proofs.Ending.{ending_on, ending_empty, ending_full, ending_open, finish_on, finish_open}
 use Rattle.salvage.proofs.finish.Goals as goal
 

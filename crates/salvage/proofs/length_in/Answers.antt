@@ -1,5 +1,4 @@
 -- `salvage::length_in` meets its contract.
-use borrow.Author.Rules.{rules}
 use Rattle.salvage.proofs.Around.{long_is, long_is_more}
 use Rattle.salvage.proofs.length_in.Goals as goal
 

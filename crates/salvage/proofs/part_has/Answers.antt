@@ -1,6 +1,5 @@
 -- `salvage::part_has` meets its contract: the sum is tested by a difference, then the three comparisons are one.
 use native.Mathlib.Omega.{arith}
-use borrow.Author.Rules.{rules}
 use Rattle.salvage.proofs.Answering.{holds_not, holds_is}
 use Rattle.salvage.proofs.part_has.Goals as goal
 

@@ -1,7 +1,4 @@
 -- `salvage::pass` meets its contract. The loop's invariant: the places up to here have no mark.
-use Prim.Native.Nat.{◌-◌}
-use borrow.Author.Rules.{rules}
-use Rattle.salvage.specs.Inner.{Passed}
 use Rattle.salvage.proofs.Passing.{passed_one}
 use Rattle.salvage.proofs.pass.Goals as goal
 

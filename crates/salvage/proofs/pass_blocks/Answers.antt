@@ -1,9 +1,6 @@
 -- `salvage::pass_blocks` meets its contract. The loop's invariant: the places up to here have no mark.
 use mathlib.Core.Path.{sym, ◌∙◌}
-use Prim.Native.Nat.{◌-◌}
 use native.Mathlib.Omega.{arith}
-use borrow.Author.Rules.{rules}
-use Rattle.salvage.specs.Inner.{Passed}
 use Rattle.salvage.proofs.Passing.{passed_none, passed_block, all_of, block_long, next_long}
 use Rattle.salvage.proofs.pass_blocks.Goals as goal
 

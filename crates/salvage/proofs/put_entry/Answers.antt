@@ -1,5 +1,4 @@
 -- `salvage::put_entry` meets its contract: three stores, one after another.
-use borrow.Author.Rules.{rules}
 use Prim.Native.Nat.{◌*◌}
 use native.Mathlib.Omega.{arith}
 use lib.ListN.{length-set}

@@ -1,6 +1,5 @@
 -- `salvage::put_kept` meets its contract: the stretch, then the kept place after it.
 use native.Mathlib.Omega.{arith}
-use borrow.Author.Rules.{rules}
 use Rattle.salvage.proofs.Numbering.{puts_after, puts_kept, puts_long, puts_room}
 use Rattle.salvage.proofs.put_kept.Goals as goal
 

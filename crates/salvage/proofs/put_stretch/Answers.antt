@@ -1,5 +1,4 @@
 -- `salvage::put_stretch` meets its contract: an open stretch is put, and nothing if none is open.
-use borrow.Author.Rules.{rules}
 use Rattle.salvage.proofs.Numbering.{puts_open, puts_none}
 use Rattle.salvage.proofs.put_stretch.Goals as goal
 

@@ -1,5 +1,4 @@
 -- `salvage::refused` meets its contract: the refusal of that number, and zeros.
-use borrow.Author.Rules.{rules}
 use Rattle.salvage.proofs.refused.Goals as goal
 
 pub returns : goal.returns

@@ -1,6 +1,5 @@
 -- `salvage::salvage` meets its contract: the settings first, then the state, then the places from it on.
 use native.Mathlib.Omega.{arith}
-use borrow.Author.Rules.{rules}
 use Rattle.salvage.proofs.Answering.{refused_first, refused_order, refused_outside, refused_not, answer_refused, answer_done}
 use Rattle.salvage.proofs.salvage.Goals as goal
 

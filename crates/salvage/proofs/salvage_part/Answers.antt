@@ -1,7 +1,5 @@
 -- `salvage::salvage_part` meets its contract: the settings first, then the state, then the places from it on.
 use native.Mathlib.Omega.{arith}
-use borrow.Author.Rules.{rules}
-use borrow.Author.Tests.{not-true, not-false}
 use mathlib.Core.Path.{sym, ◌∙◌}
 use Rattle.salvage.proofs.Answering.{part_first, part_not, part_is, part_refused, part_done, lies}
 use Rattle.salvage.proofs.salvage_part.Goals as goal

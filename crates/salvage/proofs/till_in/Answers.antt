@@ -1,6 +1,5 @@
 -- `salvage::till_in` meets its contract.
 use native.Mathlib.Omega.{arith}
-use borrow.Author.Rules.{rules}
 use Rattle.salvage.proofs.Around.{till_ends, till_more}
 use Rattle.salvage.proofs.till_in.Goals as goal
 

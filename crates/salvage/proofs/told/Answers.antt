@@ -1,5 +1,4 @@
 -- `salvage::told` meets its contract: field by field.
-use borrow.Author.Rules.{rules}
 use Rattle.salvage.proofs.told.Goals as goal
 
 pub returns : goal.returns

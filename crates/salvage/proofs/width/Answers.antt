@@ -1,6 +1,4 @@
 -- `salvage::width` meets its contract: answer by answer, the place is kept or it is not.
-use borrow.Author.Rules.{rules}
-use borrow.Author.Tests.{not-true, not-false}
 use Rattle.salvage.proofs.Testing.{width_short, width_unmarked, width_outside, width_refused, width_kept}
 use Rattle.salvage.proofs.width.Goals as goal
 

@@ -1,9 +1,6 @@
 -- `write::adds_up` meets its contract. The loop's invariant, `Adding`: what is left of n.
-use Prim.Native.Nat.{◌-◌}
-use borrow.Author.Rules.{rules}
-use lib.ListN.{length}
 use native.Mathlib.Omega.{arith}
-use Rattle.write.proofs.Sums.{Adding, adding_first, adding_turn, adding_over, adding_done}
+use Rattle.write.proofs.Sums.{adding_first, adding_turn, adding_over, adding_done}
 use Rattle.write.proofs.adds_up.Goals as goal
 
 pub loop-k-init : goal.loop-k-init

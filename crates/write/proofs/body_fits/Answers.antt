@@ -1,5 +1,4 @@
 -- `write::body_fits` meets its contract: the test of the branch is the definition's.
-use borrow.Author.Rules.{rules}
 use mathlib.Core.Path.{sym, ◌∙◌}
 use Rattle.write.proofs.body_fits.Goals as goal
 

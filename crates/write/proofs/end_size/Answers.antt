@@ -1,5 +1,4 @@
 -- `write::end_size` meets its contract.
-use borrow.Author.Rules.{rules}
 use Rattle.write.specs.Inner.{end_size}
 use Rattle.write.proofs.end_size.Goals as goal
 

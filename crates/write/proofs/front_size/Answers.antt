@@ -1,5 +1,4 @@
 -- `write::front_size` meets its contract: each is one octet.
-use borrow.Author.Rules.{rules}
 use native.Mathlib.Omega.{arith}
 use Rattle.octets.proofs.Lists.{bit_top}
 use Rattle.write.proofs.front_size.Goals as goal

@@ -1,9 +1,7 @@
 -- `write::header_size` meets its contract: the sizes add up to the header's length.
-use borrow.Author.Rules.{rules}
 use native.Mathlib.Omega.{arith}
 use Rattle.octets.proofs.Lists.{bit_top}
 use Rattle.write.proofs.Sizes.{header_size_lem}
-use Rattle.write.specs.Given.{lent}
 use Rattle.write.proofs.header_size.Goals as goal
 
 pub overflow_add-a : goal.overflow_add-a

@@ -1,5 +1,4 @@
 -- `write::lengths_fit` meets its contract: the test of the branch is the definition's.
-use borrow.Author.Rules.{rules}
 use Rattle.write.proofs.lengths_fit.Goals as goal
 
 pub returns-then-there : goal.returns-then-there

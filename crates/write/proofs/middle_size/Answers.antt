@@ -1,5 +1,4 @@
 -- `write::middle_size` meets its contract.
-use borrow.Author.Rules.{rules}
 use Rattle.write.specs.Inner.{middle_size}
 use Rattle.write.proofs.middle_size.Goals as goal
 

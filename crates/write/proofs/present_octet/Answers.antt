@@ -1,5 +1,4 @@
 -- `write::present_octet` meets its contract: each flag is its bit.
-use borrow.Author.Rules.{rules}
 use Rattle.write.specs.Inner.{present_octet}
 use Rattle.write.proofs.present_octet.Goals as goal
 

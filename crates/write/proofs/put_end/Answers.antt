@@ -1,5 +1,4 @@
 -- `write::put_end` meets its contract: three fields, one after another.
-use borrow.Author.Rules.{rules}
 use Rattle.octets.proofs.Laying.{lays_both}
 use Rattle.write.specs.Inner.{end_pieces}
 use Rattle.write.proofs.put_end.Goals as goal

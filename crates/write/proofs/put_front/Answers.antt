@@ -1,5 +1,4 @@
 -- `write::put_front` meets its contract: three fields, one after another.
-use borrow.Author.Rules.{rules}
 use native.Mathlib.Omega.{arith}
 use Rattle.octets.proofs.Laying.{lays_both}
 use Rattle.write.specs.Inner.{front_pieces}

@@ -1,5 +1,4 @@
 -- `write::put_middle` meets its contract: three fields, one after another.
-use borrow.Author.Rules.{rules}
 use Rattle.octets.proofs.Laying.{lays_both}
 use Rattle.write.specs.Inner.{middle_pieces}
 use Rattle.write.proofs.put_middle.Goals as goal

@@ -1,5 +1,4 @@
 -- `write::put_packet` meets its contract: its groups, one after another.
-use borrow.Author.Rules.{rules}
 use Rattle.octets.proofs.Laying.{lays_both}
 use Rattle.write.specs.Inner.{packet_pieces}
 use Rattle.write.proofs.put_packet.Goals as goal

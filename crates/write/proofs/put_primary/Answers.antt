@@ -1,5 +1,4 @@
 -- `write::put_primary` meets its contract: three numbers, one after another.
-use borrow.Author.Rules.{rules}
 use Rattle.octets.proofs.Laying.{lays_both}
 use Rattle.write.specs.Inner.{primary_pieces}
 use Rattle.write.proofs.put_primary.Goals as goal

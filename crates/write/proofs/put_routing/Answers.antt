@@ -1,5 +1,4 @@
 -- `write::put_routing` meets its contract: four numbers, one after another.
-use borrow.Author.Rules.{rules}
 use mathlib.Core.Path.{ap}
 use Rattle.octets.proofs.Laying.{lays_both, lays_as}
 use Rattle.octets.specs.Octets.{wide}

@@ -1,5 +1,4 @@
 -- `write::secondary_size` meets its contract.
-use borrow.Author.Rules.{rules}
 use Rattle.write.proofs.secondary_size.Goals as goal
 
 pub returns : goal.returns

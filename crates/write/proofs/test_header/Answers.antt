@@ -1,5 +1,4 @@
 -- `write::test_header` meets its contract: its tests are the definition's, in its order.
-use borrow.Author.Rules.{rules}
 use Rattle.write.proofs.Tests.{unless_all_append}
 use Rattle.write.specs.Given.{header_checks}
 use Rattle.write.proofs.test_header.Goals as goal

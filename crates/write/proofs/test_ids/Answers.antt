@@ -1,5 +1,4 @@
 -- `write::test_ids` meets its contract: its tests are the definition's, in its order.
-use borrow.Author.Rules.{rules}
 use native.Mathlib.Omega.{arith}
 use Rattle.write.specs.Given.{id_checks, unless_all}
 use Rattle.write.proofs.test_ids.Goals as goal

@@ -1,5 +1,4 @@
 -- `write::test_routing` meets its contract: its tests are the definition's, in its order.
-use borrow.Author.Rules.{rules}
 use Rattle.write.specs.Given.{routing_checks, unless_all}
 use Rattle.write.proofs.test_routing.Goals as goal
 

@@ -1,5 +1,4 @@
 -- `write::test_settings` meets its contract: its tests are the definition's.
-use borrow.Author.Rules.{rules}
 use Rattle.write.specs.Writing.{settings_test}
 use Rattle.write.proofs.test_settings.Goals as goal
 

@@ -1,5 +1,4 @@
 -- `write::test_sizes` meets its contract: its tests are the definition's, in its order.
-use borrow.Author.Rules.{rules}
 use Rattle.write.proofs.test_sizes.Goals as goal
 
 pub returns : goal.returns

@@ -1,5 +1,4 @@
 -- `write::test_texts` meets its contract: its tests are the definition's, in its order.
-use borrow.Author.Rules.{rules}
 use Rattle.write.specs.Given.{text_checks, unless_all}
 use Rattle.write.proofs.test_texts.Goals as goal
 

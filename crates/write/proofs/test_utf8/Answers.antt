@@ -1,6 +1,5 @@
 -- `write::test_utf8` meets its contract: its tests are the definition's, in its order; after a refusal none of them matters.
 use mathlib.Core.Path.{sym}
-use borrow.Author.Rules.{rules}
 use borrow.Author.Tests.{ne_eqb}
 use Rattle.write.proofs.Answers.{all_shut}
 use Rattle.write.specs.Given.{utf8_checks, unless_all}

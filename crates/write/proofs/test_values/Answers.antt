@@ -1,5 +1,4 @@
 -- `write::test_values` meets its contract: its tests are the definition's, in its order.
-use borrow.Author.Rules.{rules}
 use Rattle.write.specs.Writing.{value_refusal, zone_test, parts_test, text_test}
 use Rattle.write.proofs.test_values.Goals as goal
 

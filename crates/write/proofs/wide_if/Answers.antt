@@ -1,5 +1,4 @@
 -- `write::wide_if` meets its contract: the test of the branch is the definition's.
-use borrow.Author.Rules.{rules}
 use Rattle.octets.proofs.Laying.{lays_none}
 use Rattle.write.proofs.wide_if.Goals as goal
 

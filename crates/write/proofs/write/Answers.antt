@@ -1,5 +1,4 @@
 -- `write::write` meets its contract: it is the inner function, and not as the old writer.
-use borrow.Author.Rules.{rules}
 use Rattle.write.proofs.write.Goals as goal
 
 pub returns : goal.returns

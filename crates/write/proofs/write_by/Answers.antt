@@ -1,9 +1,6 @@
 -- `write::write_by` meets its contract: the tests on sizes are the definition's, and the pieces laid are the packet.
-use borrow.Author.Rules.{rules}
-use lib.ListN.{length}
 use native.Mathlib.Omega.{arith}
 use Rattle.write.proofs.Answers.{refused_answer, refused_output, written_answer, written_output, fits}
-use Rattle.write.specs.Given.{lent}
 use Rattle.write.proofs.write_by.Goals as goal
 
 pub returns-then-r-ne0 : goal.returns-then-r-ne0

@@ -1,5 +1,4 @@
 -- `write::zone_fits` meets its contract: it is the definition's test.
-use borrow.Author.Rules.{rules}
 use Rattle.write.proofs.zone_fits.Goals as goal
 
 pub returns : goal.returns

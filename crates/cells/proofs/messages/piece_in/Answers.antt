@@ -1,6 +1,5 @@
 -- `messages::piece_in` meets its contract.
 use Rattle.cells.specs.Pieces.{piece_of}
-use borrow.Author.Rules.{rules}
 use Rattle.cells.proofs.messages.piece_in.Goals as goal
 
 pub returns : goal.returns

@@ -5,7 +5,6 @@ use Prim.Native.Nat.{ℕ}
 use mathlib.Core.Path.{◌≡◌, ap, sym, ◌∙◌}
 use Rattle.walk.specs.declared.Refusal.{Refusal}
 use Rattle.cells.proofs.Gate.{opened_by, open_t, open_order, open_held}
-use borrow.Author.Rules.{rules}
 use Rattle.cells.proofs.opening.check_by.Goals as goal
 
 -- a pair with the names of the clauses

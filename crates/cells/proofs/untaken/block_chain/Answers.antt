@@ -1,7 +1,6 @@
 -- `untaken::block_chain` meets its contract: the level and the number are mixed in.
 use mathlib.Core.Path.{ap, ◌∙◌}
 use Prim.Native.Nat.{ℕ}
-use borrow.Author.Rules.{rules}
 use Rattle.cells.specs.Chains.{mix_in, chain_in}
 use Rattle.cells.specs.Blocks.{block_chain}
 use Rattle.cells.proofs.untaken.block_chain.Goals as goal

@@ -1,8 +1,6 @@
 -- `untaken::block_of` meets its contract. The loop's invariant: the climb from where it stands ends where the whole climb ends.
 use Prim.Native.Nat.{◌-◌}
-use native.Mathlib.Omega.{arith}
-use borrow.Author.Rules.{rules}
-use Rattle.cells.proofs.Blocks.{Climbing, climbing_first, climbing_here, climbing_turn, climbing_top}
+use Rattle.cells.proofs.Blocks.{Climbing}
 use Rattle.cells.proofs.untaken.block_of.Given as goal
 
 abbrev pub invariant-loop-level : goal.invariant-loop-level

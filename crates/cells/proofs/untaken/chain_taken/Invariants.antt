@@ -1,9 +1,7 @@
 -- `untaken::chain_taken` meets its contract. The loop's invariant: the cells passed are on their chains.
 use Prim.Native.Nat.{◌-◌}
 use lib.ListN.{length}
-use native.Mathlib.Omega.{arith}
-use borrow.Author.Rules.{rules}
-use Rattle.cells.proofs.Ranges.{Linking, linking_first, linking_done}
+use Rattle.cells.proofs.Ranges.{Linking}
 use Rattle.cells.proofs.untaken.chain_taken.Given as goal
 
 abbrev pub invariant-loop-i : goal.invariant-loop-i

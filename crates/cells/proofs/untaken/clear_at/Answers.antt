@@ -1,14 +1,6 @@
 -- `untaken::clear_at` meets its contract: one chain and then the other.
-use Prim.Native.Nat.{ℕ}
-use mathlib.Core.Path.{ap, ap₂, refl, sym, ◌∙◌}
-use mathlib.Core.Bool.{Bool}
-use lib.ListN.{length}
-use borrow.Author.Rules.{rules}
-use borrow.Author.Tests.{not-true, not-false}
-use Rattle.packet.specs.Key.{key_of}
-use Rattle.packet.specs.Reading.{read_packet}
-use Rattle.cells.specs.Segments.{both}
-use Rattle.cells.specs.Blocks.{block_chain, clear_on, clear_at}
+use mathlib.Core.Path.{ap, ◌∙◌}
+use Rattle.cells.specs.Blocks.{block_chain}
 use Rattle.cells.proofs.Ranges.{chain_low}
 use Rattle.cells.proofs.Nearby.{two_first, two_second}
 use Rattle.cells.proofs.untaken.clear_at.Goals as goal

@@ -3,10 +3,7 @@ use lib.ListN.{length}
 use native.Mathlib.Omega.{arith}
 use Rattle.packet.specs.Key.{key_of}
 use Rattle.packet.specs.Reading.{read_packet}
-use Rattle.cells.proofs.Walking.{Walked}
-use Rattle.cells.specs.Blocks.{taken_at, hits}
 use Rattle.cells.proofs.Nearby.{clear_head, clear_first, clear_small, clear_down, clear_less, clear_turn, clear_fault, clear_done}
-use borrow.Author.Rules.{rules}
 use Rattle.cells.proofs.untaken.clear_on.Goals as goal
 
 pub offset_bounds-heads-b : goal.offset_bounds-heads-b

@@ -1,7 +1,5 @@
 -- `untaken::enter_taken` meets its contract: no record, or one that goes onto its chain.
 use mathlib.Core.Path.{sym, ◌∙◌}
-use borrow.Author.Rules.{rules}
-use borrow.Author.Tests.{not-true, not-false}
 use Rattle.cells.proofs.Covering.{header_small}
 use Rattle.cells.proofs.Ranges.{none_chained, mark_none, judged_none, row_octets, some_low, some_chained}
 use Rattle.cells.proofs.untaken.enter_taken.Goals as goal

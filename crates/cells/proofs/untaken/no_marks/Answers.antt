@@ -1,15 +1,12 @@
 -- `untaken::no_marks` meets its contract. The loop's invariant: none of the cells passed has the mark.
-use Prim.Native.Nat.{ℕ, ◌-◌}
+use Prim.Native.Nat.{ℕ}
 use mathlib.Core.Path.{ap, sym, ◌∙◌}
 use mathlib.Core.Bool.{not}
 use mathlib.Core.List.{List}
-use lib.Dec.{eqb}
-use borrow.Author.Rules.{rules}
 use borrow.Author.Tests.{eq-eqb, ne_eqb}
 use Rattle.octets.specs.Octets.{octet_at}
-use Rattle.cells.specs.Rows.{row_at}
 use Rattle.cells.specs.Blocks.{no_marks}
-use Rattle.cells.proofs.Passing.{Passing, passing_first, passing_turn, passing_fault, passing_all}
+use Rattle.cells.proofs.Passing.{passing_first, passing_turn, passing_fault, passing_all}
 use Rattle.cells.proofs.untaken.no_marks.Goals as goal
 
 pub loop-i-init : goal.loop-i-init

@@ -1,7 +1,6 @@
 -- `untaken::prior` meets its contract, one way and the other.
 use mathlib.Core.Path.{ap, sym}
 use mathlib.Core.Bool.{Bool}
-use borrow.Author.Rules.{rules}
 use borrow.Author.Tests.{eq-eqb, ne_eqb}
 use Prim.Native.Nat.{◌-◌}
 use Rattle.octets.specs.Octets.{pick}

@@ -1,9 +1,6 @@
 -- `untaken::range_chain` meets its contract: the key, the counters and the block are those that stand there.
 use Prim.Native.Nat.{ℕ}
-use native.Mathlib.Omega.{arith}
 use mathlib.Core.Path.{ap, ap₂, ◌∙◌}
-use mathlib.Core.List.{List}
-use borrow.Author.Rules.{rules}
 use Rattle.cells.specs.declared.untaken.Block.{Block}
 use Rattle.cells.specs.Chains.{mixed, mix_start}
 use Rattle.cells.specs.Blocks.{block_of, block_chain}

@@ -1,13 +1,8 @@
 -- `untaken::untaken_all` meets its contract. The loop's invariant: no segment of the cells passed lies in a range.
 use Prim.Native.Nat.{◌-◌}
 use lib.ListN.{length}
-use mathlib.Core.Path.{sym, ◌∙◌}
-use native.Mathlib.Omega.{arith}
-use borrow.Author.Tests.{not-true, not-false}
-use Rattle.cells.proofs.Bodies.{body_top}
-use Rattle.cells.proofs.Passing.{Passing, passing_first, passing_turn, passing_fault, passing_all}
-use Rattle.cells.specs.Order.{cell_at, untaken_in, untaken}
-use borrow.Author.Rules.{rules}
+use Rattle.cells.proofs.Passing.{Passing}
+use Rattle.cells.specs.Order.{cell_at, untaken_in}
 use Rattle.cells.proofs.untaken.untaken_all.Given as goal
 
 abbrev pub invariant-loop-i : goal.invariant-loop-i

@@ -1,6 +1,5 @@
 -- `untaken::untaken_at` meets its contract: no segment, or one that is looked for.
 use Rattle.cells.proofs.Entering.{asked_at, none_untaken, some_untaken}
-use borrow.Author.Rules.{rules}
 use Rattle.cells.proofs.untaken.untaken_at.Goals as goal
 
 -- a pair with the names of the clauses

@@ -1,5 +1,4 @@
 -- `untaken::untaken_by` meets its contract: without records no segment lies in a range, and else all are looked for.
-use borrow.Author.Rules.{rules}
 use Rattle.cells.proofs.Ranges.{markless_untaken}
 use Rattle.cells.proofs.untaken.untaken_by.Goals as goal
 

@@ -1,7 +1,6 @@
 -- `untaken::untaken_chained` meets its contract: at first no cell is on a chain, then all records are.
 use Prim.Native.Nat.{ℕ}
 use lib.ListN.{length-replicate}
-use borrow.Author.Rules.{rules}
 use Rattle.cells.proofs.Chaining.{chained_none}
 use Rattle.cells.proofs.untaken.untaken_chained.Goals as goal
 
