@@ -1,27 +1,24 @@
 -- Exactly which PDUs cross back, and what is then written: the octets of the message that says what the PDU says, with the values lent.
 -- Assumes nothing.
-use Prim.Native.Nat.{ℕ, ◌+◌, ◌≤◌, ◌<◌}
+use Prim.Native.Nat.{ℕ, ◌≤◌, ◌<◌}
 use mathlib.Core.Path.{◌≡◌, refl, ap, ap₂, sym, ◌∙◌, subst}
-use mathlib.Core.Logic.{◌↔◌, ◌⊎◌, inl, inr}
+use mathlib.Core.Logic.{◌↔◌}
 use mathlib.Core.Bool.{Bool, true, false, not}
-use mathlib.Core.List.{List, [], ◌∷◌, ◌++◌}
+use mathlib.Core.List.{List, ◌++◌}
 use native.Mathlib.Omega.{arith}
 use lib.ListN.{length, drop}
-use lib.Dec.{eqb, leb, ltb}
+use lib.Dec.{eqb, leb}
 use borrow.Author.Tests.{leb-true, ltb-true, eqb-true, eqb-false, not-true, eq-eqb, le-leb, lt-ltb}
 use Rattle.octets.specs.Octets.{pick, Octets, most16}
-use Rattle.octets.proofs.Lists.{bool}
 use Rattle.walk.specs.declared.Settings.{Settings}
-use Rattle.walk.specs.declared.Tested.{Tested}
-use Rattle.walk.specs.Walk.{refusal, no_refusal, none_failed, unless}
-use Rattle.fields.specs.Form.{split}
+use Rattle.walk.specs.Walk.{refusal, no_refusal, none_failed}
 use Rattle.packet.specs.Format.{Head, SettingsInRange, header_octets, header_most}
 use Rattle.format.specs.Told.{content}
-use Rattle.write.specs.Given.{head_of, unless_all}
+use Rattle.write.specs.Given.{head_of}
 use Rattle.write.specs.Writing.{settings_test, fine}
 use Rattle.write.proofs.Tests.{AllHold, unless_fine, unless_true, unless_all_fine, unless_all_true}
 use Rattle.pdu.specs.declared.Header.{Header}
-use Rattle.pdu.specs.Format.{Pdu, timestamp_size, octets_of, InRange}
+use Rattle.pdu.specs.Format.{Pdu, timestamp_size}
 use Rattle.pdu.specs.Reading.{read_pdu}
 use Rattle.pdu.specs.Told.{values_of}
 use Rattle.pdu.proofs.TwoWay.{reads_back, only_writing}

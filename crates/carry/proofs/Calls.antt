@@ -3,7 +3,7 @@
 -- is the contract's own second clause. And two outcomes that a contract allows for the same arguments have the same answer and output.
 -- Assumes nothing.
 use Prim.Native.Nat.{ℕ, ◌≤◌}
-use mathlib.Core.Path.{◌≡◌, ap, sym, ◌∙◌, subst}
+use mathlib.Core.Path.{◌≡◌, sym, ◌∙◌, subst}
 use mathlib.Core.Logic.{◌↔◌}
 use mathlib.Core.Bool.{false}
 use mathlib.Core.List.{List, ◌++◌}
@@ -14,16 +14,14 @@ use Rattle.walk.specs.declared.Settings.{Settings}
 use Rattle.walk.specs.Walk.{no_refusal}
 use Rattle.packet.specs.Format.{header_octets}
 use Rattle.pdu.specs.declared.Written.{Written}
-use Rattle.pdu.specs.Format.{head_octets}
 use Rattle.carry.specs.declared.Route.{Route}
 use Rattle.carry.specs.declared.Carried.{Carried}
-use Rattle.carry.specs.Message.{message_octets}
 use Rattle.carry.specs.There.{to_pdu_answer, to_pdu_output}
 use Rattle.carry.specs.Back.{to_message_answer, to_message_output}
-use Rattle.carry.specs.Crossing.{head_for, route_of, Crosses, Returns}
+use Rattle.carry.specs.Crossing.{route_of, Crosses, Returns}
 use Rattle.carry.proofs.There.{crosses_exactly}
 use Rattle.carry.proofs.Back.{returns_exactly}
-use Rattle.carry.proofs.Journey.{there_and_back, back_and_there}
+use Rattle.carry.proofs.Journey.{there_and_back}
 use Rattle.carry.proofs.to_pdu.Reads as there
 use Rattle.carry.proofs.to_message.Reads as back
 

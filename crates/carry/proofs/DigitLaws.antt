@@ -1,17 +1,17 @@
 -- Ids as digits: what is written reads back as the number, and a text that is an id is the digits of what it says.
 -- Assumes nothing.
-use Prim.Native.Nat.{ℕ, zero, suc, ◌+◌, ◌-◌, ◌*◌, ◌/◌, ◌%◌, ◌≤◌, ◌<◌}
+use Prim.Native.Nat.{ℕ, ◌+◌, ◌-◌, ◌*◌, ◌/◌, ◌%◌, ◌≤◌, ◌<◌}
 use mathlib.Core.Path.{◌≡◌, refl, ap, ap₂, sym, ◌∙◌}
 use mathlib.Core.Logic.{◌⊎◌, inl, inr, ⊎_elim}
 use mathlib.Core.Bool.{Bool, true, false}
 use mathlib.Core.List.{List, [], ◌∷◌}
 use native.Mathlib.Omega.{arith}
 use lib.ListN.{length}
-use lib.Dec.{ltb, leb, eqb}
+use lib.Dec.{leb}
 use borrow.Author.Tests.{leb-true, le-leb, lt-leb, lt-ltb, le-ltb, ne_eqb}
-use Rattle.octets.specs.Octets.{pick, Octets, octet_at, alike, most8}
+use Rattle.octets.specs.Octets.{pick, octet_at, alike}
 use Rattle.octets.proofs.Lists.{bool, below_or, alike_self, alike_true}
-use Rattle.carry.specs.Digits.{digits, value_of, is_id, id_text, id_value, id_fits}
+use Rattle.carry.specs.Digits.{digits, value_of, is_id}
 
 pub digits_one : (n : ℕ) → n < 10 → digits n ≡ (48 + n) ∷ []
 unfolding digits

@@ -1,13 +1,12 @@
 -- By computation: SPEC's figure 14 carried to the office, and back; and which texts are ids. So the hypotheses of the laws can be met.
 -- Assumes nothing.
-use Prim.Native.Nat.{ℕ}
 use mathlib.Core.Path.{◌≡◌, refl}
-use mathlib.Core.Bool.{Bool, true, false}
-use mathlib.Core.List.{List, [], ◌∷◌, ◌++◌, map}
+use mathlib.Core.Bool.{true, false}
+use mathlib.Core.List.{[], ◌∷◌, ◌++◌, map}
 use Rattle.octets.specs.Octets.{number, wide, alike}
 use Rattle.octets.specs.Laying.{together}
 use Rattle.utf8.specs.Test.{ended, accepts, is_text}
-use Rattle.walk.specs.Walk.{check, octets, field_from, unless, no_refusal, refusal}
+use Rattle.walk.specs.Walk.{check, octets, field_from, unless, no_refusal}
 use Rattle.fields.specs.Form.{split, all_text}
 use Rattle.packet.specs.Figure14.{settings, zeros}
 use Rattle.packet.specs.Format.{presence, identification, fixed_octets, front_octets, back_octets, header_octets}

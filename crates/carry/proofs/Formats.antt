@@ -1,25 +1,24 @@
 -- A message's header and its PDU, by the two formats: each says the other again, and one is in range if the other is.
 -- Assumes nothing.
 use Prim.Native.Nat.{ℕ, ◌+◌, ◌/◌, ◌%◌, ◌≤◌, ◌<◌}
-use mathlib.Core.Path.{◌≡◌, refl, ap, ap₂, sym, ◌∙◌, subst}
-use mathlib.Core.Logic.{◌⊎◌, ⊎_elim}
+use mathlib.Core.Path.{◌≡◌, refl, ap₂, sym, ◌∙◌}
+use mathlib.Core.Logic.{⊎_elim}
 use mathlib.Core.Bool.{Bool, true, false}
 use mathlib.Core.List.{List, [], ◌∷◌}
 use native.Mathlib.Omega.{arith}
 use lib.ListN.{length}
-use lib.Dec.{ltb}
 use borrow.Author.Tests.{lt-ltb}
-use Rattle.octets.specs.Octets.{pick, Octets, most8, most32}
+use Rattle.octets.specs.Octets.{Octets, most8, most32}
 use Rattle.octets.proofs.Lists.{below_or}
 use Rattle.utf8.specs.Text.{Text}
-use Rattle.utf8.specs.Test.{both, all_single}
+use Rattle.utf8.specs.Test.{all_single}
 use Rattle.utf8.proofs.Single.{single_text}
 use Rattle.walk.specs.declared.Settings.{Settings}
 use Rattle.packet.specs.Format.{Head, Opt, HeadInRange}
 use Rattle.pdu.specs.Format.{Pdu, timestamp_size, rest_octets, InRange}
 use Rattle.carry.specs.declared.Route.{Route}
-use Rattle.carry.specs.Digits.{digits, value_of, is_id, id_text, id_value, id_fits}
-use Rattle.carry.specs.Crossing.{flags_of_head, pdu_for, head_for, route_of, RouteInRange}
+use Rattle.carry.specs.Digits.{digits, id_text, id_value, id_fits}
+use Rattle.carry.specs.Crossing.{pdu_for, head_for, route_of, RouteInRange}
 use Rattle.carry.proofs.DigitLaws.{digits_one, digits_two, digits_three, value_back, id_back, id_only}
 
 -- ---- digits are text

@@ -1,7 +1,7 @@
 -- The parts of a domain joined in a buffer, one after the other, and their lengths: the loop's step, what stands in the buffers after it,
 -- that cut by their lengths they are the parts again, and that a header is no shorter than the parts of its domain.
 -- Assumes nothing.
-use Prim.Native.Nat.{ℕ, zero, suc, ◌+◌, ◌-◌, ◌≤◌, ◌<◌}
+use Prim.Native.Nat.{ℕ, suc, ◌+◌, ◌-◌, ◌≤◌, ◌<◌}
 use mathlib.Core.Path.{◌≡◌, refl, ap, ap₂, sym, ◌∙◌}
 use mathlib.Core.Logic.{⊎_elim}
 use mathlib.Core.Bool.{Bool, true, false}

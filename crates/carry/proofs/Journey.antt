@@ -8,15 +8,14 @@ use mathlib.Core.List.{List, ◌++◌}
 use native.Mathlib.Omega.{arith}
 use lib.ListN.{length, take, drop}
 use lib.Seq.{take_at}
-use Rattle.octets.specs.Octets.{Octets, most8, most32}
+use Rattle.octets.specs.Octets.{Octets, most32}
 use Rattle.walk.specs.declared.Settings.{Settings}
 use Rattle.walk.specs.Walk.{no_refusal}
 use Rattle.packet.specs.Format.{Head, header_octets, header_most}
 use Rattle.pdu.specs.declared.Written.{Written}
-use Rattle.pdu.specs.Format.{Pdu, timestamp_size, rest_octets, head_octets, octets_of, InRange}
+use Rattle.pdu.specs.Format.{Pdu, timestamp_size, rest_octets, head_octets, octets_of}
 use Rattle.carry.specs.declared.Route.{Route}
-use Rattle.carry.specs.declared.Carried.{Carried}
-use Rattle.carry.specs.Digits.{id_text, id_fits}
+use Rattle.carry.specs.Digits.{id_fits}
 use Rattle.carry.specs.Message.{message_octets}
 use Rattle.carry.specs.There.{to_pdu_answer, to_pdu_output}
 use Rattle.carry.specs.Back.{to_message_answer, to_message_output}

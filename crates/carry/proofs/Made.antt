@@ -1,9 +1,9 @@
 -- From the sizes, tests and pieces of the code to the answer and the output of writing a message, on plain values.
 -- Assumes nothing.
-use Prim.Native.Nat.{ℕ, ◌+◌, ◌-◌, ◌*◌, ◌≤◌, ◌<◌}
+use Prim.Native.Nat.{ℕ, ◌+◌, ◌-◌, ◌*◌, ◌≤◌}
 use mathlib.Core.Path.{◌≡◌, refl, ap, sym, ◌∙◌}
 use mathlib.Core.Logic.{⊎_elim}
-use mathlib.Core.Bool.{Bool, true, false}
+use mathlib.Core.Bool.{true, false}
 use mathlib.Core.List.{List, [], ◌∷◌, ◌++◌}
 use native.Mathlib.Omega.{arith}
 use native.Mathlib.Nat.{zero-add}
@@ -11,7 +11,7 @@ use lib.ListN.{length, drop, length-append}
 use lib.Seq.{sets, sets-eq}
 use lib.Dec.{leb}
 use borrow.Author.Tests.{leb-true, le-leb, lt-leb, eq-eqb, ne_eqb}
-use Rattle.octets.specs.Octets.{pick, wide}
+use Rattle.octets.specs.Octets.{wide}
 use Rattle.octets.specs.Laying.{laid, together, Lays}
 use Rattle.octets.proofs.Lists.{below_or}
 use Rattle.octets.proofs.Numbers.{wide_length}
@@ -28,7 +28,6 @@ use Rattle.write.specs.Inner.{primary_pieces, name_pieces, routing_pieces, front
 use Rattle.write.proofs.Tests.{unless_fine}
 use Rattle.write.proofs.Answers.{below_cap, unless_same}
 use Rattle.write.proofs.Pieces.{packet_together}
-use Rattle.carry.specs.declared.Carried.{Carried}
 use Rattle.carry.specs.Message.{message_octets}
 use Rattle.carry.specs.Back.{size_test, not_carried, made_answer, made_output}
 use Rattle.carry.specs.Inner.{whole, message_pieces}

@@ -3,22 +3,21 @@
 -- Assumes nothing.
 use Prim.Native.Nat.{ℕ, ◌+◌, ◌-◌, ◌*◌, ◌/◌, ◌%◌, ◌≤◌, ◌<◌}
 use mathlib.Core.Path.{◌≡◌, refl, ap, sym, ◌∙◌, subst}
-use mathlib.Core.List.{List, [], ◌∷◌, ◌++◌, map}
+use mathlib.Core.List.{List, [], map}
 use mathlib.Core.Bool.{Bool, true, false, not}
 use native.Mathlib.Omega.{arith}
-use lib.ListN.{length, take, length-append}
+use lib.ListN.{length, take}
 use lib.Dec.{eqb, leb, ltb}
 use borrow.Author.Tests.{eqb-true, eqb-false, leb-true, ltb-true, not-true}
-use Rattle.octets.specs.Octets.{pick, Octets, octet_at, number, part, wide, most8}
+use Rattle.octets.specs.Octets.{pick, Octets, octet_at, number, wide, most8}
 use Rattle.octets.specs.Laying.{together}
-use Rattle.octets.proofs.Has.{Has, has_inside, has_both, has_part, has_all_lem, part_length, octets_part}
-use Rattle.octets.proofs.Numbers.{number_top, wide_length, number_has}
+use Rattle.octets.proofs.Has.{Has, has_inside, has_both, has_all_lem, octets_part}
+use Rattle.octets.proofs.Numbers.{number_has}
 use Rattle.walk.specs.declared.Settings.{Settings}
-use Rattle.walk.specs.Walk.{Reading, goes, refused, going, none_failed, check, unless, timestamp_least, timestamp_most}
+use Rattle.walk.specs.Walk.{Reading, goes, refused, going, none_failed, timestamp_least, timestamp_most}
 use Rattle.walk.specs.Profile.{fixed_profile}
 use Rattle.walk.proofs.Steps.{check_held}
-use Rattle.packet.specs.declared.Header.{Header}
-use Rattle.packet.specs.Format.{Head, Values, SettingsInRange, HeadInRange, header_most, segment, identification, counter_octets, header_octets, secondary_octets}
+use Rattle.packet.specs.Format.{Values, SettingsInRange, HeadInRange, header_most, segment, identification, counter_octets, header_octets, secondary_octets}
 use Rattle.packet.specs.FixedPart.{after_sdu, after_area, after_service, after_operation, after_version, after_session, after_secondary, after_qualifier, after_transaction, after_presence, fixed_of, present_of}
 use Rattle.packet.specs.Reading.{ids_of, texts_of}
 use Rattle.format.specs.Told.{head_of, values_of, content}
@@ -30,7 +29,7 @@ use Rattle.format.proofs.Only.{rest_has}
 use Rattle.pdu.specs.Format.{timestamp_size}
 use Rattle.write.specs.Writing.{settings_test, fine}
 use Rattle.write.proofs.Tests.{unless_fine}
-use Rattle.carry.specs.Message.{message_octets, message_place, message_bound, encoding_test, message_tests, start_at, has_at, texts_at, timestamp_fits, ended, primary_of, accepted_message, parts_of}
+use Rattle.carry.specs.Message.{message_octets, message_bound, encoding_test, message_tests, start_at, has_at, texts_at, timestamp_fits, ended, primary_of, accepted_message, parts_of}
 use Rattle.carry.proofs.Joined.{domain_least}
 use Rattle.carry.proofs.Made.{message_long}
 use Rattle.carry.proofs.Parts.{accepted_few}

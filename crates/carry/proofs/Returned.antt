@@ -1,29 +1,25 @@
 -- From the answers of the steps to the answer of carrying a PDU back, on plain values.
 -- Assumes nothing.
-use Prim.Native.Nat.{ℕ, ◌≤◌, ◌<◌}
+use Prim.Native.Nat.{ℕ, ◌<◌}
 use mathlib.Core.Path.{◌≡◌, refl, ap, sym, ◌∙◌}
-use mathlib.Core.Bool.{Bool, true, false}
+use mathlib.Core.Bool.{false}
 use mathlib.Core.List.{List, [], map}
 use native.Mathlib.Omega.{arith}
 use lib.ListN.{length, take}
-use lib.Dec.{leb}
 use borrow.Author.Tests.{eq-eqb, ne_eqb, lt-leb}
-use Rattle.octets.specs.Octets.{pick}
 use Rattle.octets.specs.Laying.{together}
 use Rattle.walk.specs.declared.Settings.{Settings}
 use Rattle.walk.specs.declared.Tested.{Tested}
-use Rattle.walk.specs.Walk.{refusal, none_failed, failed, unless}
+use Rattle.walk.specs.Walk.{refusal, failed, unless}
 use Rattle.packet.specs.Format.{Head, header_octets, header_most}
 use Rattle.format.specs.Told.{content}
 use Rattle.write.specs.declared.HeaderValues.{HeaderValues}
 use Rattle.write.specs.Given.{lent, head_of}
-use Rattle.write.specs.Writing.{fine}
-use Rattle.write.proofs.Answers.{shut}
 use Rattle.pdu.specs.declared.Header.{Header}
 use Rattle.pdu.specs.Reading.{read_pdu}
 use Rattle.carry.specs.declared.Route.{Route}
 use Rattle.carry.specs.declared.Carried.{Carried}
-use Rattle.carry.specs.Message.{message_octets, parts_of, lent_of}
+use Rattle.carry.specs.Message.{parts_of, lent_of}
 use Rattle.carry.specs.Back.{route_test, value_test, message_values, message_head, size_test, not_carried, made_answer, made_output, back_answer, back_output, to_message_answer, to_message_output}
 use Rattle.carry.specs.Inner.{Few, told_to}
 use Rattle.carry.proofs.Joined.{split_together, domain_least}

@@ -1,13 +1,13 @@
 -- From the answers of the steps to the answer of carrying a message to the office, on plain values.
 -- Assumes nothing.
 use Prim.Native.Nat.{ℕ, ◌≤◌}
-use mathlib.Core.Path.{◌≡◌, refl, ap, sym, ◌∙◌}
+use mathlib.Core.Path.{◌≡◌, refl}
 use mathlib.Core.Logic.{⊎_elim}
-use mathlib.Core.Bool.{Bool, true, false}
+use mathlib.Core.Bool.{true}
 use mathlib.Core.List.{List, map}
 use lib.ListN.{length}
 use borrow.Author.Tests.{eq-eqb, ne_eqb, eqb-false}
-use Rattle.octets.specs.Octets.{pick, Octets}
+use Rattle.octets.specs.Octets.{Octets}
 use Rattle.octets.specs.Laying.{together}
 use Rattle.octets.proofs.Lists.{bool}
 use Rattle.walk.specs.declared.Settings.{Settings}
@@ -20,9 +20,8 @@ use Rattle.write.specs.Given.{lent}
 use Rattle.pdu.specs.declared.PduValues.{PduValues}
 use Rattle.pdu.specs.declared.Written.{Written}
 use Rattle.pdu.specs.Writing.{write_answer, write_output}
-use Rattle.carry.specs.Digits.{id_text}
-use Rattle.carry.specs.Message.{ended, refusal_of, accepted_message, read_message, parts_of, lent_of}
-use Rattle.carry.specs.There.{office_values, source_text, destination_text, office_answer, office_output, not_written, to_pdu_answer, to_pdu_output}
+use Rattle.carry.specs.Message.{ended, refusal_of, read_message, parts_of, lent_of}
+use Rattle.carry.specs.There.{office_values, source_text, destination_text, office_answer, office_output, to_pdu_answer, to_pdu_output}
 use Rattle.carry.specs.Inner.{Few}
 use Rattle.carry.proofs.Parts.{message_few}
 use Rattle.carry.proofs.Whole.{accepts}

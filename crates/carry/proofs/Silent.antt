@@ -1,42 +1,40 @@
 -- A message that reading accepts is refused on the way to the office by 23 and 21 alone: of the tests of the PDU's writer those on values, 22, 13
 -- and 28, pass. For its header has at most 256 octets, so that its fields fit a PDU's.
 -- Assumes nothing.
-use Prim.Native.Nat.{ℕ, suc, ◌+◌, ◌*◌, ◌≤◌, ◌<◌}
-use mathlib.Core.Path.{◌≡◌, refl, ap, sym, ◌∙◌, subst}
+use Prim.Native.Nat.{ℕ, ◌+◌, ◌*◌, ◌≤◌, ◌<◌}
+use mathlib.Core.Path.{◌≡◌, ap, sym, ◌∙◌, subst}
 use mathlib.Core.Logic.{⊎_elim}
 use mathlib.Core.Bool.{Bool, true, false}
-use mathlib.Core.List.{List, [], ◌∷◌, ◌++◌, map}
+use mathlib.Core.List.{List, [], ◌∷◌}
 use native.Mathlib.Omega.{arith}
 use lib.ListN.{length, length-append}
 use lib.Dec.{leb}
 use borrow.Author.Tests.{le-leb}
-use Rattle.octets.specs.Octets.{pick, Octets, most32}
+use Rattle.octets.specs.Octets.{Octets, most32}
 use Rattle.octets.specs.Laying.{together}
 use Rattle.octets.proofs.Has.{octets_nil}
 use Rattle.octets.proofs.Lists.{below_or}
-use Rattle.varint.specs.Varint.{write}
 use Rattle.varint.proofs.Forms.{size_most_lem}
 use Rattle.walk.specs.declared.Settings.{Settings}
 use Rattle.walk.specs.Walk.{none_failed}
 use Rattle.fields.specs.Fields.{parts_most}
-use Rattle.fields.specs.Form.{uinteger_octets, blob_octets, text_octets, part_octets, joined, domain_octets, split}
+use Rattle.fields.specs.Form.{uinteger_octets, blob_octets, text_octets, part_octets, joined, domain_octets}
 use Rattle.fields.proofs.Sized.{text_long, blob_long}
 use Rattle.packet.specs.declared.Header.{Header}
 use Rattle.packet.specs.Format.{Head, Opt, when, HeadInRange, header_octets, back_octets}
 use Rattle.format.specs.Told.{content, head_of, values_of}
-use Rattle.write.specs.Given.{sum}
 use Rattle.write.proofs.Tests.{unless_true, unless_all_true}
 use Rattle.two_way.proofs.Fits.{opt_parts}
 use Rattle.pdu.specs.Format.{Pdu, pdu_settings, variable_octets, rest_octets, InRange}
-use Rattle.pdu.specs.Given.{pdu_of, value_checks, word_checks}
+use Rattle.pdu.specs.Given.{pdu_of}
 use Rattle.pdu.specs.Writing.{value_refusal, size_tests, write_refusal, write_answer}
 use Rattle.pdu.proofs.Fits.{range_checks, range_words}
 use Rattle.carry.specs.Digits.{digits, id_text}
-use Rattle.carry.specs.Message.{accepted_message, read_message, parts_of, lent_of}
+use Rattle.carry.specs.Message.{accepted_message, read_message, lent_of}
 use Rattle.carry.specs.There.{office_values, source_text, destination_text, office_answer, to_pdu_answer}
 use Rattle.carry.specs.Crossing.{pdu_for}
 use Rattle.carry.proofs.DigitLaws.{digits_one, digits_two, digits_three}
-use Rattle.carry.proofs.Joined.{split_together, when_least, parts_least}
+use Rattle.carry.proofs.Joined.{when_least, parts_least}
 use Rattle.carry.proofs.Whole.{accepts}
 use Rattle.carry.proofs.Only.{told, good, told_range, told_timestamp}
 use Rattle.carry.proofs.Sent.{answered}

@@ -1,39 +1,37 @@
 -- Exactly which messages cross to the office, and what is then written: the octets of the PDU that says what the message says.
 -- Assumes nothing.
-use Prim.Native.Nat.{ℕ, ◌+◌, ◌≤◌}
+use Prim.Native.Nat.{ℕ, ◌≤◌}
 use mathlib.Core.Path.{◌≡◌, refl, ap, sym, ◌∙◌, subst}
 use mathlib.Core.Logic.{◌↔◌, ◌⊎◌, inl, inr}
-use mathlib.Core.Bool.{Bool, true, false}
+use mathlib.Core.Bool.{true, false}
 use mathlib.Core.List.{List, [], ◌∷◌, ◌++◌, map}
 use native.Mathlib.Omega.{arith}
 use lib.ListN.{length, drop, length-append}
 use lib.Dec.{eqb, leb}
 use borrow.Author.Tests.{leb-true, eqb-true, eqb-false, eq-eqb}
-use Rattle.octets.specs.Octets.{pick, Octets, most32}
+use Rattle.octets.specs.Octets.{Octets, most32}
 use Rattle.octets.specs.Laying.{together}
 use Rattle.octets.proofs.Lists.{bool}
 use Rattle.walk.specs.declared.Settings.{Settings}
-use Rattle.walk.specs.Walk.{no_refusal, going}
-use Rattle.fields.specs.Form.{split}
+use Rattle.walk.specs.Walk.{no_refusal}
 use Rattle.packet.specs.declared.Header.{Header}
 use Rattle.packet.specs.Format.{Head, Values, identification, header_octets}
 use Rattle.format.specs.Told.{content, head_of, values_of}
 use Rattle.write.specs.Given.{sum}
-use Rattle.write.specs.Writing.{fine}
 use Rattle.write.proofs.Tests.{unless_fine}
 use Rattle.two_way.proofs.Lists.{octets_right}
 use Rattle.pdu.specs.declared.Written.{Written}
 use Rattle.pdu.specs.Format.{Pdu, rest_octets, head_octets, octets_of, InRange}
 use Rattle.pdu.specs.Given.{pdu_of}
 use Rattle.pdu.specs.Lending.{Writable}
-use Rattle.pdu.specs.Writing.{write_refusal, size_tests, write_answer, write_output}
+use Rattle.pdu.specs.Writing.{write_refusal, size_tests, write_answer}
 use Rattle.pdu.proofs.Exactly.{writable_answer, writable_output}
-use Rattle.carry.specs.Message.{message_octets, ended, accepted_message, read_message, parts_of, lent_of}
+use Rattle.carry.specs.Message.{message_octets, accepted_message, read_message, parts_of, lent_of}
 use Rattle.carry.specs.There.{office_values, source_text, destination_text, office_answer, office_output, to_pdu_answer, to_pdu_output}
 use Rattle.carry.specs.Crossing.{pdu_for, Crosses}
 use Rattle.carry.proofs.Joined.{split_together}
 use Rattle.carry.proofs.Whole.{accepts}
-use Rattle.carry.proofs.Only.{told, good, told_written, told_range, told_timestamp, told_octets}
+use Rattle.carry.proofs.Only.{told, good, told_written, told_range, told_timestamp}
 use Rattle.carry.proofs.Written.{whole_of, reads, values_back}
 use Rattle.carry.proofs.Sent.{answered}
 use Rattle.carry.proofs.Formats.{range_there}

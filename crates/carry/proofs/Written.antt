@@ -5,7 +5,7 @@ use mathlib.Core.Path.{◌≡◌, refl, ap, sym, ◌∙◌, subst}
 use mathlib.Core.List.{List, [], ◌++◌}
 use mathlib.Core.Bool.{Bool, true, false, not}
 use native.Mathlib.Omega.{arith}
-use lib.ListN.{length, length-append}
+use lib.ListN.{length}
 use lib.Dec.{eqb, leb, ltb}
 use borrow.Author.Tests.{eq-eqb, ne_eqb, le-leb, lt-ltb}
 use Rattle.octets.specs.Octets.{pick, Octets, octet_at, number, wide, most8}
@@ -16,7 +16,6 @@ use Rattle.walk.specs.declared.Tested.{Tested}
 use Rattle.walk.specs.Profile.{fixed_profile}
 use Rattle.walk.specs.Walk.{Reading, goes, refused, none_failed, timestamp_least, timestamp_most}
 use Rattle.walk.proofs.Steps.{check_ok}
-use Rattle.packet.specs.declared.Present.{Present}
 use Rattle.packet.specs.Format.{Head, Values, SettingsInRange, HeadInRange, identification, counter_octets, header_octets, secondary_octets}
 use Rattle.format.specs.Told.{values_of}
 use Rattle.format.proofs.Field.{Room}
@@ -27,7 +26,7 @@ use Rattle.format.proofs.Frame.{word_is}
 use Rattle.write.specs.Writing.{settings_test}
 use Rattle.write.proofs.Tests.{unless_true}
 use Rattle.pdu.specs.Format.{timestamp_size}
-use Rattle.carry.specs.Message.{message_octets, message_bound, encoding_test, message_tests, start_at, has_at, texts_at, timestamp_fits, ended, primary_of, accepted_message, read_message}
+use Rattle.carry.specs.Message.{message_octets, message_bound, encoding_test, message_tests, start_at, has_at, timestamp_fits, ended, primary_of, accepted_message, read_message}
 use Rattle.carry.proofs.Whole.{accepts}
 use Rattle.carry.proofs.Made.{message_long}
 use Rattle.carry.proofs.Only.{told, told_pair, told_step, told_has, told_type, told_apid}

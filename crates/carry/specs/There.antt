@@ -2,7 +2,7 @@
 -- packet type, APIDs and qualifier have no field there.
 -- SPEC O-9: 15, 22, the message's reading, 34, 23, 21.
 -- Assumes nothing: these are definitions.
-use Rattle.std.specs.Prelude.{ℕ, List, length, eqb}
+use Rattle.std.specs.Prelude.{ℕ, List, eqb}
 use Rattle.octets.specs.Octets.{pick}
 use Rattle.walk.specs.declared.Settings.{Settings}
 use Rattle.walk.specs.declared.Refusal.{Refusal}

@@ -8,7 +8,7 @@ use native.Mathlib.Omega.{arith}
 use lib.ListN.{length, take, drop, length-take}
 use lib.Seq.{take_all}
 use lib.Dec.{leb, ltb, eqb}
-use borrow.Author.Tests.{leb-true, ltb-true, le-leb, eq-eqb, ne_eqb}
+use borrow.Author.Tests.{leb-true, ltb-true, eq-eqb, ne_eqb}
 use Rattle.octets.specs.Octets.{pick, part}
 use Rattle.octets.specs.Laying.{laid, Lays}
 use Rattle.walk.specs.declared.Settings.{Settings}

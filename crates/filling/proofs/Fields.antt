@@ -1,22 +1,22 @@
 -- A field laid into the answer: handed over to the long way, absent, and each kind of field that is there.
 -- Assumes nothing.
-use Prim.Native.Nat.{ℕ, zero, suc, ◌+◌, ◌*◌, ◌-◌, ◌≤◌, ◌<◌}
+use Prim.Native.Nat.{ℕ, suc, ◌+◌, ◌≤◌, ◌<◌}
 use mathlib.Core.Path.{◌≡◌, refl, ap, sym, ◌∙◌}
 use mathlib.Core.Bool.{Bool, true, false}
 use mathlib.Core.List.{List, [], ◌∷◌}
 use native.Mathlib.Omega.{arith}
 use native.Mathlib.Numerals.{add-one}
 use lib.Dec.{eqb}
-use lib.ListN.{length, get_or, take, drop, set, length-take}
+use lib.ListN.{length, take, drop, set, length-take}
 use lib.Seq.{sets, drop-cons, get_or-take}
 use borrow.Author.Tests.{eq-eqb}
-use Rattle.octets.specs.Octets.{pick, octet_at, number as number_of, part as stretch}
+use Rattle.octets.specs.Octets.{octet_at, number as number_of, part as stretch}
 use Rattle.utf8.specs.Test.{is_text}
 use Rattle.varint.specs.Varint.{value, read, final, read_at}
 use Rattle.varint.proofs.Steps.{step_final}
 use Rattle.walk.specs.declared.Settings.{Settings}
 use Rattle.walk.specs.declared.UInteger.{UInteger}
-use Rattle.walk.specs.Walk.{Reading, Step, goes, going, header_bound, header_end, octets, check, field_from, varint_step, varint_field, wide_field, uinteger}
+use Rattle.walk.specs.Walk.{Reading, Step, goes, header_bound, header_end, octets, varint_step, varint_field, wide_field, uinteger}
 use Rattle.walk.specs.Inner.{as_uinteger}
 use Rattle.walk.proofs.Steps.{octets_goes, check_ok, field_goes, number_found}
 use Rattle.fields.specs.Fields.{place, opt, block, blob, text, marked_text, part}

@@ -1,30 +1,24 @@
 -- From the steps to the whole answer: if every step goes on, what was laid is what reading answers.
 -- Assumes nothing.
-use Prim.Native.Nat.{ℕ, ◌+◌, ◌-◌, ◌<◌}
-use mathlib.Core.Path.{◌≡◌, refl, ap, ap₂, sym, ◌∙◌}
-use mathlib.Core.Bool.{Bool, true, false}
+use Prim.Native.Nat.{ℕ, ◌-◌, ◌<◌}
+use mathlib.Core.Path.{◌≡◌, refl, ap, sym, ◌∙◌}
+use mathlib.Core.Bool.{Bool}
 use mathlib.Core.List.{List, [], ◌∷◌, ◌++◌}
 use native.Mathlib.Omega.{arith}
-use lib.Dec.{ltb}
 use lib.ListN.{length, set}
 use lib.Seq.{sets}
-use borrow.Author.Tests.{lt-ltb}
-use Rattle.octets.specs.Octets.{pick, octet_at}
+use Rattle.octets.specs.Octets.{octet_at}
 use Rattle.walk.specs.declared.Settings.{Settings}
-use Rattle.walk.specs.Walk.{Reading, Step, goes, going, header_bound, check, uinteger, no_refusal}
-use Rattle.walk.proofs.Steps.{check_ok}
-use Rattle.fields.specs.Fields.{Parts, place, nowhere, opt, block, blob, text, domain, no_parts}
+use Rattle.walk.specs.Walk.{Reading, Step, goes, header_bound, uinteger}
+use Rattle.fields.specs.Fields.{nowhere, opt, block, blob, text, domain, no_parts}
 use Rattle.packet.specs.Format.{bit}
 use Rattle.packet.specs.declared.Present.{Present}
-use Rattle.packet.specs.declared.Ids.{Ids}
 use Rattle.packet.specs.declared.Texts.{Texts}
-use Rattle.packet.specs.declared.Header.{Header}
-use Rattle.packet.specs.FixedPart.{octet_field, wide_field, flags_of, fixed_end, fixed_of, present_of}
-use Rattle.packet.specs.Reading.{primary_of, ids_of, texts_of, body_test, segmented, counter_size, start_at, has_at, ids_at, texts_at, ended}
-use Rattle.packet.specs.Reading.{accepted_header, read_packet}
-use Rattle.packet.proofs.Whole.{accepts}
-use Rattle.flat.specs.Told.{primary_numbers, name_numbers, routing_numbers, present_numbers, ids_numbers, text_numbers, place_numbers, places_to}
-use Rattle.flat.specs.Told.{told_beside, read_numbers}
+use Rattle.packet.specs.FixedPart.{octet_field, wide_field, flags_of}
+use Rattle.packet.specs.Reading.{primary_of, ids_of, texts_of, body_test, segmented, counter_size}
+use Rattle.packet.specs.Reading.{read_packet}
+use Rattle.flat.specs.Told.{primary_numbers, name_numbers, routing_numbers, present_numbers, ids_numbers, text_numbers, place_numbers}
+use Rattle.flat.specs.Told.{read_numbers}
 use Rattle.flat.proofs.Answers.{header_laid, texts_laid}
 use Rattle.light.specs.Light.{Ready, fixed_here, no_texts}
 use Rattle.light.proofs.Header.{the_header, header_is}

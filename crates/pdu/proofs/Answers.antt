@@ -1,6 +1,6 @@
 -- From the sizes and tests of the code to the answer and the output of writing a PDU, on plain values.
 -- Assumes nothing.
-use Prim.Native.Nat.{ℕ, ◌+◌, ◌≤◌, ◌<◌}
+use Prim.Native.Nat.{ℕ, ◌+◌, ◌≤◌}
 use mathlib.Core.Path.{◌≡◌, refl, ap, sym, ◌∙◌}
 use mathlib.Core.Logic.{⊎_elim}
 use mathlib.Core.Bool.{Bool, true, false}
@@ -22,7 +22,7 @@ use Rattle.write.specs.Writing.{fine}
 use Rattle.write.proofs.Tests.{unless_fine}
 use Rattle.write.proofs.Answers.{unless_same}
 use Rattle.pdu.specs.declared.PduValues.{PduValues}
-use Rattle.pdu.specs.Format.{Pdu, variable_octets, rest_octets, fixed_octets, head_octets, octets_of}
+use Rattle.pdu.specs.Format.{Pdu, variable_octets, rest_octets, head_octets, octets_of}
 use Rattle.pdu.specs.Given.{pdu_of}
 use Rattle.pdu.specs.Writing.{value_refusal, size_tests, write_refusal, write_answer, write_output}
 use Rattle.pdu.specs.Inner.{pdu_pieces, small, variable_size}

@@ -1,11 +1,11 @@
 -- A written PDU: it is octets, reading accepts it and tells its values. By the laws of the optional fields and of the fixed part.
 -- Assumes nothing.
-use Prim.Native.Nat.{ℕ, ◌+◌, ◌-◌, ◌/◌, ◌%◌, ◌≤◌, ◌<◌}
+use Prim.Native.Nat.{ℕ, ◌+◌, ◌-◌, ◌<◌}
 use mathlib.Core.Path.{◌≡◌, refl, ap, sym, ◌∙◌, subst}
 use mathlib.Core.List.{List, [], ◌++◌}
 use native.Mathlib.Omega.{arith}
 use lib.ListN.{length, length-append}
-use Rattle.octets.specs.Octets.{Octets, octet_at, most32}
+use Rattle.octets.specs.Octets.{Octets}
 use Rattle.octets.proofs.Has.{Has, has_first, has_second, has_inside, part_has, octets_append}
 use Rattle.walk.specs.Walk.{Reading, goes}
 use Rattle.packet.specs.declared.Present.{Present}

@@ -1,15 +1,13 @@
 -- The writer accepts exactly the values in range whose domain lengths add up, if there is room; and then it writes their octets.
 -- Assumes nothing.
 use Prim.Native.Nat.{ℕ, ◌≤◌}
-use mathlib.Core.Path.{◌≡◌, refl, ap, sym, ◌∙◌}
+use mathlib.Core.Path.{◌≡◌, refl, ap, ◌∙◌}
 use mathlib.Core.Logic.{◌↔◌}
-use mathlib.Core.Bool.{true}
 use mathlib.Core.List.{List, ◌++◌}
-use native.Mathlib.Omega.{arith}
 use lib.ListN.{length, drop}
 use lib.Dec.{leb}
 use borrow.Author.Tests.{leb-true, le-leb, eq-eqb}
-use Rattle.octets.specs.Octets.{pick, most32}
+use Rattle.octets.specs.Octets.{most32}
 use Rattle.walk.specs.declared.Tested.{Tested}
 use Rattle.walk.specs.Walk.{none_failed, no_refusal}
 use Rattle.fields.specs.Fields.{parts_most}
@@ -18,7 +16,6 @@ use Rattle.write.specs.Given.{Lent}
 use Rattle.write.proofs.Tests.{unless_fine, unless_true, unless_all_fine, unless_all_true}
 use Rattle.two_way.proofs.Fits.{opt_parts}
 use Rattle.pdu.specs.declared.PduValues.{PduValues}
-use Rattle.pdu.specs.declared.Written.{Written}
 use Rattle.pdu.specs.Format.{Pdu, rest_octets, head_octets, octets_of}
 use Rattle.pdu.specs.Given.{pdu_of, value_checks, word_checks}
 use Rattle.pdu.specs.Lending.{Lends, Writable}

@@ -1,6 +1,6 @@
 -- A PDU's values: the writer's checks after 22, 13 and 28 hold exactly if the values are in range and the domain's lengths add up.
 -- Assumes nothing.
-use Prim.Native.Nat.{ℕ, ◌≤◌, ◌<◌}
+use Prim.Native.Nat.{ℕ, ◌≤◌}
 use mathlib.Core.Path.{◌≡◌, refl, ap, sym, ◌∙◌}
 use mathlib.Core.Bool.{Bool, true, false}
 use mathlib.Core.List.{List, [], ◌++◌}
@@ -21,7 +21,7 @@ use Rattle.write.proofs.Tests.{AllHold, hold_append, hold_first, hold_second}
 use Rattle.two_way.proofs.Lists.{sum_none}
 use Rattle.two_way.proofs.Fits.{number_opt, exact_opt, domain_opt, each_text, opt_number_lem, opt_exact, opt_lengths, opt_utf8, opt_each}
 use Rattle.pdu.specs.declared.PduValues.{PduValues}
-use Rattle.pdu.specs.Format.{Pdu, timestamp_size, rest_octets, InRange}
+use Rattle.pdu.specs.Format.{timestamp_size, rest_octets, InRange}
 use Rattle.pdu.specs.Given.{pdu_of, empty_unless, qos_most, session_most, name_checks, flag_checks, text_checks, value_checks, word_checks}
 
 -- ---- octets that may be absent, of any number if they are there

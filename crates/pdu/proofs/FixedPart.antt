@@ -2,9 +2,9 @@
 -- those of the values read. Its tests, both ways.
 -- Assumes nothing.
 use Prim.Native.Nat.{ℕ, ◌+◌, ◌*◌, ◌/◌, ◌%◌, ◌≤◌, ◌<◌}
-use mathlib.Core.Path.{◌≡◌, refl, ap, sym, ◌∙◌, subst}
-use mathlib.Core.List.{List, ◌++◌}
-use mathlib.Core.Bool.{Bool, true}
+use mathlib.Core.Path.{◌≡◌, ap, sym, ◌∙◌, subst}
+use mathlib.Core.List.{List}
+use mathlib.Core.Bool.{true}
 use native.Mathlib.Omega.{arith}
 use native.Mathlib.Nat.{le_antisymm}
 use lib.ListN.{length, length-append}
@@ -13,9 +13,8 @@ use borrow.Author.Tests.{eqb-true, leb-true, ltb-true, eq-eqb, le-leb, lt-ltb}
 use Rattle.octets.specs.Octets.{Octets, octet_at, number, wide}
 use Rattle.octets.proofs.Has.{Has, has_first, has_second, has_both, octets_append}
 use Rattle.octets.proofs.Numbers.{wide_length, wide_octets, number_back, number_has}
-use Rattle.walk.specs.Walk.{goes, going, check}
+use Rattle.walk.specs.Walk.{goes, going}
 use Rattle.walk.proofs.Steps.{check_held, check_ok}
-use Rattle.packet.specs.declared.Present.{Present}
 use Rattle.packet.specs.FixedPart.{flags_of}
 use Rattle.format.proofs.Flags.{octet_flags, flags_octet, flag_top}
 use Rattle.write.specs.Inner.{present_octet}

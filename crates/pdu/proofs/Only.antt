@@ -1,13 +1,13 @@
 -- An accepted PDU: the values that reading tells are in range, and the PDU is their octets. By the laws of the optional fields and of the
 -- fixed part.
 -- Assumes nothing.
-use Prim.Native.Nat.{ℕ, ◌+◌, ◌-◌, ◌*◌, ◌/◌, ◌%◌, ◌≤◌, ◌<◌}
+use Prim.Native.Nat.{ℕ, ◌+◌, ◌-◌, ◌/◌}
 use mathlib.Core.Path.{◌≡◌, refl, ap, sym, ◌∙◌, subst}
 use mathlib.Core.List.{List, ◌++◌}
 use mathlib.Core.Bool.{true}
 use native.Mathlib.Omega.{arith}
 use lib.ListN.{length, length-append}
-use Rattle.octets.specs.Octets.{Octets, octet_at, number, most32}
+use Rattle.octets.specs.Octets.{Octets, octet_at}
 use Rattle.octets.proofs.Has.{Has, has_inside, has_both, has_all_lem, octets_part}
 use Rattle.octets.proofs.Numbers.{number_top}
 use Rattle.walk.specs.Walk.{Reading, goes, going}

@@ -1,22 +1,20 @@
 -- The pieces of a PDU, laid one after another, are its octets; and its sizes, as the code adds them up.
 -- Assumes nothing.
-use Prim.Native.Nat.{ℕ, ◌+◌, ◌-◌, ◌≤◌, ◌<◌}
-use mathlib.Core.Path.{◌≡◌, refl, ap, ap₂, sym, ◌∙◌}
+use Prim.Native.Nat.{ℕ, ◌+◌, ◌-◌, ◌≤◌}
+use mathlib.Core.Path.{◌≡◌, refl, ap, sym, ◌∙◌}
 use mathlib.Core.Logic.{⊎_elim}
 use mathlib.Core.Bool.{Bool, true, false}
-use mathlib.Core.List.{List, [], ◌∷◌, ◌++◌, append_assoc, append-nil}
+use mathlib.Core.List.{List, [], ◌++◌, append_assoc, append-nil}
 use native.Mathlib.Omega.{arith}
 use lib.ListN.{length, length-append}
 use lib.Dec.{leb}
 use borrow.Author.Tests.{le-leb, lt-leb}
-use Rattle.octets.specs.Octets.{pick, wide}
+use Rattle.octets.specs.Octets.{pick}
 use Rattle.octets.specs.Laying.{together}
 use Rattle.octets.proofs.Lists.{below_or}
 use Rattle.octets.proofs.Laying.{together_append, one_together}
 use Rattle.fields.specs.Form.{uinteger_octets, domain_octets, split}
-use Rattle.packet.specs.Format.{when}
 use Rattle.fields.proofs.Sized.{text_long, blob_long}
-use Rattle.packet.specs.declared.Present.{Present}
 use Rattle.write.specs.Given.{Lent}
 use Rattle.write.specs.Inner.{middle_pieces, end_pieces}
 use Rattle.write.proofs.Pieces.{if_together, blob_together, text_together, domain_together}

@@ -1,12 +1,9 @@
 -- What holds of each number by which a PDU's reading or writing is refused, and of 0, holds of the number that the call answers.
 -- Assumes nothing.
 use Prim.Native.Nat.{ℕ}
-use mathlib.Core.Path.{◌≡◌, refl}
-use mathlib.Core.Bool.{Bool, true, false}
+use mathlib.Core.Bool.{Bool}
 use mathlib.Core.List.{List, [], ◌∷◌}
-use lib.ListN.{length}
 use lib.Dec.{eqb}
-use Rattle.octets.specs.Octets.{pick}
 use Rattle.walk.specs.declared.Tested.{Tested}
 use Rattle.walk.specs.Walk.{going, uinteger, unless, failed}
 use Rattle.fields.specs.Fields.{nowhere, text}

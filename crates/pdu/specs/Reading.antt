@@ -1,7 +1,7 @@
 -- What reading a PDU answers, with its order of refusals.
 -- SPEC O-6: 1, 7, 8, then 5 or 27, then the optional fields from left to right (6, 10, 11, 13, 28).
 -- Assumes nothing: these are definitions.
-use Rattle.std.specs.Prelude.{ℕ, ◌+◌, ◌-◌, ◌/◌, ◌%◌, List, Bool, false, length, replicate, ltb, leb, eqb}
+use Rattle.std.specs.Prelude.{ℕ, ◌+◌, ◌-◌, ◌/◌, ◌%◌, List, false, length, replicate, ltb, leb, eqb}
 use Rattle.octets.specs.Octets.{pick, octet_at, number}
 use Rattle.walk.specs.declared.Bound.{Bound}
 use Rattle.walk.specs.declared.Refusal.{Refusal}

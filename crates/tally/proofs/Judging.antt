@@ -6,7 +6,6 @@ use mathlib.Core.Logic.{⊎_elim}
 use mathlib.Core.Bool.{Bool, true, false}
 use mathlib.Core.List.{List}
 use mathlib.Core.Option.{none}
-use native.Mathlib.Omega.{arith}
 use Rattle.octets.specs.Octets.{Octets, number, alike}
 use Rattle.octets.proofs.Has.{octets_part}
 use Rattle.walk.specs.declared.Settings.{Settings}

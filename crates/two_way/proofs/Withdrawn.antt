@@ -13,7 +13,6 @@ use Rattle.walk.specs.Walk.{none_failed, failed, refusal, unless}
 use Rattle.packet.specs.Format.{Values, octets_of}
 use Rattle.write.specs.declared.HeaderValues.{HeaderValues}
 use Rattle.write.specs.declared.PacketValues.{PacketValues}
-use Rattle.write.specs.declared.Written.{Written}
 use Rattle.write.specs.Given.{Lent, header_checks, packet_checks, unless_all}
 use Rattle.write.specs.Writing.{settings_test, zone_test, parts_test, text_test, given_packet, size_tests, value_refusal, write_refusal, fine, write_answer, write_output}
 use Rattle.write.proofs.Answers.{shut, all_shut}

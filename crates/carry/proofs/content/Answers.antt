@@ -1,6 +1,5 @@
 -- `carry::content` meets its contract: the two ends are kept inside.
 use Prim.Native.Nat.{min}
-use borrow.Author.Rules.{rules}
 use lib.ListN.{length}
 use mathlib.Core.Path.{◌≡◌}
 use native.Mathlib.Omega.{arith}

@@ -1,7 +1,6 @@
 -- `carry::digits_if` meets its contract: digits if there is an id, else none.
 use native.Mathlib.Omega.{arith}
 use Rattle.carry.specs.Digits.{id_text}
-use borrow.Author.Rules.{rules}
 use Rattle.carry.proofs.digits_if.Goals as goal
 
 pub returns-then-there : goal.returns-then-there

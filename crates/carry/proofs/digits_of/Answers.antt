@@ -2,7 +2,6 @@
 use mathlib.Core.Path.{sym}
 use native.Mathlib.Omega.{arith}
 use Rattle.carry.proofs.DigitLaws.{digits_one, digits_two, digits_three}
-use borrow.Author.Rules.{rules}
 use Rattle.carry.proofs.digits_of.Goals as goal
 
 pub returns-then-n-lt10 : goal.returns-then-n-lt10

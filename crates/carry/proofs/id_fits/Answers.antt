@@ -1,6 +1,5 @@
 -- `carry::id_fits` meets its contract: an id that is absent fits.
 use Rattle.carry.specs.Digits.{id_fits}
-use borrow.Author.Rules.{rules}
 use Rattle.carry.proofs.id_fits.Goals as goal
 
 pub returns-then-there : goal.returns-then-there

@@ -1,6 +1,5 @@
 -- `carry::id_value` meets its contract: what the text says, and 0 if it is absent.
 use Rattle.carry.specs.Digits.{id_value}
-use borrow.Author.Rules.{rules}
 use Rattle.carry.proofs.id_value.Goals as goal
 
 pub returns-then-there : goal.returns-then-there

@@ -1,7 +1,6 @@
 -- `carry::is_id` meets its contract: a text is compared with the digits of what it writes.
 use Rattle.carry.proofs.DigitLaws.{no_id, id_same}
 use Rattle.carry.proofs.Joined.{cut}
-use borrow.Author.Rules.{rules}
 use Rattle.carry.proofs.is_id.Goals as goal
 
 pub returns-then-v-gt-ID_MOST : goal.returns-then-v-gt-ID_MOST

@@ -1,8 +1,7 @@
 -- `carry::join_parts` meets its contract. The loop's invariant, `Joining`: k parts are joined.
-use Prim.Native.Nat.{◌-◌}
 use borrow.Author.Rules.{rules}
 use native.Mathlib.Omega.{arith}
-use Rattle.carry.proofs.Joined.{Joining, joining_first, joining_next, joining_done}
+use Rattle.carry.proofs.Joined.{joining_first, joining_next, joining_done}
 use Rattle.carry.proofs.join_parts.Goals as goal
 
 -- a pair with the names of the clauses

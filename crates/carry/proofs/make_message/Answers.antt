@@ -2,7 +2,6 @@
 use mathlib.Core.Path.{◌∙◌}
 use native.Mathlib.Omega.{arith}
 use Rattle.carry.proofs.Made.{refused_answer, refused_output, written_answer, written_output}
-use borrow.Author.Rules.{rules}
 use Rattle.carry.proofs.make_message.Goals as goal
 
 pub test_sizes-r-requires : goal.test_sizes-r-requires

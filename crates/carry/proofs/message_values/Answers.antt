@@ -1,6 +1,5 @@
 -- `carry::message_values` meets its contract: the fields are copied, and ids are what their texts say.
 use Rattle.carry.specs.Back.{message_values}
-use borrow.Author.Rules.{rules}
 use Rattle.carry.proofs.message_values.Goals as goal
 
 pub returns : goal.returns

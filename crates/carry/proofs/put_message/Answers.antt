@@ -2,7 +2,6 @@
 use native.Mathlib.Omega.{arith}
 use Rattle.octets.proofs.Laying.{lays_both}
 use Rattle.carry.specs.Inner.{message_pieces}
-use borrow.Author.Rules.{rules}
 use Rattle.carry.proofs.put_message.Goals as goal
 
 pub shape_of-out : goal.shape_of-out

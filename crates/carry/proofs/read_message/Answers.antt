@@ -1,7 +1,6 @@
 -- `carry::read_message` meets its contract: its steps are the definition's.
 use mathlib.Core.Path.{◌∙◌}
 use Rattle.carry.proofs.Whole.{refused_whole, accepted_whole}
-use borrow.Author.Rules.{rules}
 use Rattle.carry.proofs.read_message.Goals as goal
 
 pub returns-then-w-ne0 : goal.returns-then-w-ne0

@@ -1,6 +1,5 @@
 -- `carry::read_primary` meets its contract: the fields are at their places.
 use Rattle.carry.specs.Message.{primary_of}
-use borrow.Author.Rules.{rules}
 use Rattle.carry.proofs.read_primary.Goals as goal
 
 pub returns : goal.returns

@@ -1,6 +1,5 @@
 -- `carry::refusal_of` meets its contract, case by case.
 use Rattle.carry.proofs.Whole.{ends_told, other_told}
-use borrow.Author.Rules.{rules}
 use Rattle.carry.proofs.refusal_of.Goals as goal
 
 pub returns-then-w-eq-REFUSED_HEADER_ENDS : goal.returns-then-w-eq-REFUSED_HEADER_ENDS

@@ -1,6 +1,5 @@
 -- `carry::start_walk` meets its contract: its tests are the definition's, in its order.
 use Rattle.carry.specs.Message.{encoding_test, message_tests}
-use borrow.Author.Rules.{rules}
 use Rattle.carry.proofs.start_walk.Goals as goal
 
 pub returns : goal.returns

@@ -1,7 +1,6 @@
 -- `carry::test_route` meets its contract: its tests are the definition's, in its order.
 use Rattle.write.specs.Given.{unless_all}
 use Rattle.carry.specs.Back.{route_test, route_checks}
-use borrow.Author.Rules.{rules}
 use Rattle.carry.proofs.test_route.Goals as goal
 
 pub returns : goal.returns

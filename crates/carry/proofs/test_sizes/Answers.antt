@@ -1,5 +1,4 @@
 -- `carry::test_sizes` meets its contract.
-use borrow.Author.Rules.{rules}
 use Rattle.carry.proofs.test_sizes.Goals as goal
 
 pub returns : goal.returns

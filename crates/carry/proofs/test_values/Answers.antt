@@ -1,6 +1,5 @@
 -- `carry::test_values` meets its contract: its tests are the definition's, in its order.
 use Rattle.carry.specs.Back.{value_test}
-use borrow.Author.Rules.{rules}
 use Rattle.carry.proofs.test_values.Goals as goal
 
 pub returns : goal.returns

@@ -1,5 +1,4 @@
 -- `carry::timestamp_fits` meets its contract: the test of the branch is the definition's.
-use borrow.Author.Rules.{rules}
 use Rattle.carry.proofs.timestamp_fits.Goals as goal
 
 pub returns-then-has : goal.returns-then-has

@@ -1,5 +1,4 @@
 -- `carry::to_message` meets its contract: each refusal in its turn, or what is written.
-use borrow.Author.Rules.{rules}
 use mathlib.Core.Path.{◌∙◌}
 use Rattle.carry.proofs.Returned.{refused_route, refused_pdu, carried_back, pdu_ready}
 use Rattle.carry.proofs.to_message.Goals as goal

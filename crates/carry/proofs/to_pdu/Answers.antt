@@ -1,5 +1,4 @@
 -- `carry::to_pdu` meets its contract: the refusal of the reading, or what is written.
-use borrow.Author.Rules.{rules}
 use Rattle.carry.proofs.Sent.{refused_there, ready, written_there}
 use Rattle.carry.proofs.to_pdu.Goals as goal
 

@@ -1,7 +1,6 @@
 -- `carry::value_of` meets its contract, by how many octets there are.
 use Rattle.carry.proofs.DigitLaws.{one_octet, two_octets_lem, more_octets}
 use native.Mathlib.Omega.{arith}
-use borrow.Author.Rules.{rules}
 use Rattle.carry.proofs.value_of.Goals as goal
 
 pub returns-then-t-eq1 : goal.returns-then-t-eq1

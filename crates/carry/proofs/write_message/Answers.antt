@@ -1,6 +1,5 @@
 -- `carry::write_message` meets its contract: what is lent to the writer is what the PDU says; a domain that is too long makes a header so.
 use Prim.Native.Nat.{ℕ}
-use borrow.Author.Rules.{rules}
 use lib.ListN.{length-replicate}
 use mathlib.Core.Path.{◌∙◌}
 use Rattle.carry.proofs.Joined.{told_small, total_fits, count_fits, text_is, lengths_are}

@@ -1,6 +1,5 @@
 -- `carry::write_pdu` meets its contract: what is lent to the writer is what the message says.
 use Prim.Native.Nat.{ℕ}
-use borrow.Author.Rules.{rules}
 use lib.ListN.{length-replicate}
 use Rattle.carry.proofs.Joined.{cut, total_fits, count_fits, text_is, lengths_are}
 use Rattle.carry.proofs.Sent.{office}

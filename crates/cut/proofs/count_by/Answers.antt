@@ -1,7 +1,5 @@
 -- `cut::count_by` meets its contract: the plan is the definition's, and so are the numbers moved on.
-use borrow.Author.Rules.{rules}
 use Rattle.cut.proofs.Plans.{refused_count, made_count}
-use Rattle.write.specs.Given.{lent}
 use Rattle.cut.proofs.count_by.Goals as goal
 
 pub returns-then-tested-ne0 : goal.returns-then-tested-ne0

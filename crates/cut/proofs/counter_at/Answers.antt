@@ -1,5 +1,4 @@
 -- `cut::counter_at` meets its contract, case by case.
-use borrow.Author.Rules.{rules}
 use Rattle.cut.proofs.Counting.{counter_is}
 use Rattle.cut.proofs.counter_at.Goals as goal
 

@@ -1,5 +1,4 @@
 -- `cut::flags_at` meets its contract, case by case.
-use borrow.Author.Rules.{rules}
 use borrow.Author.Tests.{eq-eqb, ne_eqb}
 use Rattle.cut.proofs.Counting.{last_flag, between_flag, past_flag}
 use Rattle.cut.proofs.flags_at.Goals as goal

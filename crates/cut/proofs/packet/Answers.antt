@@ -1,5 +1,4 @@
 -- `cut::packet` meets its contract: it is the inner function, and not as the old cutter.
-use borrow.Author.Rules.{rules}
 use Rattle.cut.proofs.packet.Goals as goal
 
 pub returns : goal.returns

@@ -3,7 +3,6 @@ use borrow.Author.Rules.{rules}
 use lib.ListN.{length}
 use native.Mathlib.Omega.{arith}
 use Rattle.cut.proofs.Packets.{part_inside, refused_packet_lem, refused_output, made_packet, made_output_lem, done}
-use Rattle.write.specs.Given.{lent}
 use Rattle.cut.proofs.packet_by.Goals as goal
 
 pub slice_bounds-part-count : goal.slice_bounds-part-count

@@ -1,6 +1,5 @@
 -- `cut::parts_of` meets its contract: rounding up.
 use Prim.Native.Nat.{◌-◌}
-use borrow.Author.Rules.{rules}
 use native.Mathlib.Nat.{div-le_self}
 use native.Mathlib.Omega.{arith}
 use Rattle.cut.proofs.Counting.{rounded_nothing, rounded_none, rounded_some}

@@ -1,5 +1,4 @@
 -- `cut::plan_of` meets its contract: its tests are the definition's, in its order.
-use borrow.Author.Rules.{rules}
 use Rattle.cut.specs.Inner.{plan_of, plan_refusal}
 use Rattle.cut.proofs.plan_of.Goals as goal
 

@@ -1,5 +1,4 @@
 -- `cut::sent_as` meets its contract.
-use borrow.Author.Rules.{rules}
 use Rattle.cut.proofs.sent_as.Goals as goal
 
 pub returns : goal.returns

@@ -1,5 +1,4 @@
 -- `cut::test_limit` meets its contract: its tests are the definition's, in its order.
-use borrow.Author.Rules.{rules}
 use Rattle.cut.specs.Cutting.{limit_test}
 use Rattle.cut.proofs.test_limit.Goals as goal
 

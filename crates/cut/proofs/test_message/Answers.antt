@@ -1,5 +1,4 @@
 -- `cut::test_message` meets its contract: its tests are the definition's, in its order.
-use borrow.Author.Rules.{rules}
 use native.Mathlib.Omega.{arith}
 use Rattle.cut.proofs.Plans.{values_tested}
 use Rattle.cut.proofs.test_message.Goals as goal

@@ -1,5 +1,4 @@
 -- `cut::to_of` meets its contract: the test of the branch is the definition's.
-use borrow.Author.Rules.{rules}
 use Rattle.cut.proofs.to_of.Goals as goal
 
 pub returns-then-single : goal.returns-then-single

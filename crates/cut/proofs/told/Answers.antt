@@ -1,5 +1,4 @@
 -- `cut::told` meets its contract.
-use borrow.Author.Rules.{rules}
 use Rattle.cut.proofs.told.Goals as goal
 
 pub returns : goal.returns

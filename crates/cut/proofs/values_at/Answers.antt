@@ -1,5 +1,4 @@
 -- `cut::values_at` meets its contract: its numbers are the definition's.
-use borrow.Author.Rules.{rules}
 use Rattle.cut.specs.Inner.{values_of}
 use Rattle.cut.proofs.values_at.Goals as goal
 

@@ -1,7 +1,6 @@
 -- `filling::all_into` meets its contract.
 use Rattle.light.proofs.Plain.{no}
 use Rattle.filling.proofs.Whole.{all_laid}
-use borrow.Author.Rules.{rules}
 use native.Mathlib.Omega.{arith}
 use Rattle.filling.proofs.all_into.Goals as goal
 

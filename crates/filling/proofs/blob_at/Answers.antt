@@ -1,7 +1,6 @@
 -- `filling::blob_at` meets its contract.
 use Prim.Native.Nat.{◌+◌, ◌≤◌}
 use Rattle.filling.proofs.Fields.{long_way, moved, into_by, blob_is, two}
-use borrow.Author.Rules.{rules}
 use native.Mathlib.Omega.{arith}
 use Rattle.filling.proofs.blob_at.Goals as goal
 

@@ -2,7 +2,6 @@
 use Rattle.fields.specs.Fields.{nowhere, blob}
 use Rattle.filling.proofs.Fields.{absent, present}
 use Rattle.walk.specs.Walk.{header_bound}
-use borrow.Author.Rules.{rules}
 use mathlib.Core.Path.{refl}
 use Rattle.filling.proofs.blob_into.Goals as goal
 

@@ -2,7 +2,6 @@
 use Rattle.fields.specs.Fields.{nowhere, block}
 use Rattle.filling.proofs.Fields.{long_way, absent, present, block_there}
 use Rattle.walk.specs.Walk.{header_bound}
-use borrow.Author.Rules.{rules}
 use mathlib.Core.Path.{refl}
 use Rattle.filling.proofs.block_into.Goals as goal
 

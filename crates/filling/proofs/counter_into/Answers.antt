@@ -1,7 +1,6 @@
 -- `filling::counter_into` meets its contract.
 use Rattle.filling.proofs.Fields.{long_way, absent, present, counter_there}
 use Rattle.walk.specs.Walk.{header_bound, wide_field}
-use borrow.Author.Rules.{rules}
 use mathlib.Core.Path.{refl}
 use Rattle.filling.proofs.counter_into.Goals as goal
 

@@ -3,7 +3,6 @@ use Rattle.fields.specs.Fields.{no_parts, domain}
 use Rattle.filling.proofs.Fields.{long_way, absent, present}
 use Rattle.filling.proofs.Parts.{nothing_there, domain_there}
 use Rattle.walk.specs.Walk.{header_bound}
-use borrow.Author.Rules.{rules}
 use native.Mathlib.Omega.{arith}
 use Rattle.filling.proofs.domain_into.Goals as goal
 

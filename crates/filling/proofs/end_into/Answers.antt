@@ -3,7 +3,6 @@ use Prim.Native.Nat.{◌/◌}
 use Rattle.filling.proofs.FixedPart.{bit_of}
 use Rattle.light.proofs.Header.{body_there}
 use Rattle.packet.specs.FixedPart.{flags_of}
-use borrow.Author.Rules.{rules}
 use mathlib.Core.Path.{◌∙◌}
 use Rattle.filling.proofs.end_into.Goals as goal
 

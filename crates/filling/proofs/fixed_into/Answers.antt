@@ -1,5 +1,4 @@
 -- `filling::fixed_into` meets its contract.
-use borrow.Author.Rules.{rules}
 use Rattle.filling.proofs.fixed_into.Goals as goal
 
 pub returns : goal.returns

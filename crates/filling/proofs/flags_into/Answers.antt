@@ -1,5 +1,4 @@
 -- `filling::flags_into` meets its contract.
-use borrow.Author.Rules.{rules}
 use Rattle.filling.proofs.FixedPart.{flags_laid}
 use Rattle.filling.proofs.flags_into.Goals as goal
 

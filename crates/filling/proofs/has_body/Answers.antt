@@ -1,5 +1,4 @@
 -- `filling::has_body` meets its contract.
-use borrow.Author.Rules.{rules}
 use Rattle.light.proofs.Plain.{no}
 use mathlib.Core.Path.{sym, ◌∙◌}
 use Rattle.filling.proofs.has_body.Goals as goal

@@ -1,6 +1,5 @@
 -- `filling::is_text` meets its contract.
 use Rattle.filling.proofs.Singles.{run_text}
-use borrow.Author.Rules.{rules}
 use mathlib.Core.Path.{sym, ◌∙◌}
 use Rattle.filling.proofs.is_text.Goals as goal
 

@@ -1,5 +1,4 @@
 -- `filling::names_into` meets its contract.
-use borrow.Author.Rules.{rules}
 use Rattle.filling.proofs.names_into.Goals as goal
 
 pub returns : goal.returns

@@ -1,8 +1,7 @@
 -- `filling::no_places` meets its contract.
 use native.Mathlib.Omega.{arith}
-use Prim.Native.Nat.{◌-◌}
 use Rattle.flat.proofs.Placing.{placed_all}
-use Rattle.filling.proofs.Parts.{Emptied, emptied_none, emptied_next}
+use Rattle.filling.proofs.Parts.{emptied_none, emptied_next}
 use Rattle.filling.proofs.no_places.Goals as goal
 
 pub loop-k-init : goal.loop-k-init

@@ -1,8 +1,6 @@
 -- `filling::no_places` meets its contract.
-use native.Mathlib.Omega.{arith}
 use Prim.Native.Nat.{◌-◌}
-use Rattle.flat.proofs.Placing.{placed_all}
-use Rattle.filling.proofs.Parts.{Emptied, emptied_none, emptied_next}
+use Rattle.filling.proofs.Parts.{Emptied}
 use Rattle.filling.proofs.no_places.Given as goal
 
 abbrev pub invariant-loop-k : goal.invariant-loop-k

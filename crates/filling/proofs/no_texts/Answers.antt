@@ -1,6 +1,5 @@
 -- `filling::no_texts` meets its contract.
-use Prim.Native.Nat.{◌-◌}
-use Rattle.filling.proofs.Parts.{Zeroed, zeroed_none, zeroed_next, zeroed_all}
+use Rattle.filling.proofs.Parts.{zeroed_none, zeroed_next, zeroed_all}
 use native.Mathlib.Omega.{arith}
 use Rattle.filling.proofs.no_texts.Goals as goal
 

@@ -1,7 +1,6 @@
 -- `filling::no_texts` meets its contract.
 use Prim.Native.Nat.{◌-◌}
-use Rattle.filling.proofs.Parts.{Zeroed, zeroed_none, zeroed_next, zeroed_all}
-use native.Mathlib.Omega.{arith}
+use Rattle.filling.proofs.Parts.{Zeroed}
 use Rattle.filling.proofs.no_texts.Given as goal
 
 abbrev pub invariant-loop-k : goal.invariant-loop-k

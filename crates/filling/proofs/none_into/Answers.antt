@@ -1,5 +1,4 @@
 -- `filling::none_into` meets its contract.
-use borrow.Author.Rules.{rules}
 use Rattle.filling.proofs.Fields.{two}
 use Rattle.filling.proofs.none_into.Goals as goal
 

@@ -1,7 +1,6 @@
 -- `filling::number_at` meets its contract.
 use Prim.Native.Nat.{◌+◌}
 use Rattle.filling.proofs.Fields.{moved, not_found, number_one, number_four}
-use borrow.Author.Rules.{rules}
 use borrow.Author.Tests.{eq-eqb, ne_eqb}
 use native.Mathlib.Omega.{arith}
 use Rattle.filling.proofs.number_at.Goals as goal

@@ -1,7 +1,6 @@
 -- `filling::number_into` meets its contract.
 use Rattle.filling.proofs.Fields.{absent, present, number_laid}
 use Rattle.walk.specs.Walk.{header_bound, uinteger}
-use borrow.Author.Rules.{rules}
 use mathlib.Core.Path.{refl}
 use Rattle.filling.proofs.number_into.Goals as goal
 

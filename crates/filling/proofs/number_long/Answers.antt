@@ -4,7 +4,6 @@ use Rattle.walk.specs.Inner.{as_uinteger, of_walk}
 use Rattle.walk.specs.Walk.{uinteger}
 use Rattle.walk.specs.declared.Bound.{Bound}
 use Rattle.walk.specs.declared.Walk.{Walk}
-use borrow.Author.Rules.{rules}
 use mathlib.Core.Path.{ap₂, ◌∙◌}
 use Rattle.filling.proofs.number_long.Goals as goal
 

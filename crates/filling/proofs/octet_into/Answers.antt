@@ -2,7 +2,6 @@
 use Rattle.filling.proofs.Fields.{long_way, absent, present, octet_there}
 use Rattle.packet.specs.FixedPart.{octet_field}
 use Rattle.walk.specs.Walk.{header_bound}
-use borrow.Author.Rules.{rules}
 use mathlib.Core.Path.{refl}
 use Rattle.filling.proofs.octet_into.Goals as goal
 

@@ -2,7 +2,6 @@
 use Prim.Native.Nat.{◌+◌, ◌-◌}
 use Rattle.filling.proofs.Fields.{moved, into_by, two}
 use Rattle.filling.proofs.Singles.{quick_part}
-use borrow.Author.Rules.{rules}
 use borrow.Author.Tests.{ne_eqb}
 use native.Mathlib.Omega.{arith}
 use Rattle.filling.proofs.part_at.Goals as goal

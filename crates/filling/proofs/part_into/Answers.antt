@@ -1,6 +1,5 @@
 -- `filling::part_into` meets its contract.
 use Rattle.filling.proofs.Fields.{long_way, part_there}
-use borrow.Author.Rules.{rules}
 use mathlib.Core.Path.{sym, ◌∙◌}
 use native.Mathlib.Omega.{arith}
 use Rattle.filling.proofs.part_into.Goals as goal

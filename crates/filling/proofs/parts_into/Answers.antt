@@ -1,6 +1,5 @@
 -- `filling::parts_into` meets its contract.
-use Prim.Native.Nat.{◌-◌}
-use Rattle.filling.proofs.Parts.{Parted, parted_none, parted_next, parted_done}
+use Rattle.filling.proofs.Parts.{parted_none, parted_next, parted_done}
 use native.Mathlib.Omega.{arith}
 use Rattle.filling.proofs.parts_into.Goals as goal
 

@@ -1,7 +1,6 @@
 -- `filling::parts_into` meets its contract.
 use Prim.Native.Nat.{◌-◌}
-use Rattle.filling.proofs.Parts.{Parted, parted_none, parted_next, parted_done}
-use native.Mathlib.Omega.{arith}
+use Rattle.filling.proofs.Parts.{Parted}
 use Rattle.filling.proofs.parts_into.Given as goal
 
 abbrev pub invariant-loop-k : goal.invariant-loop-k

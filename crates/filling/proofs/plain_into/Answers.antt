@@ -1,7 +1,6 @@
 -- `filling::plain_into` meets its contract.
 use Rattle.light.proofs.Plain.{no}
 use Rattle.filling.proofs.Whole.{plain_laid}
-use borrow.Author.Rules.{rules}
 use native.Mathlib.Omega.{arith}
 use Rattle.filling.proofs.plain_into.Goals as goal
 

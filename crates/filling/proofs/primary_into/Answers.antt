@@ -1,5 +1,4 @@
 -- `filling::primary_into` meets its contract.
-use borrow.Author.Rules.{rules}
 use Rattle.packet.specs.Reading.{primary_of}
 use Rattle.filling.proofs.primary_into.Goals as goal
 

@@ -1,5 +1,4 @@
 -- `filling::read_into` meets its contract.
-use borrow.Author.Rules.{rules}
 use mathlib.Core.Path.{sym, ◌∙◌}
 use native.Mathlib.Omega.{arith}
 use Rattle.filling.proofs.read_into.Goals as goal

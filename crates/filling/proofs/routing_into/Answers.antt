@@ -1,5 +1,4 @@
 -- `filling::routing_into` meets its contract.
-use borrow.Author.Rules.{rules}
 use Rattle.filling.proofs.routing_into.Goals as goal
 
 pub returns : goal.returns

@@ -1,8 +1,5 @@
 -- `filling::single_to` meets its contract.
-use Prim.Native.Nat.{◌-◌}
 use Rattle.filling.proofs.Singles.{single_none, single_more}
-use Rattle.filling.specs.Filling.{Single}
-use borrow.Author.Rules.{rules}
 use mathlib.Core.Path.{sym, ◌∙◌}
 use native.Mathlib.Omega.{arith}
 use Rattle.filling.proofs.single_to.Goals as goal

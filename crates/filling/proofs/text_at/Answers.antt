@@ -1,7 +1,6 @@
 -- `filling::text_at` meets its contract.
 use Prim.Native.Nat.{◌+◌, ◌-◌, ◌≤◌}
 use Rattle.filling.proofs.Fields.{long_way, moved, into_by, text_is, two}
-use borrow.Author.Rules.{rules}
 use mathlib.Core.Path.{◌≡◌}
 use native.Mathlib.Omega.{arith}
 use Rattle.filling.proofs.text_at.Goals as goal

@@ -2,7 +2,6 @@
 use Rattle.fields.specs.Fields.{nowhere, text}
 use Rattle.filling.proofs.Fields.{absent, present, two}
 use Rattle.walk.specs.Walk.{header_bound}
-use borrow.Author.Rules.{rules}
 use Rattle.filling.proofs.text_into.Goals as goal
 
 pub returns-then-there : goal.returns-then-there

@@ -3,7 +3,6 @@ use Rattle.filling.proofs.Fields.{long_way}
 use Rattle.filling.proofs.Whole.{all_texts_laid}
 use Rattle.packet.specs.FixedPart.{flags_of}
 use Rattle.walk.specs.Walk.{goes}
-use borrow.Author.Rules.{rules}
 use native.Mathlib.Omega.{arith}
 use Rattle.filling.proofs.texts_into.Goals as goal
 

@@ -1,5 +1,4 @@
 -- `filling::transaction` meets its contract.
-use borrow.Author.Rules.{rules}
 use Rattle.light.proofs.FixedPart.{number_eight}
 use Rattle.filling.proofs.transaction.Goals as goal
 

@@ -1,6 +1,4 @@
 -- `flat::after_packet` meets its contract.
-use borrow.Author.Rules.{rules}
-use borrow.Author.Tests.{not-true, not-false}
 use mathlib.Core.Path.{sym, ◌∙◌}
 use Rattle.flat.specs.Answers.{after_packet_numbers}
 use Rattle.flat.proofs.after_packet.Goals as goal

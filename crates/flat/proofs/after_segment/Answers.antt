@@ -1,6 +1,4 @@
 -- `flat::after_segment` meets its contract.
-use borrow.Author.Rules.{rules}
-use borrow.Author.Tests.{not-true, not-false}
 use mathlib.Core.Path.{sym, ◌∙◌}
 use Rattle.flat.specs.Answers.{after_segment_numbers}
 use Rattle.flat.proofs.after_segment.Goals as goal

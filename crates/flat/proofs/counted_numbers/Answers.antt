@@ -1,5 +1,4 @@
 -- `flat::counted_numbers` meets its contract.
-use borrow.Author.Rules.{rules}
 use Rattle.flat.proofs.counted_numbers.Goals as goal
 
 pub returns : goal.returns

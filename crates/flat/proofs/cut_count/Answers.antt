@@ -1,6 +1,4 @@
 -- `flat::cut_count` meets its contract: numbers that fit go to the call, any other is 15 or 22.
-use borrow.Author.Rules.{rules}
-use borrow.Author.Tests.{not-true, not-false}
 use Rattle.flat.proofs.Choosing.{together, first_held, second_held, count_refused, count_told}
 use Rattle.flat.proofs.cut_count.Goals as goal
 

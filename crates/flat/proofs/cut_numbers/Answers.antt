@@ -1,5 +1,4 @@
 -- `flat::cut_numbers` meets its contract.
-use borrow.Author.Rules.{rules}
 use Rattle.flat.proofs.cut_numbers.Goals as goal
 
 pub returns : goal.returns

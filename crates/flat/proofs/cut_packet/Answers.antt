@@ -1,6 +1,4 @@
 -- `flat::cut_packet` meets its contract: numbers that fit go to the call, any other is 15 or 22.
-use borrow.Author.Rules.{rules}
-use borrow.Author.Tests.{not-true, not-false}
 use Rattle.flat.proofs.Choosing.{together, first_held, second_held, packet_refused, packet_kept, packet_told, packet_laid}
 use Rattle.flat.proofs.cut_packet.Goals as goal
 

@@ -1,5 +1,4 @@
 -- `flat::cut_too_wide` meets its contract.
-use borrow.Author.Rules.{rules}
 use Rattle.flat.proofs.cut_too_wide.Goals as goal
 
 pub returns : goal.returns

@@ -1,9 +1,6 @@
 -- `flat::fits` meets its contract: at each turn the first k numbers are tested.
-use Prim.Native.Nat.{◌-◌}
-use lib.ListN.{length}
-use borrow.Author.Rules.{rules}
 use native.Mathlib.Omega.{arith}
-use Rattle.flat.proofs.Fitting.{Tested, tested_none, tested_next, tested_all}
+use Rattle.flat.proofs.Fitting.{tested_none, tested_next, tested_all}
 use Rattle.flat.proofs.fits.Goals as goal
 
 pub loop-k-init : goal.loop-k-init

@@ -1,9 +1,7 @@
 -- `flat::fits` meets its contract: at each turn the first k numbers are tested.
 use Prim.Native.Nat.{◌-◌}
 use lib.ListN.{length}
-use borrow.Author.Rules.{rules}
-use native.Mathlib.Omega.{arith}
-use Rattle.flat.proofs.Fitting.{Tested, tested_none, tested_next, tested_all}
+use Rattle.flat.proofs.Fitting.{Tested}
 use Rattle.flat.proofs.fits.Given as goal
 
 abbrev pub invariant-loop-k : goal.invariant-loop-k

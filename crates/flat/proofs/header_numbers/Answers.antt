@@ -1,7 +1,5 @@
 -- `flat::header_numbers` meets its contract: its pieces fill the answer from the first number to the last.
 use Prim.Native.Nat.{ℕ}
-use mathlib.Core.Path.{refl}
-use borrow.Author.Rules.{rules}
 use lib.ListN.{replicate, length-replicate}
 use Rattle.flat.proofs.Answers.{header_laid}
 use Rattle.flat.proofs.header_numbers.Goals as goal

@@ -1,5 +1,4 @@
 -- `flat::header_of_lem` meets its contract: every number fits its field.
-use borrow.Author.Rules.{rules}
 use native.Mathlib.Omega.{arith}
 use Rattle.flat.proofs.Fitting.{fits_at}
 use Rattle.flat.specs.Given.{header_widths, header_of}

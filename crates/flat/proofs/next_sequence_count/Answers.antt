@@ -1,5 +1,4 @@
 -- `flat::next_sequence_count` meets its contract: a number of 16 bits goes to the call, any other is 22.
-use borrow.Author.Rules.{rules}
 use borrow.Author.Tests.{le-leb, lt-leb}
 use native.Mathlib.Omega.{arith}
 use Rattle.octets.specs.Octets.{most16}

@@ -1,5 +1,4 @@
 -- `flat::packet_of` meets its contract: the numbers fit.
-use borrow.Author.Rules.{rules}
 use native.Mathlib.Omega.{arith}
 use Rattle.flat.proofs.Fitting.{fits_at}
 use Rattle.flat.specs.Given.{packet_widths}

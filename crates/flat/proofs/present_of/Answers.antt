@@ -1,5 +1,4 @@
 -- `flat::present_of` meets its contract.
-use borrow.Author.Rules.{rules}
 use mathlib.Core.Path.{refl}
 use Rattle.flat.specs.Given.{present_of}
 use Rattle.flat.proofs.present_of.Goals as goal

@@ -1,5 +1,4 @@
 -- `flat::put_place` meets its contract: two numbers, one after the other.
-use borrow.Author.Rules.{rules}
 use native.Mathlib.Numerals.{add-one}
 use Rattle.flat.proofs.put_place.Goals as goal
 

@@ -1,5 +1,4 @@
 -- `flat::put_texts` meets its contract: its pieces lie one after the other.
-use borrow.Author.Rules.{rules}
 use Rattle.flat.proofs.Answers.{texts_laid}
 use Rattle.flat.proofs.put_texts.Goals as goal
 

@@ -1,5 +1,4 @@
 -- `flat::read` meets its contract.
-use borrow.Author.Rules.{rules}
 use mathlib.Core.Path.{ap, ◌∙◌}
 use Rattle.flat.specs.Told.{read_numbers}
 use Rattle.flat.proofs.read.Goals as goal

@@ -1,5 +1,4 @@
 -- `flat::too_wide` meets its contract.
-use borrow.Author.Rules.{rules}
 use mathlib.Core.Path.{ap}
 use Rattle.walk.specs.declared.Tested.{Tested}
 use Rattle.flat.proofs.too_wide.Goals as goal

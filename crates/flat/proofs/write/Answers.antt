@@ -1,16 +1,5 @@
 -- `flat::write` meets its contract: numbers that fit go to the call, any other is 15 or 22.
-use borrow.Author.Rules.{rules}
-use borrow.Author.Tests.{not-true, not-false}
 use Rattle.flat.proofs.Choosing.{together, first_held, second_held, write_refused_lem, write_kept, write_told, write_laid}
-use Rattle.flat.proofs.write.Reads as reads
-use Rattle.flat.proofs.write.Lts as lts
-use Rattle.flat.proofs.header_fits.Reads as header-fits-reads
-use Rattle.flat.proofs.header_of.Reads as header-of-reads
-use Rattle.flat.proofs.packet_fits.Reads as packet-fits-reads
-use Rattle.flat.proofs.packet_of.Reads as packet-of-reads
-use Rattle.flat.proofs.write_too_wide.Reads as write-too-wide-reads
-use Rattle.flat.proofs.written_numbers.Reads as written-numbers-reads
-use Rattle.write.proofs.write.Reads as write-reads
 use Rattle.flat.proofs.write.Goals as goal
 
 pub returns-then-not-ok : goal.returns-then-not-ok

@@ -1,5 +1,4 @@
 -- `flat::write_too_wide` meets its contract.
-use borrow.Author.Rules.{rules}
 use Rattle.flat.proofs.write_too_wide.Goals as goal
 
 pub returns : goal.returns

@@ -1,8 +1,6 @@
 -- `moving::answer` meets its contract: the store's settings and order, the target's length, and then the packets.
 use native.Mathlib.Omega.{arith}
-use lib.ListN.{length}
 use Rattle.moving.proofs.Answers.{octets_top, shut, cells_most_lem, other_length, packet_long, all_short}
-use borrow.Author.Rules.{rules}
 use Rattle.moving.proofs.answer.Goals as goal
 
 pub returns-then-first-ne0 : goal.returns-then-first-ne0

@@ -1,7 +1,6 @@
 -- `moving::back` meets its contract: the move to cells of 1,024 octets, by zero cells of both sizes.
 use mathlib.Core.Path.{refl}
 use native.Mathlib.Omega.{arith}
-use borrow.Author.Rules.{rules}
 use Rattle.moving.proofs.back.Goals as goal
 
 pub move_by-requires : goal.move_by-requires

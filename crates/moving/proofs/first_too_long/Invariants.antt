@@ -1,11 +1,9 @@
 -- `moving::first_too_long` meets its contract. The loop's invariant: none of the cells passed holds a packet that is too long.
 use Prim.Native.Nat.{◌-◌}
-use borrow.Author.Rules.{rules}
 use lib.ListN.{length}
 use Rattle.cells.specs.Rows.{row_at}
-use Rattle.cells.proofs.Scans.{Seeking, seeking_first, seeking_turn, seeking_found, seeking_none}
-use Rattle.moving.specs.Moving.{too_long, first_too_long}
-use Rattle.moving.proofs.Passing.{row_told}
+use Rattle.cells.proofs.Scans.{Seeking}
+use Rattle.moving.specs.Moving.{too_long}
 use Rattle.moving.proofs.first_too_long.Given as goal
 
 abbrev pub invariant-loop-i : goal.invariant-loop-i

@@ -1,6 +1,5 @@
 -- `moving::is_too_long` meets its contract: a packet that fits is none, and any other is one if it is held.
 use Rattle.moving.proofs.Passing.{short_told, long_told}
-use borrow.Author.Rules.{rules}
 use Rattle.moving.proofs.is_too_long.Goals as goal
 
 pub returns-then-p-z : goal.returns-then-p-z

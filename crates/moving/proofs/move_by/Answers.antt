@@ -2,7 +2,6 @@
 use native.Mathlib.Omega.{arith}
 use lib.ListN.{length}
 use Rattle.moving.proofs.Answers.{refused_kept, target_long, accepted_made}
-use borrow.Author.Rules.{rules}
 use Rattle.moving.proofs.move_by.Goals as goal
 
 pub returns-then-refusal-ne0 : goal.returns-then-refusal-ne0

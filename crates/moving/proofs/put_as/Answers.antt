@@ -1,6 +1,5 @@
 -- `moving::put_as` meets its contract: what the row begins with, and then as many zeros as are left.
 use Rattle.moving.proofs.Passing.{row_laid}
-use borrow.Author.Rules.{rules}
 use Rattle.moving.proofs.put_as.Goals as goal
 
 pub returns : goal.returns

@@ -1,8 +1,7 @@
 -- `moving::put_rows` meets its contract. The loop's invariant: the target begins with the rows passed.
 use Prim.Native.Nat.{◌-◌}
-use borrow.Author.Rules.{rules}
 use lib.ListN.{length}
-use Rattle.moving.proofs.Passing.{Filling, filling_first, row_begin, filling_turn, filling_done}
+use Rattle.moving.proofs.Passing.{Filling}
 use Rattle.moving.proofs.put_rows.Given as goal
 
 abbrev pub invariant-loop-at : goal.invariant-loop-at

@@ -1,7 +1,6 @@
 -- `moving::there` meets its contract: the move to cells of 2,048 octets, by zero cells of both sizes.
 use mathlib.Core.Path.{refl}
 use native.Mathlib.Omega.{arith}
-use borrow.Author.Rules.{rules}
 use Rattle.moving.proofs.there.Goals as goal
 
 pub move_by-requires : goal.move_by-requires

@@ -1,5 +1,4 @@
 -- `pdu::empty_unless` meets its contract: the test of the branch is the definition's.
-use borrow.Author.Rules.{rules}
 use Rattle.pdu.proofs.empty_unless.Goals as goal
 
 pub returns : goal.returns

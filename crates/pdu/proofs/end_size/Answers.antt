@@ -1,5 +1,4 @@
 -- `pdu::end_size` meets its contract.
-use borrow.Author.Rules.{rules}
 use Rattle.pdu.specs.Inner.{end_size}
 use Rattle.pdu.proofs.end_size.Goals as goal
 

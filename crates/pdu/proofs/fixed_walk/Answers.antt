@@ -1,5 +1,4 @@
 -- `pdu::fixed_walk` meets its contract: its tests are the definition's.
-use borrow.Author.Rules.{rules}
 use Rattle.pdu.specs.Reading.{fixed_tests}
 use Rattle.pdu.proofs.fixed_walk.Goals as goal
 

@@ -1,5 +1,4 @@
 -- `pdu::front_size` meets its contract.
-use borrow.Author.Rules.{rules}
 use Rattle.pdu.specs.Inner.{front_size}
 use Rattle.pdu.proofs.front_size.Goals as goal
 

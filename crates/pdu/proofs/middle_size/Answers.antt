@@ -1,5 +1,4 @@
 -- `pdu::middle_size` meets its contract.
-use borrow.Author.Rules.{rules}
 use Rattle.pdu.specs.Inner.{middle_size}
 use Rattle.pdu.proofs.middle_size.Goals as goal
 

@@ -1,5 +1,4 @@
 -- `pdu::put_flags` meets its contract: five numbers, one after another.
-use borrow.Author.Rules.{rules}
 use mathlib.Core.Path.{ap}
 use Rattle.octets.specs.Octets.{wide}
 use Rattle.octets.proofs.Laying.{lays_both, lays_as}

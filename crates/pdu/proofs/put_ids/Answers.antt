@@ -1,5 +1,4 @@
 -- `pdu::put_ids` meets its contract: two texts, one after another.
-use borrow.Author.Rules.{rules}
 use Rattle.octets.proofs.Laying.{lays_both}
 use Rattle.pdu.specs.Inner.{id_pieces}
 use Rattle.pdu.proofs.put_ids.Goals as goal

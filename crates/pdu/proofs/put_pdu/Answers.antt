@@ -1,5 +1,4 @@
 -- `pdu::put_pdu` meets its contract: its groups, one after another.
-use borrow.Author.Rules.{rules}
 use Rattle.octets.proofs.Laying.{lays_both}
 use Rattle.pdu.specs.Inner.{pdu_pieces}
 use Rattle.pdu.proofs.put_pdu.Goals as goal

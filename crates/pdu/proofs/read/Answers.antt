@@ -1,5 +1,4 @@
 -- `pdu::read` meets its contract: its steps are the definition's, and a slice holds octets.
-use borrow.Author.Rules.{rules}
 use mathlib.Core.Path.{◌∙◌}
 use Rattle.pdu.proofs.Whole.{refused_whole, accepted_whole}
 use Rattle.pdu.proofs.read.Goals as goal

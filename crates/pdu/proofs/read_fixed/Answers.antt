@@ -1,5 +1,4 @@
 -- `pdu::read_fixed` meets its contract: each value stands at its place.
-use borrow.Author.Rules.{rules}
 use Rattle.pdu.specs.Reading.{fixed_of}
 use Rattle.pdu.proofs.read_fixed.Goals as goal
 

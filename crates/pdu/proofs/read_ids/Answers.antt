@@ -1,5 +1,4 @@
 -- `pdu::read_ids` meets its contract: its steps are the definition's.
-use borrow.Author.Rules.{rules}
 use Rattle.pdu.specs.Reading.{ids_of}
 use Rattle.pdu.proofs.read_ids.Goals as goal
 

@@ -1,5 +1,4 @@
 -- `pdu::refusal_of` meets its contract, case by case.
-use borrow.Author.Rules.{rules}
 use borrow.Author.Tests.{ne_eqb}
 use Rattle.pdu.proofs.Whole.{ends_told}
 use Rattle.pdu.specs.Reading.{refusal_of}

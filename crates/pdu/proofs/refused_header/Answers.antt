@@ -1,5 +1,4 @@
 -- `pdu::refused_header` meets its contract: zeros.
-use borrow.Author.Rules.{rules}
 use Rattle.packet.specs.FixedPart.{flags_of}
 use Rattle.pdu.specs.Reading.{refused_header}
 use Rattle.pdu.proofs.refused_header.Goals as goal

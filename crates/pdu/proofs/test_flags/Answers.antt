@@ -1,5 +1,4 @@
 -- `pdu::test_flags` meets its contract: its tests are the definition's, in its order.
-use borrow.Author.Rules.{rules}
 use Rattle.write.specs.Given.{unless_all}
 use Rattle.pdu.specs.Given.{flag_checks}
 use Rattle.pdu.proofs.test_flags.Goals as goal

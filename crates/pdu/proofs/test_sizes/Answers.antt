@@ -1,5 +1,4 @@
 -- `pdu::test_sizes` meets its contract.
-use borrow.Author.Rules.{rules}
 use Rattle.pdu.proofs.test_sizes.Goals as goal
 
 pub returns : goal.returns

@@ -1,5 +1,4 @@
 -- `pdu::test_values` meets its contract: its tests are the definition's, in its order.
-use borrow.Author.Rules.{rules}
 use Rattle.write.proofs.Tests.{unless_all_append}
 use Rattle.pdu.specs.Given.{value_checks}
 use Rattle.pdu.specs.Writing.{value_refusal}

@@ -1,5 +1,4 @@
 -- `pdu::test_words` meets its contract: its tests are the definition's, in its order; after a refusal none of them matters.
-use borrow.Author.Rules.{rules}
 use mathlib.Core.Path.{sym}
 use borrow.Author.Tests.{ne_eqb}
 use Rattle.write.proofs.Answers.{all_shut}

@@ -1,5 +1,4 @@
 -- `pdu::text_size_if` meets its contract.
-use borrow.Author.Rules.{rules}
 use Rattle.pdu.proofs.text_size_if.Goals as goal
 
 pub returns : goal.returns

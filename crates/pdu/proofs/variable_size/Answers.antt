@@ -1,5 +1,4 @@
 -- `pdu::variable_size` meets its contract.
-use borrow.Author.Rules.{rules}
 use Rattle.pdu.specs.Inner.{variable_size}
 use Rattle.pdu.proofs.variable_size.Goals as goal
 

@@ -1,5 +1,4 @@
 -- `pdu::write` meets its contract: the tests on sizes are the definition's, and the pieces laid are the PDU.
-use borrow.Author.Rules.{rules}
 use native.Mathlib.Omega.{arith}
 use Rattle.write.specs.Given.{lent}
 use Rattle.pdu.proofs.Pieces.{variable_small}

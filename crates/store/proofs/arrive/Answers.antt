@@ -7,7 +7,6 @@ use Rattle.arrival.specs.Arriving.{refused, store_with, arrived_in}
 use Rattle.arrival.proofs.Checked.{arrived_open, arrived_shut}
 use Rattle.cells.proofs.Chaining.{chained_none}
 use Rattle.cells.proofs.Gate.{opened_refusal, opened_number, opened_gate, opened_cells}
-use borrow.Author.Rules.{rules}
 use Rattle.store.proofs.arrive.Goals as goal
 
 pub check_by-o-requires : goal.check_by-o-requires

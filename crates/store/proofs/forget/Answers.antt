@@ -10,7 +10,6 @@ use Rattle.cells.specs.Rows.{zero_row}
 use Rattle.taking.specs.Forgetting.{forgot_in, store_unless}
 use Rattle.taking.proofs.Forgets.{forgot_open, forgot_shut}
 use Rattle.cells.proofs.Gate.{opened_refusal, opened_number, opened_gate, opened_cells}
-use borrow.Author.Rules.{rules}
 use Rattle.store.proofs.forget.Goals as goal
 
 -- a pair with the names of the clauses

@@ -2,13 +2,11 @@
 use Prim.Native.Nat.{ℕ}
 use mathlib.Core.Path.{ap, ap₂, sym, ◌∙◌, refl}
 use lib.ListN.{length, length-replicate}
-use Rattle.cells.specs.Order.{count_in}
 use Rattle.taking.specs.Told.{taken_of}
 use Rattle.taking.specs.Taking.{unable, out_with, store_less, took_in}
 use Rattle.taking.proofs.Checked.{took_open, took_shut}
 use Rattle.cells.proofs.Chaining.{chained_none}
 use Rattle.cells.proofs.Gate.{opened_number, opened_gate, opened_cells}
-use borrow.Author.Rules.{rules}
 use Rattle.store.proofs.take.Goals as goal
 
 -- a pair with the names of the clauses

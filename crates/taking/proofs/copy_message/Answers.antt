@@ -1,8 +1,6 @@
 -- `taking::copy_message` meets its contract: the key, the first's body and the others' are laid one after another.
-use lib.ListN.{length}
 use Rattle.packet.specs.Numbers.{next_counter, steps_most}
 use Rattle.taking.proofs.Heads.{head_asked, head_told, head_key_room, head_body_room, head_ready, head_written}
-use borrow.Author.Rules.{rules}
 use Rattle.taking.proofs.copy_message.Goals as goal
 
 -- a pair with the names of the clauses

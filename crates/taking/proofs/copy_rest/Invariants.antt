@@ -1,15 +1,10 @@
 -- `taking::copy_rest` meets its contract. The loop's invariant: what is left of the run, laid after what is laid, is the whole.
-use mathlib.Core.Path.{refl}
 use lib.ListN.{length}
-use native.Mathlib.Omega.{arith}
 use Rattle.packet.specs.Key.{key_of}
 use Rattle.packet.specs.Reading.{read_packet}
 use Rattle.packet.specs.Numbers.{next_counter, steps_most}
-use Rattle.packet.proofs.Rounds.{counter_next}
 use Rattle.taking.specs.Follow.{places_from}
-use Rattle.taking.proofs.Pieces.{piece_found}
-use Rattle.taking.proofs.Bodies.{Copying, copying_inside, copying_first, copying_ended, copying_room, copying_long, copying_last, copying_turn}
-use borrow.Author.Rules.{rules}
+use Rattle.taking.proofs.Bodies.{Copying}
 use Rattle.taking.proofs.copy_rest.Given as goal
 
 abbrev pub invariant-loop-left : goal.invariant-loop-left

@@ -1,8 +1,6 @@
 -- `taking::draw` meets its contract: the message is copied, and then the cells of its key and counters are cleared.
-use lib.ListN.{length}
 use native.Mathlib.Omega.{arith}
 use Rattle.taking.proofs.Drawn.{draw_cell, draw_opens, draw_header, draw_told, draw_out, draw_fits, draw_store}
-use borrow.Author.Rules.{rules}
 use Rattle.taking.proofs.draw.Goals as goal
 
 -- a pair with the names of the clauses

@@ -1,14 +1,9 @@
 -- `taking::follow` meets its contract. The loop's invariant: what is left of the run and the octets so far come to the whole.
 use mathlib.Core.Path.{refl}
 use native.Mathlib.Omega.{arith}
-use lib.ListN.{length}
-use Rattle.packet.specs.Key.{key_of}
-use Rattle.packet.specs.Reading.{read_packet}
-use Rattle.packet.specs.Numbers.{next_counter, steps_most}
 use Rattle.packet.proofs.Rounds.{counter_next}
 use Rattle.taking.proofs.Pieces.{piece_found}
-use Rattle.taking.proofs.Counting.{Counted, counted_first, counted_none, counted_room, counted_broken, counted_last, counted_on, counted_out}
-use borrow.Author.Rules.{rules}
+use Rattle.taking.proofs.Counting.{counted_first, counted_none, counted_room, counted_broken, counted_last, counted_on, counted_out}
 use Rattle.taking.proofs.follow.Goals as goal
 
 pub loop-left-init : goal.loop-left-init

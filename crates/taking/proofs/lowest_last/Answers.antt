@@ -1,9 +1,6 @@
 -- `taking::lowest_last` meets its contract. The loop's invariant: none of the cells passed holds a last.
-use Prim.Native.Nat.{◌-◌}
-use Rattle.cells.proofs.Scans.{Seeking, seeking_first, seeking_turn, seeking_found, seeking_none}
-use Rattle.taking.specs.Follow.{ends_at}
+use Rattle.cells.proofs.Scans.{seeking_first, seeking_turn, seeking_found, seeking_none}
 use Rattle.taking.proofs.Ends.{ends_yes, ends_other}
-use borrow.Author.Rules.{rules}
 use Rattle.taking.proofs.lowest_last.Goals as goal
 
 pub loop-i-init : goal.loop-i-init

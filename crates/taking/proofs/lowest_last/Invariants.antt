@@ -1,9 +1,7 @@
 -- `taking::lowest_last` meets its contract. The loop's invariant: none of the cells passed holds a last.
 use Prim.Native.Nat.{◌-◌}
-use Rattle.cells.proofs.Scans.{Seeking, seeking_first, seeking_turn, seeking_found, seeking_none}
+use Rattle.cells.proofs.Scans.{Seeking}
 use Rattle.taking.specs.Follow.{ends_at}
-use Rattle.taking.proofs.Ends.{ends_yes, ends_other}
-use borrow.Author.Rules.{rules}
 use Rattle.taking.proofs.lowest_last.Given as goal
 
 abbrev pub invariant-loop-i : goal.invariant-loop-i

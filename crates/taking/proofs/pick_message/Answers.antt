@@ -1,9 +1,5 @@
 -- `taking::pick_message` meets its contract. The loop's invariant: the cells passed open no complete message.
-use Prim.Native.Nat.{◌-◌}
-use lib.ListN.{length}
-use Rattle.packet.specs.Numbers.{next_counter, steps_most}
-use Rattle.taking.proofs.Picks.{Picking, picking_first, picking_turn, picking_found, picking_none}
-use borrow.Author.Rules.{rules}
+use Rattle.taking.proofs.Picks.{picking_first, picking_turn, picking_found, picking_none}
 use Rattle.taking.proofs.pick_message.Goals as goal
 
 pub loop-i-init : goal.loop-i-init

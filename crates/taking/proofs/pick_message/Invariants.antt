@@ -2,8 +2,7 @@
 use Prim.Native.Nat.{◌-◌}
 use lib.ListN.{length}
 use Rattle.packet.specs.Numbers.{next_counter, steps_most}
-use Rattle.taking.proofs.Picks.{Picking, picking_first, picking_turn, picking_found, picking_none}
-use borrow.Author.Rules.{rules}
+use Rattle.taking.proofs.Picks.{Picking}
 use Rattle.taking.proofs.pick_message.Given as goal
 
 abbrev pub invariant-loop-i : goal.invariant-loop-i

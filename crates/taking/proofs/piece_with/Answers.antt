@@ -1,6 +1,5 @@
 -- `taking::piece_with` meets its contract: it tells what stands in the row.
 use Rattle.taking.proofs.Pieces.{piece_read}
-use borrow.Author.Rules.{rules}
 use Rattle.taking.proofs.piece_with.Goals as goal
 
 pub returns : goal.returns

@@ -4,7 +4,6 @@ use mathlib.Core.List.{List}
 use mathlib.Core.Path.{ap, ◌∙◌}
 use Rattle.octets.specs.Octets.{part}
 use Rattle.taking.proofs.Copying.{laid_there}
-use borrow.Author.Rules.{rules}
 use Rattle.taking.proofs.put_body.Goals as goal
 
 -- a pair with the names of the clauses

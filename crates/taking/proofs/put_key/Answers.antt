@@ -1,7 +1,6 @@
 -- `taking::put_key` meets its contract: the octets around the counter are laid one after another.
 use native.Mathlib.Omega.{arith}
 use Rattle.taking.proofs.Copying.{key_places, key_put}
-use borrow.Author.Rules.{rules}
 use Rattle.taking.proofs.put_key.Goals as goal
 
 -- a pair with the names of the clauses

@@ -1,10 +1,7 @@
 -- `taking::run_at` meets its contract: what is no held first opens nothing, and from a first its run is followed.
 use mathlib.Core.Path.{sym, ◌∙◌}
-use lib.ListN.{length}
-use borrow.Author.Tests.{not-true, not-false}
 use Rattle.packet.specs.Numbers.{next_counter, steps_most}
 use Rattle.taking.proofs.Running.{run_none, run_other, run_inside, run_asked, run_most, run_first}
-use borrow.Author.Rules.{rules}
 use Rattle.taking.proofs.run_at.Goals as goal
 
 -- a pair with the names of the clauses

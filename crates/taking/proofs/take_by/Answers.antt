@@ -3,7 +3,6 @@ use mathlib.Core.Path.{ap, sym, ◌∙◌}
 use Rattle.taking.specs.Told.{taken_of}
 use Rattle.taking.specs.Taking.{out_with, store_less}
 use Rattle.taking.proofs.Takings.{took_nothing}
-use borrow.Author.Rules.{rules}
 use Rattle.taking.proofs.take_by.Goals as goal
 
 pub returns-then-n-lowest_last : goal.returns-then-n-lowest_last

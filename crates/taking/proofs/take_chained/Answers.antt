@@ -2,7 +2,6 @@
 use Prim.Native.Nat.{ℕ}
 use lib.ListN.{length-replicate}
 use Rattle.cells.proofs.Chaining.{chained_none}
-use borrow.Author.Rules.{rules}
 use Rattle.taking.proofs.take_chained.Goals as goal
 
 -- a pair with the names of the clauses

@@ -1,10 +1,8 @@
 -- `taking::take_in` meets its contract: without a last segment no message is complete, and both ways to search have its promise.
 use mathlib.Core.Path.{ap, sym, ◌∙◌}
-use lib.ListN.{length}
 use Rattle.taking.specs.Told.{taken_of}
 use Rattle.taking.specs.Taking.{out_with, store_less}
 use Rattle.taking.proofs.Takings.{took_nothing}
-use borrow.Author.Rules.{rules}
 use Rattle.taking.proofs.take_in.Goals as goal
 
 pub returns-then-n-lowest_last : goal.returns-then-n-lowest_last

@@ -5,7 +5,6 @@ use lib.ListN.{length}
 use Rattle.taking.specs.Told.{taken_of}
 use Rattle.taking.specs.Taking.{out_with, store_less}
 use Rattle.taking.proofs.Takings.{cell_is, taking_none, taking_below, taking_body, taking_short, taking_room}
-use borrow.Author.Rules.{rules}
 use Rattle.taking.proofs.take_lowest.Goals as goal
 
 -- a pair with the names of the clauses

@@ -1,8 +1,5 @@
 -- `tally::first` meets its contract: a cell that is not held has no key, and that of a held one is looked for below it.
-use borrow.Author.Rules.{rules}
 use mathlib.Core.Path.{sym, ◌∙◌}
-use borrow.Author.Tests.{not-true, not-false}
-use lib.ListN.{length}
 use Rattle.tally.proofs.Judging.{first_none, first_asked, first_told}
 use Rattle.tally.proofs.first.Goals as goal
 

@@ -1,5 +1,4 @@
 -- `tally::held` meets its contract: what is judged of a row tells it.
-use borrow.Author.Rules.{rules}
 use mathlib.Core.Path.{◌∙◌}
 use Rattle.cells.specs.Rows.{cell_of}
 use Rattle.cells.specs.Inner.{body_in}

@@ -1,8 +1,5 @@
 -- `tally::keyed` meets its contract, case by case.
-use borrow.Author.Rules.{rules}
 use mathlib.Core.Path.{sym, ◌∙◌}
-use borrow.Author.Tests.{not-true, not-false}
-use lib.ListN.{length}
 use Rattle.tally.proofs.Judging.{key_none, key_told}
 use Rattle.tally.proofs.keyed.Goals as goal
 

@@ -1,10 +1,9 @@
 -- `tally::keys` meets its contract. The loop's invariant: how many of the cells passed are the first of their key.
 use Prim.Native.Nat.{◌-◌}
-use borrow.Author.Rules.{rules}
 use lib.ListN.{length}
 use Rattle.cells.specs.Order.{cell_at}
-use Rattle.tally.specs.Counting.{new_key_in, keys_in}
-use Rattle.tally.proofs.Passing.{Counted, counted_first, counted_low, counted_turn, counted_done}
+use Rattle.tally.specs.Counting.{new_key_in}
+use Rattle.tally.proofs.Passing.{Counted}
 use Rattle.tally.proofs.keys.Given as goal
 
 abbrev pub invariant-loop-i : goal.invariant-loop-i

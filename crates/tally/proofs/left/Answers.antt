@@ -1,5 +1,4 @@
 -- `tally::left` meets its contract: both counts go over the cells that the length gives.
-use borrow.Author.Rules.{rules}
 use mathlib.Core.Path.{refl}
 use Rattle.tally.proofs.Passing.{cells_few, left_told}
 use Rattle.tally.proofs.left.Goals as goal

@@ -1,6 +1,5 @@
 -- `tally::more` meets its contract.
 use native.Mathlib.Omega.{arith}
-use borrow.Author.Rules.{rules}
 use mathlib.Core.Path.{refl}
 use Rattle.tally.proofs.more.Goals as goal
 

@@ -1,15 +1,13 @@
 -- `tally::new_key` meets its contract. The loop's invariant: whether none of the cells passed has the key.
-use Prim.Native.Nat.{ℕ, ◌-◌}
-use borrow.Author.Rules.{rules}
+use Prim.Native.Nat.{ℕ}
 use lib.ListN.{length}
 use mathlib.Core.List.{List}
 use mathlib.Core.Path.{ap, ◌∙◌}
 use Rattle.packet.specs.Reading.{read_packet}
 use Rattle.packet.specs.Key.{key_of}
 use Rattle.cells.specs.Rows.{cell_of}
-use Rattle.cells.specs.Order.{cell_at}
 use Rattle.tally.specs.Counting.{keyed, new_key_to}
-use Rattle.tally.proofs.Passing.{Tested, tested_first, tested_turn, tested_done}
+use Rattle.tally.proofs.Passing.{tested_first, tested_turn, tested_done}
 use Rattle.tally.proofs.new_key.Goals as goal
 
 pub loop-j-init : goal.loop-j-init

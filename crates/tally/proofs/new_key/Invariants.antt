@@ -1,15 +1,11 @@
 -- `tally::new_key` meets its contract. The loop's invariant: whether none of the cells passed has the key.
-use Prim.Native.Nat.{ℕ, ◌-◌}
-use borrow.Author.Rules.{rules}
+use Prim.Native.Nat.{◌-◌}
 use lib.ListN.{length}
-use mathlib.Core.List.{List}
-use mathlib.Core.Path.{ap, ◌∙◌}
 use Rattle.packet.specs.Reading.{read_packet}
 use Rattle.packet.specs.Key.{key_of}
-use Rattle.cells.specs.Rows.{cell_of}
 use Rattle.cells.specs.Order.{cell_at}
-use Rattle.tally.specs.Counting.{keyed, new_key_to}
-use Rattle.tally.proofs.Passing.{Tested, tested_first, tested_turn, tested_done}
+use Rattle.tally.specs.Counting.{keyed}
+use Rattle.tally.proofs.Passing.{Tested}
 use Rattle.tally.proofs.new_key.Given as goal
 
 abbrev pub invariant-loop-j : goal.invariant-loop-j

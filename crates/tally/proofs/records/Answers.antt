@@ -1,5 +1,4 @@
 -- `tally::records` meets its contract: the count goes over the cells that the length gives.
-use borrow.Author.Rules.{rules}
 use Prim.Native.Nat.{ℕ}
 use mathlib.Core.Path.{refl, ap, ◌∙◌}
 use Rattle.tally.specs.Counting.{records_to}

@@ -1,13 +1,11 @@
 -- `tally::segments` meets its contract. The loop's invariant: how many of the cells passed are held.
-use Prim.Native.Nat.{ℕ, ◌-◌}
-use borrow.Author.Rules.{rules}
+use Prim.Native.Nat.{ℕ}
 use lib.ListN.{length}
 use mathlib.Core.List.{List}
 use mathlib.Core.Path.{ap, ◌∙◌}
 use Rattle.cells.specs.Rows.{cell_of}
-use Rattle.cells.specs.Order.{cell_at}
 use Rattle.tally.specs.Counting.{is_held, segments_in}
-use Rattle.tally.proofs.Passing.{Counted, counted_first, counted_low, counted_turn, counted_done}
+use Rattle.tally.proofs.Passing.{counted_first, counted_low, counted_turn, counted_done}
 use Rattle.tally.proofs.segments.Goals as goal
 
 pub loop-i-init : goal.loop-i-init

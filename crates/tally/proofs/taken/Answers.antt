@@ -1,5 +1,4 @@
 -- `tally::taken` meets its contract: what is judged of a row tells it.
-use borrow.Author.Rules.{rules}
 use Rattle.taking.proofs.Forgets.{record_judged}
 use Rattle.tally.proofs.taken.Goals as goal
 

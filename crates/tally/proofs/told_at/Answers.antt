@@ -1,7 +1,5 @@
 -- `tally::told_at` meets its contract: a cell that is not held tells nothing, and the key of a held one is looked for below it.
-use borrow.Author.Rules.{rules}
 use mathlib.Core.Path.{sym, ◌∙◌}
-use borrow.Author.Tests.{not-true, not-false}
 use Rattle.tally.proofs.Judging.{told_none, first_asked, told_told}
 use Rattle.tally.proofs.told_at.Goals as goal
 

@@ -1,5 +1,4 @@
 -- `tally::told_of_lem` meets its contract: each answer is one of reading's, beside the lowest cell of the key.
-use borrow.Author.Rules.{rules}
 use Rattle.tally.proofs.Judging.{told_fields}
 use Rattle.tally.proofs.told_of.Goals as goal
 

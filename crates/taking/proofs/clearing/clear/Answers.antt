@@ -1,5 +1,5 @@
 -- `clearing::clear` meets its contract. The loop's invariant: in the cells passed stands what is left there, and the others are as they were.
-use Prim.Native.Nat.{ℕ, ◌-◌}
+use Prim.Native.Nat.{ℕ}
 use mathlib.Core.List.{List}
 use mathlib.Core.Path.{ap, ◌∙◌}
 use lib.ListN.{length}
@@ -7,9 +7,8 @@ use Rattle.packet.specs.declared.SegmentCounter.{SegmentCounter}
 use Rattle.cells.specs.Rows.{cell_of}
 use Rattle.cells.specs.Order.{cell_at}
 use Rattle.taking.specs.Cleared.{laid_at, left_within}
-use Rattle.taking.proofs.Clears.{Clearing, clearing_first, clearing_long, clearing_done, clearing_row, clearing_on}
+use Rattle.taking.proofs.Clears.{clearing_first, clearing_long, clearing_done, clearing_row, clearing_on}
 use Rattle.taking.proofs.Leaves.{left_long}
-use borrow.Author.Rules.{rules}
 use Rattle.taking.proofs.clearing.clear.Goals as goal
 
 pub loop-i-init : goal.loop-i-init

@@ -1,15 +1,9 @@
 -- `clearing::clear` meets its contract. The loop's invariant: in the cells passed stands what is left there, and the others are as they were.
-use Prim.Native.Nat.{ℕ, ◌-◌}
-use mathlib.Core.List.{List}
-use mathlib.Core.Path.{ap, ◌∙◌}
+use Prim.Native.Nat.{◌-◌}
 use lib.ListN.{length}
-use Rattle.packet.specs.declared.SegmentCounter.{SegmentCounter}
-use Rattle.cells.specs.Rows.{cell_of}
 use Rattle.cells.specs.Order.{cell_at}
-use Rattle.taking.specs.Cleared.{laid_at, left_within}
-use Rattle.taking.proofs.Clears.{Clearing, clearing_first, clearing_long, clearing_done, clearing_row, clearing_on}
-use Rattle.taking.proofs.Leaves.{left_long}
-use borrow.Author.Rules.{rules}
+use Rattle.taking.specs.Cleared.{left_within}
+use Rattle.taking.proofs.Clears.{Clearing}
 use Rattle.taking.proofs.clearing.clear.Given as goal
 
 abbrev pub invariant-loop-i : goal.invariant-loop-i

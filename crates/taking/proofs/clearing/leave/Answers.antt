@@ -1,8 +1,6 @@
 -- `clearing::leave` meets its contract: a cell that is not of the message stays; zeros go over one that is, and over them the record if its
 -- counter is the first's.
-use borrow.Author.Tests.{not-true, not-false}
 use Rattle.taking.proofs.Leaves.{leave_out, leave_zeros, leave_room, leave_record}
-use borrow.Author.Rules.{rules}
 use Rattle.taking.proofs.clearing.leave.Goals as goal
 
 pub is_within-requires : goal.is_within-requires

@@ -1,6 +1,5 @@
 -- `clearing::put_record` meets its contract: the mark, the key and the two counters one after the other, where all of them fit.
 use Rattle.taking.proofs.Leaves.{record_there}
-use borrow.Author.Rules.{rules}
 use Rattle.taking.proofs.clearing.put_record.Goals as goal
 
 pub returns : goal.returns

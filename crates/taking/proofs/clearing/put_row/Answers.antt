@@ -1,7 +1,6 @@
 -- `clearing::put_row` meets its contract: the place is kept inside the store, and past its end nothing is written.
 use mathlib.Core.Path.{◌∙◌}
 use Rattle.taking.proofs.Clears.{row_there}
-use borrow.Author.Rules.{rules}
 use Rattle.taking.proofs.clearing.put_row.Goals as goal
 
 pub returns : goal.returns

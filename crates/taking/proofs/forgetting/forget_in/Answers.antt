@@ -1,7 +1,5 @@
 -- `forgetting::forget_in` meets its contract: a number past the cells and a cell without a record are refused, and else zeros go over the cell.
-use borrow.Author.Tests.{not-true, not-false}
 use Rattle.taking.proofs.Forgets.{forgot_past, forgot_other, forgot_here}
-use borrow.Author.Rules.{rules}
 use Rattle.taking.proofs.forgetting.forget_in.Goals as goal
 
 -- a pair with the names of the clauses

@@ -1,6 +1,5 @@
 -- `forgetting::is_record` meets its contract: the row is judged.
 use Rattle.taking.proofs.Forgets.{record_judged}
-use borrow.Author.Rules.{rules}
 use Rattle.taking.proofs.forgetting.is_record.Goals as goal
 
 pub returns : goal.returns

@@ -1,11 +1,8 @@
 -- `forgetting::lowest_record` meets its contract. The loop's invariant: none of the cells passed has a record.
-use Prim.Native.Nat.{◌-◌}
 use lib.ListN.{length}
-use Rattle.cells.specs.Order.{cell_at}
-use Rattle.cells.proofs.Scans.{Seeking, seeking_first, seeking_turn, seeking_found, seeking_none}
-use Rattle.taking.specs.Forgetting.{is_record, lowest_record}
+use Rattle.cells.proofs.Scans.{seeking_first, seeking_turn, seeking_found, seeking_none}
+use Rattle.taking.specs.Forgetting.{lowest_record}
 use Rattle.taking.proofs.Forgets.{record_here}
-use borrow.Author.Rules.{rules}
 use Rattle.taking.proofs.forgetting.lowest_record.Goals as goal
 
 pub loop-i-init : goal.loop-i-init

@@ -2,10 +2,8 @@
 use Prim.Native.Nat.{◌-◌}
 use lib.ListN.{length}
 use Rattle.cells.specs.Order.{cell_at}
-use Rattle.cells.proofs.Scans.{Seeking, seeking_first, seeking_turn, seeking_found, seeking_none}
-use Rattle.taking.specs.Forgetting.{is_record, lowest_record}
-use Rattle.taking.proofs.Forgets.{record_here}
-use borrow.Author.Rules.{rules}
+use Rattle.cells.proofs.Scans.{Seeking}
+use Rattle.taking.specs.Forgetting.{is_record}
 use Rattle.taking.proofs.forgetting.lowest_record.Given as goal
 
 abbrev pub invariant-loop-i : goal.invariant-loop-i
