@@ -1,7 +1,7 @@
 -- What the run of `Day` comes to: a take refused by 20 and one by 21, the first message handed out by a joining, octet by octet, its record
 -- in one cell and its others free; and, its record forgotten and it sent once more, the whole promise of demand 3 anew.
 -- Assumes nothing.
-use Prim.Native.Nat.{ℕ, ◌+◌, ◌≤◌, ◌<◌}
+use Prim.Native.Nat.{ℕ, ◌≤◌, ◌<◌}
 use mathlib.Core.Path.{◌≡◌, refl, ap, ap₂, sym, ◌∙◌, subst}
 use mathlib.Core.Logic.{◌⊎◌, inl, inr}
 use mathlib.Core.Bool.{true}

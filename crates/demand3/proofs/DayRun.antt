@@ -2,7 +2,7 @@
 -- again after a take, repeats with another sequence count, a whole, a malformed, an over-long and an other-keyed packet, a take
 -- refused by 21, joinings, late repeats of a message that was taken, forgettings.
 -- Assumes nothing.
-use Prim.Native.Nat.{ℕ, ◌+◌, ◌≤◌}
+use Prim.Native.Nat.{ℕ, ◌≤◌}
 use mathlib.Core.Path.{◌≡◌, refl, ap, ap₂, ◌∙◌}
 use mathlib.Core.Bool.{true}
 use mathlib.Core.Option.{Option, none, some}

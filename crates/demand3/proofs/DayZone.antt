@@ -2,7 +2,7 @@
 -- first and once more, and is taken with its zone octets. The cutter refuses the same message by 30, reading tells that its packets are
 -- of the withdrawn kind, and demand 3 speaks of it as of any other. The header is figure 14's, with the zone `no`.
 -- Assumes nothing.
-use Prim.Native.Nat.{ℕ, ◌+◌, ◌≤◌, ◌<◌}
+use Prim.Native.Nat.{ℕ, ◌≤◌, ◌<◌}
 use mathlib.Core.Path.{◌≡◌, refl, ap, ◌∙◌}
 use mathlib.Core.Bool.{true, false}
 use mathlib.Core.List.{List, [], ◌∷◌, ◌++◌}

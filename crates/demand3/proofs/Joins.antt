@@ -1,6 +1,6 @@
 -- A joining that completes a message hands it out; joinings, and forgettings between them, leave nothing complete in the store.
 -- Assumes nothing.
-use Prim.Native.Nat.{ℕ, ◌+◌, ◌-◌, ◌≤◌}
+use Prim.Native.Nat.{ℕ, ◌≤◌}
 use mathlib.Core.Path.{◌≡◌, refl, ap, sym, ◌∙◌, subst}
 use mathlib.Core.Logic.{◌≢◌, ◌⊎◌, inl, inr}
 use mathlib.Core.Bool.{true}
@@ -16,7 +16,7 @@ use Rattle.cells.specs.Messages.{Run, picked}
 use Rattle.cells.proofs.Empty.{empty_cells}
 use Rattle.taking.specs.Taking.{unable}
 use Rattle.demand3.specs.Cells.{has_free}
-use Rattle.demand3.specs.Traffic.{takes, empty}
+use Rattle.demand3.specs.Traffic.{empty}
 use Rattle.demand3.specs.Calls.{Call, arrival, joining, forgetting, Brings, Handed, Plain, arrived_store, store_by, store_after, took_by}
 use Rattle.demand3.specs.Sendings.{IsCut}
 use Rattle.demand3.specs.Presupposed.{empty_store, store_behind, cells_in, AllCame, MayCome, Traffic, Room, Given}

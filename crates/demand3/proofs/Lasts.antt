@@ -1,7 +1,7 @@
 -- A complete message lasts until it is taken, whatever arrives and whatever else is taken, room or no room: what is held is never
 -- written over, and a segment with the key and counter of a held one is not stored.
 -- Assumes nothing.
-use Prim.Native.Nat.{ℕ, ◌+◌, ◌≤◌}
+use Prim.Native.Nat.{ℕ, ◌≤◌}
 use mathlib.Core.Path.{◌≡◌, sym, ◌∙◌, ap}
 use mathlib.Core.Logic.{◌≢◌, ◌⊎◌, inl, inr}
 use mathlib.Core.Option.{none, some-ne-none, some-injective}

@@ -7,7 +7,6 @@ use mathlib.Core.Bool.{true, false, true≢false, false≢true, Bool}
 use mathlib.Core.Option.{none, some, none-ne-some, some-ne-none, Option}
 use mathlib.Core.List.Memᴰ
 use mathlib.Core.List.{List, [], ◌∷◌}
-use native.Mathlib.Omega.{arith}
 use borrow.Author.Tests.{eq-eqb}
 use Rattle.octets.specs.Octets.{pick}
 use Rattle.octets.proofs.Lists.{bool, alike_self}

@@ -1,7 +1,7 @@
 -- Takes one after the other, each with output long enough, hand out every complete message within as many takes as there are cells:
 -- each leaves fewer cells that hold a segment, and none touches a message that it does not take.
 -- Assumes nothing.
-use Prim.Native.Nat.{ℕ, ◌+◌, ◌≤◌, ◌<◌}
+use Prim.Native.Nat.{ℕ, ◌≤◌, ◌<◌}
 use mathlib.Core.Path.{◌≡◌, refl, sym, ◌∙◌, ap}
 use mathlib.Core.Logic.{◌⊎◌, inl, inr}
 use mathlib.Core.Bool.{true, false, false≢true, Bool}

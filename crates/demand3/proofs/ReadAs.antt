@@ -1,7 +1,7 @@
 -- A message's packets as an arrival reads them: packet i, whatever its sequence count, reads as segment i, with the message's key, the
 -- counter i steps from the first, the flags and body i. A packet that reads as a segment is as long as that segment's own packet.
 -- Assumes nothing.
-use Prim.Native.Nat.{ℕ, suc, ◌+◌, ◌-◌, ◌≤◌, ◌<◌}
+use Prim.Native.Nat.{ℕ, suc, ◌+◌, ◌≤◌, ◌<◌}
 use mathlib.Core.Path.{◌≡◌, refl, ap, sym, ◌∙◌, subst}
 use mathlib.Core.Bool.{Bool, true, false}
 use mathlib.Core.List.{List, ◌++◌}
@@ -11,7 +11,7 @@ use lib.Dec.{eqb}
 use Rattle.octets.specs.Octets.{pick, part, Octets, most32}
 use Rattle.walk.specs.declared.Settings.{Settings}
 use Rattle.packet.specs.Format.{Values, Opt, segment, identification, counter_octets, header_octets, secondary_octets, data_octets, octets_of, InRange}
-use Rattle.packet.specs.Reading.{read_packet, segmented, counter_size}
+use Rattle.packet.specs.Reading.{read_packet, counter_size}
 use Rattle.packet.specs.Key.{key_of}
 use Rattle.sender.specs.Sending.{steps_of}
 use Rattle.format.specs.Told.{values_of}

@@ -32,7 +32,7 @@ use Rattle.cut.proofs.packet_by.Reads as cut-bys
 use Rattle.cut.proofs.Arguments.{count_call, cut_call, cut_output, count_old, count_by_call, cut_old, cut_by_call, cut_by_output}
 use Rattle.fewest.specs.Carrying.{Carries}
 use Rattle.fewest.specs.Answers.{Counts, Wrote}
-use Rattle.fewest.specs.Cutting.{number, octets_at, Back}
+use Rattle.fewest.specs.Cutting.{octets_at, Back}
 use Rattle.fewest.proofs.Fewest.{fewest}
 use Rattle.fewest.proofs.ReadBack.{packets_read_back}
 

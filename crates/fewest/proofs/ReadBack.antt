@@ -13,7 +13,7 @@ use Rattle.octets.specs.Octets.{pick, part}
 use Rattle.octets.proofs.Lists.{bool}
 use Rattle.walk.specs.declared.Settings.{Settings}
 use Rattle.fields.specs.Form.{joined}
-use Rattle.packet.specs.Format.{Values, segment, octets_of}
+use Rattle.packet.specs.Format.{Values, octets_of}
 use Rattle.packet.specs.Numbers.{next_count, count_at, next_counter}
 use Rattle.packet.proofs.Counts.{count_mod}
 use Rattle.packet.specs.Reading.{segmented}
@@ -29,7 +29,7 @@ use Rattle.format.proofs.Accepting.{written}
 use Rattle.cut.specs.Cutting.{counter_at, single, chunk, packets, header_length, count_refusal, flags_at, body_start, packet_at, given_at}
 use Rattle.cut.proofs.Packets.{packet_most_lem}
 use Rattle.fewest.specs.Carrying.{body_of, Carried, Carries}
-use Rattle.fewest.specs.Cutting.{told, number, octets_at, all_packets, Segment, Back, AllBack}
+use Rattle.fewest.specs.Cutting.{told, octets_at, all_packets, Segment, Back, AllBack}
 use Rattle.fewest.proofs.Lists.{first_length, first_each, first_same, joined_first}
 use Rattle.fewest.proofs.Parts.{packets_one, two_at_least, piece_full, piece_some, piece_most, parts_joined}
 use Rattle.fewest.proofs.Numbers.{segment_is, flags_whole_lem, flags_first_lem, flags_last_lem, flags_between_lem, cuts_well, good_values, room, packet_range}

@@ -15,7 +15,7 @@ use Rattle.salvage.specs.Listing.{Stop}
 use Rattle.salvage.specs.Calling.{refusal_of, salvaged}
 use Rattle.salvage.specs.Parts.{holds, refusal_in, salvaged_in}
 use Rattle.numbers.specs.Lists.{Numbered, of_salvage}
-use Rattle.numbers.proofs.Among.{has, among}
+use Rattle.numbers.proofs.Among.{among}
 
 abbrev Given : ℕ → Type 0
 Given n = Numbered of_salvage n

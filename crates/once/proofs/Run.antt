@@ -2,7 +2,7 @@
 -- joining refused by 21 and the one that hands out the first message, whose counters go round the end; then, without a forgetting, repeats of
 -- that message, a take of the other refused by 21, its take, and takes refused by 20. Five segments and two records at four cells.
 -- Assumes nothing.
-use Prim.Native.Nat.{ℕ, ◌+◌}
+use Prim.Native.Nat.{ℕ}
 use mathlib.Core.Path.{◌≡◌, refl, ap, ap₂, sym, ◌∙◌, subst}
 use mathlib.Core.Logic.{◌⊎◌, inl, inr}
 use mathlib.Core.Bool.{Bool, true, false, false≢true}
@@ -13,11 +13,9 @@ use native.Mathlib.Omega.{arith}
 use Rattle.octets.specs.Octets.{alike}
 use Rattle.packet.specs.Numbers.{next_counter, steps_most}
 use Rattle.cells.specs.Segments.{carries, same_rest, reaches, both}
-use Rattle.cells.specs.Rows.{taken}
 use Rattle.cells.specs.Order.{cell_size}
 use Rattle.cells.specs.Messages.{look, role_of, bodies, rest_from, run_from, pick_in, among}
 use Rattle.cells.proofs.Held.{both_true}
-use Rattle.taking.specs.Taking.{message}
 use Rattle.demand3.specs.Cells.{put, has_free, recorded, spans, forgotten}
 use Rattle.demand3.specs.Traffic.{empty, taken_from, stepped, after, arrives, Room as CellRoom}
 use Rattle.demand3.specs.Calls.{Call, arrival, taking, joining, forgetting, Handed}

@@ -1,7 +1,7 @@
 -- What the run of `Run` comes to: the first message is handed out at noon, the other by its own taking after one that is refused by 21, repeats
 -- of both change nothing, and takings up to refusal 20 leave both out.
 -- Assumes nothing.
-use Prim.Native.Nat.{ℕ, ◌+◌, ◌≤◌, ◌<◌}
+use Prim.Native.Nat.{ℕ, ◌≤◌, ◌<◌}
 use mathlib.Core.Path.{◌≡◌, refl, ap, ap₂, sym, ◌∙◌, subst}
 use mathlib.Core.Logic.{◌⊎◌, inl, inr}
 use mathlib.Core.Option.{none, some}
@@ -12,14 +12,14 @@ use lib.ListN.{length}
 use Rattle.octets.specs.Octets.{alike}
 use Rattle.octets.proofs.Lists.{below_or}
 use Rattle.packet.specs.Numbers.{next_counter, steps_most}
-use Rattle.cells.specs.Segments.{carries, same_rest, reaches, both}
+use Rattle.cells.specs.Segments.{carries, same_rest, reaches}
 use Rattle.cells.specs.Rows.{Cell, free, held, taken}
 use Rattle.cells.specs.Order.{cell_size}
 use Rattle.cells.specs.Messages.{Run, look, role_of, bodies, rest_from, run_from, pick_in, picked, among}
 use Rattle.taking.specs.Taking.{message, unable, writing}
 use Rattle.demand3.specs.Cells.{put, has_free, recorded, spans, forgotten}
 use Rattle.demand3.specs.Traffic.{empty, taken_from, stepped, after, arrives}
-use Rattle.demand3.specs.Calls.{arrival, taking, joining, Plain, took_by, store_by, store_after}
+use Rattle.demand3.specs.Calls.{arrival, taking, Plain, took_by, store_by, store_after}
 use Rattle.demand3.specs.Sendings.{segment_at}
 use Rattle.demand3.specs.Presupposed.{Came, AllCame, store_behind, empty_store, cells_in}
 use Rattle.demand3.specs.Whole.{LongEnough}
@@ -30,7 +30,7 @@ use Rattle.demand3.proofs.Steps.{Kept}
 use Rattle.demand3.proofs.Carried.{behind_keeps}
 use Rattle.demand3.proofs.Plain.{plain_left}
 use Rattle.demand3.proofs.Acts.{Act, comes, draw, meets, act_events}
-use Rattle.demand3.proofs.Day.{settings, three, two, messages, of_two, other, the_key, two_cut, two_many, seg, stray}
+use Rattle.demand3.proofs.Day.{settings, three, two, messages, of_two, the_key, two_cut, two_many, seg, stray}
 use Rattle.demand3.proofs.DayRun.{lent_out, morning, at_noon, noon, three_first, three_next, three_last, two_last}
 use Rattle.demand3.proofs.DayRun.{noon_acts, noon_acts_lem, in_use_lem, one, cells_are, taking_takes}
 use Rattle.demand3.proofs.DayEnd.{cell_two_first, record_three, the_run, noon_took, the_key_lem, the_start, handed}
@@ -38,7 +38,7 @@ use Rattle.once.specs.Once.{HandedOut, Drained}
 use Rattle.once.proofs.Lists.{before_others}
 use Rattle.once.proofs.Drain.{long_none, long_more}
 use Rattle.once.proofs.Each.{all_out·whole}
-use Rattle.once.proofs.Run.{completing, ripe, repeating, whole, ripe_acts, completing_acts, ripe_acts_lem, repeating_acts, traffic, unforgotten, ripe_given}
+use Rattle.once.proofs.Run.{completing, ripe, repeating, ripe_acts, completing_acts, ripe_acts_lem, repeating_acts, traffic, unforgotten, ripe_given}
 
 abbrev Z : ℕ
 Z = cell_size

@@ -27,7 +27,7 @@ use Rattle.cells.proofs.Members.{In, opening, picked_held}
 use Rattle.arrival.proofs.Keeps.{arrive_long}
 use Rattle.join.specs.Joining.{took_as, joined_by, store_by, joining, store_joined}
 use Rattle.steps.specs.Stepping.{room}
-use Rattle.recording.proofs.Climbing.{sum, sum_most, in_cell, weights, Climbs, on, rest_climbs, climbs_less}
+use Rattle.recording.proofs.Climbing.{sum, sum_most, in_cell, weights, on, rest_climbs, climbs_less}
 
 -- ---- no more segments than cells
 

@@ -37,7 +37,7 @@ use Rattle.taking.proofs.Recorded.{range_left}
 use Rattle.taking.proofs.Tells.{taken_tells}
 use Rattle.taking.proofs.Forgets.{forget_long, cell_forgotten, cell_unforgotten}
 use Rattle.cells.proofs.Empty.{zeros, empty_cell, empty_count}
-use Rattle.recording.proofs.Climbing.{sum, sum_most, sum_none, sum_but, in_cell, weights, Climbs, on, rest_climbs, left, climbs_less}
+use Rattle.recording.proofs.Climbing.{sum, sum_most, sum_none, sum_but, in_cell, weights, on, rest_climbs, left, climbs_less}
 
 -- ---- what is weighed
 

@@ -1,11 +1,10 @@
 -- Every message all of whose segments are in a recording is written exactly once, if no packet finds the store without room: two frames of
 -- it would be two joinings that hand it out, with no forgetting between, which "each tile once" shuts out.
 -- Assumes nothing.
-use Prim.Native.Nat.{ℕ, ◌+◌}
+use Prim.Native.Nat.{ℕ}
 use mathlib.Core.Path.{◌≡◌, refl, ap, sym, ◌∙◌, subst}
 use mathlib.Core.Logic.{◌⊎◌, inl, inr}
 use mathlib.Core.Bool.{Bool, true, false}
-use mathlib.Core.Option.{none}
 use mathlib.Core.List.Memᴰ
 use mathlib.Core.List.{List, [], ◌∷◌, ◌++◌, append_assoc, Memᴰ}
 use native.Mathlib.Omega.{arith}
@@ -13,7 +12,7 @@ use Rattle.octets.specs.Octets.{pick}
 use Rattle.walk.specs.declared.Settings.{Settings}
 use Rattle.packet.specs.Format.{SettingsInRange}
 use Rattle.cells.specs.Order.{count_in}
-use Rattle.cells.specs.Messages.{body_of, or}
+use Rattle.cells.specs.Messages.{body_of}
 use Rattle.taking.specs.Forgetting.{lowest_record}
 use Rattle.join.specs.Joining.{joining as joining_of}
 use Rattle.steps.specs.Stepping.{room, is_full, Came, over, refused, kept, late, wholly, message as message_of, came_of, store_after as step_store}

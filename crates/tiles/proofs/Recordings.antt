@@ -1,7 +1,7 @@
 -- Every message all of whose segments are in a recording is written, and under a message's key nothing that is not a message: by demand
 -- 3 over the joinings of the recording's packets, which leave nothing complete in the store.
 -- Assumes nothing.
-use Prim.Native.Nat.{ℕ, ◌+◌, ◌<◌}
+use Prim.Native.Nat.{ℕ, ◌<◌}
 use mathlib.Core.Path.{◌≡◌, refl, ap, sym, ◌∙◌, subst}
 use mathlib.Core.Logic.{◌≢◌, ◌⊎◌, inl, inr}
 use mathlib.Core.Bool.{true}

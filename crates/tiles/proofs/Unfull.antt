@@ -24,7 +24,7 @@ use Rattle.cells.specs.Order.{is_free, cell_at, untaken_to}
 use Rattle.cells.specs.Messages.{look, or}
 use Rattle.arrival.specs.Arriving.{Arrived, whole, stored, late as as_taken, refused as refused19, lowest_free, placed, beside, segment_arrived, segment_came, arrived_in}
 use Rattle.join.specs.Joining.{joined_by, joining as joining_of}
-use Rattle.steps.specs.Stepping.{room, is_full, unrecorded, roomed, refused}
+use Rattle.steps.specs.Stepping.{room, is_full, unrecorded, roomed}
 use Rattle.steps.proofs.Enough.{free_joins}
 use Rattle.recording.specs.Recording.{cell_count, empty_store}
 use Rattle.demand3.specs.Cells.{has_free}

@@ -1,6 +1,5 @@
 -- `flat_office::route_of` meets its contract: each number, or the widest.
 use Rattle.flat_office.specs.Numbers.{route_of}
-use borrow.Author.Rules.{rules}
 use Rattle.flat_office.proofs.route_of.Goals as goal
 
 pub returns : goal.returns

@@ -1,7 +1,6 @@
 -- `flat_office::to_message` meets its contract: what the call answers, as numbers.
 use mathlib.Core.Path.{ap, ◌∙◌}
 use Rattle.flat_office.specs.Numbers.{carried_numbers}
-use borrow.Author.Rules.{rules}
 use Rattle.flat_office.proofs.to_message.Goals as goal
 
 pub returns : goal.returns

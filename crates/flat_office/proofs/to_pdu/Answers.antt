@@ -1,7 +1,6 @@
 -- `flat_office::to_pdu` meets its contract: what the call answers, as numbers.
 use mathlib.Core.Path.{ap, ◌∙◌}
 use Rattle.flat_office.specs.Numbers.{written_numbers}
-use borrow.Author.Rules.{rules}
 use Rattle.flat_office.proofs.to_pdu.Goals as goal
 
 pub returns : goal.returns

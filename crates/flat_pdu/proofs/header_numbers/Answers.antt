@@ -1,7 +1,6 @@
 -- `flat_pdu::header_numbers` meets its contract: its pieces fill the answer from the first number to the last.
 use Prim.Native.Nat.{ℕ}
 use mathlib.Core.Path.{refl}
-use borrow.Author.Rules.{rules}
 use lib.ListN.{replicate, length-replicate}
 use Rattle.flat_pdu.proofs.Laying.{header_laid}
 use Rattle.flat_pdu.proofs.header_numbers.Goals as goal

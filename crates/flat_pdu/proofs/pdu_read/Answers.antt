@@ -1,6 +1,5 @@
 -- `flat_pdu::pdu_read` meets its contract: what the call answers, as numbers.
 use mathlib.Core.Path.{ap, ◌∙◌}
-use borrow.Author.Rules.{rules}
 use Rattle.flat_pdu.specs.Numbers.{read_numbers}
 use Rattle.flat_pdu.proofs.pdu_read.Goals as goal
 

@@ -1,7 +1,5 @@
 -- `flat_pdu::pdu_write` meets its contract: numbers that fit go to the call, any other is 22.
 use mathlib.Core.Path.{sym, ◌∙◌}
-use borrow.Author.Rules.{rules}
-use borrow.Author.Tests.{not-true, not-false}
 use Rattle.flat_pdu.proofs.Choosing.{write_refused_lem, write_kept, write_told, write_laid}
 use Rattle.flat_pdu.proofs.pdu_write.Goals as goal
 

@@ -1,8 +1,6 @@
 -- `flat_pdu::put_domain` meets its contract: at each turn k places lie in the answer.
-use Prim.Native.Nat.{◌-◌}
-use borrow.Author.Rules.{rules}
 use native.Mathlib.Omega.{arith}
-use Rattle.flat.proofs.Placing.{Placed, placed_none, placed_next, placed_all}
+use Rattle.flat.proofs.Placing.{placed_none, placed_next, placed_all}
 use Rattle.flat_pdu.proofs.put_domain.Goals as goal
 
 pub loop-k-init : goal.loop-k-init

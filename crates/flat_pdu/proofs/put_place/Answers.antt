@@ -1,5 +1,4 @@
 -- `flat_pdu::put_place` meets its contract: two numbers, one after the other.
-use borrow.Author.Rules.{rules}
 use native.Mathlib.Numerals.{add-one}
 use Rattle.flat_pdu.proofs.put_place.Goals as goal
 

@@ -1,5 +1,4 @@
 -- `flat_pdu::put_present` meets its contract: eight flags, each 1 or 0.
-use borrow.Author.Rules.{rules}
 use Rattle.flat_pdu.proofs.put_present.Goals as goal
 
 pub returns : goal.returns

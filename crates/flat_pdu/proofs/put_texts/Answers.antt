@@ -1,5 +1,4 @@
 -- `flat_pdu::put_texts` meets its contract: its pieces lie one after the other.
-use borrow.Author.Rules.{rules}
 use Rattle.flat.proofs.Answers.{texts_laid}
 use Rattle.flat_pdu.proofs.put_texts.Goals as goal
 

@@ -1,5 +1,4 @@
 -- `flat_pdu::values_of` meets its contract: every number fits its field.
-use borrow.Author.Rules.{rules}
 use native.Mathlib.Omega.{arith}
 use Rattle.flat.proofs.Fitting.{fits_at}
 use Rattle.flat_pdu.specs.Numbers.{pdu_widths, values_of}

@@ -1,7 +1,6 @@
 -- `join::in_output` meets its contract: a refusal or a message.
 use Rattle.join.proofs.Coming.{as_refused, as_taken_lem}
 use mathlib.Core.Path.{◌∙◌}
-use borrow.Author.Rules.{rules}
 use Rattle.join.proofs.in_output.Goals as goal
 
 pub returns-then-refusal-ne0 : goal.returns-then-refusal-ne0

@@ -1,5 +1,4 @@
 -- `join::in_packet` meets its contract: the body as reading told it, and no refusal.
-use borrow.Author.Rules.{rules}
 use Rattle.join.proofs.in_packet.Goals as goal
 
 pub returns : goal.returns

@@ -3,7 +3,6 @@ use mathlib.Core.Path.{◌∙◌, refl}
 use Rattle.cells.proofs.Gate.{opened_refusal, opened_number, opened_gate, opened_cells}
 use Rattle.join.proofs.Joins.{join_shut}
 use Rattle.join.proofs.Inner.{joins_open}
-use borrow.Author.Rules.{rules}
 use Rattle.join.proofs.join.Goals as goal
 
 -- a pair with the names of the clauses

@@ -1,11 +1,9 @@
 -- `join::join_in` meets its contract: the packet is read, it arrives, and then comes what the arrival asks for.
 use mathlib.Core.Path.{ap, ◌∙◌}
 use native.Mathlib.Omega.{arith}
-use lib.ListN.{length}
 use Rattle.join.specs.Inner.{body_in}
 use Rattle.join.proofs.Coming.{place_fits}
-use Rattle.join.proofs.Joins.{not_whole, join_refused, join_whole, join_taking}
-use borrow.Author.Rules.{rules}
+use Rattle.join.proofs.Joins.{join_refused, join_whole, join_taking}
 use Rattle.join.proofs.join_in.Goals as goal
 
 -- a pair with the names of the clauses

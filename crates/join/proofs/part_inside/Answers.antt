@@ -1,5 +1,4 @@
 -- `join::part_inside` meets its contract: two tests without a sum.
-use borrow.Author.Rules.{rules}
 use Rattle.join.proofs.Parts.{past_place, past_length, within}
 use Rattle.join.proofs.part_inside.Goals as goal
 

@@ -1,5 +1,4 @@
 -- `join::refusal_of` meets its contract, case by case.
-use borrow.Author.Rules.{rules}
 use Rattle.join.proofs.refusal_of.Goals as goal
 
 pub returns-in-Answer : goal.returns-in-Answer

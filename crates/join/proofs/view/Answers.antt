@@ -1,5 +1,4 @@
 -- `join::view` meets its contract, case by case.
-use borrow.Author.Rules.{rules}
 use Rattle.join.proofs.Parts.{nothing}
 use Rattle.join.specs.Viewing.{viewed}
 use Rattle.join.proofs.view.Goals as goal

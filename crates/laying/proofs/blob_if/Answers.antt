@@ -2,7 +2,6 @@
 use Prim.Native.Nat.{◌+◌, ◌≤◌}
 use Rattle.laying.proofs.Pieces.{blob_laid}
 use Rattle.octets.proofs.Laying.{lays_none}
-use borrow.Author.Rules.{rules}
 use borrow.Author.Tests.{leb-true}
 use lib.ListN.{length, length-set}
 use mathlib.Core.Path.{sym, ◌∙◌}

@@ -1,7 +1,6 @@
 -- `laying::block` meets its contract.
 use Prim.Native.Nat.{◌+◌, ◌≤◌}
 use Rattle.laying.proofs.Pieces.{one_laid, lays_not}
-use borrow.Author.Rules.{rules}
 use borrow.Author.Tests.{leb-true, leb-false}
 use lib.ListN.{length}
 use mathlib.Core.Path.{sym, ◌∙◌}

@@ -1,6 +1,5 @@
 -- `laying::block_if` meets its contract.
 use Rattle.octets.proofs.Laying.{lays_none}
-use borrow.Author.Rules.{rules}
 use Rattle.laying.proofs.block_if.Goals as goal
 
 pub returns-then-there : goal.returns-then-there

@@ -2,7 +2,6 @@
 use Rattle.cut.proofs.Plans.{made_count}
 use Rattle.flat.specs.Given.{header_of}
 use Rattle.laying.proofs.Cuts.{sender_fits_lem, none_failed_lem, counted, cap_small}
-use borrow.Author.Rules.{rules}
 use mathlib.Core.Bool.{false}
 use Rattle.laying.proofs.cut_count.Goals as goal
 

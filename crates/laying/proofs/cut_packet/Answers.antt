@@ -1,5 +1,4 @@
 -- `laying::cut_packet` meets its contract: what is not cut the short way goes the long way.
-use borrow.Author.Rules.{rules}
 use native.Mathlib.Omega.{arith}
 use Rattle.laying.proofs.cut_packet.Goals as goal
 

@@ -1,6 +1,5 @@
 -- `laying::cut_ready` meets its contract.
 use Rattle.light.proofs.Plain.{no}
-use borrow.Author.Rules.{rules}
 use native.Mathlib.Omega.{arith}
 use Rattle.laying.proofs.cut_ready.Goals as goal
 

@@ -5,7 +5,6 @@ use Rattle.laying.proofs.Cuts.{sender_fits_lem, none_failed_lem, told, laid_out,
 use Rattle.laying.proofs.Whole.{plain_lays}
 use Rattle.write.specs.Given.{lent}
 use borrow.Author.Rules.{rules}
-use borrow.Author.Tests.{not-false}
 use lib.ListN.{length}
 use mathlib.Core.Bool.{false}
 use mathlib.Core.Path.{refl, sym, ◌∙◌}

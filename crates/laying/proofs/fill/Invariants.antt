@@ -1,7 +1,6 @@
 -- `laying::fill` meets its contract. The loop's invariant, `Filled`: what is copied is laid.
-use native.Mathlib.Omega.{arith}
 use Prim.Native.Nat.{◌-◌}
-use Rattle.laying.proofs.Pieces.{Filled, filled_none, filled_next, filled_all}
+use Rattle.laying.proofs.Pieces.{Filled}
 use Rattle.laying.proofs.fill.Given as goal
 
 abbrev pub invariant-loop-i : goal.invariant-loop-i

@@ -1,6 +1,5 @@
 -- `laying::four` meets its contract.
 use Rattle.laying.proofs.Pieces.{wide_four}
-use borrow.Author.Rules.{rules}
 use lib.ListN.{length-set}
 use native.Mathlib.Omega.{arith}
 use Rattle.laying.proofs.four.Goals as goal

@@ -3,7 +3,6 @@ use Prim.Native.Nat.{◌+◌, ◌≤◌}
 use Rattle.laying.proofs.Pieces.{four_laid, lays_not}
 use Rattle.octets.proofs.Laying.{lays_none}
 use Rattle.octets.specs.Octets.{wide}
-use borrow.Author.Rules.{rules}
 use borrow.Author.Tests.{leb-true, leb-false}
 use lib.ListN.{length}
 use mathlib.Core.Path.{sym, ◌∙◌}

@@ -1,7 +1,6 @@
 -- `laying::header_size` meets its contract.
 use Rattle.laying.proofs.Sizes.{header_size_lem}
 use Rattle.laying.proofs.Whole.{time_most}
-use borrow.Author.Rules.{rules}
 use mathlib.Core.Path.{refl}
 use native.Mathlib.Omega.{arith}
 use Rattle.laying.proofs.header_size.Goals as goal

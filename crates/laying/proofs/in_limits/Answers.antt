@@ -1,6 +1,5 @@
 -- `laying::in_limits` meets its contract.
 use Rattle.laying.proofs.Limits.{in_limits}
-use borrow.Author.Rules.{rules}
 use mathlib.Core.Path.{sym, ◌∙◌}
 use Rattle.laying.proofs.in_limits.Goals as goal
 

@@ -1,7 +1,5 @@
 -- `laying::numbers_ready` meets its contract.
 use Rattle.light.proofs.Plain.{no}
-use borrow.Author.Rules.{rules}
-use borrow.Author.Tests.{not-false}
 use native.Mathlib.Omega.{arith}
 use Rattle.laying.proofs.numbers_ready.Goals as goal
 

@@ -2,7 +2,6 @@
 use Rattle.laying.proofs.Pieces.{octet_laid, lays_not}
 use Rattle.octets.proofs.Laying.{lays_none}
 use Rattle.octets.specs.Octets.{wide}
-use borrow.Author.Rules.{rules}
 use native.Mathlib.Omega.{arith}
 use Rattle.laying.proofs.octet_if.Goals as goal
 

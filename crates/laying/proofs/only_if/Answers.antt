@@ -1,5 +1,4 @@
 -- `laying::only_if` meets its contract.
-use borrow.Author.Rules.{rules}
 use borrow.Author.Tests.{eqb-true}
 use Rattle.laying.proofs.only_if.Goals as goal
 

@@ -1,6 +1,5 @@
 -- `laying::own_ready` meets its contract.
 use Rattle.light.proofs.Plain.{no}
-use borrow.Author.Rules.{rules}
 use mathlib.Core.Path.{sym, ◌∙◌}
 use native.Mathlib.Omega.{arith}
 use Rattle.laying.proofs.own_ready.Goals as goal

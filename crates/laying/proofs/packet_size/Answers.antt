@@ -1,8 +1,7 @@
 -- `laying::packet_size` meets its contract.
 use Rattle.laying.proofs.Whole.{writes}
 use Rattle.light.proofs.Plain.{no}
-use borrow.Author.Rules.{rules}
-use borrow.Author.Tests.{not-false, eq-eqb}
+use borrow.Author.Tests.{eq-eqb}
 use mathlib.Core.Bool.{not}
 use mathlib.Core.Path.{sym, ap, ◌∙◌}
 use native.Mathlib.Omega.{arith}

@@ -1,6 +1,5 @@
 -- `laying::present_octet` meets its contract.
 use Rattle.laying.proofs.Sizes.{present_is}
-use borrow.Author.Rules.{rules}
 use Rattle.laying.proofs.present_octet.Goals as goal
 
 pub returns : goal.returns

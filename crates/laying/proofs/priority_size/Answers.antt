@@ -1,6 +1,5 @@
 -- `laying::priority_size` meets its contract.
 use Rattle.laying.proofs.Sizes.{number_size}
-use borrow.Author.Rules.{rules}
 use Rattle.laying.proofs.priority_size.Goals as goal
 
 pub returns-then-there : goal.returns-then-there

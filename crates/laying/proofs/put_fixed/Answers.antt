@@ -1,6 +1,5 @@
 -- `laying::put_fixed` meets its contract.
 use Rattle.laying.proofs.Pieces.{front_laid}
-use borrow.Author.Rules.{rules}
 use Rattle.laying.proofs.put_fixed.Goals as goal
 
 pub returns : goal.returns

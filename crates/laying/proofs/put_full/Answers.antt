@@ -2,7 +2,6 @@
 use Rattle.laying.proofs.Whole.{full_pieces}
 use Rattle.octets.proofs.Laying.{lays_both}
 use Rattle.write.specs.Given.{lent}
-use borrow.Author.Rules.{rules}
 use mathlib.Core.Path.{◌∙◌}
 use Rattle.laying.proofs.put_full.Goals as goal
 

@@ -1,6 +1,5 @@
 -- `laying::put_names` meets its contract.
 use Rattle.laying.proofs.Pieces.{names_laid}
-use borrow.Author.Rules.{rules}
 use lib.ListN.{length-set}
 use native.Mathlib.Omega.{arith}
 use Rattle.laying.proofs.put_names.Goals as goal

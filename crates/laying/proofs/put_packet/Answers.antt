@@ -1,7 +1,6 @@
 -- `laying::put_packet` meets its contract.
 use Rattle.laying.proofs.Whole.{plain_pieces_lem}
 use Rattle.write.specs.Given.{lent}
-use borrow.Author.Rules.{rules}
 use mathlib.Core.Path.{sym, ◌∙◌}
 use Rattle.laying.proofs.put_packet.Goals as goal
 

@@ -1,6 +1,5 @@
 -- `laying::put_part` meets its contract.
 use Rattle.laying.proofs.Pieces.{part_laid}
-use borrow.Author.Rules.{rules}
 use lib.ListN.{length-set}
 use mathlib.Core.Path.{refl}
 use native.Mathlib.Omega.{arith}

@@ -1,7 +1,7 @@
 -- `laying::put_parts` meets its contract. The loop's invariant, `Parts`: what is laid and what is left are all the pieces, and there is room for them.
-use Prim.Native.Nat.{◌-◌, ◌≤◌}
+use Prim.Native.Nat.{◌≤◌}
 use Rattle.fields.proofs.Written.{parting_inside, parting_done}
-use Rattle.laying.proofs.Pieces.{Parts, parts_first, part_brief, part_room, parts_turn}
+use Rattle.laying.proofs.Pieces.{parts_first, part_brief, part_room, parts_turn}
 use borrow.Author.Rules.{rules}
 use lib.ListN.{length, get_or}
 use native.Mathlib.Omega.{arith}

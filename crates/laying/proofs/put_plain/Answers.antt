@@ -1,7 +1,6 @@
 -- `laying::put_plain` meets its contract.
 use Rattle.octets.proofs.Laying.{lays_both}
 use Rattle.write.specs.Inner.{primary_pieces}
-use borrow.Author.Rules.{rules}
 use Rattle.laying.proofs.put_plain.Goals as goal
 
 pub returns : goal.returns

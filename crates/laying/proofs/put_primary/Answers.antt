@@ -1,6 +1,5 @@
 -- `laying::put_primary` meets its contract.
 use Rattle.laying.proofs.Pieces.{primary_laid}
-use borrow.Author.Rules.{rules}
 use Rattle.laying.proofs.put_primary.Goals as goal
 
 pub returns : goal.returns

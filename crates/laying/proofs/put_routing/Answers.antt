@@ -1,6 +1,5 @@
 -- `laying::put_routing` meets its contract.
 use Rattle.laying.proofs.Pieces.{routing_laid}
-use borrow.Author.Rules.{rules}
 use lib.ListN.{length-set}
 use mathlib.Core.Path.{refl}
 use native.Mathlib.Omega.{arith}

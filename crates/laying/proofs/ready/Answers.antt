@@ -1,7 +1,5 @@
 -- `laying::ready` meets its contract.
 use Rattle.light.proofs.Plain.{no}
-use borrow.Author.Rules.{rules}
-use borrow.Author.Tests.{not-false}
 use Rattle.laying.proofs.ready.Goals as goal
 
 pub returns-then-not-numbers_ready : goal.returns-then-not-numbers_ready

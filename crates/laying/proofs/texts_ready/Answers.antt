@@ -1,8 +1,6 @@
 -- `laying::texts_ready` meets its contract.
 use Rattle.laying.proofs.Whole.{texts_none}
 use Rattle.light.proofs.Plain.{no}
-use borrow.Author.Rules.{rules}
-use borrow.Author.Tests.{not-false}
 use mathlib.Core.Path.{sym, ◌∙◌}
 use native.Mathlib.Omega.{arith}
 use Rattle.laying.proofs.texts_ready.Goals as goal

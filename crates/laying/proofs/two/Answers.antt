@@ -1,6 +1,5 @@
 -- `laying::two` meets its contract.
 use Rattle.laying.proofs.Pieces.{wide_two}
-use borrow.Author.Rules.{rules}
 use lib.ListN.{length-set}
 use native.Mathlib.Omega.{arith}
 use Rattle.laying.proofs.two.Goals as goal

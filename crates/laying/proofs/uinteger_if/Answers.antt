@@ -1,6 +1,5 @@
 -- `laying::uinteger_if` meets its contract.
 use Rattle.octets.proofs.Laying.{lays_none}
-use borrow.Author.Rules.{rules}
 use Rattle.laying.proofs.uinteger_if.Goals as goal
 
 pub returns-then-there : goal.returns-then-there

@@ -1,6 +1,5 @@
 -- `laying::write` meets its contract: what is not written the short way goes the long way.
 use Rattle.laying.proofs.Whole.{told, put}
-use borrow.Author.Rules.{rules}
 use native.Mathlib.Omega.{arith}
 use Rattle.laying.proofs.write.Goals as goal
 

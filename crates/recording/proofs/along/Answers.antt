@@ -1,10 +1,8 @@
 -- `recording::along` meets its contract. The loop's invariant: so many octets are used up and so many written, and the rest comes to
 -- the rest.
-use Prim.Native.Nat.{◌-◌}
 use native.Mathlib.Omega.{arith}
-use lib.ListN.{length}
-use mathlib.Core.Path.{◌≡◌, refl}
-use Rattle.recording.proofs.Reaching.{Going, going_first, zero_own, rest_lent, going_long, going_room, going_more, going_done}
+use mathlib.Core.Path.{refl}
+use Rattle.recording.proofs.Reaching.{going_first, zero_own, rest_lent, going_long, going_room, going_more, going_done}
 use borrow.Author.Rules.{rules}
 use Rattle.recording.proofs.along.Goals as goal
 

@@ -1,11 +1,9 @@
 -- `recording::along` meets its contract. The loop's invariant: so many octets are used up and so many written, and the rest comes to
 -- the rest.
 use Prim.Native.Nat.{◌-◌}
-use native.Mathlib.Omega.{arith}
 use lib.ListN.{length}
-use mathlib.Core.Path.{◌≡◌, refl}
-use Rattle.recording.proofs.Reaching.{Going, going_first, zero_own, rest_lent, going_long, going_room, going_more, going_done}
-use borrow.Author.Rules.{rules}
+use mathlib.Core.Path.{◌≡◌}
+use Rattle.recording.proofs.Reaching.{Going}
 use Rattle.recording.proofs.along.Given as goal
 
 abbrev pub invariant-loop-s : goal.invariant-loop-s

@@ -2,10 +2,8 @@
 -- other is gone along.
 use mathlib.Core.Path.{refl, sym, ◌∙◌}
 use native.Mathlib.Omega.{arith}
-use lib.ListN.{length}
 use Rattle.recording.proofs.Reaching.{reach_most, store_begins, told_refused, out_refused, told_all, out_all}
 use Rattle.recording.proofs.Tested.{passed}
-use borrow.Author.Rules.{rules}
 use Rattle.recording.proofs.Beginning.{spare_begins}
 use Rattle.recording.proofs.join_all.Goals as goal
 

@@ -1,5 +1,4 @@
 -- `recording::refused_by` meets its contract: its tests are the definition's.
-use borrow.Author.Rules.{rules}
 use Rattle.recording.proofs.Tested.{refused_15, refused_21, refused_none}
 use Rattle.recording.proofs.refused_by.Goals as goal
 

@@ -1,6 +1,5 @@
 -- `recording::why_at` meets its contract: by what stands there.
 use Rattle.recording.proofs.Leaving.{why_nothing, why_other, why_cut, why_whole}
-use borrow.Author.Rules.{rules}
 use Rattle.steps.specs.Stepping.{found_in}
 use Rattle.recording.proofs.why_at.Goals as goal
 

@@ -1,6 +1,5 @@
 -- `steps::forget_lowest` meets its contract: settings and order were tested.
 use Rattle.steps.proofs.Roomed.{forgets}
-use borrow.Author.Rules.{rules}
 use Rattle.steps.proofs.forget_lowest.Goals as goal
 
 -- a pair with the names of the clauses

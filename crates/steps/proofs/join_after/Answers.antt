@@ -7,7 +7,6 @@ use Rattle.join.specs.Told.{joined_of}
 use Rattle.join.specs.Inner.{is_late}
 use Rattle.join.proofs.Inner.{arrives, joining_open, store_open, out_open}
 use Rattle.steps.proofs.Joins.{lent_long, behind_out}
-use borrow.Author.Rules.{rules}
 use Rattle.steps.proofs.join_after.Goals as goal
 
 -- a pair with the names of the clauses

@@ -1,12 +1,10 @@
 -- `steps::join_packet` meets its contract: by the buffer that joining names.
 use mathlib.Core.Path.{◌∙◌, refl}
 use native.Mathlib.Omega.{arith}
-use lib.ListN.{length}
 use Rattle.join.specs.Joining.{joining}
 use Rattle.steps.specs.Stepping.{room, came_at}
 use Rattle.steps.proofs.Frames.{without_long}
 use Rattle.steps.proofs.Joins.{joins_left, joins_whole, joins_message, message_most}
-use borrow.Author.Rules.{rules}
 use Rattle.steps.proofs.join_packet.Goals as goal
 
 pub join_roomed-came-requires : goal.join_roomed-came-requires

@@ -1,6 +1,5 @@
 -- `steps::join_roomed` meets its contract: once, or after the lowest record is forgotten.
 use Rattle.steps.proofs.Roomed.{meets_once, left_gate, left_count, again_gate, again_count, again_out, meets_none, meets_again}
-use borrow.Author.Rules.{rules}
 use Rattle.steps.proofs.join_roomed.Goals as goal
 
 -- a pair with the names of the clauses

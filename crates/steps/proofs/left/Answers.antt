@@ -1,5 +1,4 @@
 -- `steps::left` meets its contract.
-use borrow.Author.Rules.{rules}
 use borrow.Author.Tests.{eq-eqb, ne_eqb}
 use Rattle.steps.specs.Inner.{left_as}
 use Rattle.steps.proofs.left.Goals as goal

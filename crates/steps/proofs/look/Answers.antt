@@ -1,9 +1,7 @@
 -- `steps::look` meets its contract: the tests in the order of the definition.
 use mathlib.Core.Path.{ap, sym, ◌∙◌}
-use borrow.Author.Tests.{not-true, not-false}
 use Rattle.steps.specs.Told.{stands_of}
 use Rattle.steps.proofs.Places.{found_nothing, found_other, found_cut, found_whole}
-use borrow.Author.Rules.{rules}
 use Rattle.steps.proofs.look.Goals as goal
 
 pub returns-then-x-eq0 : goal.returns-then-x-eq0

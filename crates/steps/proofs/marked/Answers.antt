@@ -1,6 +1,5 @@
 -- `steps::marked` meets its contract.
 use Rattle.steps.proofs.Places.{begins_as}
-use borrow.Author.Rules.{rules}
 use Rattle.steps.proofs.marked.Goals as goal
 
 pub returns : goal.returns

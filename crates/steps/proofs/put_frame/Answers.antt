@@ -4,7 +4,6 @@ use mathlib.Core.Path.{ap, ◌∙◌}
 use mathlib.Core.List.{List}
 use lib.Seq.{sets}
 use Rattle.octets.specs.Octets.{wide}
-use borrow.Author.Rules.{rules}
 use Rattle.steps.proofs.put_frame.Goals as goal
 
 pub returns : goal.returns

@@ -1,7 +1,6 @@
 -- `steps::put_whole` meets its contract: two parts of the packet, one after the other.
 use native.Mathlib.Omega.{arith}
 use Rattle.steps.proofs.Frames.{whole_laid}
-use borrow.Author.Rules.{rules}
 use Rattle.steps.proofs.put_whole.Goals as goal
 
 pub overflow_sub-result : goal.overflow_sub-result

@@ -6,7 +6,6 @@ use native.Mathlib.Omega.{arith}
 use lib.ListN.{length}
 use Rattle.steps.proofs.Places.{packet_most_lem}
 use Rattle.steps.proofs.Steps.{step_nothing, step_other, step_cut, step_whole}
-use borrow.Author.Rules.{rules}
 use Rattle.steps.proofs.step.Goals as goal
 
 -- a pair with the names of the clauses

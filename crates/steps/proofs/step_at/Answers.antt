@@ -1,6 +1,5 @@
 -- `steps::step_at` meets its contract: by the room after the place.
 use native.Mathlib.Omega.{arith}
-use borrow.Author.Rules.{rules}
 use Rattle.steps.proofs.step_at.Goals as goal
 
 pub step_spare-requires : goal.step_spare-requires

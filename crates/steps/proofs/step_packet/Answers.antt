@@ -1,7 +1,5 @@
 -- `steps::step_packet` meets its contract: by the packet's length.
-use lib.ListN.{length}
 use Rattle.steps.proofs.Steps.{passes_over, passes_joined}
-use borrow.Author.Rules.{rules}
 use Rattle.steps.proofs.step_packet.Goals as goal
 
 -- a pair with the names of the clauses

@@ -9,7 +9,6 @@ use mathlib.Core.Bool.{true}
 use Rattle.steps.specs.Stepping.{stepped, written_by}
 use Rattle.steps.proofs.Steps.{step_within}
 use Rattle.steps.proofs.Spare.{spare_front}
-use borrow.Author.Rules.{rules}
 use Rattle.steps.proofs.step_spare.Goals as goal
 
 -- a pair with the names of the clauses

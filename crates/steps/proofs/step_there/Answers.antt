@@ -1,10 +1,9 @@
 -- `steps::step_there` meets its contract: the step has the part of the output after the place.
 use Prim.Native.Nat.{◌+◌, ◌-◌}
 use native.Mathlib.Omega.{arith}
-use lib.ListN.{length, drop, length-drop}
+use lib.ListN.{drop, length-drop}
 use lib.Seq.{length-take-le}
 use Rattle.steps.proofs.Spare.{there_out}
-use borrow.Author.Rules.{rules}
 use Rattle.steps.proofs.step_there.Goals as goal
 
 -- a pair with the names of the clauses

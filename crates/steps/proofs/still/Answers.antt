@@ -1,5 +1,4 @@
 -- `steps::still` meets its contract.
-use borrow.Author.Rules.{rules}
 use Rattle.steps.proofs.still.Goals as goal
 
 pub returns : goal.returns

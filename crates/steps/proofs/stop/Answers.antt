@@ -5,7 +5,6 @@ use Rattle.octets.specs.Octets.{pick}
 use Rattle.steps.specs.declared.What.TheVariants.{More}
 use Rattle.steps.specs.Told.{still}
 use Rattle.steps.specs.Inner.{stop_as}
-use borrow.Author.Rules.{rules}
 use Rattle.steps.proofs.stop.Goals as goal
 
 pub returns-then-ends : goal.returns-then-ends
