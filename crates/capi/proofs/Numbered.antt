@@ -2,8 +2,8 @@
 -- given too if a number is too wide for its field, or names no buffer.
 -- Assumes nothing.
 use Prim.Native.Nat.{ℕ}
-use mathlib.Core.Path.{◌≡◌, refl, ap, sym, ◌∙◌, subst}
-use mathlib.Core.List.{List, [], ◌∷◌}
+use mathlib.Core.Path.{refl, sym, subst}
+use mathlib.Core.List.{List, ◌∷◌}
 use contract.Lifetimes as L
 use lib.ListN.{length}
 use lib.Dec.{leb, eqb}

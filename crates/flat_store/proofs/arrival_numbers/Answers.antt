@@ -4,7 +4,6 @@ use Prim.Native.Nat.{ℕ}
 use mathlib.Core.List.{[], ◌∷◌}
 use Rattle.arrival.specs.declared.Arrival.{Arrival}
 use Rattle.flat_store.specs.Numbers.{arrival_numbers}
-use borrow.Author.Rules.{rules}
 use Rattle.flat_store.proofs.arrival_numbers.Goals as goal
 
 pub returns-in-Answer : goal.returns-in-Answer

@@ -2,7 +2,6 @@
 use mathlib.Core.Path.{ap, ◌∙◌}
 use Rattle.arrival.specs.declared.Arrival.{Arrival}
 use Rattle.flat_store.specs.Numbers.{arrival_numbers}
-use borrow.Author.Rules.{rules}
 use Rattle.flat_store.proofs.arrive.Goals as goal
 
 pub returns : goal.returns

@@ -2,7 +2,6 @@
 use mathlib.Core.Path.{ap}
 use Rattle.walk.specs.declared.Refusal.{Refusal}
 use Rattle.flat_store.specs.Numbers.{forget_numbers}
-use borrow.Author.Rules.{rules}
 use Rattle.flat_store.proofs.forget.Goals as goal
 
 pub returns : goal.returns

@@ -2,7 +2,6 @@
 use mathlib.Core.Path.{ap, sym, ◌∙◌}
 use Rattle.walk.specs.declared.Walk.{Walk}
 use Rattle.flat_store.proofs.Telling.{order_15, order_16, order_some}
-use borrow.Author.Rules.{rules}
 use Rattle.flat_store.proofs.in_order.Goals as goal
 
 pub returns-then-w-ne0 : goal.returns-then-w-ne0

@@ -2,7 +2,6 @@
 use mathlib.Core.Path.{ap, ◌∙◌}
 use Rattle.join.specs.declared.Joined.{Joined}
 use Rattle.flat_store.specs.Numbers.{joined_numbers}
-use borrow.Author.Rules.{rules}
 use Rattle.flat_store.proofs.join.Goals as goal
 
 -- a pair with the names of the clauses

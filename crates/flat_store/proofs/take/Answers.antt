@@ -2,7 +2,6 @@
 use mathlib.Core.Path.{ap, ◌∙◌}
 use Rattle.taking.specs.declared.Taken.{Taken}
 use Rattle.flat_store.specs.Numbers.{taken_numbers}
-use borrow.Author.Rules.{rules}
 use Rattle.flat_store.proofs.take.Goals as goal
 
 -- a pair with the names of the clauses

@@ -1,7 +1,6 @@
 -- `flat_store::view` meets its contract, by the buffer that is named.
 use mathlib.Core.Path.{refl}
 use Rattle.flat_store.proofs.Telling.{view_none, view_packet, view_joined_lem, view_unnamed}
-use borrow.Author.Rules.{rules}
 use Rattle.flat_store.proofs.view.Goals as goal
 
 pub returns-then-which-eq0 : goal.returns-then-which-eq0

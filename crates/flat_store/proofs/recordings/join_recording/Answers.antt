@@ -2,7 +2,6 @@
 use mathlib.Core.Path.{ap, ◌∙◌}
 use Rattle.recording.specs.declared.Recorded.{Recorded}
 use Rattle.flat_store.specs.Recordings.{recorded_numbers}
-use borrow.Author.Rules.{rules}
 use Rattle.flat_store.proofs.recordings.join_recording.Goals as goal
 
 -- a pair with the names of the clauses

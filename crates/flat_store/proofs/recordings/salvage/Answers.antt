@@ -1,7 +1,6 @@
 -- `flat_store::recordings::salvage` meets its contract: what the call answers, as numbers.
 use mathlib.Core.Path.{ap, ◌∙◌}
 use Rattle.flat_store.specs.Recordings.{salvaged_numbers}
-use borrow.Author.Rules.{rules}
 use Rattle.flat_store.proofs.recordings.salvage.Goals as goal
 
 pub returns : goal.returns

@@ -1,5 +1,4 @@
 -- `flat_store::recordings::salvaged_numbers` meets its contract.
-use borrow.Author.Rules.{rules}
 use Rattle.flat_store.proofs.recordings.salvaged_numbers.Goals as goal
 
 pub returns : goal.returns
