@@ -2,7 +2,7 @@
  * Orlyukan for C and C++: reading, writing, cutting, storing and joining MAL messages in CCSDS Space Packets, salvaging damaged
  * recordings of them, reading and writing the survey office's PDUs, and carrying messages there and back.
  *
- * Link with libcapi.a, which `rt staticlib capi` writes for Linux on x86-64. The library keeps nothing between calls, allocates
+ * Link with libcapi.a, which `rt lib` in crates/capi writes for Linux on x86-64. The library keeps nothing between calls, allocates
  * nothing, reads and writes only the memory that it is lent, and always comes back.
  *
  * How every call is made

@@ -6,8 +6,8 @@ repository unless it is named; where there is none, they are left out). Then MUT
 octets changed, parts cut out, repeated, moved and put into another sample, packets resized and given other transaction ids. The
 program must end by itself, in time, write what tests/store.py writes, and count what it counts. Then the salvaging program over
 SALVAGED of these, with more torn places, some between longer stretches of noise than its window holds: its list must be the model's,
-cover the recording exactly, and its packets must be the kept ones. The programs must have been built (`./orlyukan join` and
-`./orlyukan salvage`, or `rt check join_recording salvage_recording`).
+cover the recording exactly, and its packets must be the kept ones. The programs must have been built (`./orlyukan join`,
+`./orlyukan salvage` and `./orlyukan to-office`).
 """
 
 import functools

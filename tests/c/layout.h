@@ -19,17 +19,17 @@
 /* How many numbers a struct has. */
 #define WHOLE(type, numbers) static_assert(sizeof(struct type) == 8 * (numbers), #type " has another length")
 
-/* placeNumbers */
+/* place_numbers */
 FIELD(orl_place, place, 0, 1);
 FIELD(orl_place, length, 1, 1);
 WHOLE(orl_place, 2);
 
-/* senderOf, senderNumbers */
+/* sender_of, sender_numbers */
 FIELD(orl_sender, sequence_count, 0, 1);
 FIELD(orl_sender, counter, 1, 1);
 WHOLE(orl_sender, 2);
 
-/* headerOf, presentOf */
+/* header_of, present_of */
 FIELD(orl_header, packet_type, 0, 1);
 FIELD(orl_header, apid, 1, 1);
 FIELD(orl_header, sdu, 2, 1);
@@ -56,12 +56,12 @@ FIELD(orl_header, destination, 22, 1);
 FIELD(orl_header, priority, 23, 1);
 WHOLE(orl_header, 24);
 
-/* nextNumbers */
+/* next_numbers */
 FIELD(orl_next_sequence_count_answer, refusal, 0, 1);
 FIELD(orl_next_sequence_count_answer, sequence_count, 1, 1);
 WHOLE(orl_next_sequence_count_answer, 2);
 
-/* readNumbers */
+/* read_numbers */
 FIELD(orl_read_answer, refusal, 0, 1);
 FIELD(orl_read_answer, packet_type, 1, 1);
 FIELD(orl_read_answer, apid, 2, 1);
@@ -103,47 +103,47 @@ FIELD(orl_read_answer, began, 73, 1);
 FIELD(orl_read_answer, withdrawn, 74, 1);
 WHOLE(orl_read_answer, 75);
 
-/* writeNumbers */
+/* write_numbers */
 FIELD(orl_write_answer, refusal, 0, 1);
 FIELD(orl_write_answer, length, 1, 1);
 WHOLE(orl_write_answer, 2);
 
-/* afterPacketNumbers, afterSegmentNumbers */
+/* after_packet_numbers, after_segment_numbers */
 FIELD(orl_after_answer, refusal, 0, 1);
 FIELD(orl_after_answer, sender, 1, 2);
 WHOLE(orl_after_answer, 3);
 
-/* countedNumbers */
+/* counted_numbers */
 FIELD(orl_cut_count_answer, refusal, 0, 1);
 FIELD(orl_cut_count_answer, count, 1, 1);
 FIELD(orl_cut_count_answer, sender, 2, 2);
 WHOLE(orl_cut_count_answer, 4);
 
-/* cutNumbers */
+/* cut_numbers */
 FIELD(orl_cut_packet_answer, refusal, 0, 1);
 FIELD(orl_cut_packet_answer, length, 1, 1);
 FIELD(orl_cut_packet_answer, sender, 2, 2);
 WHOLE(orl_cut_packet_answer, 4);
 
-/* arriveNumbers */
+/* arrive_numbers */
 FIELD(orl_arrive_answer, refusal, 0, 1);
 FIELD(orl_arrive_answer, kind, 1, 1);
 FIELD(orl_arrive_answer, off, 2, 1);
 FIELD(orl_arrive_answer, began, 3, 1);
 WHOLE(orl_arrive_answer, 4);
 
-/* takeNumbers */
+/* take_numbers */
 FIELD(orl_take_answer, refusal, 0, 1);
 FIELD(orl_take_answer, H, 1, 1);
 FIELD(orl_take_answer, B, 2, 1);
 FIELD(orl_take_answer, counter, 3, 1);
 WHOLE(orl_take_answer, 4);
 
-/* forgetNumbers */
+/* forget_numbers */
 FIELD(orl_forget_answer, refusal, 0, 1);
 WHOLE(orl_forget_answer, 1);
 
-/* joinNumbers */
+/* join_numbers */
 FIELD(orl_join_answer, refusal, 0, 1);
 FIELD(orl_join_answer, which, 1, 1);
 FIELD(orl_join_answer, place, 2, 1);
@@ -155,25 +155,25 @@ FIELD(orl_join_answer, off, 7, 1);
 FIELD(orl_join_answer, began, 8, 1);
 WHOLE(orl_join_answer, 9);
 
-/* viewNumbers */
+/* view_numbers */
 FIELD(orl_view_answer, refusal, 0, 1);
 FIELD(orl_view_answer, place, 1, 1);
 FIELD(orl_view_answer, length, 2, 1);
 WHOLE(orl_view_answer, 3);
 
-/* orderNumbers */
+/* order_numbers */
 FIELD(orl_in_order_answer, refusal, 0, 1);
 FIELD(orl_in_order_answer, cells, 1, 1);
 WHOLE(orl_in_order_answer, 2);
 
-/* recordedNumbers */
+/* recorded_numbers */
 FIELD(orl_join_recording_answer, refusal, 0, 1);
 FIELD(orl_join_recording_answer, written, 1, 1);
 FIELD(orl_join_recording_answer, place, 2, 1);
 FIELD(orl_join_recording_answer, stop, 3, 1);
 WHOLE(orl_join_recording_answer, 4);
 
-/* salvagedNumbers */
+/* salvaged_numbers */
 FIELD(orl_salvage_answer, refusal, 0, 1);
 FIELD(orl_salvage_answer, tested, 1, 1);
 FIELD(orl_salvage_answer, entries, 2, 1);
@@ -182,7 +182,7 @@ FIELD(orl_salvage_answer, place, 4, 1);
 FIELD(orl_salvage_answer, done, 5, 1);
 WHOLE(orl_salvage_answer, 6);
 
-/* readNumbers of a PDU */
+/* read_numbers of a PDU */
 FIELD(orl_pdu_read_answer, refusal, 0, 1);
 FIELD(orl_pdu_read_answer, sdu, 1, 1);
 FIELD(orl_pdu_read_answer, area, 2, 1);
@@ -217,7 +217,7 @@ FIELD(orl_pdu_read_answer, off, 68, 1);
 FIELD(orl_pdu_read_answer, began, 69, 1);
 WHOLE(orl_pdu_read_answer, 70);
 
-/* valuesOf of a PDU */
+/* values_of of a PDU */
 FIELD(orl_pdu_header, sdu, 0, 1);
 FIELD(orl_pdu_header, area, 1, 1);
 FIELD(orl_pdu_header, service, 2, 1);
@@ -239,27 +239,27 @@ FIELD(orl_pdu_header, encoding_id, 17, 1);
 FIELD(orl_pdu_header, priority, 18, 1);
 WHOLE(orl_pdu_header, 19);
 
-/* writeNumbers of a PDU */
+/* write_numbers of a PDU */
 FIELD(orl_pdu_write_answer, refusal, 0, 1);
 FIELD(orl_pdu_write_answer, length, 1, 1);
 FIELD(orl_pdu_write_answer, header_length, 2, 1);
 WHOLE(orl_pdu_write_answer, 3);
 
-/* writtenNumbers of the office */
+/* written_numbers of the office */
 FIELD(orl_to_pdu_answer, refusal, 0, 1);
 FIELD(orl_to_pdu_answer, length, 1, 1);
 FIELD(orl_to_pdu_answer, header_length, 2, 1);
 FIELD(orl_to_pdu_answer, began, 3, 1);
 WHOLE(orl_to_pdu_answer, 4);
 
-/* routeOf of the office */
+/* route_of of the office */
 FIELD(orl_route, packet_type, 0, 1);
 FIELD(orl_route, apid, 1, 1);
 FIELD(orl_route, secondary_apid, 2, 1);
 FIELD(orl_route, qualifier, 3, 1);
 WHOLE(orl_route, 4);
 
-/* carriedNumbers */
+/* carried_numbers */
 FIELD(orl_to_message_answer, refusal, 0, 1);
 FIELD(orl_to_message_answer, H, 1, 1);
 FIELD(orl_to_message_answer, B, 2, 1);
