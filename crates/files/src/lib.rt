@@ -7,13 +7,23 @@ ghost use Rattle.std.specs.Prelude.{◌≡◌, ◌+◌, ◌-◌, ◌≤◌, leng
 ghost use Rattle.std.proofs.lemmas.List.Edits.{sets};
 ghost use Rattle.octets.specs.Octets.{part};
 
-pub const INPUT: i32 = 0;
+use std::env::{Env, FillError};
+use std::fs::{File, OpenOptions};
+use std::io::{Cursor, IsTerminal, Read, Stderr, Stdin, Stdout, Write};
+use std::os::fd::AsFd;
 
-pub const OUTPUT: i32 = 1;
+const ERROR: i32 = 2;
 
-pub const ERROR: i32 = 2;
+// The system's numbers of why a call failed: no such file, a signal came, no such descriptor, no such name, a name too long.
+const NOT_FOUND: i32 = 2;
 
-const TERMINAL: i32 = 1;
+const INTERRUPTED: i32 = 4;
+
+const NOT_OPEN: i32 = 9;
+
+const INVALID: i32 = 22;
+
+const TOO_LONG: i32 = 36;
 
 // Progress is shown once in so many octets.
 const STRIDE: u64 = 16777216;
@@ -28,27 +38,133 @@ const ZERO: u8 = 48;
 
 const NINE: u8 = 57;
 
+// The octets of ` (os error N)` but for the number.
+const NUMBERED: usize = 12;
+
 // A number that an argument writes and that is larger stands for this one, and so does a word that is no number: no setting is so large.
 const MOST: u64 = 1000000;
+
+// ---- where octets come from and go to
+
+#[derive(Drop)]
+enum From {
+    Input(Stdin),
+    Opened(File),
+}
+
+// Where octets come from: standard input, or a file that was opened. Why the last call that failed did; whether progress is shown, since
+// standard error is a terminal.
+#[derive(Drop)]
+pub struct Source {
+    from: From,
+    why: i32,
+    shows: bool,
+}
+
+#[derive(Drop)]
+enum To {
+    Nowhere,
+    Output(Stdout),
+    Error(Stderr),
+    Opened(File),
+    Lost,
+}
+
+// Where octets go to: nowhere, standard output, standard error, a file that was opened, or what can't be written, where each write fails.
+// Why the last call that failed did.
+#[derive(Drop)]
+pub struct Sink {
+    to: To,
+    why: i32,
+}
+
+fn source(rt: HostRuntime, from: From) -> Source {
+    Source {
+        from: from,
+        why: 0,
+        shows: rt.stderr().is_terminal(),
+    }
+}
+
+fn sink(to: To) -> Sink {
+    Sink { to: to, why: 0 }
+}
+
+// What can't be written, and why.
+fn lost(why: i32) -> Sink {
+    Sink {
+        to: To::Lost,
+        why: why,
+    }
+}
+
+pub fn output(rt: HostRuntime) -> Sink {
+    sink(To::Output(rt.stdout()))
+}
+
+pub fn error(rt: HostRuntime) -> Sink {
+    sink(To::Error(rt.stderr()))
+}
+
+pub fn nowhere() -> Sink {
+    sink(To::Nowhere)
+}
+
+pub fn is_nowhere(to: &Sink) -> bool {
+    match &to.to {
+        To::Nowhere => true,
+        _ => false,
+    }
+}
+
+// Why the last call failed.
+pub fn why(to: &Sink) -> i32 {
+    to.why
+}
+
+// The system's number of an error; one of the library's own is about a name.
+fn number_of(e: std::io::Error) -> i32 {
+    match e.raw_os_error() {
+        Some(number) => number,
+        None => INVALID,
+    }
+}
 
 // ---- reading and writing
 
 // Whether a call failed only because a signal came.
-fn interrupted(got: isize) -> bool {
+fn interrupted(got: isize, why: i32) -> bool {
     if got >= 0 {
         return false;
     }
-    os::errno() == libc::EINTR
+    why == INTERRUPTED
+}
+
+// What one read answers: how many octets, -1 if it failed.
+fn read_once(from: &mut Source, x: &mut [u8]) -> isize
+    ensures { length x.new ≡ length x.old }
+{
+    let got = match &mut from.from {
+        From::Input(f) => f.read(x),
+        From::Opened(f) => f.read(x),
+    };
+    match got {
+        Ok(n) => n as isize,
+        Err(e) => {
+            from.why = number_of(e);
+            -1
+        }
+    }
 }
 
 // What a read answers. A proved loop has to end, so it counts down from a number that no run uses up; so do the others here.
-pub fn read(fd: i32, x: &mut [u8]) -> isize
+pub fn read(from: &mut Source, x: &mut [u8]) -> isize
     ensures { length x.new ≡ length x.old }
 {
     let mut tries = u64::MAX;
     while tries > 0 {
-        let got = libc::read(fd, x);
-        if !interrupted(got) {
+        let got = read_once(from, x);
+        if !interrupted(got, from.why) {
             return got;
         }
         tries -= 1;
@@ -56,14 +172,32 @@ pub fn read(fd: i32, x: &mut [u8]) -> isize
     -1
 }
 
+// What one write answers.
+fn write_once(to: &mut Sink, x: &[u8]) -> isize {
+    let put = match &mut to.to {
+        To::Nowhere => Ok(x.len()),
+        To::Output(f) => f.write(x),
+        To::Error(f) => f.write(x),
+        To::Opened(f) => f.write(x),
+        To::Lost => Err(std::io::Error::from_raw_os_error(to.why)),
+    };
+    match put {
+        Ok(n) => n as isize,
+        Err(e) => {
+            to.why = number_of(e);
+            -1
+        }
+    }
+}
+
 // How many octets a write took; 0 if it failed.
-fn write_some(fd: i32, x: &[u8]) -> usize
+fn write_some(to: &mut Sink, x: &[u8]) -> usize
     ensures { result ≤ length x.now }
 {
     let mut tries = u64::MAX;
     while tries > 0 {
-        let got = libc::write(fd, x);
-        if !interrupted(got) {
+        let got = write_once(to, x);
+        if !interrupted(got, to.why) {
             return io::count(got, x);
         }
         tries -= 1;
@@ -72,13 +206,13 @@ fn write_some(fd: i32, x: &[u8]) -> usize
 }
 
 // How many octets of a slice were written: all, unless a write failed.
-pub fn write(fd: i32, x: &[u8]) -> usize
+pub fn write(to: &mut Sink, x: &[u8]) -> usize
     ensures { result ≤ length x.now }
 {
     let mut done: usize = 0;
     let whole = x.len();
     while done < whole {
-        let n = write_some(fd, &x[done..whole]);
+        let n = write_some(to, &x[done..whole]);
         if n == 0 {
             return done;
         }
@@ -87,58 +221,148 @@ pub fn write(fd: i32, x: &[u8]) -> usize
     done
 }
 
+// ---- the end of writing
+
+// Why a file can't be kept on the disk, if it is one; 0 if it can.
+fn unkept(f: &File) -> i32 {
+    match f.metadata() {
+        Ok(m) => {
+            if !m.is_file() {
+                return 0;
+            }
+        }
+        Err(e) => return number_of(e),
+    }
+    match f.sync_data() {
+        Ok(_) => 0,
+        Err(e) => number_of(e),
+    }
+}
+
+// The same of standard output, which is opened once more. What has no name, or may not be opened, was written all the same.
+fn unkept_output(rt: HostRuntime) -> i32 {
+    match rt.stdout().as_fd().try_clone_to_owned() {
+        Ok(_) => {}
+        Err(e) => return number_of(e),
+    }
+    match std::fs::metadata(&rt, "/dev/fd/1") {
+        Ok(m) => {
+            if !m.is_file() {
+                return 0;
+            }
+        }
+        Err(_) => return 0,
+    }
+    match OpenOptions::new().write(true).open(&rt, "/dev/fd/1") {
+        Ok(f) => unkept(&f),
+        Err(_) => 0,
+    }
+}
+
+// Ends what was written: a full disk may show only now. Whether it went well.
+pub fn finish(rt: HostRuntime, to: &mut Sink) -> bool {
+    let why = match &to.to {
+        To::Nowhere => 0,
+        To::Output(_) => unkept_output(rt),
+        To::Error(_) => 0,
+        To::Opened(f) => unkept(f),
+        To::Lost => to.why,
+    };
+    if why == 0 {
+        return true;
+    }
+    to.why = why;
+    false
+}
+
 // ---- the arguments
 
-// Opens a file to be read; `-` is standard input. Negative if it can't be opened, which is told.
-fn open(name: &[u8]) -> i32 {
+// Tells that a file can't be opened, or made.
+fn fail(name: &[u8], why: i32) {
+    say(name);
+    because(why);
+}
+
+// The text of a name, if it is UTF-8.
+fn text_of(name: &[u8]) -> Option<&str> {
+    match std::str::from_utf8(name) {
+        Ok(text) => Some(text),
+        Err(_) => None,
+    }
+}
+
+fn open_named(rt: HostRuntime, name: &[u8]) -> Result<File, i32> {
+    match text_of(name) {
+        Some(text) => match std::fs::open(&rt, text) {
+            Ok(f) => Ok(f),
+            Err(e) => Err(number_of(e)),
+        },
+        None => Err(INVALID),
+    }
+}
+
+fn make_named(rt: HostRuntime, name: &[u8]) -> Result<File, i32> {
+    match text_of(name) {
+        Some(text) => match OpenOptions::new().write(true).create_new(true).open(&rt, text) {
+            Ok(f) => Ok(f),
+            Err(e) => Err(number_of(e)),
+        },
+        None => Err(INVALID),
+    }
+}
+
+// Opens a file to be read; `-` is standard input. None if it can't be opened, which is told.
+fn open(rt: HostRuntime, name: &[u8]) -> Option<Source> {
     if octets::same(name, &[HYPHEN]) {
-        return INPUT;
+        return Some(source(rt, From::Input(rt.stdin())));
     }
-    let fd = os::open_read(name);
-    if fd < 0 {
-        os::fail(name);
+    match open_named(rt, name) {
+        Ok(f) => Some(source(rt, From::Opened(f))),
+        Err(why) => {
+            fail(name, why);
+            None
+        }
     }
-    fd
 }
 
-// Makes a new file. Negative if it can't be made, which is told.
-fn make(name: &[u8]) -> i32 {
-    let fd = os::create(name);
-    if fd < 0 {
-        os::fail(name);
+// Makes a new file. None if it can't be made, which is told.
+fn make(rt: HostRuntime, name: &[u8]) -> Option<Sink> {
+    match make_named(rt, name) {
+        Ok(f) => Some(sink(To::Opened(f))),
+        Err(why) => {
+            fail(name, why);
+            None
+        }
     }
-    fd
 }
 
-// The input: the file that argument k names, or standard input if it is `-` or not there. Negative if it can't be read. A name goes into
+// The input: the file that argument k names, or standard input if it is `-` or not there. None if it can't be read. A name goes into
 // the lent buffer.
-pub fn input(k: usize, name: &mut [u8]) -> i32
+pub fn input(rt: HostRuntime, k: usize, name: &mut [u8]) -> Option<Source>
     ensures { length name.new ≡ length name.old }
 {
-    if os::arg_count() <= k {
-        return INPUT;
+    match rt.arg(k, name) {
+        Ok(n) => open(rt, &name[0..n]),
+        Err(FillError::NotPresent) => Some(source(rt, From::Input(rt.stdin()))),
+        Err(FillError::TooLong) => {
+            fail(b"the name of the input", TOO_LONG);
+            None
+        }
     }
-    let n = os::arg(k, name);
-    if os::errno() != 0 {
-        os::fail(b"the name of the input");
-        return -1;
-    }
-    open(&name[0..n])
 }
 
-// Where the findings go: to a new file, which argument k names, or else to standard error. Negative if it can't be made.
-pub fn report(k: usize, name: &mut [u8]) -> i32
+// Where the findings go: to a new file, which argument k names, or else to standard error. None if it can't be made.
+pub fn report(rt: HostRuntime, k: usize, name: &mut [u8]) -> Option<Sink>
     ensures { length name.new ≡ length name.old }
 {
-    if os::arg_count() <= k {
-        return ERROR;
+    match rt.arg(k, name) {
+        Ok(n) => make(rt, &name[0..n]),
+        Err(FillError::NotPresent) => Some(error(rt)),
+        Err(FillError::TooLong) => {
+            fail(b"the name of the report", TOO_LONG);
+            None
+        }
     }
-    let n = os::arg(k, name);
-    if os::errno() != 0 {
-        os::fail(b"the name of the report");
-        return -1;
-    }
-    make(&name[0..n])
 }
 
 // A number with one digit more.
@@ -174,32 +398,40 @@ fn decimal(word: &[u8]) -> u64
 }
 
 // The number that argument k writes.
-fn written_at(k: usize) -> u64
+fn written_at(rt: HostRuntime, k: usize) -> u64
     ensures { result ≤ 1000000 }
 {
     let mut word = io::buffer();
-    let n = os::arg(k, &mut word);
-    if os::errno() != 0 {
-        return MOST;
+    match rt.arg(k, &mut word) {
+        Ok(n) => decimal(&word[..n]),
+        Err(_) => MOST,
     }
-    decimal(&word[..n])
+}
+
+// Whether argument k is there.
+fn is_named(rt: HostRuntime, k: usize) -> bool {
+    let mut none = [0u8; 1];
+    match rt.arg(k, &mut none) {
+        Err(FillError::NotPresent) => false,
+        _ => true,
+    }
 }
 
 // The number that argument k writes, or the usual one if it is not there.
-pub fn setting(k: usize, usual: u64) -> u64
+pub fn setting(rt: HostRuntime, k: usize, usual: u64) -> u64
     requires { usual ≤ 1000000 }
     ensures { result ≤ 1000000 }
 {
-    if os::arg_count() <= k {
+    if !is_named(rt, k) {
         return usual;
     }
-    written_at(k)
+    written_at(rt, k)
 }
 
 // ---- words
 
 // Words, and after them a number in decimal digits; how many octets of the words were written.
-pub fn tell(to: i32, x: &[u8], n: u64) -> usize
+pub fn tell(to: &mut Sink, x: &[u8], n: u64) -> usize
     ensures { result ≤ length x.now }
 {
     let told = write(to, x);
@@ -209,28 +441,71 @@ pub fn tell(to: i32, x: &[u8], n: u64) -> usize
     told
 }
 
-// The same on standard error, and why the last call failed.
-pub fn failed(x: &[u8], n: u64) -> usize
+// Words on standard error; how many octets of them were written, 0 if that failed.
+pub fn say(x: &[u8]) -> usize
     ensures { result ≤ length x.now }
 {
-    let told = tell(ERROR, x, n);
-    os::fail(b"");
+    if io::write_all(ERROR, x) {
+        return x.len();
+    }
+    0
+}
+
+// Words and a number on standard error.
+pub fn say_number(x: &[u8], n: u64) -> usize
+    ensures { result ≤ length x.now }
+{
+    let told = say(x);
+    io::print_decimal(ERROR, n);
+    told
+}
+
+// The words of an error's number, as the library prints them, end with ` (os error N)`: how many octets stand before it.
+fn before_number(all: usize, why: u64) -> usize
+    ensures { result ≤ all }
+{
+    let mut digits = [0u8; 20];
+    let k = io::decimal(why, &mut digits) + NUMBERED;
+    if k < all {
+        return all - k;
+    }
+    all
+}
+
+// Why a call failed, on standard error, and the end of the line.
+fn because(why: i32) {
+    let mut text = Cursor::new([0u8; 128]);
+    let e = std::io::Error::from_raw_os_error(why);
+    let _ = write!(text, "{e}");
+    let all = octets::least(text.position() as usize, 128);
+    let x = text.into_inner();
+    say(b": ");
+    say(&x[..before_number(all, why.unsigned_abs() as u64)]);
+    say(b"\n");
+}
+
+// Words and a number on standard error, and why the last call failed.
+pub fn failed(why: i32, x: &[u8], n: u64) -> usize
+    ensures { result ≤ length x.now }
+{
+    let told = say_number(x, n);
+    because(why);
     told
 }
 
 // The octets read so far. The cursor goes back to the beginning of the line, so that what is said next stands there.
 fn show(read: u64) {
-    tell(ERROR, b"", read / MEBI);
-    write(ERROR, b" MiB read");
-    write(ERROR, &[RETURN]);
+    say_number(b"", read / MEBI);
+    say(b" MiB read");
+    say(&[RETURN]);
 }
 
 // Shows progress at a terminal, if the octets read have passed the next stride.
-fn progress(before: u64, after: u64) {
+fn progress(shows: bool, before: u64, after: u64) {
     if before / STRIDE == after / STRIDE {
         return;
     }
-    if libc::isatty(ERROR) == TERMINAL {
+    if shows {
         show(after);
     }
 }
@@ -269,16 +544,16 @@ pub fn add(counts: &mut [u64], k: usize, n: u64)
 // ---- a window over a file
 
 // Counts the octets that a read answered, at a place, and shows progress. False if it failed, which is told.
-pub fn took(got: isize, n: usize, counts: &mut [u64], k: usize) -> bool
+pub fn took(from: &Source, got: isize, n: usize, counts: &mut [u64], k: usize) -> bool
     ensures { length counts.new ≡ length counts.old }
 {
     let before = at(counts, k);
     if got < 0 {
-        failed(b"reading failed at octet ", before);
+        failed(from.why, b"reading failed at octet ", before);
         return false;
     }
     add(counts, k, n as u64);
-    progress(before, at(counts, k));
+    progress(from.shows, before, at(counts, k));
     true
 }
 

@@ -1,0 +1,9 @@
+-- `entries::whose` meets its contract.
+use Rattle.entries.specs.Lines.{identity_in}
+use borrow.Author.Rules.{rules}
+use Rattle.entries.proofs.whose.Goals as goal
+
+pub returns : goal.returns
+unfolding identity_in
+returns c =
+    simp (c.counter-number.ensures, c.be64-transaction.ensures, c.octet-flags.ensures, c.be16-apid.ensures)
