@@ -12,6 +12,8 @@ use std::fs::{File, OpenOptions};
 use std::io::{Cursor, IsTerminal, Read, Stderr, Stdin, Stdout, Write};
 use std::os::fd::AsFd;
 
+const OUTPUT: u64 = 1;
+
 const ERROR: i32 = 2;
 
 // The system's numbers of why a call failed: no such file, a signal came, no such descriptor, no such name, a name too long.
@@ -38,6 +40,9 @@ const ZERO: u8 = 48;
 
 const NINE: u8 = 57;
 
+// The longest text of an error that is told.
+const TEXT: usize = 128;
+
 // The octets of ` (os error N)` but for the number.
 const NUMBERED: usize = 12;
 
@@ -47,7 +52,7 @@ const MOST: u64 = 1000000;
 // ---- where octets come from and go to
 
 #[derive(Drop)]
-enum From {
+enum Origin {
     Input(Stdin),
     Opened(File),
 }
@@ -56,13 +61,13 @@ enum From {
 // standard error is a terminal.
 #[derive(Drop)]
 pub struct Source {
-    from: From,
+    from: Origin,
     why: i32,
     shows: bool,
 }
 
 #[derive(Drop)]
-enum To {
+enum Target {
     Nowhere,
     Output(Stdout),
     Error(Stderr),
@@ -74,11 +79,11 @@ enum To {
 // Why the last call that failed did.
 #[derive(Drop)]
 pub struct Sink {
-    to: To,
+    to: Target,
     why: i32,
 }
 
-fn source(rt: HostRuntime, from: From) -> Source {
+fn source_of(rt: HostRuntime, from: Origin) -> Source {
     Source {
         from: from,
         why: 0,
@@ -86,33 +91,29 @@ fn source(rt: HostRuntime, from: From) -> Source {
     }
 }
 
-fn sink(to: To) -> Sink {
+fn sink_of(to: Target) -> Sink {
     Sink { to: to, why: 0 }
 }
 
 // What can't be written, and why.
 fn lost(why: i32) -> Sink {
     Sink {
-        to: To::Lost,
+        to: Target::Lost,
         why: why,
     }
 }
 
 pub fn output(rt: HostRuntime) -> Sink {
-    sink(To::Output(rt.stdout()))
+    sink_of(Target::Output(rt.stdout()))
 }
 
 pub fn error(rt: HostRuntime) -> Sink {
-    sink(To::Error(rt.stderr()))
-}
-
-pub fn nowhere() -> Sink {
-    sink(To::Nowhere)
+    sink_of(Target::Error(rt.stderr()))
 }
 
 pub fn is_nowhere(to: &Sink) -> bool {
     match &to.to {
-        To::Nowhere => true,
+        Target::Nowhere => true,
         _ => false,
     }
 }
@@ -145,8 +146,8 @@ fn read_once(from: &mut Source, x: &mut [u8]) -> isize
     ensures { length x.new ≡ length x.old }
 {
     let got = match &mut from.from {
-        From::Input(f) => f.read(x),
-        From::Opened(f) => f.read(x),
+        Origin::Input(f) => f.read(x),
+        Origin::Opened(f) => f.read(x),
     };
     match got {
         Ok(n) => n as isize,
@@ -175,11 +176,11 @@ pub fn read(from: &mut Source, x: &mut [u8]) -> isize
 // What one write answers.
 fn write_once(to: &mut Sink, x: &[u8]) -> isize {
     let put = match &mut to.to {
-        To::Nowhere => Ok(x.len()),
-        To::Output(f) => f.write(x),
-        To::Error(f) => f.write(x),
-        To::Opened(f) => f.write(x),
-        To::Lost => Err(std::io::Error::from_raw_os_error(to.why)),
+        Target::Nowhere => Ok(x.len()),
+        Target::Output(f) => f.write(x),
+        Target::Error(f) => f.write(x),
+        Target::Opened(f) => f.write(x),
+        Target::Lost => Err(std::io::Error::from_raw_os_error(to.why)),
     };
     match put {
         Ok(n) => n as isize,
@@ -262,17 +263,90 @@ fn unkept_output(rt: HostRuntime) -> i32 {
 // Ends what was written: a full disk may show only now. Whether it went well.
 pub fn finish(rt: HostRuntime, to: &mut Sink) -> bool {
     let why = match &to.to {
-        To::Nowhere => 0,
-        To::Output(_) => unkept_output(rt),
-        To::Error(_) => 0,
-        To::Opened(f) => unkept(f),
-        To::Lost => to.why,
+        Target::Nowhere => 0,
+        Target::Output(_) => unkept_output(rt),
+        Target::Error(_) => 0,
+        Target::Opened(f) => unkept(f),
+        Target::Lost => to.why,
     };
     if why == 0 {
         return true;
     }
     to.why = why;
     false
+}
+
+// ---- descriptors by their numbers
+
+// The octets of a descriptor's name, with the longest number.
+const LONGEST: usize = 28;
+
+// Lays the name of descriptor n, and says how many octets it has.
+fn lay_name(n: u64, name: &mut [u8; LONGEST]) -> usize
+    ensures { result ≤ 28 }
+{
+    let mut digits = [0u8; 20];
+    let k = io::decimal(n, &mut digits);
+    let at = octets::lay(name, 0, b"/dev/fd/");
+    let end = octets::lay(name, at, &digits[..k]);
+    if end < LONGEST {
+        return end;
+    }
+    LONGEST
+}
+
+// Opens descriptor n once more: what is written goes to the end of its file.
+fn open_again(rt: HostRuntime, n: u64) -> Sink {
+    let mut name = [0u8; LONGEST];
+    let k = lay_name(n, &mut name);
+    match text_of(&name[..k]) {
+        Some(text) => match OpenOptions::new().append(true).open(&rt, text) {
+            Ok(f) => sink_of(Target::Opened(f)),
+            Err(e) => lost(not_open(number_of(e))),
+        },
+        None => lost(NOT_OPEN),
+    }
+}
+
+// A descriptor that isn't there has no name.
+fn not_open(why: i32) -> i32 {
+    if why == NOT_FOUND {
+        return NOT_OPEN;
+    }
+    why
+}
+
+// Whether descriptor n is open.
+pub fn is_open(rt: HostRuntime, n: u64) -> bool {
+    if n == OUTPUT {
+        return rt.stdout().as_fd().try_clone_to_owned().is_ok();
+    }
+    if n == ERROR as u64 {
+        return true;
+    }
+    let mut name = [0u8; LONGEST];
+    let k = lay_name(n, &mut name);
+    match text_of(&name[..k]) {
+        Some(text) => std::fs::metadata(&rt, text).is_ok(),
+        None => false,
+    }
+}
+
+// Where what is written to descriptor n goes, which is open or not: to nowhere if it is 0.
+pub fn numbered(rt: HostRuntime, n: u64, open: bool) -> Sink {
+    if n == 0 {
+        return sink_of(Target::Nowhere);
+    }
+    if !open {
+        return lost(NOT_OPEN);
+    }
+    if n == OUTPUT {
+        return output(rt);
+    }
+    if n == ERROR as u64 {
+        return error(rt);
+    }
+    open_again(rt, n)
 }
 
 // ---- the arguments
@@ -303,7 +377,11 @@ fn open_named(rt: HostRuntime, name: &[u8]) -> Result<File, i32> {
 
 fn make_named(rt: HostRuntime, name: &[u8]) -> Result<File, i32> {
     match text_of(name) {
-        Some(text) => match OpenOptions::new().write(true).create_new(true).open(&rt, text) {
+        Some(text) => match OpenOptions::new()
+            .write(true)
+            .create_new(true)
+            .open(&rt, text)
+        {
             Ok(f) => Ok(f),
             Err(e) => Err(number_of(e)),
         },
@@ -314,10 +392,10 @@ fn make_named(rt: HostRuntime, name: &[u8]) -> Result<File, i32> {
 // Opens a file to be read; `-` is standard input. None if it can't be opened, which is told.
 fn open(rt: HostRuntime, name: &[u8]) -> Option<Source> {
     if octets::same(name, &[HYPHEN]) {
-        return Some(source(rt, From::Input(rt.stdin())));
+        return Some(source_of(rt, Origin::Input(rt.stdin())));
     }
     match open_named(rt, name) {
-        Ok(f) => Some(source(rt, From::Opened(f))),
+        Ok(f) => Some(source_of(rt, Origin::Opened(f))),
         Err(why) => {
             fail(name, why);
             None
@@ -328,7 +406,7 @@ fn open(rt: HostRuntime, name: &[u8]) -> Option<Source> {
 // Makes a new file. None if it can't be made, which is told.
 fn make(rt: HostRuntime, name: &[u8]) -> Option<Sink> {
     match make_named(rt, name) {
-        Ok(f) => Some(sink(To::Opened(f))),
+        Ok(f) => Some(sink_of(Target::Opened(f))),
         Err(why) => {
             fail(name, why);
             None
@@ -343,7 +421,7 @@ pub fn input(rt: HostRuntime, k: usize, name: &mut [u8]) -> Option<Source>
 {
     match rt.arg(k, name) {
         Ok(n) => open(rt, &name[0..n]),
-        Err(FillError::NotPresent) => Some(source(rt, From::Input(rt.stdin()))),
+        Err(FillError::NotPresent) => Some(source_of(rt, Origin::Input(rt.stdin()))),
         Err(FillError::TooLong) => {
             fail(b"the name of the input", TOO_LONG);
             None
@@ -472,12 +550,21 @@ fn before_number(all: usize, why: u64) -> usize
     all
 }
 
+fn within_text(n: u64) -> usize
+    ensures { result ≤ 128 }
+{
+    if n < TEXT as u64 {
+        return n as usize;
+    }
+    TEXT
+}
+
 // Why a call failed, on standard error, and the end of the line.
 fn because(why: i32) {
-    let mut text = Cursor::new([0u8; 128]);
+    let mut text = Cursor::new([0u8; TEXT]);
     let e = std::io::Error::from_raw_os_error(why);
     let _ = write!(text, "{e}");
-    let all = octets::least(text.position() as usize, 128);
+    let all = within_text(text.position());
     let x = text.into_inner();
     say(b": ");
     say(&x[..before_number(all, why.unsigned_abs() as u64)]);
