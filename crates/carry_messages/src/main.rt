@@ -22,7 +22,7 @@ ghost use Rattle.std.specs.Prelude.{◌≡◌, ◌+◌, ◌≤◌, length};
 
 use carry::Route;
 use counts::COUNTS;
-use files::OUTPUT;
+use files::{Sink, Source};
 use frame::{Frame, HEAD};
 use packet::{Apid, SecondaryApid};
 use walk::Settings;
@@ -121,13 +121,14 @@ fn onward(at: usize, n: usize, end: usize) -> usize
 // ---- writing
 
 // Writes what is gathered. 0, or why it stops.
-fn flush(x: &[u8], counts: &mut [u64; COUNTS]) -> u8 {
-    let n = files::write(OUTPUT, x);
+fn flush(to: &mut Sink, x: &[u8], counts: &mut [u64; COUNTS]) -> u8 {
+    let n = files::write(to, x);
     files::add(counts, counts::WRITTEN, n as u64);
     if n == x.len() {
         return 0;
     }
     files::failed(
+        files::why(to),
         b"writing failed after octet ",
         files::at(counts, counts::WRITTEN),
     );
@@ -137,8 +138,8 @@ fn flush(x: &[u8], counts: &mut [u64; COUNTS]) -> u8 {
 // ---- reading
 
 // Counts the octets read. 0, or why it stops.
-fn took(got: isize, n: usize, counts: &mut [u64; COUNTS]) -> u8 {
-    if files::took(got, n, counts, counts::READ) {
+fn took(file: &Source, got: isize, n: usize, counts: &mut [u64; COUNTS]) -> u8 {
+    if files::took(file, got, n, counts, counts::READ) {
         return 0;
     }
     say::NOT_READ
@@ -146,7 +147,7 @@ fn took(got: isize, n: usize, counts: &mut [u64; COUNTS]) -> u8 {
 
 // More octets after those in hand. The file ends if none come.
 fn refill(
-    fd: i32,
+    file: &mut Source,
     buf: &mut [u8],
     from: usize,
     till: usize,
@@ -163,15 +164,16 @@ fn refill(
     let had = till - from;
     let whole = buf.len();
     let space = &mut buf[had..whole];
-    let got = files::read(fd, space);
+    let got = files::read(file, space);
     let n = io::count(got, space);
-    let stop = took(got, n, counts);
+    let stop = took(file, got, n, counts);
     in_hand(0, had + n, 0, skip, n == 0, stop)
 }
 
 // What is gathered is written, since a read may wait, and more octets are read.
 fn wait(
-    fd: i32,
+    file: &mut Source,
+    to: &mut Sink,
     buf: &mut [u8],
     from: usize,
     till: usize,
@@ -186,11 +188,11 @@ fn wait(
     ensures till_in_bounds_2 { result.till ≤ length buf.old }
     ensures at_value { result.at ≡ 0 }
 {
-    let stop = flush(gathered, counts);
+    let stop = flush(to, gathered, counts);
     if stop != 0 {
         return in_hand(from, till, 0, skip, ends, stop);
     }
-    refill(fd, buf, from, till, skip, counts)
+    refill(file, buf, from, till, skip, counts)
 }
 
 // ---- carrying
@@ -286,20 +288,21 @@ fn has_room(room: usize, n: usize) -> bool {
 }
 
 // What is gathered is written if n octets might find no room after it.
-fn make_room(n: usize, out: &[u8], at: usize, counts: &mut [u64; COUNTS]) -> Gathered
+fn make_room(to: &mut Sink, n: usize, out: &[u8], at: usize, counts: &mut [u64; COUNTS]) -> Gathered
     requires { at ≤ length out.now }
     ensures { result.at ≤ length out.now }
 {
     if has_room(out.len() - at, n) {
         return gathered_to(at, 0);
     }
-    let stop = flush(&out[0..at], counts);
+    let stop = flush(to, &out[0..at], counts);
     gathered_to(0, stop)
 }
 
 // One message or PDU is carried, after those that are gathered. `used` octets are used up then.
 fn send(
     j: Job,
+    to: &mut Sink,
     x: &[u8],
     used: usize,
     out: &mut [u8],
@@ -309,7 +312,7 @@ fn send(
     requires { at ≤ length out.old }
     ensures { result.at ≤ length out.old }
 {
-    let g = make_room(x.len(), out, at, counts);
+    let g = make_room(to, x.len(), out, at, counts);
     if g.stop != 0 {
         return g;
     }
@@ -321,7 +324,8 @@ fn send(
 
 // Octets of a message or PDU longer than the window are passed over.
 fn pass(
-    fd: i32,
+    file: &mut Source,
+    to: &mut Sink,
     buf: &mut [u8],
     from: usize,
     till: usize,
@@ -346,13 +350,24 @@ fn pass(
     if ends {
         return in_hand(from + n, till, at, 0, ends, say::TORN);
     }
-    wait(fd, buf, from + n, till, skip - n, ends, &out[0..at], counts)
+    wait(
+        file,
+        to,
+        buf,
+        from + n,
+        till,
+        skip - n,
+        ends,
+        &out[0..at],
+        counts,
+    )
 }
 
 // What stands at the front of the octets in hand is carried; if more octets are wanted, they are read.
 fn take(
     j: Job,
-    fd: i32,
+    file: &mut Source,
+    to: &mut Sink,
     buf: &mut [u8],
     from: usize,
     till: usize,
@@ -374,11 +389,11 @@ fn take(
     let head = f.head;
     let used = f.used;
     if what == frame::WHOLE {
-        let g = send(j, &y[head..used], used, out, at, counts);
+        let g = send(j, to, &y[head..used], used, out, at, counts);
         return in_hand(from + used, till, g.at, 0, ends, g.stop);
     }
     if what == frame::MORE {
-        return wait(fd, buf, from, till, 0, ends, &out[0..at], counts);
+        return wait(file, to, buf, from, till, 0, ends, &out[0..at], counts);
     }
     if what == frame::LONG {
         files::add(counts, counts::SEEN, 1);
@@ -391,7 +406,8 @@ fn take(
 // What is left of one that is too long is passed over, or the next one is taken.
 fn turn(
     j: Job,
-    fd: i32,
+    file: &mut Source,
+    to: &mut Sink,
     buf: &mut [u8],
     from: usize,
     till: usize,
@@ -409,14 +425,14 @@ fn turn(
     ensures at_in_bounds_2 { result.at ≤ length out.old }
 {
     if skip > 0 {
-        return pass(fd, buf, from, till, skip, ends, out, at, counts);
+        return pass(file, to, buf, from, till, skip, ends, out, at, counts);
     }
-    take(j, fd, buf, from, till, ends, out, at, counts)
+    take(j, file, to, buf, from, till, ends, out, at, counts)
 }
 
 // What is gathered at the end of a run is written too. Why it stopped.
-fn last(gathered: &[u8], stop: u8, counts: &mut [u64; COUNTS]) -> u8 {
-    let other = flush(gathered, counts);
+fn last(to: &mut Sink, gathered: &[u8], stop: u8, counts: &mut [u64; COUNTS]) -> u8 {
+    let other = flush(to, gathered, counts);
     if other != 0 {
         return other;
     }
@@ -424,7 +440,14 @@ fn last(gathered: &[u8], stop: u8, counts: &mut [u64; COUNTS]) -> u8 {
 }
 
 // Turns until one stops, and why. A proved loop has to end, so it counts down from a number that no run uses up.
-fn run(j: Job, fd: i32, buf: &mut [u8], out: &mut [u8], counts: &mut [u64; COUNTS]) -> u8 {
+fn run(
+    j: Job,
+    file: &mut Source,
+    to: &mut Sink,
+    buf: &mut [u8],
+    out: &mut [u8],
+    counts: &mut [u64; COUNTS],
+) -> u8 {
     let mut from: usize = 0;
     let mut till: usize = 0;
     let mut at: usize = 0;
@@ -432,26 +455,27 @@ fn run(j: Job, fd: i32, buf: &mut [u8], out: &mut [u8], counts: &mut [u64; COUNT
     let mut ends = false;
     let mut turns = u64::MAX;
     while turns > 0 {
-        let h = turn(j, fd, buf, from, till, skip, ends, out, at, counts);
+        let h = turn(j, file, to, buf, from, till, skip, ends, out, at, counts);
         from = h.from;
         till = h.till;
         at = h.at;
         skip = h.skip;
         ends = h.ends;
         if h.stop != 0 {
-            return last(&out[0..at], h.stop, counts);
+            return last(to, &out[0..at], h.stop, counts);
         }
         turns -= 1;
     }
     say::NOT_READ
 }
 
-// Closes standard output: a full disk may show only now. Why the run stopped.
-fn closed(stop: u8, counts: &[u64; COUNTS]) -> u8 {
-    if libc::close(OUTPUT) == 0 {
+// Ends standard output: a full disk may show only now. Why the run stopped.
+fn closed(rt: HostRuntime, to: &mut Sink, stop: u8, counts: &[u64; COUNTS]) -> u8 {
+    if files::finish(rt, to) {
         return stop;
     }
     files::failed(
+        files::why(to),
         b"writing failed after octet ",
         files::at(counts, counts::WRITTEN),
     );
@@ -482,11 +506,11 @@ fn word(n: u64) -> u32 {
     4294967295
 }
 
-fn told_route() -> Route {
-    let packet_type = octet(files::setting(TYPE, 0));
-    let apid = Apid(short(files::setting(APID, 0)));
-    let secondary_apid = SecondaryApid(short(files::setting(SECONDARY, 0)));
-    let qualifier = word(files::setting(QUALIFIER, 0));
+fn told_route(rt: HostRuntime) -> Route {
+    let packet_type = octet(files::setting(rt, TYPE, 0));
+    let apid = Apid(short(files::setting(rt, APID, 0)));
+    let secondary_apid = SecondaryApid(short(files::setting(rt, SECONDARY, 0)));
+    let qualifier = word(files::setting(rt, QUALIFIER, 0));
     Route {
         packet_type: packet_type,
         apid: apid,
@@ -495,16 +519,16 @@ fn told_route() -> Route {
     }
 }
 
-fn told_job() -> Job {
-    let is_back = files::setting(WAY, 0) != 0;
-    let t = files::setting(TIMESTAMP, 0);
-    let profile = files::setting(PROFILE, 0);
-    let encoding = short(files::setting(ENCODING, 0));
+fn told_job(rt: HostRuntime) -> Job {
+    let is_back = files::setting(rt, WAY, 0) != 0;
+    let t = files::setting(rt, TIMESTAMP, 0);
+    let profile = files::setting(rt, PROFILE, 0);
+    let encoding = short(files::setting(rt, ENCODING, 0));
     let settings = Settings {
         t: t as usize,
         profile: profile,
     };
-    let route = told_route();
+    let route = told_route(rt);
     Job {
         is_back: is_back,
         settings: settings,
@@ -514,32 +538,31 @@ fn told_job() -> Job {
 }
 
 // Carries the file that is open.
-fn carry_from(fd: i32) {
-    let j = told_job();
+fn carry_from(rt: HostRuntime, file: &mut Source) {
+    let j = told_job(rt);
+    let mut to = files::output(rt);
     let mut buf = [0u8; WINDOW];
     let mut out = [0u8; GATHERED];
     let mut counts = [0u64; COUNTS];
-    let stop = run(j, fd, &mut buf, &mut out, &mut counts);
-    let because = closed(stop, &counts);
-    let to = report_made();
-    if to >= 0 {
-        say::findings(to, &counts, because);
+    let stop = run(j, file, &mut to, &mut buf, &mut out, &mut counts);
+    let because = closed(rt, &mut to, stop, &counts);
+    if let Some(mut report) = report_made(rt) {
+        say::findings(&mut report, &counts, because);
     }
 }
 
-fn opened() -> i32 {
+fn opened(rt: HostRuntime) -> Option<Source> {
     let mut name = io::buffer();
-    files::input(FILE, &mut name)
+    files::input(rt, FILE, &mut name)
 }
 
-fn report_made() -> i32 {
+fn report_made(rt: HostRuntime) -> Option<Sink> {
     let mut name = io::buffer();
-    files::report(REPORT, &mut name)
+    files::report(rt, REPORT, &mut name)
 }
 
-fn main() {
-    let fd = opened();
-    if fd >= 0 {
-        carry_from(fd);
+fn main(rt: HostRuntime) {
+    if let Some(mut file) = opened(rt) {
+        carry_from(rt, &mut file);
     }
 }

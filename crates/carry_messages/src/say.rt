@@ -10,6 +10,7 @@
 //   done
 use crate::counts;
 use counts::COUNTS;
+use files::Sink;
 
 // Why a run stops.
 pub const ENDED: u8 = 1;
@@ -23,12 +24,12 @@ pub const NOT_READ: u8 = 4;
 pub const NOT_WRITTEN: u8 = 5;
 
 // A space and a number.
-fn next(to: i32, n: u64) {
+fn next(to: &mut Sink, n: u64) {
     files::tell(to, b" ", n);
 }
 
 // In the order of their places.
-fn label(to: i32, k: usize) {
+fn label(to: &mut Sink, k: usize) {
     if k == counts::SEEN {
         files::write(to, b"seen");
     } else if k == counts::CARRIED {
@@ -42,13 +43,13 @@ fn label(to: i32, k: usize) {
     }
 }
 
-fn told(to: i32, k: usize, n: u64) {
+fn told(to: &mut Sink, k: usize, n: u64) {
     label(to, k);
     next(to, n);
     files::write(to, b"\n");
 }
 
-fn numbers(to: i32, counts: &[u64; COUNTS]) {
+fn numbers(to: &mut Sink, counts: &[u64; COUNTS]) {
     let mut k: usize = counts::SEEN;
     while k < COUNTS {
         told(to, k, files::at(counts, k));
@@ -57,7 +58,7 @@ fn numbers(to: i32, counts: &[u64; COUNTS]) {
 }
 
 // The line of a refusal number that occurred.
-fn refused(to: i32, counts: &[u64; COUNTS], k: usize) {
+fn refused(to: &mut Sink, counts: &[u64; COUNTS], k: usize) {
     let n = files::at(counts, k);
     if n == 0 {
         return;
@@ -70,7 +71,7 @@ fn refused(to: i32, counts: &[u64; COUNTS], k: usize) {
     files::write(to, b"\n");
 }
 
-fn refusals(to: i32, counts: &[u64; COUNTS]) {
+fn refusals(to: &mut Sink, counts: &[u64; COUNTS]) {
     let mut k: usize = 0;
     while k < counts::NUMBERS {
         refused(to, counts, k);
@@ -79,7 +80,7 @@ fn refusals(to: i32, counts: &[u64; COUNTS]) {
 }
 
 // All of them: the numbers, what was not carried, and why it stopped.
-pub fn findings(to: i32, counts: &[u64; COUNTS], stop: u8) {
+pub fn findings(to: &mut Sink, counts: &[u64; COUNTS], stop: u8) {
     numbers(to, counts);
     refusals(to, counts);
     files::write(to, b"stop");

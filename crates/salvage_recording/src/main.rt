@@ -21,6 +21,7 @@ ghost use Rattle.std.specs.Prelude.{◌≡◌, ◌*◌, ◌≤◌, length};
 
 use counts::COUNTS;
 use entries::LINE;
+use files::{Sink, Source};
 use salvage::{ENTRY, KEPT, Salvaged};
 use walk::Settings;
 
@@ -53,12 +54,13 @@ const LINES: usize = 32768;
 
 const PACKETS: usize = 131072;
 
-// Where things go: descriptors, 0 for nowhere.
-#[derive(Clone, Copy)]
+// Where things go, the pipe as a descriptor, 0 for nowhere; whether the list goes where the packets go.
+#[derive(Drop)]
 struct Sinks {
-    list: i32,
-    output: i32,
+    list: Sink,
+    output: Sink,
     pipe: i32,
+    is_one: bool,
 }
 
 // The octets in hand, from a place of the window up to another; the place in the recording of the first, which is tested next, and where the
@@ -114,13 +116,14 @@ fn gathered_to(at: usize, stop: u8) -> Gathered
 }
 
 // Writes a part of the list. 0, or why it stops.
-fn flush_list(fd: i32, x: &[u8], counts: &mut [u64; COUNTS]) -> u8 {
-    let n = files::write(fd, x);
+fn flush_list(list: &mut Sink, x: &[u8], counts: &mut [u64; COUNTS]) -> u8 {
+    let n = files::write(list, x);
     counts::add(counts, counts::LISTED, n as u64);
     if n == x.len() {
         return 0;
     }
     files::failed(
+        files::why(list),
         b"writing the list failed after octet ",
         counts::at(counts, counts::LISTED),
     );
@@ -128,16 +131,17 @@ fn flush_list(fd: i32, x: &[u8], counts: &mut [u64; COUNTS]) -> u8 {
 }
 
 // Writes packets to the output.
-fn flush_output(fd: i32, x: &[u8], counts: &mut [u64; COUNTS]) -> u8 {
-    if fd == 0 {
+fn flush_output(output: &mut Sink, x: &[u8], counts: &mut [u64; COUNTS]) -> u8 {
+    if files::is_nowhere(output) {
         return 0;
     }
-    let n = files::write(fd, x);
+    let n = files::write(output, x);
     counts::add(counts, counts::WRITTEN, n as u64);
     if n == x.len() {
         return 0;
     }
     files::failed(
+        files::why(output),
         b"writing failed after octet ",
         counts::at(counts, counts::WRITTEN),
     );
@@ -149,14 +153,14 @@ fn flush_pipe(fd: i32, x: &[u8]) -> u8 {
     if fd == 0 {
         return 0;
     }
-    if files::write(fd, x) == x.len() {
+    if io::write_all(fd, x) {
         return 0;
     }
     say::NOT_PIPED
 }
 
 // Writes packets to both.
-fn flush_packets(output: i32, pipe: i32, x: &[u8], counts: &mut [u64; COUNTS]) -> u8 {
+fn flush_packets(output: &mut Sink, pipe: i32, x: &[u8], counts: &mut [u64; COUNTS]) -> u8 {
     let stop = flush_output(output, x, counts);
     if stop != 0 {
         return stop;
@@ -166,7 +170,7 @@ fn flush_packets(output: i32, pipe: i32, x: &[u8], counts: &mut [u64; COUNTS]) -
 
 // One more line after those that are gathered; they are written if the longest line would find no room after it.
 fn add_line(
-    fd: i32,
+    to: &mut Sink,
     lines: &mut [u8],
     at: usize,
     y: &[u8],
@@ -181,7 +185,7 @@ fn add_line(
 {
     let next = entries::put_line(lines, at, y, off, kind, place, long);
     if lines.len() - next < LINE {
-        let stop = flush_list(fd, &lines[0..next], counts);
+        let stop = flush_list(to, &lines[0..next], counts);
         return gathered_to(0, stop);
     }
     gathered_to(next, 0)
@@ -189,7 +193,7 @@ fn add_line(
 
 // One more packet after those that are gathered; they are written first if it would find no room.
 fn add_packet(
-    output: i32,
+    output: &mut Sink,
     pipe: i32,
     packets: &mut [u8],
     at: usize,
@@ -208,7 +212,7 @@ fn add_packet(
 
 // The lines of n entries. 0, or why it stops.
 fn write_lines(
-    fd: i32,
+    to: &mut Sink,
     lines: &mut [u8],
     y: &[u8],
     off: usize,
@@ -223,7 +227,7 @@ fn write_lines(
     while i < n {
         let k = i * ENTRY;
         let g = add_line(
-            fd,
+            to,
             lines,
             at,
             y,
@@ -239,12 +243,12 @@ fn write_lines(
         }
         i += 1;
     }
-    flush_list(fd, &lines[0..at], counts)
+    flush_list(to, &lines[0..at], counts)
 }
 
 // The packets of n entries.
 fn write_packets(
-    output: i32,
+    output: &mut Sink,
     pipe: i32,
     packets: &mut [u8],
     y: &[u8],
@@ -293,7 +297,7 @@ fn note_all(list: &[u64], n: usize, counts: &mut [u64; COUNTS])
 }
 
 fn tell_list(
-    fd: i32,
+    to: &mut Sink,
     y: &[u8],
     off: usize,
     list: &[u64],
@@ -302,15 +306,15 @@ fn tell_list(
 ) -> u8
     requires { n * 3 ≤ length list.now }
 {
-    if fd == 0 {
+    if files::is_nowhere(to) {
         return 0;
     }
     let mut lines = [0u8; LINES];
-    write_lines(fd, &mut lines, y, off, list, n, counts)
+    write_lines(to, &mut lines, y, off, list, n, counts)
 }
 
 fn tell_packets(
-    output: i32,
+    output: &mut Sink,
     pipe: i32,
     y: &[u8],
     off: usize,
@@ -320,7 +324,7 @@ fn tell_packets(
 ) -> u8
     requires { n * 3 ≤ length list.now }
 {
-    if octets::both(output == 0, pipe == 0) {
+    if octets::both(files::is_nowhere(output), pipe == 0) {
         return 0;
     }
     let mut packets = [0u8; PACKETS];
@@ -328,24 +332,31 @@ fn tell_packets(
 }
 
 // Counts and writes n entries that were listed of the octets in hand. 0, or why it stops.
-fn tell(to: Sinks, y: &[u8], off: usize, list: &[u64], n: usize, counts: &mut [u64; COUNTS]) -> u8
+fn tell(
+    to: &mut Sinks,
+    y: &[u8],
+    off: usize,
+    list: &[u64],
+    n: usize,
+    counts: &mut [u64; COUNTS],
+) -> u8
     requires { n * 3 ≤ length list.now }
 {
     note_all(list, n, counts);
-    let stop = tell_list(to.list, y, off, list, n, counts);
+    let stop = tell_list(&mut to.list, y, off, list, n, counts);
     if stop != 0 {
         return stop;
     }
-    tell_packets(to.output, to.pipe, y, off, list, n, counts)
+    tell_packets(&mut to.output, to.pipe, y, off, list, n, counts)
 }
 
 // The header of the list.
-fn head(fd: i32, counts: &mut [u64; COUNTS]) -> u8 {
-    if fd == 0 {
+fn head(to: &mut Sink, counts: &mut [u64; COUNTS]) -> u8 {
+    if files::is_nowhere(to) {
         return 0;
     }
     flush_list(
-        fd,
+        to,
         b"kind,place,length,apid,transaction,flags,counter\n",
         counts,
     )
@@ -354,8 +365,8 @@ fn head(fd: i32, counts: &mut [u64; COUNTS]) -> u8 {
 // ---- what is read
 
 // Counts the octets read. 0, or why it stops.
-fn took(got: isize, n: usize, counts: &mut [u64; COUNTS]) -> u8 {
-    if files::took(got, n, counts, counts::READ) {
+fn took(file: &Source, got: isize, n: usize, counts: &mut [u64; COUNTS]) -> u8 {
+    if files::took(file, got, n, counts, counts::READ) {
         return 0;
     }
     say::NOT_READ
@@ -363,7 +374,7 @@ fn took(got: isize, n: usize, counts: &mut [u64; COUNTS]) -> u8 {
 
 // More octets after those in hand. The recording ends if none come.
 fn refill(
-    fd: i32,
+    file: &mut Source,
     buf: &mut [u8],
     from: usize,
     till: usize,
@@ -380,9 +391,9 @@ fn refill(
     let had = till - from;
     let whole = buf.len();
     let space = &mut buf[had..whole];
-    let got = files::read(fd, space);
+    let got = files::read(file, space);
     let n = io::count(got, space);
-    let stop = took(got, n, counts);
+    let stop = took(file, got, n, counts);
     in_hand(0, had + n, off, begin, n == 0, stop)
 }
 
@@ -390,7 +401,7 @@ fn refill(
 
 // What is in hand after a call that listed n entries and stopped at a place: if it listed none, more octets are read.
 fn after(
-    fd: i32,
+    file: &mut Source,
     buf: &mut [u8],
     from: usize,
     till: usize,
@@ -409,14 +420,14 @@ fn after(
         return in_hand(next, till, r.place, r.begin, ends, say::ENDED);
     }
     if r.entries == 0 {
-        return refill(fd, buf, next, till, r.place, r.begin, counts);
+        return refill(file, buf, next, till, r.place, r.begin, counts);
     }
     in_hand(next, till, r.place, r.begin, ends, 0)
 }
 
 // What a call answered: its refusal, or what it listed is written. 0, or why it stops.
 fn hear(
-    to: Sinks,
+    to: &mut Sinks,
     y: &[u8],
     off: usize,
     list: &[u64],
@@ -435,8 +446,8 @@ fn hear(
 // One call over the octets in hand, and what follows from it.
 fn turn(
     s: Settings,
-    to: Sinks,
-    fd: i32,
+    to: &mut Sinks,
+    file: &mut Source,
     buf: &mut [u8],
     from: usize,
     till: usize,
@@ -457,11 +468,17 @@ fn turn(
     if stop != 0 {
         return in_hand(from, till, off, begin, ends, stop);
     }
-    after(fd, buf, from, till, off, ends, r, counts)
+    after(file, buf, from, till, off, ends, r, counts)
 }
 
 // Calls until one stops, and why. A proved loop has to end, so it counts down from a number that no run uses up.
-fn run(s: Settings, to: Sinks, fd: i32, buf: &mut [u8], counts: &mut [u64; COUNTS]) -> u8 {
+fn run(
+    s: Settings,
+    to: &mut Sinks,
+    file: &mut Source,
+    buf: &mut [u8],
+    counts: &mut [u64; COUNTS],
+) -> u8 {
     let mut from: usize = 0;
     let mut till: usize = 0;
     let mut off: usize = 0;
@@ -469,7 +486,7 @@ fn run(s: Settings, to: Sinks, fd: i32, buf: &mut [u8], counts: &mut [u64; COUNT
     let mut ends = false;
     let mut turns = u64::MAX;
     while turns > 0 {
-        let h = turn(s, to, fd, buf, from, till, off, begin, ends, counts);
+        let h = turn(s, to, file, buf, from, till, off, begin, ends, counts);
         from = h.from;
         till = h.till;
         off = h.off;
@@ -485,34 +502,28 @@ fn run(s: Settings, to: Sinks, fd: i32, buf: &mut [u8], counts: &mut [u64; COUNT
 
 // ---- the end
 
-// Closes a descriptor: a full disk may show only now. Whether it went well.
-fn close(fd: i32) -> bool {
-    if fd == 0 {
-        return true;
-    }
-    libc::close(fd) == 0
-}
-
-// Closes the list, unless the packets go there too.
-fn close_list(to: Sinks, counts: &[u64; COUNTS], stop: u8) -> u8 {
-    if to.list == to.output {
+// Ends the list, unless the packets go there too: a full disk may show only now.
+fn close_list(rt: HostRuntime, to: &mut Sinks, counts: &[u64; COUNTS], stop: u8) -> u8 {
+    if to.is_one {
         return stop;
     }
-    if close(to.list) {
+    if files::finish(rt, &mut to.list) {
         return stop;
     }
     files::failed(
+        files::why(&to.list),
         b"writing the list failed after octet ",
         counts::at(counts, counts::LISTED),
     );
     say::NOT_LISTED
 }
 
-fn close_output(to: Sinks, counts: &[u64; COUNTS], stop: u8) -> u8 {
-    if close(to.output) {
+fn close_output(rt: HostRuntime, to: &mut Sinks, counts: &[u64; COUNTS], stop: u8) -> u8 {
+    if files::finish(rt, &mut to.output) {
         return stop;
     }
     files::failed(
+        files::why(&to.output),
         b"writing failed after octet ",
         counts::at(counts, counts::WRITTEN),
     );
@@ -520,66 +531,87 @@ fn close_output(to: Sinks, counts: &[u64; COUNTS], stop: u8) -> u8 {
 }
 
 // The end of a run: its findings.
-fn end(to: Sinks, counts: &[u64; COUNTS], stop: u8) {
-    close(to.pipe);
-    let because = close_output(to, counts, close_list(to, counts, stop));
-    let report = report_made();
-    if report >= 0 {
-        say::findings(report, counts, because);
+fn end(rt: HostRuntime, to: &mut Sinks, counts: &[u64; COUNTS], stop: u8) {
+    let listed = close_list(rt, to, counts, stop);
+    let because = close_output(rt, to, counts, listed);
+    if let Some(mut report) = report_made(rt) {
+        say::findings(&mut report, counts, because);
     }
 }
 
 // ---- the arguments
 
 // T and the profile as they are given; the call tests them.
-fn settings() -> Settings {
-    let t = files::setting(TIMESTAMP, 0);
-    let profile = files::setting(PROFILE, 0);
+fn settings(rt: HostRuntime) -> Settings {
+    let t = files::setting(rt, TIMESTAMP, 0);
+    let profile = files::setting(rt, PROFILE, 0);
     Settings {
         t: t as usize,
         profile: profile,
     }
 }
 
-fn told_sinks() -> Sinks {
-    let list = files::setting(LIST, 0) as i32;
-    let output = files::setting(OUTPUT, 0) as i32;
-    let pipe = files::setting(PIPE, 0) as i32;
+// Descriptor n, which is open or not; -1, which none is, if it is not.
+fn descriptor(n: u64, open: bool) -> i32 {
+    if open {
+        return bounded(n) as i32;
+    }
+    -1
+}
+
+// A number, as large as a setting may be written.
+fn bounded(n: u64) -> u64
+    ensures { result ≤ 1000000 }
+{
+    if n < 1000000 {
+        return n;
+    }
+    1000000
+}
+
+// Whether a descriptor is open is asked before any of them is opened once more, which takes a number.
+fn told_sinks(rt: HostRuntime) -> Sinks {
+    let list = files::setting(rt, LIST, 0);
+    let output = files::setting(rt, OUTPUT, 0);
+    let pipe = files::setting(rt, PIPE, 0);
+    let has_list = files::is_open(rt, list);
+    let has_output = files::is_open(rt, output);
+    let has_pipe = octets::either(pipe == 0, files::is_open(rt, pipe));
     Sinks {
-        list: list,
-        output: output,
-        pipe: pipe,
+        list: files::numbered(rt, list, has_list),
+        output: files::numbered(rt, output, has_output),
+        pipe: descriptor(pipe, has_pipe),
+        is_one: list == output,
     }
 }
 
 // Salvages the recording that is open.
-fn salvage_from(fd: i32) {
-    let s = settings();
-    let to = told_sinks();
+fn salvage_from(rt: HostRuntime, file: &mut Source) {
+    let s = settings(rt);
+    let mut to = told_sinks(rt);
     let mut buf = [0u8; WINDOW];
     let mut counts = [0u64; COUNTS];
-    let stop = head(to.list, &mut counts);
+    let stop = head(&mut to.list, &mut counts);
     if stop != 0 {
-        end(to, &counts, stop);
+        end(rt, &mut to, &counts, stop);
         return;
     }
-    let because = run(s, to, fd, &mut buf, &mut counts);
-    end(to, &counts, because);
+    let because = run(s, &mut to, file, &mut buf, &mut counts);
+    end(rt, &mut to, &counts, because);
 }
 
-fn opened() -> i32 {
+fn opened(rt: HostRuntime) -> Option<Source> {
     let mut name = io::buffer();
-    files::input(RECORDING, &mut name)
+    files::input(rt, RECORDING, &mut name)
 }
 
-fn report_made() -> i32 {
+fn report_made(rt: HostRuntime) -> Option<Sink> {
     let mut name = io::buffer();
-    files::report(REPORT, &mut name)
+    files::report(rt, REPORT, &mut name)
 }
 
-fn main() {
-    let fd = opened();
-    if fd >= 0 {
-        salvage_from(fd);
+fn main(rt: HostRuntime) {
+    if let Some(mut file) = opened(rt) {
+        salvage_from(rt, &mut file);
     }
 }

@@ -9,6 +9,7 @@ ghost use Rattle.std.specs.Prelude.{◌≤◌, length};
 
 use crate::counts;
 use counts::COUNTS;
+use files::Sink;
 
 // Why a run stops.
 pub const ENDED: u8 = 1;
@@ -22,7 +23,7 @@ pub const NOT_LISTED: u8 = 6;
 pub const NOT_PIPED: u8 = 7;
 
 // In the order of their places.
-fn label(to: i32, k: usize) {
+fn label(to: &mut Sink, k: usize) {
     if k == counts::PACKETS {
         files::write(to, b"packets ");
     } else if k == counts::KEPT {
@@ -41,13 +42,13 @@ fn label(to: i32, k: usize) {
 }
 
 // The line of a number.
-fn told(to: i32, k: usize, n: u64) {
+fn told(to: &mut Sink, k: usize, n: u64) {
     label(to, k);
     files::tell(to, b"", n);
     files::write(to, b"\n");
 }
 
-fn numbers(to: i32, counts: &[u64; COUNTS]) {
+fn numbers(to: &mut Sink, counts: &[u64; COUNTS]) {
     let mut k: usize = 0;
     while k < COUNTS {
         told(to, k, counts::at(counts, k));
@@ -56,7 +57,7 @@ fn numbers(to: i32, counts: &[u64; COUNTS]) {
 }
 
 // All of them: the numbers, and why it stopped.
-pub fn findings(to: i32, counts: &[u64; COUNTS], stop: u8) {
+pub fn findings(to: &mut Sink, counts: &[u64; COUNTS], stop: u8) {
     numbers(to, counts);
     files::tell(to, b"stop ", stop as u64);
     files::write(to, b"\ndone\n");
