@@ -27,6 +27,7 @@ ghost use Rattle.steps.specs.Stepping.{room};
 
 use cells::{CELL, CELLS_MOST};
 use counts::COUNTS;
+use files::{Sink, Source};
 use steps::{SPACE, What};
 use walk::Settings;
 
@@ -76,23 +77,23 @@ fn in_hand(from: usize, till: usize, at: usize, ends: bool, stop: u8) -> Hand
 }
 
 // Writes what is gathered. 0, or why it stops.
-fn flush(x: &[u8], counts: &mut [u64; COUNTS]) -> u8 {
-    if output::put(x, counts) {
+fn flush(to: &mut Sink, x: &[u8], counts: &mut [u64; COUNTS]) -> u8 {
+    if output::put(to, x, counts) {
         return 0;
     }
     say::NOT_WRITTEN
 }
 
 // Counts the octets read. 0, or why it stops.
-fn took(got: isize, n: usize, counts: &mut [u64; COUNTS]) -> u8 {
-    if files::took(got, n, counts, counts::READ) {
+fn took(file: &Source, got: isize, n: usize, counts: &mut [u64; COUNTS]) -> u8 {
+    if files::took(file, got, n, counts, counts::READ) {
         return 0;
     }
     say::NOT_READ
 }
 
 // More octets after those in hand. The recording ends if none come.
-fn refill(fd: i32, buf: &mut [u8], from: usize, till: usize, counts: &mut [u64; COUNTS]) -> Hand
+fn refill(file: &mut Source, buf: &mut [u8], from: usize, till: usize, counts: &mut [u64; COUNTS]) -> Hand
     requires from_le_till { from ≤ till }
     requires till_in_bounds { till ≤ length buf.old }
     ensures from_le_till_2 { result.from ≤ result.till }
@@ -103,9 +104,9 @@ fn refill(fd: i32, buf: &mut [u8], from: usize, till: usize, counts: &mut [u64; 
     let had = till - from;
     let whole = buf.len();
     let space = &mut buf[had..whole];
-    let got = files::read(fd, space);
+    let got = files::read(file, space);
     let n = io::count(got, space);
-    let stop = took(got, n, counts);
+    let stop = took(file, got, n, counts);
     Hand {
         from: 0,
         till: had + n,
@@ -128,6 +129,7 @@ fn why(what: What) -> u8 {
 
 // What is gathered is written if the longest message would find no room after it.
 fn gather(
+    to: &mut Sink,
     from: usize,
     till: usize,
     at: usize,
@@ -142,7 +144,7 @@ fn gather(
     ensures room_in_bounds_2 { result.at + (6 + room) ≤ length out.now }
 {
     if out.len() - at < SPACE {
-        let stop = flush(&out[0..at], counts);
+        let stop = flush(to, &out[0..at], counts);
         return in_hand(from, till, 0, ends, stop);
     }
     in_hand(from, till, at, ends, 0)
@@ -150,7 +152,8 @@ fn gather(
 
 // What is gathered is written, since a read may wait, and more octets are read.
 fn wait(
-    fd: i32,
+    file: &mut Source,
+    to: &mut Sink,
     buf: &mut [u8],
     from: usize,
     till: usize,
@@ -164,17 +167,18 @@ fn wait(
     ensures till_in_bounds_2 { result.till ≤ length buf.old }
     ensures at_value { result.at ≡ 0 }
 {
-    let stop = flush(gathered, counts);
+    let stop = flush(to, gathered, counts);
     if stop != 0 {
         return in_hand(from, till, 0, ends, stop);
     }
-    refill(fd, buf, from, till, counts)
+    refill(file, buf, from, till, counts)
 }
 
 // One step, and what it says is gathered; if it wants more octets, they are read.
 fn turn(
     s: Settings,
-    fd: i32,
+    file: &mut Source,
+    to: &mut Sink,
     store: &mut [u8],
     n: usize,
     zero: &[u8],
@@ -203,18 +207,18 @@ fn turn(
     let used = d.used;
     let written = d.written;
     if let What::More = what {
-        return wait(fd, buf, from, till, ends, &out[0..at], counts);
+        return wait(file, to, buf, from, till, ends, &out[0..at], counts);
     }
     if used == 0 {
         return in_hand(from, till, at, ends, why(what));
     }
     counts::note(counts, what, d.refusal, used);
-    gather(from + used, till, at + written, ends, out, counts)
+    gather(to, from + used, till, at + written, ends, out, counts)
 }
 
 // What is gathered at the end of a run is written too. Why it stopped.
-fn last(gathered: &[u8], stop: u8, counts: &mut [u64; COUNTS]) -> u8 {
-    let other = flush(gathered, counts);
+fn last(to: &mut Sink, gathered: &[u8], stop: u8, counts: &mut [u64; COUNTS]) -> u8 {
+    let other = flush(to, gathered, counts);
     if other != 0 {
         return other;
     }
@@ -224,7 +228,8 @@ fn last(gathered: &[u8], stop: u8, counts: &mut [u64; COUNTS]) -> u8 {
 // Steps until one stops, and why. A proved loop has to end, so it counts down from a number that no run uses up.
 fn run(
     s: Settings,
-    fd: i32,
+    file: &mut Source,
+    to: &mut Sink,
     store: &mut [u8],
     n: usize,
     zero: &[u8],
@@ -244,43 +249,50 @@ fn run(
     let mut turns = u64::MAX;
     while turns > 0 {
         let h = turn(
-            s, fd, store, n, zero, buf, from, till, ends, out, at, counts,
+            s, file, to, store, n, zero, buf, from, till, ends, out, at, counts,
         );
         from = h.from;
         till = h.till;
         at = h.at;
         ends = h.ends;
         if h.stop != 0 {
-            return last(&out[0..at], h.stop, counts);
+            return last(to, &out[0..at], h.stop, counts);
         }
         turns -= 1;
     }
     say::NOT_READ
 }
 
-// Closes standard output. Why the run stopped.
-fn closed(stop: u8, counts: &[u64; COUNTS]) -> u8 {
-    if output::close(counts) {
+// Ends standard output. Why the run stopped.
+fn closed(rt: HostRuntime, to: &mut Sink, stop: u8, counts: &[u64; COUNTS]) -> u8 {
+    if output::close(rt, to, counts) {
         return stop;
     }
     say::NOT_WRITTEN
 }
 
 // The end of a run with n cells: its findings.
-fn end(s: Settings, store: &[u8], n: usize, counts: &mut [u64; COUNTS], stop: u8) {
+fn end(
+    rt: HostRuntime,
+    to: &mut Sink,
+    s: Settings,
+    store: &[u8],
+    n: usize,
+    counts: &mut [u64; COUNTS],
+    stop: u8,
+) {
     let left = tally::left(s, store);
     counts::add(counts, counts::SEGMENTS, left.segments as u64);
     counts::add(counts, counts::KEYS, left.keys as u64);
     counts::note_forgot(counts, tally::records(s, store) as u64);
-    let because = closed(stop, counts);
-    let to = report_made();
-    if to >= 0 {
-        say::findings(to, s, counts, store, n, because);
+    let because = closed(rt, to, stop, counts);
+    if let Some(mut report) = report_made(rt) {
+        say::findings(&mut report, s, counts, store, n, because);
     }
 }
 
 // Joins the recording that is open, under settings that are in range, with an empty store of n cells.
-fn join_with(s: Settings, fd: i32, store: &mut [u8], n: usize)
+fn join_with(rt: HostRuntime, s: Settings, file: &mut Source, store: &mut [u8], n: usize)
     requires s_value { (begun s).refused ≡ 0 }
     requires le_n { (1 ≤ n) × (n ≤ cells_most) }
     requires store_value { store.old ≡ zeros cell_size n }
@@ -289,18 +301,19 @@ fn join_with(s: Settings, fd: i32, store: &mut [u8], n: usize)
     let mut buf = [0u8; WINDOW];
     let mut out = [0u8; GATHERED];
     let mut counts = [0u64; COUNTS];
-    let stop = run(s, fd, store, n, &zero, &mut buf, &mut out, &mut counts);
-    end(s, store, n, &mut counts, stop);
+    let mut to = files::output(rt);
+    let stop = run(s, file, &mut to, store, n, &zero, &mut buf, &mut out, &mut counts);
+    end(rt, &mut to, s, store, n, &mut counts, stop);
 }
 
 // The same with the front of the largest store.
-fn join(s: Settings, fd: i32, n: usize)
+fn join(rt: HostRuntime, s: Settings, file: &mut Source, n: usize)
     requires s_value { (begun s).refused ≡ 0 }
     requires le_n { (1 ≤ n) × (n ≤ cells_most) }
 {
     let mut store = [0u8; STORE];
     let long = n * CELL;
-    join_with(s, fd, &mut store[0..long], n);
+    join_with(rt, s, file, &mut store[0..long], n);
 }
 
 // A number, as large as a setting may be written.
@@ -314,10 +327,10 @@ fn bounded(n: u64) -> u64
 }
 
 // The settings, as the third and the fourth argument name them. Whether they are in range is not tested here.
-fn settings() -> Settings {
+fn settings(rt: HostRuntime) -> Settings {
     let usual = recording::usual();
-    let t = files::setting(TIMESTAMP, bounded(usual.t as u64));
-    let profile = files::setting(PROFILE, bounded(usual.profile));
+    let t = files::setting(rt, TIMESTAMP, bounded(usual.t as u64));
+    let profile = files::setting(rt, PROFILE, bounded(usual.profile));
     Settings {
         t: t as usize,
         profile: profile,
@@ -325,22 +338,22 @@ fn settings() -> Settings {
 }
 
 // How many cells the store has, as the fifth argument names it. Whether so many are allowed is not tested here.
-fn cells_named() -> u64 {
-    files::setting(CELLS, bounded(recording::CELLS as u64))
+fn cells_named(rt: HostRuntime) -> u64 {
+    files::setting(rt, CELLS, bounded(recording::CELLS as u64))
 }
 
-fn opened() -> i32 {
+fn opened(rt: HostRuntime) -> Option<Source> {
     let mut name = io::buffer();
-    files::input(RECORDING, &mut name)
+    files::input(rt, RECORDING, &mut name)
 }
 
-fn report_made() -> i32 {
+fn report_made(rt: HostRuntime) -> Option<Sink> {
     let mut name = io::buffer();
-    files::report(REPORT, &mut name)
+    files::report(rt, REPORT, &mut name)
 }
 
 // Joins the recording that is named, with as many cells as are named.
-fn start(s: Settings, n: u64)
+fn start(rt: HostRuntime, s: Settings, n: u64)
     requires { (begun s).refused ≡ 0 }
 {
     if n == 0 {
@@ -351,18 +364,17 @@ fn start(s: Settings, n: u64)
         say::no_store(n);
         return;
     }
-    let fd = opened();
-    if fd >= 0 {
-        join(s, fd, n as usize);
+    if let Some(mut file) = opened(rt) {
+        join(rt, s, &mut file, n as usize);
     }
 }
 
-fn main() {
-    let s = settings();
+fn main(rt: HostRuntime) {
+    let s = settings(rt);
     let w = walk::begin(s);
     if w.refused != 0 {
         say::not_joined(w.refused);
         return;
     }
-    start(s, cells_named());
+    start(rt, s, cells_named(rt));
 }

@@ -14,7 +14,7 @@ ghost use Rattle.std.specs.Prelude.{◌≤◌, length};
 
 use crate::counts;
 use counts::COUNTS;
-use files::ERROR;
+use files::Sink;
 use tally::Told;
 use walk::Settings;
 
@@ -32,20 +32,20 @@ pub const NOT_READ: u8 = 4;
 pub const NOT_WRITTEN: u8 = 5;
 
 // A space and a number.
-fn next(to: i32, n: u64) {
+fn next(to: &mut Sink, n: u64) {
     files::tell(to, b" ", n);
 }
 
 // The settings are refused by this number.
 pub fn not_joined(k: u8) {
-    files::tell(ERROR, b"the settings are refused with ", k as u64);
-    files::write(ERROR, b"\n");
+    files::say_number(b"the settings are refused with ", k as u64);
+    files::say(b"\n");
 }
 
 // A store has no such number of cells.
 pub fn no_store(n: u64) {
-    files::tell(ERROR, b"a store has 1 to 4096 cells, and not ", n);
-    files::write(ERROR, b"\n");
+    files::say_number(b"a store has 1 to 4096 cells, and not ", n);
+    files::say(b"\n");
 }
 
 // ---- the names of the numbers
@@ -89,14 +89,14 @@ fn begins(table: &[u8], k: usize) -> usize
     from
 }
 
-fn entry(to: i32, table: &[u8], k: usize) {
+fn entry(to: &mut Sink, table: &[u8], k: usize) {
     let from = begins(table, k);
     let end = line_end(table, from);
     files::write(to, &table[from..end]);
 }
 
 // In the order of their places.
-fn label(to: i32, k: usize) {
+fn label(to: &mut Sink, k: usize) {
     entry(
         to,
         b"packets
@@ -120,13 +120,13 @@ forgot
 // ---- the findings
 
 // The line of a number.
-fn told(to: i32, k: usize, n: u64) {
+fn told(to: &mut Sink, k: usize, n: u64) {
     label(to, k);
     next(to, n);
     files::write(to, b"\n");
 }
 
-fn numbers(to: i32, counts: &[u64; COUNTS]) {
+fn numbers(to: &mut Sink, counts: &[u64; COUNTS]) {
     let mut k: usize = 0;
     while k < counts::TOLD {
         told(to, k, counts::at(counts, counts::SEEN + k));
@@ -135,7 +135,7 @@ fn numbers(to: i32, counts: &[u64; COUNTS]) {
 }
 
 // The line of a refusal number that occurred.
-fn refused(to: i32, k: usize, n: u64) {
+fn refused(to: &mut Sink, k: usize, n: u64) {
     if n == 0 {
         return;
     }
@@ -145,7 +145,7 @@ fn refused(to: i32, k: usize, n: u64) {
     files::write(to, b"\n");
 }
 
-fn refusals(to: i32, counts: &[u64; COUNTS]) {
+fn refusals(to: &mut Sink, counts: &[u64; COUNTS]) {
     let mut k: usize = 1;
     while k <= counts::NUMBERS {
         refused(to, k, counts::at(counts, k));
@@ -154,7 +154,7 @@ fn refusals(to: i32, counts: &[u64; COUNTS]) {
 }
 
 // The line of the place at which most unfinished fields began, if there was one.
-fn began(to: i32, counts: &[u64; COUNTS]) {
+fn began(to: &mut Sink, counts: &[u64; COUNTS]) {
     let k = counts::most_began(counts);
     let n = counts::began(counts, k);
     if n == 0 {
@@ -167,7 +167,7 @@ fn began(to: i32, counts: &[u64; COUNTS]) {
 }
 
 // The line of a cell that is held.
-fn segment(to: i32, t: Told) {
+fn segment(to: &mut Sink, t: Told) {
     if !t.held {
         return;
     }
@@ -182,7 +182,7 @@ fn segment(to: i32, t: Told) {
     files::write(to, b"\n");
 }
 
-fn segments(to: i32, s: Settings, store: &[u8], n: usize) {
+fn segments(to: &mut Sink, s: Settings, store: &[u8], n: usize) {
     let mut i: usize = 0;
     while i < n {
         segment(to, tally::cell(s, store, i));
@@ -191,7 +191,7 @@ fn segments(to: i32, s: Settings, store: &[u8], n: usize) {
 }
 
 // All of them: the numbers, which refusals occurred, what is left in the store of n cells, and why it stopped.
-pub fn findings(to: i32, s: Settings, counts: &[u64; COUNTS], store: &[u8], n: usize, stop: u8) {
+pub fn findings(to: &mut Sink, s: Settings, counts: &[u64; COUNTS], store: &[u8], n: usize, stop: u8) {
     numbers(to, counts);
     refusals(to, counts);
     began(to, counts);
