@@ -22,7 +22,7 @@ ghost use Rattle.std.specs.Prelude.{◌≡◌, ◌+◌, ◌≤◌, length};
 ghost use Rattle.walk.specs.Walk.{begun};
 ghost use Rattle.cells.specs.Rows.{zero_row};
 ghost use Rattle.cells.specs.Order.{cell_size, cells_most, count_in, gate};
-ghost use Rattle.cells.proofs.Empty.{zeros};
+ghost use Rattle.join_recording.specs.Begins.{zeros};
 ghost use Rattle.steps.specs.Stepping.{room};
 
 use cells::{CELL, CELLS_MOST};
@@ -93,7 +93,13 @@ fn took(file: &Source, got: isize, n: usize, counts: &mut [u64; COUNTS]) -> u8 {
 }
 
 // More octets after those in hand. The recording ends if none come.
-fn refill(file: &mut Source, buf: &mut [u8], from: usize, till: usize, counts: &mut [u64; COUNTS]) -> Hand
+fn refill(
+    file: &mut Source,
+    buf: &mut [u8],
+    from: usize,
+    till: usize,
+    counts: &mut [u64; COUNTS],
+) -> Hand
     requires from_le_till { from ≤ till }
     requires till_in_bounds { till ≤ length buf.old }
     ensures from_le_till_2 { result.from ≤ result.till }
@@ -302,7 +308,17 @@ fn join_with(rt: HostRuntime, s: Settings, file: &mut Source, store: &mut [u8], 
     let mut out = [0u8; GATHERED];
     let mut counts = [0u64; COUNTS];
     let mut to = files::output(rt);
-    let stop = run(s, file, &mut to, store, n, &zero, &mut buf, &mut out, &mut counts);
+    let stop = run(
+        s,
+        file,
+        &mut to,
+        store,
+        n,
+        &zero,
+        &mut buf,
+        &mut out,
+        &mut counts,
+    );
     end(rt, &mut to, s, store, n, &mut counts, stop);
 }
 

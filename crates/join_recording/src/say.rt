@@ -191,7 +191,14 @@ fn segments(to: &mut Sink, s: Settings, store: &[u8], n: usize) {
 }
 
 // All of them: the numbers, which refusals occurred, what is left in the store of n cells, and why it stopped.
-pub fn findings(to: &mut Sink, s: Settings, counts: &[u64; COUNTS], store: &[u8], n: usize, stop: u8) {
+pub fn findings(
+    to: &mut Sink,
+    s: Settings,
+    counts: &[u64; COUNTS],
+    store: &[u8],
+    n: usize,
+    stop: u8,
+) {
     numbers(to, counts);
     refusals(to, counts);
     began(to, counts);
