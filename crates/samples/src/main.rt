@@ -11,6 +11,8 @@ mod messages;
 
 ghost use Rattle.std.specs.Prelude.{◌≤◌};
 
+use std::env::{Env, FillError};
+
 const OUTPUT: i32 = 1;
 
 // In place of an octet's place: the packet goes unharmed; or it is torn, after four times as many octets as the value says.
@@ -136,17 +138,17 @@ fn named(name: &[u8]) -> u8 {
 }
 
 // The sample that the argument asks for.
-fn choice() -> u8 {
-    if os::arg_count() < 2 {
-        return ALL;
-    }
+fn choice(rt: HostRuntime) -> u8 {
     let mut name = io::buffer();
-    let n = os::arg(1, &mut name);
-    named(&name[..n])
+    match rt.arg(1, &mut name) {
+        Ok(n) => named(&name[..n]),
+        Err(FillError::NotPresent) => ALL,
+        Err(FillError::TooLong) => NONE,
+    }
 }
 
-fn main() {
-    let asked = choice();
+fn main(rt: HostRuntime) {
+    let asked = choice(rt);
     let clean = CLEAN;
     let mixed = MIXED;
     let ended = ENDED;
