@@ -316,7 +316,15 @@ fn not_open(why: i32) -> i32 {
     why
 }
 
-// Whether descriptor n is open.
+// The name of a descriptor is a link with its own permissions: it may be written if the descriptor may.
+fn may_be_written(rt: HostRuntime, name: &str) -> bool {
+    match std::fs::symlink_metadata(&rt, name) {
+        Ok(m) => !m.permissions().readonly(),
+        Err(_) => false,
+    }
+}
+
+// Whether descriptor n is open, to be written.
 pub fn is_open(rt: HostRuntime, n: u64) -> bool {
     if n == OUTPUT {
         return rt.stdout().as_fd().try_clone_to_owned().is_ok();
@@ -327,7 +335,7 @@ pub fn is_open(rt: HostRuntime, n: u64) -> bool {
     let mut name = [0u8; LONGEST];
     let k = lay_name(n, &mut name);
     match text_of(&name[..k]) {
-        Some(text) => std::fs::metadata(&rt, text).is_ok(),
+        Some(text) => may_be_written(rt, text),
         None => false,
     }
 }
