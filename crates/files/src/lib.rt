@@ -16,9 +16,7 @@ const OUTPUT: u64 = 1;
 
 const ERROR: i32 = 2;
 
-// The system's numbers of why a call failed: no such file, a signal came, no such descriptor, no such name, a name too long.
-const NOT_FOUND: i32 = 2;
-
+// The system's numbers of why a call failed: a signal came, no such descriptor, no such name, a name too long.
 const INTERRUPTED: i32 = 4;
 
 const NOT_OPEN: i32 = 9;
@@ -72,11 +70,12 @@ enum Target {
     Output(Stdout),
     Error(Stderr),
     Opened(File),
+    Barred,
     Lost,
 }
 
-// Where octets go to: nowhere, standard output, standard error, a file that was opened, or what can't be written, where each write fails.
-// Why the last call that failed did.
+// Where octets go to: nowhere, standard output, standard error, a file that was opened, what is open but can't be written, or what isn't
+// open; to both of these each write fails. Why the last call that failed did.
 #[derive(Drop)]
 pub struct Sink {
     to: Target,
@@ -96,10 +95,18 @@ fn sink_of(to: Target) -> Sink {
 }
 
 // What can't be written, and why.
-fn lost(why: i32) -> Sink {
+fn barred(why: i32) -> Sink {
+    Sink {
+        to: Target::Barred,
+        why: why,
+    }
+}
+
+// What isn't open.
+fn lost() -> Sink {
     Sink {
         to: Target::Lost,
-        why: why,
+        why: NOT_OPEN,
     }
 }
 
@@ -180,6 +187,7 @@ fn write_once(to: &mut Sink, x: &[u8]) -> isize {
         Target::Output(f) => f.write(x),
         Target::Error(f) => f.write(x),
         Target::Opened(f) => f.write(x),
+        Target::Barred => Err(std::io::Error::from_raw_os_error(to.why)),
         Target::Lost => Err(std::io::Error::from_raw_os_error(to.why)),
     };
     match put {
@@ -260,13 +268,22 @@ fn unkept_output(rt: HostRuntime) -> i32 {
     }
 }
 
+// The same of standard error, whose words are not kept for anyone.
+fn unkept_error(rt: HostRuntime) -> i32 {
+    match rt.stderr().as_fd().try_clone_to_owned() {
+        Ok(_) => 0,
+        Err(e) => number_of(e),
+    }
+}
+
 // Ends what was written: a full disk may show only now. Whether it went well.
 pub fn finish(rt: HostRuntime, to: &mut Sink) -> bool {
     let why = match &to.to {
         Target::Nowhere => 0,
         Target::Output(_) => unkept_output(rt),
-        Target::Error(_) => 0,
+        Target::Error(_) => unkept_error(rt),
         Target::Opened(f) => unkept(f),
+        Target::Barred => 0,
         Target::Lost => to.why,
     };
     if why == 0 {
@@ -295,27 +312,6 @@ fn lay_name(n: u64, name: &mut [u8; LONGEST]) -> usize
     LONGEST
 }
 
-// Opens descriptor n once more: what is written goes to the end of its file.
-fn open_again(rt: HostRuntime, n: u64) -> Sink {
-    let mut name = [0u8; LONGEST];
-    let k = lay_name(n, &mut name);
-    match text_of(&name[..k]) {
-        Some(text) => match OpenOptions::new().append(true).open(&rt, text) {
-            Ok(f) => sink_of(Target::Opened(f)),
-            Err(e) => lost(not_open(number_of(e))),
-        },
-        None => lost(NOT_OPEN),
-    }
-}
-
-// A descriptor that isn't there has no name.
-fn not_open(why: i32) -> i32 {
-    if why == NOT_FOUND {
-        return NOT_OPEN;
-    }
-    why
-}
-
 // The name of a descriptor is a link with its own permissions: it may be written if the descriptor may.
 fn may_be_written(rt: HostRuntime, name: &str) -> bool {
     match std::fs::symlink_metadata(&rt, name) {
@@ -324,18 +320,39 @@ fn may_be_written(rt: HostRuntime, name: &str) -> bool {
     }
 }
 
-// Whether descriptor n is open, to be written.
+// Opens what has the name of a descriptor once more: what is written goes to the end of its file.
+fn append(rt: HostRuntime, name: &str) -> Sink {
+    if !may_be_written(rt, name) {
+        return barred(NOT_OPEN);
+    }
+    match OpenOptions::new().append(true).open(&rt, name) {
+        Ok(f) => sink_of(Target::Opened(f)),
+        Err(e) => barred(number_of(e)),
+    }
+}
+
+// The same of descriptor n, which is open.
+fn open_again(rt: HostRuntime, n: u64) -> Sink {
+    let mut name = [0u8; LONGEST];
+    let k = lay_name(n, &mut name);
+    match text_of(&name[..k]) {
+        Some(text) => append(rt, text),
+        None => lost(),
+    }
+}
+
+// Whether descriptor n is open.
 pub fn is_open(rt: HostRuntime, n: u64) -> bool {
     if n == OUTPUT {
         return rt.stdout().as_fd().try_clone_to_owned().is_ok();
     }
     if n == ERROR as u64 {
-        return true;
+        return rt.stderr().as_fd().try_clone_to_owned().is_ok();
     }
     let mut name = [0u8; LONGEST];
     let k = lay_name(n, &mut name);
     match text_of(&name[..k]) {
-        Some(text) => may_be_written(rt, text),
+        Some(text) => std::fs::symlink_metadata(&rt, text).is_ok(),
         None => false,
     }
 }
@@ -346,7 +363,7 @@ pub fn numbered(rt: HostRuntime, n: u64, open: bool) -> Sink {
         return sink_of(Target::Nowhere);
     }
     if !open {
-        return lost(NOT_OPEN);
+        return lost();
     }
     if n == OUTPUT {
         return output(rt);
