@@ -1,7 +1,7 @@
 -- The room of a line: no line is longer than 126 octets, so with 128 free it is laid whole; and no line is laid past the end.
 -- Assumes nothing.
 use Prim.Native.Nat.{ℕ, zero, suc, ◌+◌, ◌/◌, ◌%◌, ◌≤◌, ◌<◌}
-use mathlib.Core.Path.{◌≡◌, refl, ap, sym, ◌∙◌}
+use mathlib.Core.Path.{◌≡◌, refl, ap, ◌∙◌}
 use mathlib.Core.Logic.{⊎_elim}
 use mathlib.Core.Bool.{Bool, true, false}
 use mathlib.Core.List.{List, [], ◌∷◌, ◌++◌}
@@ -12,7 +12,7 @@ use lib.Dec.{eqb, ltb}
 use Rattle.octets.specs.Octets.{pick}
 use Rattle.octets.specs.Laying.{Laid, laid, lay, lay_all, together, Lays}
 use Rattle.octets.proofs.Laying.{lay_fits, lay_not, lay_length, together_append, lays_all}
-use Rattle.octets.proofs.Lists.{below_or, bool}
+use Rattle.octets.proofs.Lists.{below_or}
 use Rattle.packet.specs.Format.{flags_whole}
 use Rattle.entries.specs.declared.Identity.{Identity}
 use Rattle.entries.specs.Lines.{kept_kind, decimal_in, decimal, comma, newline, kept_word, skipped_word, flags_word}

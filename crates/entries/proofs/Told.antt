@@ -1,6 +1,6 @@
 -- Whose a packet is, told by its octets, is what reading answers, of every packet that reading accepts.
 -- Assumes nothing.
-use Prim.Native.Nat.{ℕ, ◌+◌, ◌-◌, ◌*◌, ◌<◌, ◌/◌, ◌%◌}
+use Prim.Native.Nat.{ℕ, ◌+◌, ◌-◌, ◌*◌, ◌%◌}
 use mathlib.Core.Path.{◌≡◌, refl, ap, sym, ◌∙◌, subst}
 use mathlib.Core.Logic.{⊎_elim}
 use mathlib.Core.Bool.{Bool, true, false, not}
@@ -8,7 +8,7 @@ use mathlib.Core.List.{List}
 use native.Mathlib.Omega.{arith}
 use lib.ListN.{length}
 use lib.Dec.{eqb}
-use Rattle.octets.specs.Octets.{pick, Octets, octet_at, number, wide}
+use Rattle.octets.specs.Octets.{pick, Octets, number, wide}
 use Rattle.octets.proofs.Has.{Has, has_self, has_first, has_second}
 use Rattle.octets.proofs.Numbers.{wide_length, number_back}
 use Rattle.octets.proofs.Lists.{bool}
@@ -24,7 +24,6 @@ use Rattle.format.proofs.Start.{answer}
 use Rattle.format.proofs.TwoWay.{only_writing}
 use Rattle.cells.specs.Inner.{counter_in, place_in}
 use Rattle.cells.proofs.Counters.{counter_told}
-use Rattle.entries.specs.declared.Identity.{Identity}
 use Rattle.entries.specs.Lines.{identity_of, identity_in, flags_in}
 
 -- ---- the transaction id is octets 18 to 25

@@ -1,6 +1,5 @@
 -- `entries::counter` meets its contract.
 use borrow.Author.Tests.{eq-eqb, ne_eqb}
-use borrow.Author.Rules.{rules}
 use Rattle.entries.proofs.counter.Goals as goal
 
 pub returns-then-flags-eq-UNSEGMENTED : goal.returns-then-flags-eq-UNSEGMENTED

@@ -1,7 +1,6 @@
 -- `entries::kept_in` meets its contract: the test is the definition's.
 use borrow.Author.Tests.{eq-eqb, ne_eqb}
 use Rattle.entries.specs.Lines.{kept_octets}
-use borrow.Author.Rules.{rules}
 use Rattle.entries.proofs.kept_in.Goals as goal
 
 pub returns-then-kind-ne-KEPT : goal.returns-then-kind-ne-KEPT

@@ -1,7 +1,6 @@
 -- `entries::put_counter` meets its contract.
 use borrow.Author.Tests.{eq-eqb, ne_eqb}
 use Rattle.entries.specs.Lines.{counter_pieces}
-use borrow.Author.Rules.{rules}
 use Rattle.entries.proofs.put_counter.Goals as goal
 
 pub returns-then-flags-eq-UNSEGMENTED : goal.returns-then-flags-eq-UNSEGMENTED

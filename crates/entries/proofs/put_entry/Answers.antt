@@ -1,6 +1,5 @@
 -- `entries::put_entry` meets its contract: three pieces, one after another.
 use Rattle.octets.proofs.Laying.{lays_both}
-use borrow.Author.Rules.{rules}
 use Rattle.entries.proofs.put_entry.Goals as goal
 
 pub returns : goal.returns

@@ -1,6 +1,5 @@
 -- `entries::put_flags` meets its contract: a comma, the word, then the counter.
 use Rattle.octets.proofs.Laying.{lays_both}
-use borrow.Author.Rules.{rules}
 use Rattle.entries.proofs.put_flags.Goals as goal
 
 pub returns : goal.returns

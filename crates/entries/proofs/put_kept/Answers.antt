@@ -1,7 +1,6 @@
 -- `entries::put_kept` meets its contract: its pieces, one after another.
 use Rattle.octets.proofs.Laying.{lays_both}
 use Rattle.entries.specs.Lines.{kept_pieces}
-use borrow.Author.Rules.{rules}
 use Rattle.entries.proofs.put_kept.Goals as goal
 
 pub returns : goal.returns

@@ -1,7 +1,6 @@
 -- `entries::put_line` meets its contract: the test is the definition's.
 use borrow.Author.Tests.{eq-eqb, ne_eqb}
 use Rattle.entries.specs.Lines.{line_pieces}
-use borrow.Author.Rules.{rules}
 use Rattle.entries.proofs.put_line.Goals as goal
 
 pub returns-then-kind-ne-KEPT : goal.returns-then-kind-ne-KEPT

@@ -1,6 +1,5 @@
 -- `entries::put_next` meets its contract: a comma, then the digits.
 use Rattle.octets.proofs.Laying.{lays_both}
-use borrow.Author.Rules.{rules}
 use Rattle.entries.proofs.put_next.Goals as goal
 
 pub returns : goal.returns

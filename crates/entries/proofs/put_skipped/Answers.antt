@@ -1,7 +1,6 @@
 -- `entries::put_skipped` meets its contract: its pieces, one after another.
 use Rattle.octets.proofs.Laying.{lays_both}
 use Rattle.entries.specs.Lines.{skipped_pieces}
-use borrow.Author.Rules.{rules}
 use Rattle.entries.proofs.put_skipped.Goals as goal
 
 pub returns : goal.returns

@@ -1,7 +1,6 @@
 -- `entries::put_word` meets its contract: the tests are the definition's.
 use borrow.Author.Tests.{eq-eqb, ne_eqb}
 use Rattle.entries.specs.Lines.{flags_word}
-use borrow.Author.Rules.{rules}
 use Rattle.entries.proofs.put_word.Goals as goal
 
 pub returns-then-flags-eq-FIRST : goal.returns-then-flags-eq-FIRST

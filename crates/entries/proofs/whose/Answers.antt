@@ -1,6 +1,5 @@
 -- `entries::whose` meets its contract.
 use Rattle.entries.specs.Lines.{identity_in}
-use borrow.Author.Rules.{rules}
 use Rattle.entries.proofs.whose.Goals as goal
 
 pub returns : goal.returns

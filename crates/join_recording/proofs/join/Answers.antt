@@ -1,7 +1,6 @@
 -- `join_recording::join` is safe and ends: n cells are the front of the largest store.
 use mathlib.Core.Path.{refl}
 use Rattle.join_recording.proofs.Turns.{front_fits, front_zeros}
-use borrow.Author.Rules.{rules}
 use Rattle.join_recording.proofs.join.Goals as goal
 
 pub slice_bounds-store-end : goal.slice_bounds-store-end

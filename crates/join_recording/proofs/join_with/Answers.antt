@@ -3,7 +3,6 @@ use Prim.Native.Nat.{ℕ}
 use mathlib.Core.Path.{refl, sym}
 use lib.ListN.{length-replicate}
 use Rattle.join_recording.proofs.Turns.{begins_zero, begins_order, begins_cells, begins_spare}
-use borrow.Author.Rules.{rules}
 use Rattle.join_recording.proofs.join_with.Goals as goal
 
 -- a pair with the names of the clauses

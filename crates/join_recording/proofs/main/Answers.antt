@@ -1,7 +1,6 @@
 -- `join_recording::main` is safe and ends: it joins only under settings that were tested.
 use mathlib.Core.Path.{ap, sym, ◌∙◌}
 use Rattle.walk.specs.declared.Walk.{Walk}
-use borrow.Author.Rules.{rules}
 use Rattle.join_recording.proofs.main.Goals as goal
 
 pub start-requires : goal.start-requires

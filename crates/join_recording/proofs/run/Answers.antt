@@ -1,8 +1,7 @@
 -- `join_recording::run` is safe and ends. The measure is the number of turns that are left.
 use mathlib.Core.Path.{refl, ◌∙◌}
 use native.Mathlib.Omega.{arith}
-use Rattle.join_recording.proofs.Turns.{Going, going_next}
-use borrow.Author.Rules.{rules}
+use Rattle.join_recording.proofs.Turns.{going_next}
 use Rattle.join_recording.proofs.run.Goals as goal
 
 pub loop-turns-init : goal.loop-turns-init

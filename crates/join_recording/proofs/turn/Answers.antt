@@ -1,8 +1,6 @@
 -- `join_recording::turn` meets its contract: a step keeps the store in order, and what it answers lies inside the buffers.
 use native.Mathlib.Omega.{arith}
-use lib.ListN.{length}
 use Rattle.join_recording.proofs.Turns.{step_after}
-use borrow.Author.Rules.{rules}
 use Rattle.join_recording.proofs.turn.Goals as goal
 
 -- a pair with the names of the clauses

@@ -1,7 +1,6 @@
 -- `samples::acts` is safe and ends. The loop's invariant: the buffers keep their lengths; the measure is the acts that are left.
 use lib.ListN.{length}
 use mathlib.Core.Path.{◌≡◌}
-use borrow.Author.Rules.{rules}
 use Rattle.samples.proofs.acts.Given as goal
 
 abbrev pub invariant-loop-left : goal.invariant-loop-left

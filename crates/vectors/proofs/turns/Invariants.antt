@@ -1,5 +1,4 @@
 -- `vectors::turns` is safe and ends. The loop's invariant: it says nothing; its measure is the turns that are left.
-use borrow.Author.Rules.{rules}
 use Rattle.vectors.proofs.turns.Given as goal
 
 abbrev pub invariant-loop-left : goal.invariant-loop-left

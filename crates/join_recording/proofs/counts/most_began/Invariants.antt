@@ -1,6 +1,5 @@
 -- `join_recording::counts::most_began` is safe and ends. The measure is what is left of the places.
 use Prim.Native.Nat.{◌-◌}
-use borrow.Author.Rules.{rules}
 use Rattle.join_recording.proofs.counts.most_began.Given as goal
 
 abbrev pub invariant-loop-k : goal.invariant-loop-k

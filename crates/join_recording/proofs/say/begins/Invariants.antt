@@ -1,7 +1,6 @@
 -- `join_recording::say::begins` meets its contract. The loop's invariant: the place is inside.
 use Prim.Native.Nat.{◌≤◌}
 use lib.ListN.{length}
-use borrow.Author.Rules.{rules}
 use Rattle.join_recording.proofs.say.begins.Given as goal
 
 abbrev pub invariant-loop-left : goal.invariant-loop-left

@@ -1,7 +1,6 @@
 -- `join_recording::say::line_end` meets its contract. The loop's invariant: the place is inside, and not before the first.
 use Prim.Native.Nat.{◌-◌, ◌≤◌}
 use lib.ListN.{length}
-use borrow.Author.Rules.{rules}
 use Rattle.join_recording.proofs.say.line_end.Given as goal
 
 abbrev pub invariant-loop-at : goal.invariant-loop-at

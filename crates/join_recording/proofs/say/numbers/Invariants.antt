@@ -1,6 +1,5 @@
 -- `join_recording::say::numbers` is safe and ends. The measure is what is left of the numbers.
 use Prim.Native.Nat.{◌-◌}
-use borrow.Author.Rules.{rules}
 use Rattle.join_recording.proofs.say.numbers.Given as goal
 
 abbrev pub invariant-loop-k : goal.invariant-loop-k

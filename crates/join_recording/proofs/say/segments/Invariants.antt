@@ -1,6 +1,5 @@
 -- `join_recording::say::segments` is safe and ends. The measure is what is left of the cells.
 use Prim.Native.Nat.{◌-◌}
-use borrow.Author.Rules.{rules}
 use Rattle.join_recording.proofs.say.segments.Given as goal
 
 abbrev pub invariant-loop-i : goal.invariant-loop-i

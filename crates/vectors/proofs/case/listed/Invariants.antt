@@ -1,6 +1,5 @@
 -- `vectors::case::listed` is safe and ends. The loop's invariant: the place is inside, and the list keeps its length.
 use Prim.Native.Nat.{◌≤◌, ◌-◌}
-use borrow.Author.Rules.{rules}
 use lib.ListN.{length}
 use mathlib.Core.Path.{◌≡◌}
 use Rattle.vectors.proofs.case.listed.Given as goal

@@ -1,6 +1,5 @@
 -- `vectors::print::run_end` is safe and ends. The loop's invariant: the place is after the first and inside.
 use Prim.Native.Nat.{◌≤◌, ◌<◌, ◌-◌}
-use borrow.Author.Rules.{rules}
 use lib.ListN.{length}
 use Rattle.vectors.proofs.print.run_end.Given as goal
 

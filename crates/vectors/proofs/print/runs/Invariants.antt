@@ -1,6 +1,5 @@
 -- `vectors::print::runs` is safe and ends. The loop's invariant: the place is inside, and the text keeps its length.
 use Prim.Native.Nat.{◌≤◌, ◌-◌}
-use borrow.Author.Rules.{rules}
 use lib.ListN.{length}
 use mathlib.Core.Path.{◌≡◌}
 use Rattle.vectors.proofs.print.runs.Given as goal
