@@ -502,12 +502,20 @@ fn run(
 
 // ---- the end
 
-// Ends the list, unless the packets go there too: a full disk may show only now.
+// Ends what was written: a full disk may show only now. Whether it went well.
+fn close(rt: HostRuntime, to: &mut Sink) -> bool {
+    if files::is_nowhere(to) {
+        return true;
+    }
+    files::finish(rt, to)
+}
+
+// Ends the list, unless the packets go there too.
 fn close_list(rt: HostRuntime, to: &mut Sinks, counts: &[u64; COUNTS], stop: u8) -> u8 {
     if to.is_one {
         return stop;
     }
-    if files::finish(rt, &mut to.list) {
+    if close(rt, &mut to.list) {
         return stop;
     }
     files::failed(
@@ -519,7 +527,7 @@ fn close_list(rt: HostRuntime, to: &mut Sinks, counts: &[u64; COUNTS], stop: u8)
 }
 
 fn close_output(rt: HostRuntime, to: &mut Sinks, counts: &[u64; COUNTS], stop: u8) -> u8 {
-    if files::finish(rt, &mut to.output) {
+    if close(rt, &mut to.output) {
         return stop;
     }
     files::failed(
