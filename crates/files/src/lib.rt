@@ -3,7 +3,7 @@
 // Proved here: each function is safe and ends, and what is said of its answer. What a file holds is the system's.
 #![tactic(auto)]
 
-ghost use Rattle.std.specs.Prelude.{◌≡◌, ◌+◌, ◌-◌, ◌≤◌, length, get_or};
+ghost use Rattle.std.specs.Prelude.{◌≡◌, ◌+◌, ◌-◌, ◌≤◌, length, get_or, IfOk};
 ghost use Rattle.std.proofs.lemmas.List.Edits.{sets};
 ghost use Rattle.octets.specs.Octets.{part};
 
@@ -11,17 +11,25 @@ use std::env::{Env, FillError};
 use std::fs::{File, OpenOptions};
 use std::io::{Cursor, IsTerminal, Read, Stderr, Stdin, Stdout, Write};
 use std::os::fd::AsFd;
+use std::os::unix::fs::FileTypeExt;
 
 const OUTPUT: u64 = 1;
 
 const ERROR: i32 = 2;
 
-// The system's numbers of why a call failed: a signal came, no such descriptor, no such name, a name too long.
+// The system's numbers of why a call failed: a signal came, no such descriptor, not for this kind, no room, a disk that is only read, no
+// reader, a name too long.
 const INTERRUPTED: i32 = 4;
 
 const NOT_OPEN: i32 = 9;
 
 const INVALID: i32 = 22;
+
+const NO_ROOM: i32 = 28;
+
+const READ_ALONE: i32 = 30;
+
+const NO_READER: i32 = 32;
 
 const TOO_LONG: i32 = 36;
 
@@ -70,12 +78,11 @@ enum Target {
     Output(Stdout),
     Error(Stderr),
     Opened(File),
-    Barred,
-    Lost,
+    Numbered(HostRuntime, u64),
 }
 
-// Where octets go to: nowhere, standard output, standard error, a file that was opened, what is open but can't be written, or what isn't
-// open; to both of these each write fails. Why the last call that failed did.
+// Where octets go to: nowhere, standard output, standard error, a file that was opened, or the descriptor of a number. Why the last call
+// that failed did.
 #[derive(Drop)]
 pub struct Sink {
     to: Target,
@@ -94,22 +101,6 @@ fn sink_of(to: Target) -> Sink {
     Sink { to: to, why: 0 }
 }
 
-// What can't be written, and why.
-fn barred(why: i32) -> Sink {
-    Sink {
-        to: Target::Barred,
-        why: why,
-    }
-}
-
-// What isn't open.
-fn lost() -> Sink {
-    Sink {
-        to: Target::Lost,
-        why: NOT_OPEN,
-    }
-}
-
 pub fn output(rt: HostRuntime) -> Sink {
     sink_of(Target::Output(rt.stdout()))
 }
@@ -123,6 +114,18 @@ pub fn is_nowhere(to: &Sink) -> bool {
         Target::Nowhere => true,
         _ => false,
     }
+}
+
+pub fn is_error(to: &Sink) -> bool {
+    match &to.to {
+        Target::Error(_) => true,
+        _ => false,
+    }
+}
+
+// Ends what has been ended already, which fails.
+pub fn finish_again(to: &mut Sink) {
+    to.why = NOT_OPEN;
 }
 
 // Why the last call failed.
@@ -187,8 +190,7 @@ fn write_once(to: &mut Sink, x: &[u8]) -> isize {
         Target::Output(f) => f.write(x),
         Target::Error(f) => f.write(x),
         Target::Opened(f) => f.write(x),
-        Target::Barred => Err(std::io::Error::from_raw_os_error(to.why)),
-        Target::Lost => Err(std::io::Error::from_raw_os_error(to.why)),
+        Target::Numbered(rt, n) => write_numbered(*rt, *n, x),
     };
     match put {
         Ok(n) => n as isize,
@@ -230,73 +232,13 @@ pub fn write(to: &mut Sink, x: &[u8]) -> usize
     done
 }
 
-// ---- the end of writing
-
-// Why a file can't be kept on the disk, if it is one; 0 if it can.
-fn unkept(f: &File) -> i32 {
-    match f.metadata() {
-        Ok(m) => {
-            if !m.is_file() {
-                return 0;
-            }
-        }
-        Err(e) => return number_of(e),
-    }
-    match f.sync_data() {
-        Ok(_) => 0,
-        Err(e) => number_of(e),
-    }
-}
-
-// The same of standard output, which is opened once more. What has no name, or may not be opened, was written all the same.
-fn unkept_output(rt: HostRuntime) -> i32 {
-    match rt.stdout().as_fd().try_clone_to_owned() {
-        Ok(_) => {}
-        Err(e) => return number_of(e),
-    }
-    match std::fs::metadata(&rt, "/dev/fd/1") {
-        Ok(m) => {
-            if !m.is_file() {
-                return 0;
-            }
-        }
-        Err(_) => return 0,
-    }
-    match OpenOptions::new().write(true).open(&rt, "/dev/fd/1") {
-        Ok(f) => unkept(&f),
-        Err(_) => 0,
-    }
-}
-
-// The same of standard error, whose words are not kept for anyone.
-fn unkept_error(rt: HostRuntime) -> i32 {
-    match rt.stderr().as_fd().try_clone_to_owned() {
-        Ok(_) => 0,
-        Err(e) => number_of(e),
-    }
-}
-
-// Ends what was written: a full disk may show only now. Whether it went well.
-pub fn finish(rt: HostRuntime, to: &mut Sink) -> bool {
-    let why = match &to.to {
-        Target::Nowhere => 0,
-        Target::Output(_) => unkept_output(rt),
-        Target::Error(_) => unkept_error(rt),
-        Target::Opened(f) => unkept(f),
-        Target::Barred => 0,
-        Target::Lost => to.why,
-    };
-    if why == 0 {
-        return true;
-    }
-    to.why = why;
-    false
-}
-
 // ---- descriptors by their numbers
 
 // The octets of a descriptor's name, with the longest number.
 const LONGEST: usize = 28;
+
+// What is no file is written in such blocks, each of which a pipe takes whole or not at all.
+const BLOCK: usize = 4096;
 
 // Lays the name of descriptor n, and says how many octets it has.
 fn lay_name(n: u64, name: &mut [u8; LONGEST]) -> usize
@@ -312,6 +254,99 @@ fn lay_name(n: u64, name: &mut [u8; LONGEST]) -> usize
     LONGEST
 }
 
+// A descriptor's number as the system takes it; -1, which none has, if it is too large.
+fn descriptor(n: u64) -> i32 {
+    if n <= 2147483647 {
+        return n as i32;
+    }
+    -1
+}
+
+// The octets of the file that a name leads to; none if it is no file.
+fn file_length(rt: HostRuntime, name: &str) -> Option<u64> {
+    match std::fs::metadata(&rt, name) {
+        Ok(m) => {
+            if m.is_file() {
+                return Some(m.len());
+            }
+            None
+        }
+        Err(_) => None,
+    }
+}
+
+// The same of descriptor n.
+fn length_of(rt: HostRuntime, n: u64) -> Option<u64> {
+    let mut name = [0u8; LONGEST];
+    let k = lay_name(n, &mut name);
+    match text_of(&name[..k]) {
+        Some(text) => file_length(rt, text),
+        None => None,
+    }
+}
+
+// By how much a file grew, at most so much.
+fn grown(before: u64, after: u64, most: usize) -> usize
+    ensures { result ≤ most }
+{
+    if after <= before {
+        return 0;
+    }
+    let k = after - before;
+    if k < most as u64 {
+        return k as usize;
+    }
+    most
+}
+
+// How many octets a file that had so many before took.
+fn put_whole(rt: HostRuntime, n: u64, before: u64, x: &[u8]) -> usize
+    ensures { result ≤ length x.now }
+{
+    if io::write_all(descriptor(n), x) {
+        return x.len();
+    }
+    match length_of(rt, n) {
+        Some(after) => grown(before, after, x.len()),
+        None => 0,
+    }
+}
+
+// How many octets what is no file took: a block, or none.
+fn put_block(n: u64, x: &[u8]) -> usize
+    ensures { result ≤ length x.now }
+{
+    let mut m = x.len();
+    if BLOCK < m {
+        m = BLOCK;
+    }
+    if io::write_all(descriptor(n), &x[..m]) {
+        return m;
+    }
+    0
+}
+
+// How many octets descriptor n took.
+fn put_numbered(rt: HostRuntime, n: u64, x: &[u8]) -> usize
+    ensures { result ≤ length x.now }
+{
+    match length_of(rt, n) {
+        Some(before) => put_whole(rt, n, before, x),
+        None => put_block(n, x),
+    }
+}
+
+// The same, or why it took none.
+fn write_numbered(rt: HostRuntime, n: u64, x: &[u8]) -> std::io::Result<usize>
+    ensures { IfOk result (λ k. k ≤ length x.now) }
+{
+    let put = put_numbered(rt, n, x);
+    if put > 0 {
+        return Ok(put);
+    }
+    Err(std::io::Error::from_raw_os_error(why_not(rt, n, x)))
+}
+
 // The name of a descriptor is a link with its own permissions: it may be written if the descriptor may.
 fn may_be_written(rt: HostRuntime, name: &str) -> bool {
     match std::fs::symlink_metadata(&rt, name) {
@@ -320,50 +355,59 @@ fn may_be_written(rt: HostRuntime, name: &str) -> bool {
     }
 }
 
-// Opens what has the name of a descriptor once more: what is written goes to the end of its file.
-fn append(rt: HostRuntime, name: &str) -> Sink {
+// Whether a name leads to a pipe. Opening one could wait for ever.
+fn is_pipe(rt: HostRuntime, name: &str) -> bool {
+    match std::fs::metadata(&rt, name) {
+        Ok(m) => m.file_type().is_fifo(),
+        Err(_) => false,
+    }
+}
+
+// Why a file takes no more, asked by writing once more what it did not take. If that is taken now, it is given back.
+fn asked(f: &mut File, x: &[u8]) -> i32 {
+    let long = match f.metadata() {
+        Ok(m) => m.len(),
+        Err(e) => return number_of(e),
+    };
+    match f.write(x) {
+        Ok(_) => {
+            let _back = f.set_len(long);
+            NO_ROOM
+        }
+        Err(e) => number_of(e),
+    }
+}
+
+// Why what has the name of a descriptor took nothing.
+fn why_not_named(rt: HostRuntime, name: &str, x: &[u8]) -> i32 {
     if !may_be_written(rt, name) {
-        return barred(NOT_OPEN);
+        return NOT_OPEN;
+    }
+    if is_pipe(rt, name) {
+        return NO_READER;
     }
     match OpenOptions::new().append(true).open(&rt, name) {
-        Ok(f) => sink_of(Target::Opened(f)),
-        Err(e) => barred(number_of(e)),
+        Ok(mut f) => asked(&mut f, x),
+        Err(_) => match file_length(rt, name) {
+            Some(_) => NO_ROOM,
+            None => NO_READER,
+        },
     }
 }
 
-// The same of descriptor n, which is open.
-fn open_again(rt: HostRuntime, n: u64) -> Sink {
+fn why_not(rt: HostRuntime, n: u64, x: &[u8]) -> i32 {
     let mut name = [0u8; LONGEST];
     let k = lay_name(n, &mut name);
     match text_of(&name[..k]) {
-        Some(text) => append(rt, text),
-        None => lost(),
+        Some(text) => why_not_named(rt, text, x),
+        None => NOT_OPEN,
     }
 }
 
-// Whether descriptor n is open.
-pub fn is_open(rt: HostRuntime, n: u64) -> bool {
-    if n == OUTPUT {
-        return rt.stdout().as_fd().try_clone_to_owned().is_ok();
-    }
-    if n == ERROR as u64 {
-        return rt.stderr().as_fd().try_clone_to_owned().is_ok();
-    }
-    let mut name = [0u8; LONGEST];
-    let k = lay_name(n, &mut name);
-    match text_of(&name[..k]) {
-        Some(text) => std::fs::symlink_metadata(&rt, text).is_ok(),
-        None => false,
-    }
-}
-
-// Where what is written to descriptor n goes, which is open or not: to nowhere if it is 0.
-pub fn numbered(rt: HostRuntime, n: u64, open: bool) -> Sink {
+// Where what is written to descriptor n goes: to nowhere if it is 0.
+pub fn numbered(rt: HostRuntime, n: u64) -> Sink {
     if n == 0 {
         return sink_of(Target::Nowhere);
-    }
-    if !open {
-        return lost();
     }
     if n == OUTPUT {
         return output(rt);
@@ -371,7 +415,103 @@ pub fn numbered(rt: HostRuntime, n: u64, open: bool) -> Sink {
     if n == ERROR as u64 {
         return error(rt);
     }
-    open_again(rt, n)
+    sink_of(Target::Numbered(rt, n))
+}
+
+// ---- the end of writing
+
+// Why what was written can't be kept on a disk; 0 if it can, or if that is nothing to ask of it.
+fn unkept_for(why: i32) -> i32 {
+    if why == INVALID {
+        return 0;
+    }
+    if why == READ_ALONE {
+        return 0;
+    }
+    why
+}
+
+// The same of a file, if it is one.
+fn unkept(f: &File) -> i32 {
+    match f.metadata() {
+        Ok(m) => {
+            if !m.is_file() {
+                return 0;
+            }
+        }
+        Err(e) => return number_of(e),
+    }
+    match f.sync_data() {
+        Ok(_) => 0,
+        Err(e) => unkept_for(number_of(e)),
+    }
+}
+
+// The same of what has the name of a descriptor, which is opened once more if it is a file. What may not be opened was written all the same.
+fn unkept_named(rt: HostRuntime, name: &str) -> i32 {
+    match file_length(rt, name) {
+        Some(_) => match OpenOptions::new().write(true).open(&rt, name) {
+            Ok(f) => unkept(&f),
+            Err(_) => 0,
+        },
+        None => 0,
+    }
+}
+
+// The same of descriptor n.
+fn unkept_numbered(rt: HostRuntime, n: u64) -> i32 {
+    let mut name = [0u8; LONGEST];
+    let k = lay_name(n, &mut name);
+    match text_of(&name[..k]) {
+        Some(text) => {
+            if std::fs::symlink_metadata(&rt, text).is_err() {
+                return NOT_OPEN;
+            }
+            unkept_named(rt, text)
+        }
+        None => NOT_OPEN,
+    }
+}
+
+// Whether a failed call says that its descriptor isn't open.
+fn is_not_open(e: std::io::Error) -> bool {
+    number_of(e) == NOT_OPEN
+}
+
+// The same of standard output.
+fn unkept_output(rt: HostRuntime) -> i32 {
+    if let Err(e) = rt.stdout().as_fd().try_clone_to_owned() {
+        if is_not_open(e) {
+            return NOT_OPEN;
+        }
+    }
+    unkept_named(rt, "/dev/fd/1")
+}
+
+// The same of standard error, whose words are not kept for anyone.
+fn unkept_error(rt: HostRuntime) -> i32 {
+    if let Err(e) = rt.stderr().as_fd().try_clone_to_owned() {
+        if is_not_open(e) {
+            return NOT_OPEN;
+        }
+    }
+    0
+}
+
+// Ends what was written: a full disk may show only now. Whether it went well.
+pub fn finish(rt: HostRuntime, to: &mut Sink) -> bool {
+    let why = match &to.to {
+        Target::Nowhere => 0,
+        Target::Output(_) => unkept_output(rt),
+        Target::Error(_) => unkept_error(rt),
+        Target::Opened(f) => unkept(f),
+        Target::Numbered(_, n) => unkept_numbered(rt, *n),
+    };
+    if why == 0 {
+        return true;
+    }
+    to.why = why;
+    false
 }
 
 // ---- the arguments

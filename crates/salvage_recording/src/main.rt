@@ -54,13 +54,17 @@ const LINES: usize = 32768;
 
 const PACKETS: usize = 131072;
 
-// Where things go, the pipe as a descriptor, 0 for nowhere; whether the list goes where the packets go.
+// Where things go, the pipe as a descriptor, 0 for nowhere; whether the list goes where the packets go; whether the list, and whether the
+// packets, go where the pipe does, which is ended first; whether standard error is ended with them.
 #[derive(Drop)]
 struct Sinks {
     list: Sink,
     output: Sink,
     pipe: i32,
     is_one: bool,
+    list_ends: bool,
+    output_ends: bool,
+    error_ends: bool,
 }
 
 // The octets in hand, from a place of the window up to another; the place in the recording of the first, which is tested next, and where the
@@ -502,10 +506,14 @@ fn run(
 
 // ---- the end
 
-// Ends what was written: a full disk may show only now. Whether it went well.
-fn close(rt: HostRuntime, to: &mut Sink) -> bool {
+// Ends what was written: a full disk may show only now. Whether it went well, which it does not if it has been ended already.
+fn close(rt: HostRuntime, to: &mut Sink, is_ended: bool) -> bool {
     if files::is_nowhere(to) {
         return true;
+    }
+    if is_ended {
+        files::finish_again(to);
+        return false;
     }
     files::finish(rt, to)
 }
@@ -515,7 +523,7 @@ fn close_list(rt: HostRuntime, to: &mut Sinks, counts: &[u64; COUNTS], stop: u8)
     if to.is_one {
         return stop;
     }
-    if close(rt, &mut to.list) {
+    if close(rt, &mut to.list, to.list_ends) {
         return stop;
     }
     files::failed(
@@ -527,7 +535,7 @@ fn close_list(rt: HostRuntime, to: &mut Sinks, counts: &[u64; COUNTS], stop: u8)
 }
 
 fn close_output(rt: HostRuntime, to: &mut Sinks, counts: &[u64; COUNTS], stop: u8) -> u8 {
-    if close(rt, &mut to.output) {
+    if close(rt, &mut to.output, to.output_ends) {
         return stop;
     }
     files::failed(
@@ -538,12 +546,22 @@ fn close_output(rt: HostRuntime, to: &mut Sinks, counts: &[u64; COUNTS], stop: u
     say::NOT_WRITTEN
 }
 
+// Whether the findings go to standard error, which has been ended.
+fn is_unheard(to: &Sinks, report: &Sink) -> bool {
+    if to.error_ends {
+        return files::is_error(report);
+    }
+    false
+}
+
 // The end of a run: its findings.
 fn end(rt: HostRuntime, to: &mut Sinks, counts: &[u64; COUNTS], stop: u8) {
     let listed = close_list(rt, to, counts, stop);
     let because = close_output(rt, to, counts, listed);
     if let Some(mut report) = report_made(rt) {
-        say::findings(&mut report, counts, because);
+        if !is_unheard(to, &report) {
+            say::findings(&mut report, counts, because);
+        }
     }
 }
 
@@ -559,12 +577,12 @@ fn settings(rt: HostRuntime) -> Settings {
     }
 }
 
-// Descriptor n, which is open or not; -1, which none is, if it is not.
-fn descriptor(n: u64, open: bool) -> i32 {
-    if open {
-        return bounded(n) as i32;
+// Whether two descriptors are one, and not 0.
+fn are_one(a: u64, b: u64) -> bool {
+    if a == 0 {
+        return false;
     }
-    -1
+    a == b
 }
 
 // A number, as large as a setting may be written.
@@ -577,19 +595,18 @@ fn bounded(n: u64) -> u64
     1000000
 }
 
-// Whether a descriptor is open is asked before any of them is opened once more, which takes a number.
 fn told_sinks(rt: HostRuntime) -> Sinks {
     let list = files::setting(rt, LIST, 0);
     let output = files::setting(rt, OUTPUT, 0);
     let pipe = files::setting(rt, PIPE, 0);
-    let has_list = files::is_open(rt, list);
-    let has_output = files::is_open(rt, output);
-    let has_pipe = octets::either(pipe == 0, files::is_open(rt, pipe));
     Sinks {
-        list: files::numbered(rt, list, has_list),
-        output: files::numbered(rt, output, has_output),
-        pipe: descriptor(pipe, has_pipe),
+        list: files::numbered(rt, list),
+        output: files::numbered(rt, output),
+        pipe: bounded(pipe) as i32,
         is_one: list == output,
+        list_ends: are_one(pipe, list),
+        output_ends: are_one(pipe, output),
+        error_ends: octets::either(octets::either(list == 2, output == 2), pipe == 2),
     }
 }
 
