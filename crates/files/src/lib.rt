@@ -8,18 +8,20 @@ ghost use Rattle.std.proofs.lemmas.List.Edits.{sets};
 ghost use Rattle.octets.specs.Octets.{part};
 
 use std::env::{Env, FillError};
-use std::fs::{File, OpenOptions};
+use std::fs::{File, Metadata, OpenOptions};
 use std::io::{Cursor, IsTerminal, Read, Stderr, Stdin, Stdout, Write};
 use std::os::fd::AsFd;
-use std::os::unix::fs::FileTypeExt;
+use std::os::unix::fs::{FileTypeExt, MetadataExt};
 
 const OUTPUT: u64 = 1;
 
 const ERROR: i32 = 2;
 
-// The system's numbers of why a call failed: a signal came, no such descriptor, not for this kind, no room, a disk that is only read, no
-// reader, a name too long.
+// The system's numbers of why a call failed: a signal came, the device failed, no such descriptor, not for this kind, no room, a disk that is
+// only read, no reader, a name too long.
 const INTERRUPTED: i32 = 4;
+
+const DEVICE: i32 = 5;
 
 const NOT_OPEN: i32 = 9;
 
@@ -355,14 +357,6 @@ fn may_be_written(rt: HostRuntime, name: &str) -> bool {
     }
 }
 
-// Whether a name leads to a pipe. Opening one could wait for ever.
-fn is_pipe(rt: HostRuntime, name: &str) -> bool {
-    match std::fs::metadata(&rt, name) {
-        Ok(m) => m.file_type().is_fifo(),
-        Err(_) => false,
-    }
-}
-
 // Why a file takes no more, asked by writing once more what it did not take. If that is taken now, it is given back.
 fn asked(f: &mut File, x: &[u8]) -> i32 {
     let long = match f.metadata() {
@@ -378,20 +372,48 @@ fn asked(f: &mut File, x: &[u8]) -> i32 {
     }
 }
 
+// The same of what has the name of a descriptor, which is opened once more.
+fn asked_named(rt: HostRuntime, name: &str, x: &[u8]) -> i32 {
+    match OpenOptions::new().append(true).open(&rt, name) {
+        Ok(mut f) => asked(&mut f, x),
+        Err(_) => NO_ROOM,
+    }
+}
+
+// The device that is always full.
+const FULL: u64 = 263;
+
+// Why what is no file took nothing, as far as its kind tells. It is not opened: that could wait for ever, and what it takes can't be given back.
+fn why_not_kind(m: &Metadata) -> i32 {
+    let kind = m.file_type();
+    if kind.is_fifo() {
+        return NO_READER;
+    }
+    if kind.is_socket() {
+        return NO_READER;
+    }
+    if kind.is_block_device() {
+        return NO_ROOM;
+    }
+    if m.rdev() == FULL {
+        return NO_ROOM;
+    }
+    DEVICE
+}
+
 // Why what has the name of a descriptor took nothing.
 fn why_not_named(rt: HostRuntime, name: &str, x: &[u8]) -> i32 {
     if !may_be_written(rt, name) {
         return NOT_OPEN;
     }
-    if is_pipe(rt, name) {
-        return NO_READER;
-    }
-    match OpenOptions::new().append(true).open(&rt, name) {
-        Ok(mut f) => asked(&mut f, x),
-        Err(_) => match file_length(rt, name) {
-            Some(_) => NO_ROOM,
-            None => NO_READER,
-        },
+    match std::fs::metadata(&rt, name) {
+        Ok(m) => {
+            if m.is_file() {
+                return asked_named(rt, name, x);
+            }
+            why_not_kind(&m)
+        }
+        Err(_) => DEVICE,
     }
 }
 
@@ -458,13 +480,21 @@ fn unkept_named(rt: HostRuntime, name: &str) -> i32 {
     }
 }
 
+// Whether the name of a descriptor is there. Where descriptors have no names, each is taken to be.
+fn is_there(rt: HostRuntime, name: &str) -> bool {
+    if std::fs::symlink_metadata(&rt, name).is_ok() {
+        return true;
+    }
+    std::fs::metadata(&rt, "/dev/fd").is_err()
+}
+
 // The same of descriptor n.
 fn unkept_numbered(rt: HostRuntime, n: u64) -> i32 {
     let mut name = [0u8; LONGEST];
     let k = lay_name(n, &mut name);
     match text_of(&name[..k]) {
         Some(text) => {
-            if std::fs::symlink_metadata(&rt, text).is_err() {
+            if !is_there(rt, text) {
                 return NOT_OPEN;
             }
             unkept_named(rt, text)

@@ -41,6 +41,9 @@ const RECORDING: usize = 6;
 
 const REPORT: usize = 7;
 
+// Standard error's descriptor.
+const ERROR: u64 = 2;
+
 // The window: more than a mark and the longest packet.
 const WINDOW: usize = 524288;
 
@@ -55,7 +58,8 @@ const LINES: usize = 32768;
 const PACKETS: usize = 131072;
 
 // Where things go, the pipe as a descriptor, 0 for nowhere; whether the list goes where the packets go; whether the list, and whether the
-// packets, go where the pipe does, which is ended first; whether standard error is ended with them.
+// packets, go where the pipe does, which is ended first; whether standard error is ended with the pipe, with what is ended before the
+// output, and with any of them.
 #[derive(Drop)]
 struct Sinks {
     list: Sink,
@@ -64,6 +68,8 @@ struct Sinks {
     is_one: bool,
     list_ends: bool,
     output_ends: bool,
+    pipe_mutes: bool,
+    list_mutes: bool,
     error_ends: bool,
 }
 
@@ -526,11 +532,13 @@ fn close_list(rt: HostRuntime, to: &mut Sinks, counts: &[u64; COUNTS], stop: u8)
     if close(rt, &mut to.list, to.list_ends) {
         return stop;
     }
-    files::failed(
-        files::why(&to.list),
-        b"writing the list failed after octet ",
-        counts::at(counts, counts::LISTED),
-    );
+    if !to.pipe_mutes {
+        files::failed(
+            files::why(&to.list),
+            b"writing the list failed after octet ",
+            counts::at(counts, counts::LISTED),
+        );
+    }
     say::NOT_LISTED
 }
 
@@ -538,11 +546,13 @@ fn close_output(rt: HostRuntime, to: &mut Sinks, counts: &[u64; COUNTS], stop: u
     if close(rt, &mut to.output, to.output_ends) {
         return stop;
     }
-    files::failed(
-        files::why(&to.output),
-        b"writing failed after octet ",
-        counts::at(counts, counts::WRITTEN),
-    );
+    if !to.list_mutes {
+        files::failed(
+            files::why(&to.output),
+            b"writing failed after octet ",
+            counts::at(counts, counts::WRITTEN),
+        );
+    }
     say::NOT_WRITTEN
 }
 
@@ -606,7 +616,12 @@ fn told_sinks(rt: HostRuntime) -> Sinks {
         is_one: list == output,
         list_ends: are_one(pipe, list),
         output_ends: are_one(pipe, output),
-        error_ends: octets::either(octets::either(list == 2, output == 2), pipe == 2),
+        pipe_mutes: pipe == ERROR,
+        list_mutes: octets::either(pipe == ERROR, octets::both(list == ERROR, list != output)),
+        error_ends: octets::either(
+            octets::either(list == ERROR, output == ERROR),
+            pipe == ERROR,
+        ),
     }
 }
 
