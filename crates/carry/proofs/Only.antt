@@ -18,7 +18,8 @@ use Rattle.walk.specs.Walk.{Reading, goes, refused, going, none_failed, timestam
 use Rattle.walk.specs.Profile.{fixed_profile}
 use Rattle.walk.proofs.Steps.{check_held}
 use Rattle.packet.specs.Format.{Values, SettingsInRange, HeadInRange, header_most, segment, identification, counter_octets, header_octets, secondary_octets}
-use Rattle.packet.specs.FixedPart.{after_sdu, after_area, after_service, after_operation, after_version, after_session, after_secondary, after_qualifier, after_transaction, after_presence, fixed_of, present_of}
+use Rattle.packet.specs.FixedPart.{after_sdu, after_area, after_service, after_operation, after_version, after_session}
+use Rattle.packet.specs.FixedPart.{after_secondary, after_qualifier, after_transaction, after_presence, fixed_of, present_of}
 use Rattle.packet.specs.Reading.{ids_of, texts_of}
 use Rattle.format.specs.Told.{head_of, values_of, content}
 use Rattle.format.proofs.Field.{Sound, Took, took_at}

@@ -261,17 +261,20 @@ stray = record { key = 0x18 ∷ 6 ∷ header; counter = 4294967295; flags = 0; b
 
 pub is_single : event_of settings cell_size single ≡ passes
 unfolding may_hold read_packet refusal_of refused_header accepted_header primary_tests begun check octets number_at primary_of octet_field wide_field sdu_field after_sdu
-    after_area after_service after_operation after_version after_session after_secondary field_from after_qualifier after_transaction after_presence fixed_of flags_of present_of ids_of texts_of body_test
+    after_area after_service after_operation after_version after_session after_secondary field_from after_qualifier after_transaction after_presence
+    fixed_of flags_of present_of ids_of texts_of body_test
 is_single = refl
 
 pub is_stub : event_of settings cell_size stub ≡ passes
 unfolding may_hold read_packet refusal_of refused_header accepted_header primary_tests begun check octets number_at primary_of octet_field wide_field sdu_field after_sdu
-    after_area after_service after_operation after_version after_session after_secondary field_from after_qualifier after_transaction after_presence fixed_of flags_of present_of ids_of texts_of body_test
+    after_area after_service after_operation after_version after_session after_secondary field_from after_qualifier after_transaction after_presence
+    fixed_of flags_of present_of ids_of texts_of body_test
 is_stub = refl
 
 pub is_huge : event_of settings cell_size huge ≡ passes
 unfolding may_hold read_packet refusal_of refused_header accepted_header primary_tests begun check octets number_at primary_of octet_field wide_field sdu_field after_sdu
-    after_area after_service after_operation after_version after_session after_secondary field_from after_qualifier after_transaction after_presence fixed_of flags_of present_of ids_of texts_of body_test
+    after_area after_service after_operation after_version after_session after_secondary field_from after_qualifier after_transaction after_presence
+    fixed_of flags_of present_of ids_of texts_of body_test
 is_huge = refl
 
 pub is_other : event_of settings cell_size other ≡ arrives stray

@@ -80,7 +80,8 @@ two_key = refl
 
 other_key : key_of other (read_packet settings other) ≡ 0x18 ∷ 6 ∷ header
 unfolding key_of counter_place read_packet refusal_of refused_header accepted_header primary_tests begun check octets number_at primary_of octet_field wide_field sdu_field
-    after_sdu after_area after_service after_operation after_version after_session after_secondary field_from after_qualifier after_transaction after_presence fixed_of flags_of present_of ids_of texts_of body_test
+    after_sdu after_area after_service after_operation after_version after_session after_secondary field_from after_qualifier after_transaction
+    after_presence fixed_of flags_of present_of ids_of texts_of body_test
 other_key = refl
 
 pub other_fine : Fine other

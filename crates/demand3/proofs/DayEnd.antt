@@ -43,7 +43,8 @@ use Rattle.demand3.proofs.Marked.{listed_get}
 use Rattle.demand3.proofs.Day.{settings, cutting, three, succeeds, messages, of_three, header, the_key, three_many, three_cut, seg, stray, is_three_next, is_three_last}
 use Rattle.demand3.proofs.DayComes.{Fine, three_fine}
 use Rattle.demand3.proofs.DayRun.{lent_out, dawn, early, morning, at_noon, noon, dusk, forgets_three, evening, night, dark, day, three_next, three_last, dawn_acts, morning_acts, noon_acts}
-use Rattle.demand3.proofs.DayRun.{dusk_acts, night_acts, dark_acts, day_acts, dawn_acts_lem, morning_acts_lem, noon_acts_lem, dusk_acts_lem, dark_acts_lem, night_acts_lem, day_acts_lem, in_use_lem, one, cells_are}
+use Rattle.demand3.proofs.DayRun.{dusk_acts, night_acts, dark_acts, day_acts, dawn_acts_lem, morning_acts_lem, noon_acts_lem}
+use Rattle.demand3.proofs.DayRun.{dusk_acts_lem, dark_acts_lem, night_acts_lem, day_acts_lem, in_use_lem, one, cells_are}
 use Rattle.demand3.proofs.DayRun.{joined_takes, taking_takes}
 use Rattle.demand3.proofs.DayGiven.{traffic, given}
 

@@ -13,7 +13,8 @@ use Rattle.octets.proofs.Numbers.{number_top}
 use Rattle.walk.specs.declared.Settings.{Settings}
 use Rattle.walk.specs.Walk.{Reading, goes, going, header_end, header_bound}
 use Rattle.packet.specs.Format.{Values, segment, secondary_octets, data_octets, octets_of, InRange}
-use Rattle.packet.specs.FixedPart.{after_sdu, after_area, after_service, after_operation, after_version, after_session, after_secondary, after_qualifier, after_transaction, after_presence, fixed_of, present_of}
+use Rattle.packet.specs.FixedPart.{after_sdu, after_area, after_service, after_operation, after_version, after_session}
+use Rattle.packet.specs.FixedPart.{after_secondary, after_qualifier, after_transaction, after_presence, fixed_of, present_of}
 use Rattle.packet.specs.Reading.{segmented, primary_of, ids_of, texts_of, start_at, texts_at, ended, accepted_header}
 use Rattle.format.specs.Told.{head_of, values_of}
 use Rattle.format.proofs.Field.{Sound, Took, took_at}

@@ -13,7 +13,8 @@ use Rattle.walk.specs.Walk.{Reading, going, header_bound}
 use Rattle.fields.specs.declared.Place.{Place}
 use Rattle.fields.specs.Fields.{nowhere, opt, no_parts, domain, parts_most}
 use Rattle.packet.specs.declared.Header.{Header}
-use Rattle.packet.specs.FixedPart.{after_sdu, after_area, after_service, after_operation, after_version, after_session, after_secondary, after_qualifier, after_transaction, after_presence, fixed_of, present_of}
+use Rattle.packet.specs.FixedPart.{after_sdu, after_area, after_service, after_operation, after_version, after_session}
+use Rattle.packet.specs.FixedPart.{after_secondary, after_qualifier, after_transaction, after_presence, fixed_of, present_of}
 use Rattle.packet.specs.Reading.{segmented, ids_of, texts_of, start_at, has_at, texts_at, accepted_header}
 use Rattle.format.specs.Told.{spot, spots_of, InOrder}
 use Rattle.format.specs.Accepted.{Inside, optional_place, fixed_size}
@@ -127,7 +128,8 @@ fixed_form p x = refl
 
 module _ (s : Settings) (p : List ℕ) where
   pub texts_order : Octets p → going (texts_at s p).walk ≡ true → InOrder optional_place (spots_of (accepted_header s p)) (texts_at s p).walk.at
-  unfolding spots_of accepted_header fixed_of present_of ids_of texts_of after_sdu after_area after_service after_operation after_version after_session after_secondary after_qualifier after_transaction after_presence
+  unfolding spots_of accepted_header fixed_of present_of ids_of texts_of after_sdu after_area after_service after_operation after_version
+      after_session after_secondary after_qualifier after_transaction after_presence
   texts_order o g =
       let z : Sound header_bound p ((fixed_f header_bound p).step (start_at s p)) =
       λ e. took_sound header_bound p _ ((fixed_f header_bound p).only o (start_at s p) (start_sound s p) e).0 e in

@@ -9,7 +9,9 @@ use Rattle.arrival.proofs.arrive_by.Goals as goal
 
 pub returns-then-not-is_segment : goal.returns-then-not-is_segment
 returns-then-not-is_segment c =
-    let a = c.args in let e = told_other _ _ a.store.now _ a.n c.read-h.ensures.answer c.is_segment.ensures (ap not c.if-not-is_segment.true) in record { value = c.unstored.ensures ∙ ap arrival_of e; store_after = unstored_store _ _ _ _ ∙ ap (store_with _ _ _) e }
+    let a = c.args in
+    let e = told_other _ _ a.store.now _ a.n c.read-h.ensures.answer c.is_segment.ensures (ap not c.if-not-is_segment.true) in
+    record { value = c.unstored.ensures ∙ ap arrival_of e; store_after = unstored_store _ _ _ _ ∙ ap (store_with _ _ _) e }
 
 pub find_by-j-requires : goal.find_by-j-requires
 find_by-j-requires c =
@@ -24,4 +26,5 @@ store_segment-requires c =
 
 pub returns : goal.returns
 returns c =
-    let e = told_segment _ _ _ _ _ c.read-h.ensures.answer c.is_segment.ensures (ap not c.if-not-is_segment.false) in record { value = c.store_segment.ensures.value ∙ ap arrival_of e; store_after = c.store_segment.ensures.store_after ∙ ap (store_with _ _ _) e }
+    let e = told_segment _ _ _ _ _ c.read-h.ensures.answer c.is_segment.ensures (ap not c.if-not-is_segment.false) in
+    record { value = c.store_segment.ensures.value ∙ ap arrival_of e; store_after = c.store_segment.ensures.store_after ∙ ap (store_with _ _ _) e }

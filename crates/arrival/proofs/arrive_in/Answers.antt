@@ -10,7 +10,8 @@ use Rattle.arrival.proofs.arrive_in.Goals as goal
 
 pub returns-then-not-is_segment : goal.returns-then-not-is_segment
 returns-then-not-is_segment c =
-    let e = told_other _ _ c.args.store.now _ c.args.n c.requires.h_value c.is_segment.ensures (ap not c.if-not-is_segment.true) in record { value = c.unstored.ensures ∙ ap arrival_of e; store_after = unstored_store _ _ _ _ ∙ ap (store_with _ _ _) e }
+    let e = told_other _ _ c.args.store.now _ c.args.n c.requires.h_value c.is_segment.ensures (ap not c.if-not-is_segment.true) in
+    record { value = c.unstored.ensures ∙ ap arrival_of e; store_after = unstored_store _ _ _ _ ∙ ap (store_with _ _ _) e }
 
 pub find-j-requires : goal.find-j-requires
 find-j-requires c =
@@ -24,4 +25,5 @@ store_segment-requires c =
 
 pub returns : goal.returns
 returns c =
-    let e = told_segment _ _ _ _ _ c.requires.h_value c.is_segment.ensures (ap not c.if-not-is_segment.false) in record { value = c.store_segment.ensures.value ∙ ap arrival_of e; store_after = c.store_segment.ensures.store_after ∙ ap (store_with _ _ _) e }
+    let e = told_segment _ _ _ _ _ c.requires.h_value c.is_segment.ensures (ap not c.if-not-is_segment.false) in
+    record { value = c.store_segment.ensures.value ∙ ap arrival_of e; store_after = c.store_segment.ensures.store_after ∙ ap (store_with _ _ _) e }

@@ -12,12 +12,17 @@ store_new-requires c =
 
 pub returns-then-n-j : goal.returns-then-n-j
 returns-then-n-j c =
-    let e = segment_new _ _ _ _ _ _ _ _ _ c.requires.zero_value c.requires.j_value c.if-n-j.true in record { value = c.store_new.ensures.value ∙ ap arrival_of (sym e); store_after = c.store_new.ensures.store_after ∙ ap (store_with (length c.args.zero.now) c.args.store.now c.args.p.now) (sym e) }
+    let e = segment_new _ _ _ _ _ _ _ _ _ c.requires.zero_value c.requires.j_value c.if-n-j.true in
+    record {
+      value = c.store_new.ensures.value ∙ ap arrival_of (sym e);
+      store_after = c.store_new.ensures.store_after ∙ ap (store_with (length c.args.zero.now) c.args.store.now c.args.p.now) (sym e);
+    }
 
 pub returns-then-is_same : goal.returns-then-is_same
 unfolding store_with
 returns-then-is_same c =
-    let e = segment_same _ _ _ _ _ _ _ _ _ c.requires.zero_value c.requires.j_value c.if-n-j.false c.row.ensures c.is_same.ensures c.if-is_same.true in record { value = ap arrival_of (sym e); store_after = ap (store_with (length c.args.zero.now) c.args.store.now c.args.p.now) (sym e) }
+    let e = segment_same _ _ _ _ _ _ _ _ _ c.requires.zero_value c.requires.j_value c.if-n-j.false c.row.ensures c.is_same.ensures c.if-is_same.true in
+    record { value = ap arrival_of (sym e); store_after = ap (store_with (length c.args.zero.now) c.args.store.now c.args.p.now) (sym e) }
 
 pub returns : goal.returns
 unfolding store_with

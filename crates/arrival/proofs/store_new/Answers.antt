@@ -13,7 +13,9 @@ named p = record { value = p.0; store_after = p.1 }
 pub returns-then-n-i : goal.returns-then-n-i
 unfolding store_with
 returns-then-n-i c =
-    let g = c.args in let e = new_full g.store.now g.zero.now g.p.now _ c.lowest_free-i.ensures c.if-n-i.true in record { value = c.refused.ensures ∙ ap arrival_of (sym e); store_after = sym (ap (store_with (length g.zero.now) _ g.p.now) e) }
+    let g = c.args in
+    let e = new_full g.store.now g.zero.now g.p.now _ c.lowest_free-i.ensures c.if-n-i.true in
+    record { value = c.refused.ensures ∙ ap arrival_of (sym e); store_after = sym (ap (store_with (length g.zero.now) _ g.p.now) e) }
 
 pub put_cell-requires : goal.put_cell-requires
 put_cell-requires c =

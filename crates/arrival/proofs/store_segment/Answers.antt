@@ -14,7 +14,13 @@ is_untaken-untaken-requires c =
 pub store_found-requires : goal.store_found-requires
 unfolding seg_with
 store_found-requires c =
-    let a = c.args in let t = seg_with a.s a.p.now a.h.primary.flags a.h.body.at a.h.body.length a.h.ids.counter.0 in record { zero_value = c.requires.zero_value; p_in_bounds = came_fits a.s _ a.store.now a.n t _ c.is_untaken-untaken.ensures c.both.ensures c.if-both.true; j_value = c.requires.j_value }
+    let a = c.args in
+    let t = seg_with a.s a.p.now a.h.primary.flags a.h.body.at a.h.body.length a.h.ids.counter.0 in
+    record {
+      zero_value = c.requires.zero_value;
+      p_in_bounds = came_fits a.s _ a.store.now a.n t _ c.is_untaken-untaken.ensures c.both.ensures c.if-both.true;
+      j_value = c.requires.j_value;
+    }
 
 pub returns-then-both : goal.returns-then-both
 unfolding seg_with

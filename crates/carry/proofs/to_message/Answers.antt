@@ -14,7 +14,8 @@ returns-then-a-ne0 c =
 pub returns-then-refusal-ne0 : goal.returns-then-refusal-ne0
 returns-then-refusal-ne0 c =
     let d =
-    refused_pdu _ _ _ _ c.test_route-a.ensures c.if-a-ne0.false c.read-h.ensures.answer c.if-refusal-ne0.true in record { answer = (c.not_carried-then-refusal-ne0.ensures ∙ d.0, d.1); octets = λ i. (c.type_inv.p i).fits }
+    refused_pdu _ _ _ _ c.test_route-a.ensures c.if-a-ne0.false c.read-h.ensures.answer c.if-refusal-ne0.true in record
+    { answer = (c.not_carried-then-refusal-ne0.ensures ∙ d.0, d.1); octets = λ i. (c.type_inv.p i).fits }
 
 pub write_message-requires : goal.write_message-requires
 write_message-requires c =

@@ -28,7 +28,9 @@ slice_bounds-write-end-4 c =
 pub returns : goal.returns
 returns c =
     let x = c.args.h.texts in office c.args.encoding _ c.args.h _ c.pdu_values.ensures
-    (cut c.digits_if-source.result.length c.digits_if-source.result.octets c.digits_if-source.ensures.digits) (cut c.digits_if-destination.result.length c.digits_if-destination.result.octets c.digits_if-destination.ensures.digits)
+    (cut c.digits_if-source.result.length c.digits_if-source.result.octets c.digits_if-source.ensures.digits)
+    (cut c.digits_if-destination.result.length c.digits_if-destination.result.octets c.digits_if-destination.ensures.digits)
     c.content.ensures c.content-2.ensures c.content-3.ensures
-    (text_is _ x _ _ c.join_parts-total.ensures.text c.join_parts-total.ensures.total c.requires.1 c.join_parts-total.ensures.room.0) (lengths_are _ x _ _ c.requires.0 c.join_parts-total.ensures.lengths c.join_parts-total.ensures.room.1)
+    (text_is _ x _ _ c.join_parts-total.ensures.text c.join_parts-total.ensures.total c.requires.1 c.join_parts-total.ensures.room.0)
+    (lengths_are _ x _ _ c.requires.0 c.join_parts-total.ensures.lengths c.join_parts-total.ensures.room.1)
     c.content-4.ensures c.content-5.ensures (c.write.ensures.0, c.write.ensures.1)

@@ -15,7 +15,9 @@ returns-then-n-eq0 c =
 
 pub order_by-o-requires : goal.order_by-o-requires
 order_by-o-requires c =
-    let g = c.args in let most = cells_most_lem g.s _ g.store.now c.count-n.ensures c.if-n-eq0.false in record { zero_value = c.requires.zero_value; n_le_cells_most = most; chained = c.requires.chained }
+    let g = c.args in
+    let most = cells_most_lem g.s _ g.store.now c.count-n.ensures c.if-n-eq0.false in
+    record { zero_value = c.requires.zero_value; n_le_cells_most = most; chained = c.requires.chained }
 
 pub returns-then-both : goal.returns-then-both
 returns-then-both c =

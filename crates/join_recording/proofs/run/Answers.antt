@@ -19,7 +19,15 @@ loop-turns-init c =
 
 pub turn-h-requires : goal.turn-h-requires
 turn-h-requires c =
-    let i = c.loop-turns.invariant in record { zero_value = c.requires.zero_value; store_value = i.order; n_value = i.cells; room_in_bounds = i.spare; from_le_till = i.inside; till_in_bounds = i.window }
+    let i = c.loop-turns.invariant in
+    record {
+      zero_value = c.requires.zero_value;
+      store_value = i.order;
+      n_value = i.cells;
+      room_in_bounds = i.spare;
+      from_le_till = i.inside;
+      till_in_bounds = i.window;
+    }
 
 pub slice_bounds-last-end : goal.slice_bounds-last-end
 slice_bounds-last-end c =
@@ -39,7 +47,9 @@ shape_of-out-then-h-ne0 c =
 
 pub loop-turns-preserved : goal.loop-turns-preserved
 loop-turns-preserved c =
-    let k = c.turn-h.auto in going_next c.loop-turns.invariant c.turn-h.ensures.store_after c.turn-h.ensures.n_value_2 c.turn-h.ensures.from_le_till_2 c.turn-h.ensures.till_in_bounds_2 c.turn-h.ensures.room_in_bounds_2 k.store k.buf k.out
+    let k = c.turn-h.auto in
+    going_next c.loop-turns.invariant c.turn-h.ensures.store_after c.turn-h.ensures.n_value_2 c.turn-h.ensures.from_le_till_2
+    c.turn-h.ensures.till_in_bounds_2 c.turn-h.ensures.room_in_bounds_2 k.store k.buf k.out
 
 pub shape_of-store : goal.shape_of-store
 shape_of-store c =

@@ -17,7 +17,14 @@ wait-requires c = record { from_le_till = c.requires.from_le_till; till_in_bound
 pub returns-in-More : goal.returns-in-More
 returns-in-More c =
     let k = step_after _ _ c.args.n _ c.args.buf.now (λ i. (c.slice_known-1.given i).fits) (λ i. (c.slice_known-2-1.given i).fits) c.args.ends c.args.from c.args.till
-    c.step_there-d.ensures.value c.step_there-d.ensures.store_after c.requires.store_value c.requires.n_value in record { store_after = k.order; n_value_2 = k.cells; from_le_till_2 = c.wait.ensures.from_le_till_2; till_in_bounds_2 = c.wait.ensures.till_in_bounds_2; room_in_bounds_2 = omega (arith, c.wait.ensures.at_value, c.requires.room_in_bounds) }
+    c.step_there-d.ensures.value c.step_there-d.ensures.store_after c.requires.store_value c.requires.n_value in record {
+      store_after = k.order;
+      n_value_2 = k.cells;
+      from_le_till_2 = c.wait.ensures.from_le_till_2;
+      till_in_bounds_2 =
+          c.wait.ensures.till_in_bounds_2;
+      room_in_bounds_2 = omega (arith, c.wait.ensures.at_value, c.requires.room_in_bounds);
+    }
 
 pub returns-then-used-eq0 : goal.returns-then-used-eq0
 returns-then-used-eq0 c =

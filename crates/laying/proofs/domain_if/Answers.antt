@@ -21,7 +21,9 @@ overflow_add-at c =
 
 pub put_parts-requires : goal.put_parts-requires
 put_parts-requires c =
-    let h : c.args.at + (1 + (2 * length c.args.lengths.now + length c.args.x.now)) ≤ length c.args.out.now = leb-true _ _ (sym c.has_room.ensures ∙ c.if-has_room.true) in record { profile_value = c.requires.profile_value; x_len_bound = c.requires.x_len_bound; x_in_bounds = simp length-set (omega (arith, h)) }
+    let h : c.args.at + (1 + (2 * length c.args.lengths.now + length c.args.x.now)) ≤ length c.args.out.now = leb-true _ _
+    (sym c.has_room.ensures ∙ c.if-has_room.true) in
+    record { profile_value = c.requires.profile_value; x_len_bound = c.requires.x_len_bound; x_in_bounds = simp length-set (omega (arith, h)) }
 
 pub shape_of-out-then-has_room : goal.shape_of-out-then-has_room
 shape_of-out-then-has_room c =

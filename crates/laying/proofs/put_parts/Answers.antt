@@ -23,7 +23,10 @@ slice_bounds-put_part-end c =
 
 pub put_part-next-requires : goal.put_part-next-requires
 put_part-next-requires c =
-    let p = c.loop-k.invariant in let t = c.loop-k-test.true in let e = c.within-end.ensures in record { profile_value = c.requires.profile_value; x_len_bound = part_brief p t e c.requires.x_len_bound; x_in_bounds = part_room p t e }
+    let p = c.loop-k.invariant in
+    let t = c.loop-k-test.true in
+    let e = c.within-end.ensures in
+    record { profile_value = c.requires.profile_value; x_len_bound = part_brief p t e c.requires.x_len_bound; x_in_bounds = part_room p t e }
 
 pub loop-k-preserved : goal.loop-k-preserved
 loop-k-preserved c =

@@ -14,4 +14,9 @@ put_rows-requires c =
 
 pub returns : goal.returns
 returns c =
-    let a = c.args in let e = c.answer-r.ensures in record { value = e; target_after = accepted_made _ _ (length a.to.now) _ a.target.now e c.if-refusal-ne0.false c.count-n.ensures c.put_rows.ensures }
+    let a = c.args in
+    let e = c.answer-r.ensures in
+    record {
+      value = e;
+      target_after = accepted_made _ _ (length a.to.now) _ a.target.now e c.if-refusal-ne0.false c.count-n.ensures c.put_rows.ensures;
+    }

@@ -7,7 +7,8 @@ use Rattle.recording.proofs.Reaching.{Going}
 use Rattle.recording.proofs.along.Given as goal
 
 abbrev pub invariant-loop-s : goal.invariant-loop-s
-invariant-loop-s l = Going l.s l.x l.initial.out (length l.zero) l.store l.out l.place l.written × ((length l.store ≡ length l.initial.store) × ((length l.spare ≡ length l.initial.spare) × (length l.out ≡ length l.initial.out)))
+invariant-loop-s l = Going l.s l.x l.initial.out (length l.zero) l.store l.out l.place l.written ×
+    ((length l.store ≡ length l.initial.store) × ((length l.spare ≡ length l.initial.spare) × (length l.out ≡ length l.initial.out)))
 
 abbrev pub decreases-loop-s : goal.decreases-loop-s
 decreases-loop-s l = length l.x - l.place

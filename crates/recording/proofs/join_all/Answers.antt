@@ -13,11 +13,15 @@ named p = record { value = p.0; out_after = p.1 }
 
 pub returns-then-k-ne0 : goal.returns-then-k-ne0
 returns-then-k-ne0 c =
-    let g = c.args in let e = c.refused_by-k.ensures in let h = c.if-k-ne0.true in record { value = rw c.numbered.ensures (told_refused _ g.recording.now g.out.now e h); out_after = out_refused _ g.recording.now g.out.now e h }
+    let g = c.args in
+    let e = c.refused_by-k.ensures in
+    let h = c.if-k-ne0.true in
+    record { value = rw c.numbered.ensures (told_refused _ g.recording.now g.out.now e h); out_after = out_refused _ g.recording.now g.out.now e h }
 
 pub along-end-requires : goal.along-end-requires
 along-end-requires c =
-    let p = passed _ _ _ (sym c.refused_by-k.ensures ∙ c.if-k-ne0.false) in record { s_value = p.0; zero_value = refl; store_value = store_begins refl; room_in_bounds = spare_begins refl; x_in_bounds = p.1 }
+    let p = passed _ _ _ (sym c.refused_by-k.ensures ∙ c.if-k-ne0.false) in
+    record { s_value = p.0; zero_value = refl; store_value = store_begins refl; room_in_bounds = spare_begins refl; x_in_bounds = p.1 }
 
 pub slice_bounds-why_at-count : goal.slice_bounds-why_at-count
 slice_bounds-why_at-count c =

@@ -26,15 +26,22 @@ framed-requires-in-Joined c =
 pub returns-in-Nothing : goal.returns-in-Nothing
 unfolding came_at
 returns-in-Nothing c =
-    let h = c.args in let k = joins_left h.p.now h.out.now _ (joining _ _ _ _ room) c.join_roomed-came.ensures.joined_value c.join_roomed-came.ensures.late_value c.join_roomed-came.ensures.out_after c.in-Nothing.is c.left.ensures in record { value = k.0; store_after = c.join_roomed-came.ensures.store_after; out_after = k.1 }
+    let h = c.args in
+    let k = joins_left h.p.now h.out.now _ (joining _ _ _ _ room) c.join_roomed-came.ensures.joined_value c.join_roomed-came.ensures.late_value
+    c.join_roomed-came.ensures.out_after c.in-Nothing.is c.left.ensures in
+    record { value = k.0; store_after = c.join_roomed-came.ensures.store_after; out_after = k.1 }
 
 pub returns-in-Packet : goal.returns-in-Packet
 unfolding came_at
 returns-in-Packet c =
-    let l = c.args in let k = joins_whole l.p.now l.out.now _ (joining _ _ _ _ room) c.join_roomed-came.ensures.joined_value c.join_roomed-came.ensures.out_after c.in-Packet.is c.put_whole-long.ensures.value
+    let l = c.args in
+    let k = joins_whole l.p.now l.out.now _ (joining _ _ _ _ room) c.join_roomed-came.ensures.joined_value c.join_roomed-came.ensures.out_after
+    c.in-Packet.is c.put_whole-long.ensures.value
     c.put_whole-long.ensures.out_after c.framed.ensures.out_after in record { value = c.framed.ensures.value ∙ k.0; store_after = c.join_roomed-came.ensures.store_after; out_after = k.1 }
 
 pub returns-in-Joined : goal.returns-in-Joined
 unfolding came_at
 returns-in-Joined c =
-    let k = joins_message _ _ _ _ _ _ c.join_roomed-came.ensures.joined_value c.join_roomed-came.ensures.out_after c.in-Joined.is refl c.framed-in-Joined.ensures.out_after in record { value = c.framed-in-Joined.ensures.value ∙ k.0; store_after = c.join_roomed-came.ensures.store_after; out_after = k.1 }
+    let k = joins_message _ _ _ _ _ _ c.join_roomed-came.ensures.joined_value c.join_roomed-came.ensures.out_after c.in-Joined.is refl
+    c.framed-in-Joined.ensures.out_after in
+    record { value = c.framed-in-Joined.ensures.value ∙ k.0; store_after = c.join_roomed-came.ensures.store_after; out_after = k.1 }

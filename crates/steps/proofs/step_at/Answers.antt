@@ -12,7 +12,12 @@ returns-then-out-at-lt-SPACE c =
 
 pub step_there-requires : goal.step_there-requires
 step_there-requires c =
-    record { zero_value = c.requires.zero_value; store_value = c.requires.store_value; n_value = c.requires.n_value; room_in_bounds = omega (arith, c.requires.at_in_bounds, c.if-out-at-lt-SPACE.false) }
+    record {
+      zero_value = c.requires.zero_value;
+      store_value = c.requires.store_value;
+      n_value = c.requires.n_value;
+      room_in_bounds = omega (arith, c.requires.at_in_bounds, c.if-out-at-lt-SPACE.false);
+    }
 
 pub returns : goal.returns
 returns c =

@@ -29,4 +29,8 @@ step-requires c =
 
 pub returns : goal.returns
 returns c =
-    record { value = c.step.ensures.value; store_after = c.step.ensures.store_after; out_after = there_out _ _ _ _ _ _ _ (c.args.at + 65542 - c.args.at) (omega (arith, c.requires.room_in_bounds)) (omega arith) c.step.ensures.out_after }
+    record {
+      value = c.step.ensures.value;
+      store_after = c.step.ensures.store_after;
+      out_after = there_out _ _ _ _ _ _ _ (c.args.at + 65542 - c.args.at) (omega (arith, c.requires.room_in_bounds)) (omega arith) c.step.ensures.out_after;
+    }

@@ -35,4 +35,8 @@ forget_in-k-requires c =
 pub returns : goal.returns
 returns c =
     let o = c.check-o.ensures in let a = c.args in let e = ap (λ (n : ℕ). forgot_in a.s 1024 a.store.now n a.number) (opened_cells _ 1024 _ o c.if-refusal-ne0.false)
-    ∙ forgot_open _ 1024 _ _ (opened_gate _ 1024 _ o c.if-refusal-ne0.false) in record { value = c.numbered.ensures ∙ ap refusal (c.forget_in-k.ensures.value ∙ e); store_after = c.forget_in-k.ensures.store_after ∙ ap (λ (k : ℕ). store_unless k 1024 a.store.now a.number) e }
+    ∙ forgot_open _ 1024 _ _ (opened_gate _ 1024 _ o c.if-refusal-ne0.false) in record {
+      value = c.numbered.ensures ∙ ap refusal (c.forget_in-k.ensures.value ∙ e);
+      store_after = c.forget_in-k.ensures.store_after ∙ ap
+          (λ (k : ℕ). store_unless k 1024 a.store.now a.number) e;
+    }

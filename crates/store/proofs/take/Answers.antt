@@ -21,7 +21,12 @@ pub returns-then-refusal-ne0 : goal.returns-then-refusal-ne0
 unfolding out_with store_less
 returns-then-refusal-ne0 c =
     let n = opened_number _ 1024 _ c.check_by-o.ensures.value in
-    let e = took_shut _ 1024 _ _ (λ g. c.if-refusal-ne0.true (n ∙ g)) in record { value = c.not_taken.ensures ∙ ap (λ k. taken_of (unable k)) n ∙ ap taken_of (sym e); out_after = ap (out_with _) (sym e); store_after = ap (store_less _ 1024 _ _) (sym e) }
+    let e = took_shut _ 1024 _ _ (λ g. c.if-refusal-ne0.true (n ∙ g)) in
+    record {
+      value = c.not_taken.ensures ∙ ap (λ k. taken_of (unable k)) n ∙ ap taken_of (sym e);
+      out_after = ap (out_with _) (sym e);
+      store_after = ap (store_less _ 1024 _ _) (sym e);
+    }
 
 pub take_by-requires : goal.take_by-requires
 take_by-requires c =

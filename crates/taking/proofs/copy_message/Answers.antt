@@ -24,7 +24,12 @@ put_key-key-requires c =
 
 pub put_body-at-requires : goal.put_body-at-requires
 put_body-at-requires c =
-    let r = c.row-r.ensures in let q = c.packet_in-q.ensures in let h = c.read-h.ensures.answer in let t = c.piece_in-t.ensures in head_body_room next_counter steps_most _ _ _ c.args.n _ (λ j. (c.type_inv.store j).fits) c.requires.i_value r q h t c.requires.opens c.put_key-key.ensures.value c.put_key-key.ensures.out_after
+    let r = c.row-r.ensures in
+    let q = c.packet_in-q.ensures in
+    let h = c.read-h.ensures.answer in
+    let t = c.piece_in-t.ensures in
+    head_body_room next_counter steps_most _ _ _ c.args.n _ (λ j. (c.type_inv.store j).fits) c.requires.i_value r q h t c.requires.opens
+    c.put_key-key.ensures.value c.put_key-key.ensures.out_after
 
 pub copy_rest-steps-requires : goal.copy_rest-steps-requires
 copy_rest-steps-requires c =
@@ -32,7 +37,8 @@ copy_rest-steps-requires c =
       c.requires.lent,
       (
         head_asked next_counter steps_most _ _ _ c.args.n _ (λ j. (c.type_inv.store j).fits) c.requires.i_value r q h t,
-        head_ready next_counter steps_most _ _ _ c.args.n _ (λ j. (c.type_inv.store j).fits) c.requires.i_value r q h t c.requires.opens c.put_key-key.ensures.value c.put_key-key.ensures.out_after c.put_body-at.ensures.value c.put_body-at.ensures.out_after,
+        head_ready next_counter steps_most _ _ _ c.args.n _ (λ j. (c.type_inv.store j).fits) c.requires.i_value r q h t c.requires.opens
+            c.put_key-key.ensures.value c.put_key-key.ensures.out_after c.put_body-at.ensures.value c.put_body-at.ensures.out_after,
       ),
     ))
 
@@ -40,5 +46,6 @@ pub returns : goal.returns
 returns c =
     let r = c.row-r.ensures in let q = c.packet_in-q.ensures in let h = c.read-h.ensures.answer in let t = c.piece_in-t.ensures in named_3 ((
       head_told next_counter steps_most _ _ _ c.args.n _ (λ j. (c.type_inv.store j).fits) c.requires.i_value r q h t c.copy_rest-steps.ensures.value,
-      head_written next_counter steps_most _ _ _ c.args.n _ (λ j. (c.type_inv.store j).fits) c.requires.i_value r q h t c.requires.opens c.put_key-key.ensures.value c.put_key-key.ensures.out_after c.put_body-at.ensures.value c.put_body-at.ensures.out_after c.copy_rest-steps.ensures.out_after,
+      head_written next_counter steps_most _ _ _ c.args.n _ (λ j. (c.type_inv.store j).fits) c.requires.i_value r q h t c.requires.opens
+          c.put_key-key.ensures.value c.put_key-key.ensures.out_after c.put_body-at.ensures.value c.put_body-at.ensures.out_after c.copy_rest-steps.ensures.out_after,
     ))

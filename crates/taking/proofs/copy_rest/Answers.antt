@@ -25,19 +25,26 @@ find_by-j-requires c =
 pub put_body-at-requires : goal.put_body-at-requires
 put_body-at-requires c =
     let h = c.find_by-j.ensures in let r = c.row-r.ensures in let d = counter_next _ c.next_segment_counter-c.ensures in
-    let i = c.loop-left.invariant in let l = c.loop-left-test.true in let p = piece_found _ _ _ _ _ _ _ c.requires.asked (λ j. (c.type_inv.store j).fits) h (copying_inside i l d h) r c.piece_with-t.ensures in
+    let i = c.loop-left.invariant in
+    let l = c.loop-left-test.true in
+    let p = piece_found _ _ _ _ _ _ _ c.requires.asked (λ j. (c.type_inv.store j).fits) h (copying_inside i l d h) r c.piece_with-t.ensures in
     copying_room i l d h r p
 
 pub shape_of-out-then-t-eq-LAST : goal.shape_of-out-then-t-eq-LAST
 shape_of-out-then-t-eq-LAST c =
     let h = c.find_by-j.ensures in let r = c.row-r.ensures in let d = counter_next _ c.next_segment_counter-c.ensures in
-    let i = c.loop-left.invariant in let l = c.loop-left-test.true in let p = piece_found _ _ _ _ _ _ _ c.requires.asked (λ j. (c.type_inv.store j).fits) h (copying_inside i l d h) r c.piece_with-t.ensures in
+    let i = c.loop-left.invariant in
+    let l = c.loop-left-test.true in
+    let p = piece_found _ _ _ _ _ _ _ c.requires.asked (λ j. (c.type_inv.store j).fits) h (copying_inside i l d h) r c.piece_with-t.ensures in
     copying_long i l d h r p c.put_body-at.ensures.value c.put_body-at.ensures.out_after
 
 pub returns-then-t-eq-LAST : goal.returns-then-t-eq-LAST
 returns-then-t-eq-LAST c =
     let h = c.find_by-j.ensures in let r = c.row-r.ensures in let d = counter_next _ c.next_segment_counter-c.ensures in
-    let i = c.loop-left.invariant in let l = c.loop-left-test.true in let p = piece_found _ _ _ _ _ _ _ c.requires.asked (λ j. (c.type_inv.store j).fits) h (copying_inside i l d h) r c.piece_with-t.ensures in named (copying_last i l d h r p c.put_body-at.ensures.value c.put_body-at.ensures.out_after c.if-t-eq-LAST.true)
+    let i = c.loop-left.invariant in
+    let l = c.loop-left-test.true in
+    let p = piece_found _ _ _ _ _ _ _ c.requires.asked (λ j. (c.type_inv.store j).fits) h (copying_inside i l d h) r c.piece_with-t.ensures in
+    named (copying_last i l d h r p c.put_body-at.ensures.value c.put_body-at.ensures.out_after c.if-t-eq-LAST.true)
 
 pub overflow_sub-left : goal.overflow_sub-left
 overflow_sub-left c =
@@ -50,7 +57,9 @@ loop-left-smaller c =
 pub loop-left-preserved : goal.loop-left-preserved
 loop-left-preserved c =
     let h = c.find_by-j.ensures in let r = c.row-r.ensures in let d = counter_next _ c.next_segment_counter-c.ensures in
-    let i = c.loop-left.invariant in let l = c.loop-left-test.true in let p = piece_found _ _ _ _ _ _ _ c.requires.asked (λ j. (c.type_inv.store j).fits) h (copying_inside i l d h) r c.piece_with-t.ensures in
+    let i = c.loop-left.invariant in
+    let l = c.loop-left-test.true in
+    let p = piece_found _ _ _ _ _ _ _ c.requires.asked (λ j. (c.type_inv.store j).fits) h (copying_inside i l d h) r c.piece_with-t.ensures in
     copying_turn i l d h r p c.put_body-at.ensures.value c.put_body-at.ensures.out_after c.if-t-eq-LAST.false
 
 pub shape_of-out : goal.shape_of-out

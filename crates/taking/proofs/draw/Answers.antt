@@ -37,7 +37,8 @@ pub clear-requires : goal.clear-requires
 clear-requires c =
     named_2 ((
       c.requires.lent.1,
-      draw_fits _ _ _ c.args.out.now _ _ _ c.requires.i_value c.requires.i_lt_n.0 c.requires.i_lt_n.1 c.requires.b_in_bounds (λ j. (c.slice_known-1.given j).fits) c.copy_message-t.ensures.value c.copy_message-t.ensures.out_after
+      draw_fits _ _ _ c.args.out.now _ _ _ c.requires.i_value c.requires.i_lt_n.0 c.requires.i_lt_n.1 c.requires.b_in_bounds
+          (λ j. (c.slice_known-1.given j).fits) c.copy_message-t.ensures.value c.copy_message-t.ensures.out_after
           c.span-key.ensures,
     ))
 
@@ -47,7 +48,8 @@ returns c =
       rw c.numbered.ensures (draw_told _ _ _ c.args.out.now _ _ _ c.requires.i_value c.requires.i_lt_n.0 c.requires.i_lt_n.1 c.requires.b_in_bounds c.copy_message-t.ensures.value),
       (
         draw_out _ _ _ _ _ _ _ c.requires.i_value c.requires.i_lt_n.0 c.requires.i_lt_n.1 c.requires.b_in_bounds c.copy_message-t.ensures.out_after,
-        draw_store _ _ _ _ _ _ _ c.requires.i_value c.requires.i_lt_n.0 c.requires.i_lt_n.1 c.requires.b_in_bounds (λ j. (c.slice_known-1.given j).fits) c.copy_message-t.ensures.value c.copy_message-t.ensures.out_after c.span-key.ensures
+        draw_store _ _ _ _ _ _ _ c.requires.i_value c.requires.i_lt_n.0 c.requires.i_lt_n.1 c.requires.b_in_bounds
+            (λ j. (c.slice_known-1.given j).fits) c.copy_message-t.ensures.value c.copy_message-t.ensures.out_after c.span-key.ensures
             c.clear.ensures,
       ),
     ))

@@ -22,7 +22,8 @@ pick_message-m-requires c =
 pub returns-in_default : goal.returns-in_default
 unfolding out_with store_less
 returns-in_default c =
-    let e = taking_none _ _ _ _ c.pick_message-m.ensures _ c.in_default.is in record { value = c.not_taken.ensures ∙ ap taken_of (sym e); out_after = ap (out_with _) (sym e); store_after = ap (store_less _ _ _ _) (sym e) }
+    let e = taking_none _ _ _ _ c.pick_message-m.ensures _ c.in_default.is in
+    record { value = c.not_taken.ensures ∙ ap taken_of (sym e); out_after = ap (out_with _) (sym e); store_after = ap (store_less _ _ _ _) (sym e) }
 
 pub returns-then-long-lt2 : goal.returns-then-long-lt2
 unfolding out_with store_less
