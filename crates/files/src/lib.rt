@@ -3,9 +3,10 @@
 // Proved here: each function is safe and ends, and what is said of its answer. What a file holds is the system's.
 #![tactic(auto)]
 
-ghost use Rattle.std.specs.Prelude.{◌≡◌, ◌+◌, ◌-◌, ◌≤◌, length, get_or, IfOk};
+ghost use Rattle.std.specs.Prelude.{◌≡◌, ◌+◌, ◌-◌, ◌≤◌, length, get_or, IfOk, true, false, pos, Some};
 ghost use Rattle.std.proofs.lemmas.List.Edits.{sets};
 ghost use Rattle.octets.specs.Octets.{part};
+ghost use Rattle.files.specs.Sinks.{goes_nowhere, goes_to_error, goes_to, why_of};
 
 use std::env::{Env, FillError};
 use std::fs::{File, Metadata, OpenOptions};
@@ -99,26 +100,38 @@ fn source_of(rt: HostRuntime, from: Origin) -> Source {
     }
 }
 
-fn sink_of(to: Target) -> Sink {
+fn sink_of(to: Target) -> Sink
+    ensures { result.to ≡ to }
+{
     Sink { to: to, why: 0 }
 }
 
-pub fn output(rt: HostRuntime) -> Sink {
+pub fn output(rt: HostRuntime) -> Sink
+    ensures { goes_to result ≡ Some 1 }
+{
     sink_of(Target::Output(rt.stdout()))
 }
 
-pub fn error(rt: HostRuntime) -> Sink {
+pub fn error(rt: HostRuntime) -> Sink
+    ensures { goes_to result ≡ Some 2 }
+{
     sink_of(Target::Error(rt.stderr()))
 }
 
-pub fn is_nowhere(to: &Sink) -> bool {
+// Whether what is written is dropped.
+pub fn is_nowhere(to: &Sink) -> bool
+    ensures { result ≡ goes_nowhere to.now }
+{
     match &to.to {
         Target::Nowhere => true,
         _ => false,
     }
 }
 
-pub fn is_error(to: &Sink) -> bool {
+// Whether it is standard error.
+pub fn is_error(to: &Sink) -> bool
+    ensures { result ≡ goes_to_error to.now }
+{
     match &to.to {
         Target::Error(_) => true,
         _ => false,
@@ -126,12 +139,17 @@ pub fn is_error(to: &Sink) -> bool {
 }
 
 // Ends what has been ended already, which fails.
-pub fn finish_again(to: &mut Sink) {
+pub fn finish_again(to: &mut Sink)
+    ensures why { why_of to.new ≡ pos 9 }
+    ensures kept { goes_to to.new ≡ goes_to to.old }
+{
     to.why = NOT_OPEN;
 }
 
 // Why the last call failed.
-pub fn why(to: &Sink) -> i32 {
+pub fn why(to: &Sink) -> i32
+    ensures { result ≡ why_of to.now }
+{
     to.why
 }
 
@@ -257,7 +275,9 @@ fn lay_name(n: u64, name: &mut [u8; LONGEST]) -> usize
 }
 
 // A descriptor's number as the system takes it; -1, which none has, if it is too large.
-fn descriptor(n: u64) -> i32 {
+pub fn descriptor(n: u64) -> i32
+    ensures { n ≤ 2147483647 → result ≡ pos n }
+{
     if n <= 2147483647 {
         return n as i32;
     }
@@ -427,7 +447,9 @@ fn why_not(rt: HostRuntime, n: u64, x: &[u8]) -> i32 {
 }
 
 // Where what is written to descriptor n goes: to nowhere if it is 0.
-pub fn numbered(rt: HostRuntime, n: u64) -> Sink {
+pub fn numbered(rt: HostRuntime, n: u64) -> Sink
+    ensures { goes_to result ≡ Some n }
+{
     if n == 0 {
         return sink_of(Target::Nowhere);
     }
@@ -529,7 +551,10 @@ fn unkept_error(rt: HostRuntime) -> i32 {
 }
 
 // Ends what was written: a full disk may show only now. Whether it went well.
-pub fn finish(rt: HostRuntime, to: &mut Sink) -> bool {
+pub fn finish(rt: HostRuntime, to: &mut Sink) -> bool
+    ensures kept { goes_to to.new ≡ goes_to to.old }
+    ensures nowhere { goes_nowhere to.old ≡ true → result ≡ true }
+{
     let why = match &to.to {
         Target::Nowhere => 0,
         Target::Output(_) => unkept_output(rt),

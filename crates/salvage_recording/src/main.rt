@@ -595,16 +595,6 @@ fn are_one(a: u64, b: u64) -> bool {
     a == b
 }
 
-// A number, as large as a setting may be written.
-fn bounded(n: u64) -> u64
-    ensures { result ≤ 1000000 }
-{
-    if n < 1000000 {
-        return n;
-    }
-    1000000
-}
-
 fn told_sinks(rt: HostRuntime) -> Sinks {
     let list = files::setting(rt, LIST, 0);
     let output = files::setting(rt, OUTPUT, 0);
@@ -612,7 +602,7 @@ fn told_sinks(rt: HostRuntime) -> Sinks {
     Sinks {
         list: files::numbered(rt, list),
         output: files::numbered(rt, output),
-        pipe: bounded(pipe) as i32,
+        pipe: files::descriptor(pipe),
         is_one: list == output,
         list_ends: are_one(pipe, list),
         output_ends: are_one(pipe, output),

@@ -1,0 +1,2 @@
+-- The definitions that the clauses of files name.
+pub mod Sinks
