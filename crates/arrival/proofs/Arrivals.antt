@@ -15,8 +15,13 @@ use Rattle.octets.specs.Octets.{pick, Octets, octet_at, part, alike}
 use Rattle.octets.proofs.Lists.{alike_true, bool}
 use Rattle.walk.specs.declared.Settings.{Settings}
 use Rattle.walk.specs.Walk.{refusal}
-use Rattle.packet.specs.declared.Header.{Header}
-use Rattle.packet.specs.Reading.{read_packet, segmented}
+use Rattle.walk.specs.declared.Refused.{Refused}
+use Rattle.walk.specs.Told.{told as refusal_told}
+use Rattle.walk.proofs.Refuses.{has_number}
+use Rattle.packet.specs.Decoded.{decoded}
+use Rattle.std.specs.Prelude.{Err}
+use Rattle.packet.specs.Answer.{Header}
+use Rattle.packet.specs.Reading.{read_packet, segmented, refused_header}
 use Rattle.packet.specs.Key.{key_of}
 use Rattle.cells.specs.Segments.{Seg, seg_of, same_rest, both}
 use Rattle.cells.specs.Rows.{row_at, zero_row, held_row, packet_in}
@@ -29,7 +34,7 @@ use Rattle.arrival.specs.Arriving.{Arrived, whole, stored, again, late, refused,
 use Rattle.arrival.specs.Arriving.{segment_arrived, segment_came, arrived_in, store_with}
 use Rattle.cells.specs.declared.messages.Piece.{Piece}
 use Rattle.cells.specs.Pieces.{seg_in, piece_of}
-use Rattle.arrival.specs.Inner.{seg_with, is_segment, unstored_of, unplaced_of}
+use Rattle.arrival.specs.Inner.{seg_with, unplaced_of}
 use Rattle.cells.proofs.Looks.{lowest_holds, lowest_same, look_found, look_none}
 use Rattle.cells.proofs.Found.{found_held}
 
@@ -188,60 +193,9 @@ unfolding store_with
 unplaced_store true Z st p = refl
 unplaced_store false Z st p = refl
 
--- ---- a packet, as the code tells a segment from any other
+-- ---- a packet that reading refused
 
-module _ (h : Header) where
-  abbrev number : ℕ
-  number = h.refusal.number
-
-  pub unstored_bad : (number ≡ 0 → ⊥) → refused h.refusal ≡ unstored_of h
-  unfolding unstored_of
-  unstored_bad bad = rw (ne_eqb number 0 bad) refl
-
-  pub unstored_whole : number ≡ 0 → whole ≡ unstored_of h
-  unfolding unstored_of
-  unstored_whole ok = rw (eq-eqb number 0 ok) refl
-
-  -- it leaves the store as it is
-  pub unstored_store : (Z : ℕ) (st p : List ℕ) → st ≡ store_with Z st p (unstored_of h)
-  unfolding unstored_of store_with
-  unstored_store Z st p = go (eqb number 0)
-    where
-      go : (a : Bool) → st ≡ store_with Z st p (pick a whole (refused h.refusal))
-      go true = refl
-      go false = refl
-
-module _ (s : Settings) (Z : ℕ) (st p : List ℕ) (n : ℕ) {h : Header} (e : h ≡ read_packet s p) {b : Bool} (eb : b ≡ is_segment h) where
-  module _ (y : not b ≡ false) where
-    first_tests : (eqb h.refusal.number 0 ≡ true) × (not (eqb h.primary.flags 3) ≡ true)
-    first_tests = both_true (eqb h.refusal.number 0) (not (eqb h.primary.flags 3)) (sym eb ∙ not-false b y)
-
-    ok : h.refusal.number ≡ 0
-    ok = eqb-true h.refusal.number 0 first_tests.0
-
-    more : h.primary.flags ≡ 3 → ⊥
-    more = eqb-false h.primary.flags 3 (not-true (eqb h.primary.flags 3) first_tests.1)
-
-    pub told_asked : Octets p → Asked s p h.body.at
-    told_asked = packet_asked s Z st p n e ok more
-
-    pub told_segment :
-        segment_came s Z st n (seg_with s p h.primary.flags h.body.at h.body.length h.ids.counter.0) (length p) ≡ arrived_in s Z st n p
-    told_segment = packet_came s Z st p n e ok more
-
-  -- any other packet
-  pub told_other : not b ≡ true → unstored_of h ≡ arrived_in s Z st n p
-  told_other x = ⊎_elim accepted bad (bool (eqb h.refusal.number 0))
-    where
-      bad : eqb h.refusal.number 0 ≡ false → unstored_of h ≡ arrived_in s Z st n p
-      bad f = let d = eqb-false h.refusal.number 0 f in sym (unstored_bad h d) ∙ sym (packet_bad s Z st p n e d)
-
-      accepted : eqb h.refusal.number 0 ≡ true → unstored_of h ≡ arrived_in s Z st n p
-      accepted g =
-          let ok = eqb-true h.refusal.number 0 g in
-          ⊎_elim
-          (λ f. let d = eqb-true h.primary.flags 3 f in sym (unstored_whole h ok) ∙ sym (packet_whole s Z st p n e ok d))
-          (λ f.
-          let w : true ≡ false = sym (eb ∙ ap₂ (λ (a c : Bool). both a (not c)) g f) ∙ not-true b x in
-          let z : ◌≡◌ {A = ℕ} 0 1 = cc in absurd (omega arith))
-          (bool (eqb h.primary.flags 3))
+pub packet_refused :
+    (s : Settings) (Z : ℕ) (st p : List ℕ) (n : ℕ) (r : Refused) → decoded (Err r) ≡ read_packet s p → arrived_in s Z st n p ≡ refused (refusal_told r)
+unfolding refused_header
+packet_refused s Z st p n r e = packet_bad s Z st p n e (has_number r)

@@ -4,7 +4,7 @@ use Rattle.std.specs.Prelude.{ℕ, Bool, not, List, eqb}
 use Rattle.octets.specs.Octets.{pick, part}
 use Rattle.walk.specs.declared.Settings.{Settings}
 use Rattle.walk.specs.Walk.{refusal}
-use Rattle.packet.specs.declared.Header.{Header}
+use Rattle.packet.specs.Answer.{Header}
 use Rattle.packet.specs.Format.{flags_whole}
 use Rattle.packet.specs.Reading.{read_packet}
 use Rattle.packet.specs.Key.{key_of}
@@ -15,14 +15,6 @@ use Rattle.arrival.specs.Arriving.{Arrived, whole, late, refused}
 unfoldable pub seg_with : Settings → List ℕ → ℕ → ℕ → ℕ → ℕ → Seg
 seg_with s p flags at long c =
     record { key = key_of p (read_packet s p); counter = c; flags = flags; body = part p at long }
-
--- an accepted packet that is a segment
-abbrev pub is_segment : Header → Bool
-is_segment h = both (eqb h.refusal.number 0) (not (eqb h.primary.flags flags_whole))
-
--- what any other packet comes to
-unfoldable pub unstored_of : Header → Arrived
-unstored_of h = pick (eqb h.refusal.number 0) whole (refused h.refusal)
 
 -- what a segment comes to that lies in a taken range, or that does not fit a cell
 abbrev pub unplaced_of : Bool → Arrived

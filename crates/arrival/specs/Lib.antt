@@ -1,3 +1,4 @@
 pub mod Arriving
+pub mod Answer
 pub mod Told
 pub mod Inner

@@ -6,8 +6,7 @@ use Rattle.walk.specs.declared.Refusal.{Refusal}
 use Rattle.walk.specs.Walk.{no_refusal}
 use Rattle.arrival.specs.declared.Kind.{Kind}
 use Rattle.arrival.specs.declared.Kind.TheVariants.{Whole, Stored, Held, Taken}
-use Rattle.arrival.specs.declared.Arrival.{Arrival}
-use Rattle.arrival.specs.declared.Arrival.TheVariants.{Answer, Refused}
+use Rattle.arrival.specs.Answer.{Arrival, Answer, Refused}
 use Rattle.arrival.specs.Arriving.{Arrived, whole, stored, again, late, refused}
 
 -- the refusal of an answer, none if it is no refusal, and its word, which is a number too, so that every language is told the same

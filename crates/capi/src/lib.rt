@@ -16,6 +16,8 @@ ghost use Rattle.walk.specs.Walk.{settings_of};
 ghost use Rattle.flat.specs.Told.{read_numbers};
 ghost use Rattle.flat.specs.Answers.{next_numbers, write_numbers, write_out, after_packet_numbers, after_segment_numbers, count_numbers, packet_numbers, packet_out};
 
+use write::LentTexts;
+
 // The next sequence count: 0 follows 16,383.
 #[unsafe(no_mangle)]
 pub extern "C" fn orl_next_sequence_count(sequence_count: u64, answer: &mut [u64; 2])
@@ -60,12 +62,14 @@ pub extern "C" fn orl_write(
         t,
         profile,
         header,
-        timestamp,
-        zone,
-        name,
-        domain,
-        lengths,
-        authentication,
+        LentTexts {
+            timestamp,
+            zone,
+            session_name: name,
+            domain,
+            lengths,
+            authentication,
+        },
         flags,
         sequence_count,
         counter,
@@ -116,12 +120,14 @@ pub extern "C" fn orl_cut_count(
         profile,
         p,
         header,
-        timestamp,
-        zone,
-        name,
-        domain,
-        lengths,
-        authentication,
+        LentTexts {
+            timestamp,
+            zone,
+            session_name: name,
+            domain,
+            lengths,
+            authentication,
+        },
         body,
         sender,
     );
@@ -156,12 +162,14 @@ pub extern "C" fn orl_cut_packet(
         profile,
         p,
         header,
-        timestamp,
-        zone,
-        name,
-        domain,
-        lengths,
-        authentication,
+        LentTexts {
+            timestamp,
+            zone,
+            session_name: name,
+            domain,
+            lengths,
+            authentication,
+        },
         body,
         sender,
         i,

@@ -4,6 +4,8 @@ ghost use Rattle.write.specs.Given.{lent};
 ghost use Rattle.pdu.specs.Reading.{read_pdu};
 ghost use Rattle.flat_pdu.specs.Numbers.{read_numbers, write_numbers, write_out};
 
+use write::LentTexts;
+
 // Reading a PDU.
 #[unsafe(no_mangle)]
 pub extern "C" fn orl_pdu_read(pdu: &[u8], answer: &mut [u64; 70])
@@ -38,12 +40,14 @@ pub extern "C" fn orl_pdu_write(
         values,
         source,
         destination,
-        timestamp,
-        zone,
-        name,
-        domain,
-        lengths,
-        authentication,
+        LentTexts {
+            timestamp,
+            zone,
+            session_name: name,
+            domain,
+            lengths,
+            authentication,
+        },
         body,
         out,
     );

@@ -14,3 +14,4 @@ pub mod Journey
 pub mod Silent
 pub mod Calls
 pub mod Figures
+pub mod Start

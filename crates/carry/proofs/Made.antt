@@ -51,8 +51,8 @@ module _ (s : Settings) (v : HeaderValues) (t : Lent) (body : List ℕ) where
       (name_pieces v
       ++ (routing_pieces v
       ++ (front_pieces v whole
-      ++ (middle_pieces s v.has v.priority t.timestamp t.zone
-      ++ (end_pieces s v.has t.session_name t.domain t.lengths t.authentication ++ (body ∷ []))))))
+      ++ (middle_pieces s v.has v.priority t
+      ++ (end_pieces s v.has t ++ (body ∷ []))))))
       ≡ data_octets s (given_packet v whole t body)
   unfolding packet_pieces primary_pieces wide octets_of identification together
   rest_together = ap (drop 6) (packet_together s v whole t body)

@@ -12,7 +12,7 @@ use Rattle.walk.specs.declared.Bound.{Bound}
 use Rattle.walk.specs.Walk.{Reading, going}
 use Rattle.fields.specs.Fields.{nowhere, parts_most, opt, no_parts, domain}
 use Rattle.packet.specs.declared.Present.{Present}
-use Rattle.packet.specs.declared.Header.{Header as PacketHeader}
+use Rattle.packet.specs.Answer.{Header as PacketHeader}
 use Rattle.packet.specs.Reading.{texts_of, refused_header as refused_packet}
 use Rattle.format.proofs.Domain.{domain_count, domain_all}
 use Rattle.pdu.specs.declared.Header.{Header as PduHeader}

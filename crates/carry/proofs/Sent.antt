@@ -1,7 +1,7 @@
 -- From the answers of the steps to the answer of carrying a message to the office, on plain values.
 -- Assumes nothing.
 use Prim.Native.Nat.{ℕ, ◌≤◌}
-use mathlib.Core.Path.{◌≡◌, refl}
+use mathlib.Core.Path.{◌≡◌, refl, ◌∙◌}
 use mathlib.Core.Logic.{⊎_elim}
 use mathlib.Core.Bool.{true}
 use mathlib.Core.List.{List, map}
@@ -11,8 +11,11 @@ use Rattle.octets.specs.Octets.{Octets}
 use Rattle.octets.specs.Laying.{together}
 use Rattle.octets.proofs.Lists.{bool}
 use Rattle.walk.specs.declared.Settings.{Settings}
+use Rattle.walk.specs.declared.Refused.{Refused}
+use Rattle.walk.specs.declared.Refusal.{Refusal}
+use Rattle.walk.specs.Told.{told}
 use Rattle.walk.specs.Walk.{going}
-use Rattle.packet.specs.declared.Header.{Header}
+use Rattle.packet.specs.Answer.{Header}
 use Rattle.packet.specs.Format.{header_most}
 use Rattle.packet.specs.Reading.{refused_header}
 use Rattle.format.specs.Told.{content}
@@ -65,3 +68,14 @@ module _ (s : Settings) (e : ℕ) (m : List ℕ) (out : List ℕ) {h : Header} (
       (r ≡ to_pdu_answer s e m (length out)) × (x ≡ to_pdu_output s e m out)
   unfolding to_pdu_answer to_pdu_output
   written_there z k = rw (← q, eq-eqb h.refusal.number 0 z) k
+
+-- the refusal of reading, laid out
+pub all_told :
+    (s : Settings) (e : ℕ) (m out : List ℕ) (d : Refused) {n o k : ℕ} {r : Refusal} → refused_header (told d) ≡ read_message s e m →
+    ((told d).number ≡ 0 → ⊥) → n ≡ (told d).number → o ≡ (told d).octets → k ≡ (told d).place → r ≡ record { number = n; octets = o; place = k } →
+    (record { refusal = r; length = 0; header = 0 } ≡ to_pdu_answer s e m (length out)) × (out ≡ to_pdu_output s e m out)
+unfolding refused_header
+all_told s e m out d q z en eo ek er =
+    let t : _ ≡ told d = er ∙ (λ i. record { number = en i; octets = eo i; place = ek i }) in
+    let k = refused_there s e m out {h = refused_header (told d)} q z in
+    ((λ i. record { refusal = t i; length = 0; header = 0 }) ∙ k.0, k.1)

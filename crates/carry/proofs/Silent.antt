@@ -20,7 +20,7 @@ use Rattle.walk.specs.Walk.{none_failed}
 use Rattle.fields.specs.Fields.{parts_most}
 use Rattle.fields.specs.Form.{uinteger_octets, blob_octets, text_octets, part_octets, joined, domain_octets}
 use Rattle.fields.proofs.Sized.{text_long, blob_long}
-use Rattle.packet.specs.declared.Header.{Header}
+use Rattle.packet.specs.Answer.{Header}
 use Rattle.packet.specs.Format.{Head, Opt, when, HeadInRange, header_octets, back_octets}
 use Rattle.format.specs.Told.{content, head_of, values_of}
 use Rattle.write.proofs.Tests.{unless_true, unless_all_true}

@@ -14,7 +14,7 @@ use Rattle.octets.specs.Laying.{together}
 use Rattle.octets.proofs.Lists.{bool}
 use Rattle.walk.specs.declared.Settings.{Settings}
 use Rattle.walk.specs.Walk.{no_refusal}
-use Rattle.packet.specs.declared.Header.{Header}
+use Rattle.packet.specs.Answer.{Header}
 use Rattle.packet.specs.Format.{Head, Values, identification, header_octets}
 use Rattle.format.specs.Told.{content, head_of, values_of}
 use Rattle.write.specs.Given.{sum}

@@ -1,143 +1,159 @@
--- From the answers of the steps to the answer of reading a message, on plain values.
+-- A message's header, from the steps of a reader; and a message, from its tests and its header.
 -- Assumes nothing.
 use Prim.Native.Nat.{ℕ, ◌-◌}
-use mathlib.Core.Path.{◌≡◌, refl, ap, ap₂, sym, ◌∙◌}
-use mathlib.Core.Bool.{Bool, true, false}
+use mathlib.Core.Path.{◌≡◌, refl, ap, sym, ◌∙◌, subst}
 use mathlib.Core.List.{List}
+use mathlib.Core.Bool.{Bool, true, false}
+use lib.Dec.{eqb}
 use lib.ListN.{length}
-use borrow.Author.Tests.{eq-eqb, ne_eqb}
+use Rattle.std.specs.Prelude.{Result, Ok, Err}
+use Rattle.octets.specs.Octets.{pick}
 use Rattle.walk.specs.declared.Settings.{Settings}
-use Rattle.walk.specs.declared.Walk.{Walk}
 use Rattle.walk.specs.declared.Bound.{Bound}
+use Rattle.walk.specs.declared.Reader.{Reader}
+use Rattle.walk.specs.declared.Refused.{Refused}
+use Rattle.walk.specs.declared.Refused.TheVariants.{Timestamp}
 use Rattle.walk.specs.declared.Refusal.{Refusal}
-use Rattle.walk.specs.Walk.{Reading, Step, no_refusal, going, check}
-use Rattle.walk.specs.Inner.{as_walk, of_walk}
+use Rattle.walk.specs.Told.{told}
+use Rattle.walk.specs.Walk.{Reading, Step, goes, going, check}
+use Rattle.walk.specs.Read.{Refuses, Went, Answers, Tests, tells}
 use Rattle.fields.specs.Fields.{place}
 use Rattle.packet.specs.declared.Primary.{Primary}
+use Rattle.packet.specs.declared.Fixed.{Fixed}
 use Rattle.packet.specs.declared.Present.{Present}
-use Rattle.packet.specs.declared.FixedStep.{FixedStep}
 use Rattle.packet.specs.declared.Ids.{Ids}
-use Rattle.packet.specs.declared.IdsStep.{IdsStep}
 use Rattle.packet.specs.declared.Texts.{Texts}
-use Rattle.packet.specs.declared.TextsStep.{TextsStep}
-use Rattle.packet.specs.FixedPart.{fixed_of, fixed_end}
+use Rattle.packet.specs.declared.Header.{Header as Decoded}
+use Rattle.packet.specs.FixedPart.{fixed_end, fixed_of, present_of}
 use Rattle.packet.specs.Reading.{ids_of, texts_of, refused_header}
-use Rattle.packet.specs.Inner.{fixed_step, as_ids, as_texts}
-use Rattle.carry.specs.Message.{message_bound, start_at, has_at, ids_at, texts_at, timestamp_fits, ended, refusal_of, primary_of, accepted_message, read_message}
-
-abbrev of_ids : IdsStep → Step Ids
-of_ids x = record { walk = of_walk x.walk; value = x.ids }
-
-abbrev of_texts : TextsStep → Step Texts
-of_texts x = record { walk = of_walk x.walk; value = x.texts }
+use Rattle.packet.specs.Inner.{fixed_part}
+use Rattle.packet.specs.Decoded.{decoded, whole}
+use Rattle.walk.proofs.Steps.{check_ok}
+use Rattle.walk.proofs.Keeps.{check_keeps, check_stops}
+use Rattle.packet.proofs.Chain.{then_went, then_refuses}
+use Rattle.packet.proofs.Keeping.{fixed_keeps, ids_keep, texts_keep}
+use Rattle.carry.specs.Message.{message_bound, start_at, timestamp_fits, ended, refusal_of, primary_of, accepted_message, read_message}
+use Rattle.carry.specs.Inner.{has_from, ids_from, texts_from, ended_from, message_from}
 
 -- where the reading goes on to its end, the answer is the header
 pub accepts : (s : Settings) (e : ℕ) (m : List ℕ) → going (ended s e m) ≡ true → read_message s e m ≡ accepted_message s e m
 unfolding read_message
 accepts s e m h = rw h
 
--- what a reading tells that is refused by 6, or by another number
-pub ends_told :
-    (w : Reading) {r : Refusal} {k : ℕ} → w.refused ≡ 6 → k ≡ w.at - 2 → r ≡ record { number = w.refused; octets = 0; place = k } →
-    r ≡ refusal_of w
+-- ---- the header
+
+module _ (r : Reader) (eb : r.bound ≡ message_bound) where
+  abbrev P : List ℕ
+  P = r.octets.now
+
+  abbrev W : Reading
+  W = goes r.at
+
+  -- the stages by what the reader had in hand
+  abbrev ids_in : Bound → Present → Step Ids
+  ids_in b h = ids_of r.settings b false h P (fixed_end b P W)
+
+  abbrev texts_in : Bound → Present → Step Texts
+  texts_in b h = texts_of r.settings b h P (ids_in b h).walk
+
+  pub fixed_refused : {e : Refused} → Refuses e (fixed_end r.bound P W) → Refuses e (ended_from r.settings P W)
+  fixed_refused {e} h =
+      let k = subst (λ (b : Bound). Refuses e (fixed_end b P W)) eb h in
+      check_keeps _ 34 (texts_keep r.settings message_bound P _ (ids_keep r.settings message_bound P _ false k))
+
+  module _ {q : Reader} {f : Fixed} {has : Present} (x : Went (fixed_part r.bound P W) r q (f, has)) where
+    has_is : has ≡ has_from P W
+    has_is = sym (ap (λ (y : Fixed × Present). y.1) x.value) ∙ ap (λ (b : Bound). present_of b P W) eb
+
+    abbrev ids_at : Settings → Bound → List ℕ → Reading → Step Ids
+    ids_at s b p = ids_of s b false has p
+
+    abbrev texts_at : Settings → Bound → List ℕ → Reading → Step Texts
+    texts_at s b p = texts_of s b has p
+
+    pub ids_refused : {e : Refused} → Refuses e (ids_at q.settings q.bound q.octets.now (goes q.at)).walk → Refuses e (ended_from r.settings P W)
+    ids_refused {e} h =
+        let k : Refuses e (ids_in r.bound has).walk = then_refuses ids_at x h in
+        let m : Refuses e (ids_from r.settings P W).walk = subst (Refuses e) (λ j. (ids_in (eb j) (has_is j)).walk) k in
+        check_keeps _ 34 (texts_keep r.settings message_bound P _ m)
+
+    module _ {t : Reader} {i : Ids} (y : Went (ids_at q.settings q.bound q.octets.now (goes q.at)) q t i) where
+      pub texts_refused :
+          {e : Refused} → Refuses e (texts_at t.settings t.bound t.octets.now (goes t.at)).walk → Refuses e (ended_from r.settings P W)
+      texts_refused {e} h =
+          let k : Refuses e (texts_in r.bound has).walk = then_refuses texts_at (then_went ids_at x y) h in
+          check_keeps _ 34 (subst (Refuses e) (λ j. (texts_in (eb j) (has_is j)).walk) k)
+
+      module _
+          {u : Reader}
+          {c : Texts}
+          {ok : Bool}
+          (eo : ok ≡ timestamp_fits r.settings has)
+          (z : Went (texts_at t.settings t.bound t.octets.now (goes t.at)) t u c) where
+        abbrev all : Went (texts_in r.bound has) r u c
+        all = then_went texts_at (then_went ids_at x y) z
+
+        texts_is : texts_from r.settings P W ≡ record { walk = goes u.at; value = c }
+        texts_is =
+            sym (λ j. texts_in (eb j) (has_is j)) ∙ (λ j. record { walk = all.walk j; value = all.value j })
+
+        ended_is : ended_from r.settings P W ≡ check ok 34 (goes u.at)
+        ended_is = λ j. check ((ap (timestamp_fits r.settings) (sym has_is) ∙ sym eo) j) 34 (texts_is j).walk
+
+        pub time_refused : {e : Refused} → (ok ≡ false) × (e ≡ Timestamp) → Refuses e (ended_from r.settings P W)
+        time_refused {e} h = subst (Refuses e) (sym ended_is) (check_stops _ 34 (goes u.at) refl h.0 (ap told h.1) refl)
+
+        pub header_is :
+            {m : Primary} {n l : ℕ} → ok ≡ true → m ≡ primary_of P → n ≡ u.at - 2 → l ≡ length P - u.at →
+            Answers (message_from r.settings P W)
+            (Ok
+            (record { primary = m; fixed = f; has = has; ids = i; texts = c; h = n; body = place u.at l; withdrawn = has.zone }))
+        header_is {m} {n} {l} b em en el =
+            let at : ended_from r.settings P W ≡ goes u.at = ended_is ∙ check_ok _ 34 (goes u.at) b in
+            let fixed : fixed_of message_bound P W ≡ f = ap (λ (b : Bound). fixed_of b P W) (sym eb) ∙ ap (λ (y : Fixed × Present). y.0) x.value in
+            let ids : (ids_from r.settings P W).value ≡ i = sym (λ j. (ids_in (eb j) (has_is j)).value) ∙ (then_went ids_at x y).value in (
+              ap going at,
+              λ j.
+                  record {
+                    primary = sym em j;
+                    fixed = fixed j;
+                    has = sym has_is j;
+                    ids = ids j;
+                    texts = (texts_is j).value;
+                    h = (ap (λ (v : Reading). v.at - 2) at ∙ sym en) j;
+                    body = place ((at j).at) ((ap (λ (v : Reading). length P - v.at) at ∙ sym el) j);
+                    withdrawn = (sym has_is j).zone;
+                  },
+            )
+
+-- ---- the message
+
+refusal_is : (w : Reading) → refusal_of w ≡ record (tells w) { place = (tells w).place - 2 }
 unfolding refusal_of
-ends_told w h e q =
-    let b : (refusal_of w).place ≡ w.at - 2 = rw h refl in
-    q ∙ (λ i. record { number = w.refused; octets = 0; place = (e ∙ sym b) i })
+refusal_is w = λ j. record { number = w.refused; octets = 0; place = go (eqb w.refused 6) j }
+  where
+    go : (b : Bool) → pick b (w.at - 2) 0 ≡ pick b w.at 0 - 2
+    go true = refl
+    go false = refl
 
-pub other_told : (w : Reading) {r : Refusal} → (w.refused ≡ 6 → ⊥) → r ≡ record { number = w.refused; octets = 0; place = 0 } → r ≡ refusal_of w
-unfolding refusal_of
-other_told w h q =
-    let b : (refusal_of w).place ≡ 0 = rw (ne_eqb w.refused 6 h) refl in
-    q ∙ (λ i. record { number = w.refused; octets = 0; place = sym b i })
-
-module _
-    (s : Settings)
-    (e : ℕ)
-    (m : List ℕ)
-    {start : Walk}
-    {f : FixedStep}
-    {i : IdsStep}
-    {t : TextsStep}
-    {ok : Bool}
-    {w : Walk}
-    {bound : Bound}
-    (eb : bound ≡ message_bound)
-    (e1 : start ≡ as_walk (start_at s e m))
-    (e2 : f ≡ fixed_step bound m (of_walk start))
-    (e3 : i ≡ as_ids (ids_of s bound false f.has m (of_walk f.walk)))
-    (e4 : t ≡ as_texts (texts_of s bound f.has m (of_walk i.walk)))
-    (eo : ok ≡ timestamp_fits s f.has)
-    (e5 : w ≡ as_walk (check ok 34 (of_walk t.walk))) where
-  start_is : start_at s e m ≡ of_walk start
-  start_is = ap of_walk (sym e1)
-
-  step_is : fixed_step message_bound m (start_at s e m) ≡ f
-  step_is = ap₂ (λ (z : Bound) (x : Reading). fixed_step z m x) (sym eb) start_is ∙ sym e2
-
-  fixed_is : fixed_of message_bound m (start_at s e m) ≡ f.fixed
-  unfolding fixed_step
-  fixed_is = ap (λ (x : FixedStep). x.fixed) step_is
-
-  has_is : has_at s e m ≡ f.has
-  unfolding fixed_step
-  has_is = ap (λ (x : FixedStep). x.has) step_is
-
-  end_is : fixed_end message_bound m (start_at s e m) ≡ of_walk f.walk
-  unfolding fixed_step
-  end_is = ap (λ (x : FixedStep). of_walk x.walk) step_is
-
-  ids_is : ids_at s e m ≡ of_ids i
-  ids_is =
-      ap₂ (λ (h : Present) (v : Reading). ids_of s message_bound false h m v) has_is end_is
-      ∙ ap (λ (z : Bound). ids_of s z false f.has m (of_walk f.walk)) (sym eb)
-      ∙ ap of_ids (sym e3)
-
-  texts_is : texts_at s e m ≡ of_texts t
-  texts_is =
-      ap₂ (λ (h : Present) (v : Reading). texts_of s message_bound h m v) has_is (ap (λ (x : Step Ids). x.walk) ids_is)
-      ∙ ap (λ (z : Bound). texts_of s z f.has m (of_walk i.walk)) (sym eb)
-      ∙ ap of_texts (sym e4)
-
-  ended_is : ended s e m ≡ of_walk w
-  ended_is =
-      ap₂ (λ (b : Bool) (v : Reading). check b 34 v) (ap (timestamp_fits s) has_is ∙ sym eo) (ap (λ (x : Step Texts). x.walk) texts_is)
-      ∙ ap of_walk (sym e5)
-
-  pub refused_whole : {r : Refusal} → (w.refused ≡ 0 → ⊥) → r ≡ refusal_of (of_walk w) → refused_header r ≡ read_message s e m
+module _ (s : Settings) (e : ℕ) (m : List ℕ) where
+  refuses_whole : (d : Refused) → going (ended s e m) ≡ false → told d ≡ refusal_of (ended s e m) → decoded (Err d) ≡ read_message s e m
   unfolding read_message
-  refused_whole h q = ap refused_header q ∙ rw (ended_is, ne_eqb w.refused 0 h)
+  refuses_whole d h t = ap refused_header t ∙ rw h refl
 
-  pub accepted_whole :
-      {r : Refusal} {x : Primary} {n : ℕ} {l : ℕ} → w.refused ≡ 0 → r ≡ no_refusal → x ≡ primary_of m → n ≡ w.at - 2 → l ≡ length m - w.at →
-      record {
-        refusal = r;
-        primary = x;
-        fixed = f.fixed;
-        has = f.has;
-        ids = i.ids;
-        texts = t.texts;
-        h = n;
-        body = place w.at l;
-        withdrawn = f.has.zone;
-      }
-      ≡ read_message s e m
-  unfolding accepted_message
-  accepted_whole {r} {x} {n} {l} h er em en el =
-      let at_is : w.at ≡ (ended s e m).at = ap (λ (v : Reading). v.at) (sym ended_is) in
-      let h_is : n ≡ (ended s e m).at - 2 = en ∙ ap (λ (k : ℕ). k - 2) at_is in
-      let l-is : l ≡ length m - (ended s e m).at = el ∙ ap (λ (k : ℕ). length m - k) at_is in
-      let same : _ ≡ accepted_message s e m =
-      λ j.
-      record {
-        refusal = er j;
-        primary = em j;
-        fixed = sym fixed_is j;
-        has = sym has_is j;
-        ids = ap (λ (y : Step Ids). y.value) (sym ids_is) j;
-        texts = ap (λ (y : Step Texts). y.value) (sym texts_is) j;
-        h = h_is j;
-        body = place (at_is j) (l-is j);
-        withdrawn = (sym has_is j).zone;
-      } in
-      same ∙ sym (accepts s e m (rw ended_is (eq-eqb w.refused 0 h)))
+  -- refused before the header
+  pub start_refused : {d : Refused} → Refuses d (start_at s e m) → Refuses d (ended_from s m (start_at s e m))
+  start_refused h = check_keeps _ 34 (texts_keep s message_bound m _ (ids_keep s message_bound m _ false (fixed_keeps message_bound m h)))
+
+  -- or begun after the identification
+  pub begins : (x : Result Decoded Refused) → start_at s e m ≡ goes 2 → Answers (message_from s m (goes 2)) x → Answers (message_from s m (start_at s e m)) x
+  begins x b a = subst (λ (w : Reading). Answers (message_from s m w) x) (sym b) a
+
+  pub whole_refused :
+      (x d : Refused) → Refuses x (ended s e m) → told d ≡ record (told x) { place = (told x).place - 2 } → decoded (Err d) ≡ read_message s e m
+  whole_refused x d k t =
+      refuses_whole d k.stops (t ∙ ap (λ (x : Refusal). record x { place = x.place - 2 }) k.tells ∙ sym (refusal_is (ended s e m)))
+
+  pub header_whole : (h : Decoded) → Answers (message_from s m (start_at s e m)) (Ok h) → decoded (Ok h) ≡ read_message s e m
+  unfolding read_message accepted_message
+  header_whole h a = ap whole (sym a.1) ∙ sym (rw a.0 refl)

@@ -15,7 +15,7 @@ use Rattle.packet.specs.declared.Primary.{Primary}
 use Rattle.packet.specs.declared.Present.{Present}
 use Rattle.packet.specs.declared.Ids.{Ids}
 use Rattle.packet.specs.declared.Texts.{Texts}
-use Rattle.packet.specs.declared.Header.{Header}
+use Rattle.packet.specs.Answer.{Header}
 use Rattle.packet.specs.Format.{Head, flags_whole, identification, header_octets}
 use Rattle.packet.specs.FixedPart.{fixed_end, fixed_of, present_of}
 use Rattle.packet.specs.Reading.{ids_of, texts_of, refused_header}

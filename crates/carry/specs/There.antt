@@ -6,7 +6,7 @@ use Rattle.std.specs.Prelude.{ℕ, List, eqb}
 use Rattle.octets.specs.Octets.{pick}
 use Rattle.walk.specs.declared.Settings.{Settings}
 use Rattle.walk.specs.declared.Refusal.{Refusal}
-use Rattle.packet.specs.declared.Header.{Header}
+use Rattle.packet.specs.Answer.{Header}
 use Rattle.format.specs.Told.{content}
 use Rattle.pdu.specs.declared.PduValues.{PduValues}
 use Rattle.pdu.specs.declared.Written.{Written}

@@ -7,34 +7,33 @@
 // header. Packet type, APIDs and qualifier have no field in a PDU: the caller lends them for the way back, and an encoding id for the way
 // there. The body is carried as it is: the encoding id must say what it is. An id, one octet in a packet, is its decimal digits in a PDU.
 // On a refusal the output is as it was.
-// As parameters, `time` is the timestamp, `zone` the network zone, `name` the session name and `id` the authentication id.
 #![tactic(auto)]
 
 ghost use Rattle.std.specs.Prelude.{◌≡◌, false, map, ◌+◌, ◌-◌, ◌≤◌, length, take, leb};
 ghost use Rattle.std.proofs.lemmas.List.Edits.{sets};
 ghost use Rattle.octets.specs.Octets.{Octets, octet_at};
 ghost use Rattle.octets.specs.Laying.{laid, together, Lays};
-ghost use Rattle.walk.specs.Inner.{as_walk, of_walk};
-ghost use Rattle.walk.specs.Walk.{unless, none_failed};
+ghost use Rattle.walk.specs.Walk.{goes as goes_at, unless, none_failed};
+ghost use Rattle.walk.specs.Read.{Tests, Answers};
+ghost use Rattle.packet.specs.Decoded.{decoded, whole as whole_header};
 ghost use Rattle.packet.specs.Format.{header_most};
 ghost use Rattle.format.specs.Told.{content as content_of};
-ghost use Rattle.write.specs.Given.{lent, head_of};
+ghost use Rattle.write.specs.Given.{lent_of, head_of};
 ghost use Rattle.carry.specs.Digits.{digits, value_of, is_id, id_text, id_value, id_fits};
-ghost use Rattle.carry.specs.Message.{message_bound, start_at, refusal_of, primary_of, timestamp_fits, read_message, parts_of};
+ghost use Rattle.carry.specs.Message.{message_bound, start_at, primary_of, timestamp_fits, read_message, parts_of};
 ghost use Rattle.carry.specs.There.{office_values, office_answer, office_output, to_pdu_answer, to_pdu_output};
 ghost use Rattle.carry.specs.Back.{route_test, value_test, message_values, not_carried, made_answer, made_output, back_answer, back_output};
 ghost use Rattle.carry.specs.Back.{to_message_answer, to_message_output};
-ghost use Rattle.carry.specs.Inner.{whole as whole_packet, message_pieces, told_to, Few};
+ghost use Rattle.carry.specs.Inner.{message_from, whole as whole_packet, message_pieces, told_to, Few};
 
 use fields::Place;
-use packet::{Apid, Present, Primary, SecondaryApid, SegmentCounter, SequenceCount, Texts};
+use packet::{Apid, Header, Present, Primary, SecondaryApid, SegmentCounter, SequenceCount, Texts};
 use pdu::{PduValues, Written};
 use walk::{
-    Bound, REFUSED_FEW_OCTETS, REFUSED_HEADER_ENDS, REFUSED_HEADER_LONG, REFUSED_ID, REFUSED_IDLE,
-    REFUSED_NO_SECONDARY, REFUSED_OUTPUT, REFUSED_RANGE, REFUSED_TIMESTAMP, REFUSED_VALUE,
-    REFUSED_VERSION, REFUSED_WITHDRAWN, Refusal, Settings, Tested, Walk,
+    Bound, REFUSED_HEADER_LONG, REFUSED_ID, REFUSED_OUTPUT, REFUSED_RANGE, REFUSED_TIMESTAMP,
+    REFUSED_VALUE, REFUSED_WITHDRAWN, Reader, Refusal, Refused, Settings, Tested, ensure,
 };
-use write::{HeaderValues, PacketValues};
+use write::{HeaderValues, LentTexts, PacketValues};
 
 // The octets of the identification, and where a header after it ends at the latest.
 const IDENTIFICATION: usize = 2;
@@ -206,51 +205,31 @@ fn message_bound() -> Bound
     }
 }
 
-// 15, 22, then 1 to 4: where the header begins.
-fn start_walk(s: Settings, encoding: u16, m: &[u8]) -> Walk
-    ensures { result ≡ as_walk (start_at s encoding m.now) }
+// 15, 22, then 1 to 4: the header begins after the identification.
+fn check_start(s: Settings, encoding: u16, m: &[u8]) -> Result<(), Refused>
+    ensures { Tests (start_at s encoding m.now) 2 result }
 {
-    let none = Tested { number: 0 };
+    s.check()?;
+    ensure(encoding <= ENCODING_MOST, Refused::Value)?;
+    ensure(IDENTIFICATION <= m.len(), Refused::FewOctets)?;
     let first = octets::octet(m, 0);
-    let id = octets::be16(m, 0);
-    let a = walk::unless(
-        write::test_settings(s, none),
-        encoding <= ENCODING_MOST,
-        REFUSED_VALUE,
-    );
-    let w = walk::refused(IDENTIFICATION, a.number);
-    let b = w
-        .check(IDENTIFICATION <= m.len(), REFUSED_FEW_OCTETS)
-        .check(first < 32, REFUSED_VERSION);
-    b.check(first / 8 % 2 == 1, REFUSED_NO_SECONDARY)
-        .check(id % 2048 != 2047, REFUSED_IDLE)
+    ensure(first < 32, Refused::Version)?;
+    ensure(first / 8 % 2 == 1, Refused::NoSecondary)?;
+    ensure(octets::read::<u16>(m, 0) % 2048 != 2047, Refused::Idle)
 }
 
 // A timestamp, if there is one, has the length that a PDU gives it.
 fn timestamp_fits(s: Settings, has: Present) -> bool
     ensures { result ≡ timestamp_fits s has }
 {
-    if has.timestamp {
-        return s.t == pdu::TIMESTAMP;
-    }
-    true
-}
-
-// What a refused walk tells: beside 6 where in the secondary header the field began.
-fn refusal_of(w: Walk) -> Refusal
-    ensures { result ≡ refusal_of (of_walk w) }
-{
-    if w.refused == REFUSED_HEADER_ENDS {
-        return walk::telling(w.refused, 0, octets::less(w.at, IDENTIFICATION));
-    }
-    walk::numbered(w.refused)
+    !has.timestamp || s.t == pdu::TIMESTAMP
 }
 
 fn read_primary(m: &[u8]) -> Primary
     ensures { result ≡ primary_of m.now }
 {
     let first = octets::octet(m, 0);
-    let apid = Apid(octets::be16(m, 0) % 2048);
+    let apid = Apid(octets::read::<u16>(m, 0) % 2048);
     let sequence_count = SequenceCount(0);
     Primary {
         packet_type: first / 16 % 2,
@@ -260,43 +239,51 @@ fn read_primary(m: &[u8]) -> Primary
     }
 }
 
-// A message's header as a packet's of flags 11, or its refusal and zeros.
-fn read_message(s: Settings, encoding: u16, m: &[u8]) -> packet::Header
-    ensures { result ≡ read_message s encoding m.now }
+// The header after the identification, as a packet's of flags 11. Places are counted from the message's first octet.
+fn read_header(s: Settings, m: &[u8]) -> Result<Header, Refused>
+    ensures { Answers (message_from s m.now (goes_at 2)) result }
 {
-    let b = message_bound();
-    let start = start_walk(s, encoding, m);
-    let f = packet::read_fixed(b, m, start);
-    let fw = f.walk;
-    let has = f.has;
-    let i = packet::read_ids(s, b, false, has, m, fw);
-    let iw = i.walk;
-    let t = packet::read_texts(s, b, has, m, iw);
-    let tw = t.walk;
-    let w = tw.check(timestamp_fits(s, has), REFUSED_TIMESTAMP);
-    if w.refused != 0 {
-        return packet::refused_header(refusal_of(w));
-    }
-    let refusal = walk::numbered(0);
-    let end = w.at;
-    let primary = read_primary(m);
-    let fixed = f.fixed;
-    let ids = i.ids;
-    let texts = t.texts;
-    let body = Place {
-        at: end,
-        length: octets::less(m.len(), end),
+    let mut reader = Reader {
+        octets: m,
+        settings: s,
+        bound: message_bound(),
+        at: IDENTIFICATION,
     };
-    packet::Header {
-        refusal: refusal,
-        primary: primary,
-        fixed: fixed,
-        has: has,
-        ids: ids,
-        texts: texts,
-        h: octets::less(end, IDENTIFICATION),
-        body: body,
+    let (fixed, has) = packet::read_fixed(&mut reader)?;
+    let ids = packet::read_ids(&mut reader, false, has)?;
+    let texts = packet::read_texts(&mut reader, has)?;
+    ensure(timestamp_fits(s, has), Refused::Timestamp)?;
+    let end = reader.at;
+    Ok(Header {
+        primary: read_primary(m),
+        fixed,
+        has,
+        ids,
+        texts,
+        h: end.saturating_sub(IDENTIFICATION),
+        body: Place {
+            at: end,
+            length: m.len().saturating_sub(end),
+        },
         withdrawn: has.zone,
+    })
+}
+
+// The same after the tests: the whole reading.
+fn read_whole(s: Settings, encoding: u16, m: &[u8]) -> Result<Header, Refused>
+    ensures { Answers (message_from s m.now (start_at s encoding m.now)) result }
+{
+    check_start(s, encoding, m)?;
+    read_header(s, m)
+}
+
+// A message's header, or its refusal.
+fn read_message(s: Settings, encoding: u16, m: &[u8]) -> Result<Header, Refused>
+    ensures { decoded result ≡ read_message s encoding m.now }
+{
+    match read_whole(s, encoding, m) {
+        Ok(header) => Ok(header),
+        Err(refused) => Err(refused.counted_from(IDENTIFICATION)),
     }
 }
 
@@ -335,8 +322,8 @@ fn join_parts(p: &[u8], x: Texts, text: &mut [u8; 256], lengths: &mut [u64; 16])
 
 // ---- to the office
 
-fn pdu_values(h: packet::Header, encoding: u16) -> PduValues
-    ensures { result ≡ office_values h encoding }
+fn pdu_values(h: Header, encoding: u16) -> PduValues
+    ensures { result ≡ office_values (whole_header h) encoding }
 {
     let f = h.fixed;
     let has = h.has;
@@ -358,10 +345,10 @@ fn pdu_values(h: packet::Header, encoding: u16) -> PduValues
 }
 
 // Writes what a message says as a PDU.
-fn write_pdu(encoding: u16, m: &[u8], h: packet::Header, out: &mut [u8]) -> Written
+fn write_pdu(encoding: u16, m: &[u8], h: Header, out: &mut [u8]) -> Written
     requires { Few h.texts × (length (together (parts_of m.now h.texts)) ≤ header_most) }
-    ensures { (result ≡ office_answer encoding m.now h (length out.old))
-        × (out.new ≡ office_output encoding m.now h out.old) }
+    ensures { (result ≡ office_answer encoding m.now (whole_header h) (length out.old))
+        × (out.new ≡ office_output encoding m.now (whole_header h) out.old) }
 {
     let has = h.has;
     let ids = h.ids;
@@ -381,12 +368,14 @@ fn write_pdu(encoding: u16, m: &[u8], h: packet::Header, out: &mut [u8]) -> Writ
         pdu_values(h, encoding),
         &source_digits[0..source_end],
         &destination_digits[0..destination_end],
-        content(m, texts.timestamp),
-        content(m, texts.zone),
-        content(m, texts.session_name),
-        &text[0..total],
-        &lengths[0..count],
-        content(m, texts.authentication),
+        LentTexts {
+            timestamp: content(m, texts.timestamp),
+            zone: content(m, texts.zone),
+            session_name: content(m, texts.session_name),
+            domain: &text[0..total],
+            lengths: &lengths[0..count],
+            authentication: content(m, texts.authentication),
+        },
         content(m, body),
         out,
     )
@@ -398,16 +387,14 @@ pub fn to_pdu(s: Settings, m: &[u8], encoding: u16, out: &mut [u8]) -> Written
         × (out.new ≡ to_pdu_output s encoding m.now out.old) }
     ensures octets { Octets m.now }
 {
-    let h = read_message(s, encoding, m);
-    let refusal = h.refusal;
-    if refusal.number != 0 {
-        return Written {
-            refusal: refusal,
+    match read_message(s, encoding, m) {
+        Ok(header) => write_pdu(encoding, m, header, out),
+        Err(refused) => Written {
+            refusal: walk::telling(refused.number(), refused.octets(), refused.place()),
             length: 0,
             header: 0,
-        };
+        },
     }
-    write_pdu(encoding, m, h, out)
 }
 
 // ---- back from the office
@@ -501,31 +488,18 @@ fn whole_packet() -> PacketValues
 }
 
 // The whole message from the first octet on, and the place after it.
-fn put_message(
-    s: Settings,
-    out: &mut [u8],
-    v: HeaderValues,
-    time: &[u8],
-    zone: &[u8],
-    name: &[u8],
-    domain: &[u8],
-    lengths: &[u64],
-    id: &[u8],
-    body: &[u8],
-) -> usize
+fn put_message(s: Settings, out: &mut [u8], v: HeaderValues, texts: LentTexts, body: &[u8]) -> usize
     ensures { Lays (laid out.old 0) (message_pieces s v
-        (lent time.now zone.now name.now domain.now lengths.now id.now)
+        (lent_of texts.entry)
         body.now) out.new result }
 {
-    let has = v.has;
-    let apid = v.apid;
-    let identification = v.packet_type as u64 * TYPE_UNIT + SECONDARY_FLAG + apid.0 as u64;
+    let identification = v.packet_type as u64 * TYPE_UNIT + SECONDARY_FLAG + v.apid.0 as u64;
     let a = octets::lay_number(out, 0, 2, identification);
     let b = write::put_names(out, a, v);
     let c = write::put_routing(out, b, v);
     let d = write::put_front(out, c, v, whole_packet());
-    let e = write::put_middle(s, out, d, has, v.priority, time, zone);
-    let f = write::put_end(s, out, e, has, name, domain, lengths, id);
+    let e = write::put_middle(s, out, d, v.has, v.priority, texts);
+    let f = write::put_end(s, out, e, v.has, texts);
     octets::lay(out, f, body)
 }
 
@@ -553,27 +527,21 @@ fn test_sizes(h: usize, body: usize, room: usize) -> Tested
 fn make_message(
     s: Settings,
     v: HeaderValues,
-    time: &[u8],
-    zone: &[u8],
-    name: &[u8],
-    domain: &[u8],
-    lengths: &[u64],
-    id: &[u8],
+    texts: LentTexts,
     body: &[u8],
     encoding: u8,
     out: &mut [u8],
 ) -> Carried
-    ensures { let h = head_of v (lent time.now zone.now name.now domain.now
-        lengths.now id.now) in
+    ensures { let h = head_of v (lent_of texts.entry) in
         (result ≡ made_answer s h body.now encoding (length out.old))
         × (out.new ≡ made_output s h body.now out.old) }
 {
-    let h = write::header_size(s, v, time, zone, name, domain, lengths, id);
+    let h = write::header_size(s, v, texts);
     let r = test_sizes(h, body.len(), out.len());
     if r.number != 0 {
         return not_carried(walk::numbered(r.number));
     }
-    put_message(s, out, v, time, zone, name, domain, lengths, id, body);
+    put_message(s, out, v, texts, body);
     Carried {
         refusal: walk::numbered(0),
         header: h,
@@ -605,12 +573,14 @@ fn write_message(s: Settings, l: Route, p: &[u8], h: pdu::Header, out: &mut [u8]
     make_message(
         s,
         message_values(l, p, h),
-        content(p, texts.timestamp),
-        content(p, texts.zone),
-        content(p, texts.session_name),
-        &text[0..total],
-        &lengths[0..count],
-        content(p, texts.authentication),
+        LentTexts {
+            timestamp: content(p, texts.timestamp),
+            zone: content(p, texts.zone),
+            session_name: content(p, texts.session_name),
+            domain: &text[0..total],
+            lengths: &lengths[0..count],
+            authentication: content(p, texts.authentication),
+        },
         content(p, body),
         f.encoding,
         out,

@@ -106,7 +106,7 @@ pub fn message(y: &[u8], most: usize, ends: bool) -> Frame
     sized(
         y,
         HEAD,
-        HEAD + octets::be32(y, LENGTH_AT) as usize,
+        HEAD + octets::read::<u32>(y, LENGTH_AT) as usize,
         most,
         ends,
     )
@@ -128,7 +128,7 @@ pub fn pdu(y: &[u8], most: usize, ends: bool) -> Frame
     sized(
         y,
         0,
-        FIXED + octets::be32(y, VARIABLE_AT) as usize,
+        FIXED + octets::read::<u32>(y, VARIABLE_AT) as usize,
         most,
         ends,
     )

@@ -170,8 +170,9 @@ module _ {steps first level left x : ℕ} (p : Climbing steps first level left x
             (sym (ap (λ (f : ℕ). climbed f level left x) n ∙ climb_on (levels_most - suc level) level left x e) ∙ p.same);
       }
 
-  pub climbing_top : levels_most ≤ level → record { level = level; number = x } ≡ block_of first steps
+  pub climbing_top : levels_most ≤ level → record { level = levels_most; number = x } ≡ block_of first steps
   unfolding climbed
   climbing_top h =
+      let e : level ≡ levels_most = omega (arith, p.most) in
       let z : levels_most - level ≡ 0 = omega arith in
-      sym (ap (λ (f : ℕ). climbed f level left x) z) ∙ p.same
+      sym (ap (λ (l : ℕ). record { level = l; number = x }) e) ∙ sym (ap (λ (f : ℕ). climbed f level left x) z) ∙ p.same

@@ -18,7 +18,7 @@ use Rattle.format.proofs.Accepting.{accepted}
 use Rattle.cells.specs.declared.Judged.{Judged}
 use Rattle.cells.specs.Rows.{Cell, segment_in, row_at, packet_in, cell_of}
 use Rattle.cells.specs.Order.{cells_most, cell_at}
-use Rattle.cells.specs.Inner.{body_in, judged_of, body_start, bodies_to, Bodies}
+use Rattle.cells.specs.Inner.{body_in, judged_of, body_start, bodies_to, Bodies, told_body}
 use Rattle.cells.proofs.CellSegments.{judged_none}
 use Rattle.cells.proofs.Carries.{Holding, kinds}
 use Rattle.cells.proofs.Lowest.{same_or}
@@ -33,13 +33,13 @@ module _ (s : Settings) (Z : ℕ) (st : List ℕ) (i : ℕ) where
   p = packet_in r
 
   -- as it is judged
-  pub body_judged : {x : List ℕ} {t : Judged} → x ≡ r → t ≡ judged_of (body_in s x) (cell_of s Z x) → t.at ≡ body_start s Z st i
+  pub body_judged : {x : List ℕ} {t : Judged} → x ≡ r → t ≡ judged_of (body_in s x) (cell_of s Z x) → told_body t ≡ body_start s Z st i
   unfolding body_start
-  body_judged ex et = ap (λ (t : Judged). t.at) (et ∙ ap (λ (y : List ℕ). judged_of (body_in s y) (cell_of s Z y)) ex)
+  body_judged ex et = ap (λ (t : Judged). told_body t) (et ∙ ap (λ (y : List ℕ). judged_of (body_in s y) (cell_of s Z y)) ex)
 
-  body_of : {d : Cell} → cell_at s Z st i ≡ d → body_start s Z st i ≡ (judged_of (body_in s r) d).at
+  body_of : {d : Cell} → cell_at s Z st i ≡ d → body_start s Z st i ≡ told_body (judged_of (body_in s r) d)
   unfolding body_start
-  body_of e = ap (λ (d : Cell). (judged_of (body_in s r) d).at) e
+  body_of e = ap (λ (d : Cell). told_body (judged_of (body_in s r) d)) e
 
   pub body_held : Holding s Z r → body_start s Z st i ≡ (read_packet s p).body.at
   body_held h = body_of h.cell

@@ -20,7 +20,7 @@ use Rattle.cells.specs.Segments.{Seg, seg_of, carries, both}
 use Rattle.cells.specs.Rows.{Range, free, held, taken, broken, segment_in, by_segment, zero_row, held_row, packet_in, may_hold, holds, records, range_of, cell_of}
 use Rattle.cells.specs.Order.{carries_in}
 use Rattle.cells.specs.declared.Judged.{Judged}
-use Rattle.cells.specs.Inner.{place_in, counter_in, spans_alike, body_in, judged_of, told_held, Asked}
+use Rattle.cells.specs.Inner.{place_in, counter_in, spans_alike, body_in, judged_of, told_held, Asked, told_body, told_counter}
 use Rattle.cells.proofs.CellSegments.{held_not, judged_none}
 use Rattle.cells.proofs.Held.{both_true}
 use Rattle.cells.proofs.Counters.{counter_told}
@@ -86,25 +86,22 @@ carrying s Z r k c e = ⊎_elim (λ h. h) (λ n. absurd (false≢true (sym (ap (
 unless_held : (s : Settings) (Z : ℕ) (r k : List ℕ) (c : ℕ) → (Holding s Z r → false ≡ carries_in k c (cell_of s Z r)) → false ≡ carries_in k c (cell_of s Z r)
 unless_held s Z r k c h = ⊎_elim (λ e. h (carrying s Z r k c e)) (λ e. sym e) (bool (carries_in k c (cell_of s Z r)))
 
--- a row that is judged held is
-abbrev held_told : Judged → Bool
-held_told t = told_held t.content
-
 pub not_held : {b : Bool} → b ≡ true → b ≡ false → ⊥
 not_held e f = let z : ◌≡◌ {A = ℕ} 0 1 = cc in omega arith
 
-pub judged_one : (s : Settings) (Z : ℕ) (r : List ℕ) {t : Judged} → t ≡ judged_of (body_in s r) (cell_of s Z r) → told_held t.content ≡ true → Holding s Z r
+-- a row that is judged held is
+pub judged_one : (s : Settings) (Z : ℕ) (r : List ℕ) {t : Judged} → t ≡ judged_of (body_in s r) (cell_of s Z r) → told_held t ≡ true → Holding s Z r
 judged_one s Z r {t} e h =
-    ⊎_elim (λ w. w) (λ n. absurd (not_held (ap held_told (sym e) ∙ h) (judged_none (body_in s r) (cell_of s Z r) n).0)) (kinds s Z r)
+    ⊎_elim (λ w. w) (λ n. absurd (not_held (ap told_held (sym e) ∙ h) (judged_none (body_in s r) (cell_of s Z r) n).0)) (kinds s Z r)
 
 -- and tells where its body begins, and its counter
 pub judged_at :
     (s : Settings) (Z : ℕ) (r : List ℕ) {t : Judged} → t ≡ judged_of (body_in s r) (cell_of s Z r) → Holding s Z r →
-    (told_held t.content ≡ true) × ((t.at ≡ (read_packet s (packet_in r)).body.at) × (t.counter.0 ≡ (read_packet s (packet_in r)).ids.counter.0))
+    (told_held t ≡ true) × ((told_body t ≡ (read_packet s (packet_in r)).body.at) × (told_counter t ≡ (read_packet s (packet_in r)).ids.counter.0))
 unfolding seg_of
 judged_at s Z r {t} e h =
     let f = e ∙ ap (judged_of (body_in s r)) h.cell in
-    (ap held_told f, (ap (λ (x : Judged). x.at) f, ap (λ (x : Judged). x.counter.0) f))
+    (ap told_held f, (ap (λ (x : Judged). told_body x) f, ap (λ (x : Judged). told_counter x) f))
 
 -- the counter of a segment that is held stands where its presence octet says
 pub held_counter : (s : Settings) (Z : ℕ) (r : List ℕ) → Octets r → Holding s Z r → counter_in (packet_in r) ≡ (read_packet s (packet_in r)).ids.counter.0
@@ -162,11 +159,11 @@ module _ (s : Settings) (r z q : List ℕ) (body_at c : ℕ) (o : Octets r) (a :
       ∙ pick_false (eqb c (counter_in p))))
 
   module _ {t : Judged} (et : t ≡ judged_of (body_in s r) (cell_of s (length z) r)) where
-    pub carries_not : told_held t.content ≡ false → false ≡ carries_in k c (cell_of s (length z) r)
+    pub carries_not : told_held t ≡ false → false ≡ carries_in k c (cell_of s (length z) r)
     carries_not h = unless_held s (length z) r k c (λ there. absurd (not_held (judged_at s (length z) r et there).0 h))
 
     pub carries_same :
-        {x : List ℕ} {n : ℕ} {b : Bool} → told_held t.content ≡ true → x ≡ p → n ≡ counter_in x → n ≡ c → b ≡ spans_alike q body_at x t.at →
+        {x : List ℕ} {n : ℕ} {b : Bool} → told_held t ≡ true → x ≡ p → n ≡ counter_in x → n ≡ c → b ≡ spans_alike q body_at x (told_body t) →
         b ≡ carries_in k c (cell_of s (length z) r)
     carries_same {x} {n} {b} one ex en ec eb =
         let there = judged_one s (length z) r et one in

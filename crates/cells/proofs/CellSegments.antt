@@ -7,10 +7,13 @@ use mathlib.Core.Bool.{Bool, true, false}
 use mathlib.Core.Option.{none, some, some-ne-none, none-ne-some}
 use native.Mathlib.Omega.{arith}
 use Rattle.octets.specs.Octets.{pick}
+use Rattle.packet.specs.declared.SegmentCounter.{SegmentCounter}
+use Rattle.cells.specs.declared.Judged.{Judged}
+use Rattle.cells.specs.declared.Judged.TheVariants.{Free, Held, Taken, Broken}
 use Rattle.cells.specs.Segments.{Seg}
 use Rattle.cells.specs.Rows.{Range, Cell, free, held, taken, broken, segment_in, range_in}
 use Rattle.cells.specs.Order.{is_free}
-use Rattle.cells.specs.Inner.{judged_of, told_held, told_taken}
+use Rattle.cells.specs.Inner.{judged_of, told_held, told_taken, told_body}
 
 pub segment_or : (x : Cell) → ((t : Seg) × (x ≡ held t)) ⊎ (segment_in x ≡ none)
 segment_or free = inr refl
@@ -41,7 +44,7 @@ segment_freed true x = refl
 segment_freed false x = refl
 
 -- as the code judges a cell that holds none: not held, with no body
-pub judged_none : (at : ℕ) (x : Cell) → segment_in x ≡ none → (told_held (judged_of at x).content ≡ false) × ((judged_of at x).at ≡ 0)
+pub judged_none : (at : ℕ) (x : Cell) → segment_in x ≡ none → (told_held (judged_of at x) ≡ false) × (told_body (judged_of at x) ≡ 0)
 judged_none at free e = (refl, refl)
 judged_none at (held t) e = absurd (some-ne-none t e)
 judged_none at (taken g) e = (refl, refl)
@@ -60,8 +63,21 @@ pub taken_not : (x : Cell) {g : Range} → x ≡ taken g → range_in x ≡ none
 taken_not x {g} e n = some-ne-none g (sym (ap range_in e) ∙ n)
 
 -- as the code judges a cell that is none
-pub untaken_none : (at : ℕ) (x : Cell) → range_in x ≡ none → told_taken (judged_of at x).content ≡ false
+pub untaken_none : (at : ℕ) (x : Cell) → range_in x ≡ none → told_taken (judged_of at x) ≡ false
 untaken_none at free e = refl
 untaken_none at (held t) e = refl
 untaken_none at (taken g) e = absurd (some-ne-none g e)
 untaken_none at broken e = refl
+
+-- what is told by the code's match: none that is held, and no record
+pub unheld_told : (t : Judged) → ((at : ℕ) (c : SegmentCounter) → t ≡ Held at c → ⊥) → told_held t ≡ false
+unheld_told Free h = refl
+unheld_told (Held at c) h = absurd (h at c refl)
+unheld_told (Taken x) h = refl
+unheld_told Broken h = refl
+
+pub untaken_told : (t : Judged) → ((h : ℕ) → t ≡ Taken h → ⊥) → told_taken t ≡ false
+untaken_told Free h = refl
+untaken_told (Held at c) h = refl
+untaken_told (Taken x) h = absurd (h x refl)
+untaken_told Broken h = refl

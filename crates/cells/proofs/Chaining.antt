@@ -5,20 +5,21 @@ use mathlib.Core.Path.{◌≡◌, ap, sym, ◌∙◌}
 use mathlib.Core.Logic.{◌⊎◌, inl, inr, ⊎_elim, ◌≢◌}
 use mathlib.Core.List.{List}
 use native.Mathlib.Omega.{arith}
-use lib.ListN.{length, get_or, set, replicate, get_or-replicate, length-replicate, length-set}
+use lib.ListN.{get_or, replicate, get_or-replicate, length-replicate, length-set}
 use lib.Seq.{get_or-set_same, get_or-set_other}
 use Rattle.octets.proofs.Lists.{below_or}
 use Rattle.cells.specs.Order.{cells_most}
-use Rattle.cells.specs.Chains.{chains_all, Chained}
+use Rattle.cells.specs.declared.Chains.{Chains}
+use Rattle.cells.specs.Chains.{chains_all, pushed, Chained}
 use Rattle.cells.proofs.Lowest.{same_or}
 
 -- heads of zeros lead nowhere
-pub chained_none : (b : ℕ → ℕ) (links : List ℕ) → length links ≡ cells_most → Chained b (replicate chains_all 0) links 0
-chained_none b links l =
+pub chained_none : (b : ℕ → ℕ) → Chained b (record { heads = replicate chains_all 0; links = replicate cells_most 0 }) 0
+chained_none b =
     record {
       most = omega arith;
       heads_long = length-replicate {A = ℕ} chains_all 0;
-      links_long = l;
+      links_long = length-replicate {A = ℕ} cells_most 0;
       low = λ x h. rw (get_or-replicate {A = ℕ} chains_all x 0 0 h) (omega arith);
       home = λ x k h e. let z : 0 ≡ suc k = sym (get_or-replicate {A = ℕ} chains_all x 0 0 h) ∙ e in absurd (omega arith);
       all = λ k h m. absurd (omega arith);
@@ -31,9 +32,9 @@ chained_none b links l =
 below : (i k : ℕ) → k < i + 1 → k ≢ i → k < i
 below i k l d = ⊎_elim (λ q. q) (λ q. absurd (d (omega arith))) (below_or k i)
 
-module _ {b : ℕ → ℕ} {H L : List ℕ} {i : ℕ} (c : Chained b H L i) (room : i < cells_most) where
+module _ {b : ℕ → ℕ} {T : Chains} {i : ℕ} (c : Chained b T i) (room : i < cells_most) where
   -- a cell on no chain changes nothing
-  pub chained_skip : chains_all ≤ b i → Chained b H L (i + 1)
+  pub chained_skip : chains_all ≤ b i → Chained b T (i + 1)
   chained_skip none =
       record {
         most = omega arith;
@@ -53,22 +54,22 @@ module _ {b : ℕ → ℕ} {H L : List ℕ} {i : ℕ} (c : Chained b H L i) (roo
   -- a cell becomes the head of its chain, and the head that was its link
   module _ (f : b i < chains_all) where
     abbrev H' : List ℕ
-    H' = set H (b i) (i + 1)
+    H' = (pushed i (b i) T).heads
 
     abbrev L' : List ℕ
-    L' = set L i (get_or H (b i) 0)
+    L' = (pushed i (b i) T).links
 
     head_new : get_or H' (b i) 0 ≡ i + 1
-    head_new = get_or-set_same H (b i) (i + 1) 0 (omega (arith, c.heads_long))
+    head_new = get_or-set_same T.heads (b i) (i + 1) 0 (omega (arith, c.heads_long))
 
-    head_old : (x : ℕ) → x ≢ b i → get_or H' x 0 ≡ get_or H x 0
-    head_old x d = get_or-set_other H (b i) x (i + 1) 0 d
+    head_old : (x : ℕ) → x ≢ b i → get_or H' x 0 ≡ get_or T.heads x 0
+    head_old x d = get_or-set_other T.heads (b i) x (i + 1) 0 d
 
-    link_new : get_or L' i 0 ≡ get_or H (b i) 0
-    link_new = get_or-set_same L i (get_or H (b i) 0) 0 (omega (arith, c.links_long))
+    link_new : get_or L' i 0 ≡ get_or T.heads (b i) 0
+    link_new = get_or-set_same T.links i (get_or T.heads (b i) 0) 0 (omega (arith, c.links_long))
 
-    link_old : (j : ℕ) → j ≢ i → get_or L' j 0 ≡ get_or L j 0
-    link_old j d = get_or-set_other L i j (get_or H (b i) 0) 0 d
+    link_old : (j : ℕ) → j ≢ i → get_or L' j 0 ≡ get_or T.links j 0
+    link_old j d = get_or-set_other T.links i j (get_or T.heads (b i) 0) 0 d
 
     low' : (x : ℕ) → x < chains_all → (x ≡ b i) ⊎ (x ≢ b i) → get_or H' x 0 ≤ i + 1
     low' x l (inl e) = rw (e, head_new) (omega arith)
@@ -97,16 +98,16 @@ module _ {b : ℕ → ℕ} {H L : List ℕ} {i : ℕ} (c : Chained b H L i) (roo
     between' : (j k : ℕ) → j < i + 1 → k < j → b j < chains_all → b k ≡ b j → (j ≡ i) ⊎ (j ≢ i) → k < get_or L' j 0
     between' j k l m h e (inl s) =
         let w : b k ≡ b i = e ∙ ap b s in
-        let v : k < get_or H (b k) 0 = c.all k (omega arith) (omega arith) in
+        let v : k < get_or T.heads (b k) 0 = c.all k (omega arith) (omega arith) in
         rw (s, link_new) (rw w at v)
     between' j k l m h e (inr d) = rw (link_old j d) (c.between j k (below i j l d) m h e)
 
-    pub chained_push : Chained b H' L' (i + 1)
+    pub chained_push : Chained b (pushed i (b i) T) (i + 1)
     chained_push =
         record {
           most = omega arith;
-          heads_long = length-set H (b i) (i + 1) ∙ c.heads_long;
-          links_long = length-set L i (get_or H (b i) 0) ∙ c.links_long;
+          heads_long = length-set T.heads (b i) (i + 1) ∙ c.heads_long;
+          links_long = length-set T.links i (get_or T.heads (b i) 0) ∙ c.links_long;
           low = λ x l. low' x l (same_or x (b i));
           home = λ x k l e. home' x k l e (same_or x (b i));
           all = λ k l h. all' k l h (same_or k i) (same_or (b k) (b i));

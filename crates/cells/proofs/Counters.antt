@@ -12,7 +12,7 @@ use Rattle.octets.proofs.Has.{Has, has_self, has_first, has_second, has_at_lem, 
 use Rattle.octets.proofs.Numbers.{wide_length, number_back}
 use Rattle.octets.proofs.Lists.{bit_top}
 use Rattle.walk.specs.declared.Settings.{Settings}
-use Rattle.packet.specs.declared.Header.{Header}
+use Rattle.packet.specs.Answer.{Header}
 use Rattle.packet.specs.Format.{Values, Opt, presence, identification, fixed_octets, secondary_octets, data_octets, octets_of}
 use Rattle.packet.specs.Reading.{read_packet, segmented, counter_size}
 use Rattle.packet.specs.Key.{counter_place}

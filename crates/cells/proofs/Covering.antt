@@ -21,7 +21,7 @@ use Rattle.cells.specs.declared.Judged.{Judged}
 use Rattle.cells.specs.Segments.{both, reaches}
 use Rattle.cells.specs.Rows.{Cell, by_range, cell_of, first_in, key_long, key_taken, first_taken, last_taken, steps_between, range_of}
 use Rattle.cells.specs.Order.{covers, covers_in}
-use Rattle.cells.specs.Inner.{body_in, judged_of, told_taken, Asked}
+use Rattle.cells.specs.Inner.{body_in, judged_of, told_taken, Asked, told_header}
 use Rattle.cells.specs.Chains.{key_in}
 use Rattle.cells.proofs.CellSegments.{untaken_none}
 use Rattle.cells.proofs.Held.{same_test}
@@ -37,9 +37,6 @@ alike_other a b =
     (λ e. rw (alike_true a b e) (alike_self b))
     (λ e. rw (alike_true b a e) (alike_self a))
 
-abbrev taken_told : Judged → Bool
-taken_told t = told_taken t.content
-
 module _ (s : Settings) (Z : ℕ) (r : List ℕ) (o : Octets r) where
   -- the transaction id of a record is that of its key
   record_transaction : Recording s Z r → number 8 (key_taken s r) 14 ≡ number 8 r 16
@@ -53,17 +50,17 @@ module _ (s : Settings) (Z : ℕ) (r : List ℕ) (o : Octets r) where
 
   -- a row that is judged a record is one, and its header is told
   module _ {t : Judged} (et : t ≡ judged_of (body_in s r) (cell_of s Z r)) where
-    pub judged_taken : told_taken t.content ≡ true → Recording s Z r
+    pub judged_taken : told_taken t ≡ true → Recording s Z r
     judged_taken h =
-        ⊎_elim (λ w. w) (λ n. absurd (not_held (ap taken_told (sym et) ∙ h) (untaken_none (body_in s r) (cell_of s Z r) n))) (record_or s Z r)
+        ⊎_elim (λ w. w) (λ n. absurd (not_held (ap told_taken (sym et) ∙ h) (untaken_none (body_in s r) (cell_of s Z r) n))) (record_or s Z r)
 
-    pub judged_header : Recording s Z r → (told_taken t.content ≡ true) × (2 + t.header ≡ key_long s r)
+    pub judged_header : Recording s Z r → (told_taken t ≡ true) × (2 + told_header t ≡ key_long s r)
     unfolding range_of key_long
     judged_header w =
         let f = et ∙ ap (judged_of (body_in s r)) (record_is s Z r w) in
-        (ap taken_told f, omega (arith, ap (λ (x : Judged). x.header) f, key_whole s Z r w))
+        (ap told_taken f, omega (arith, ap (λ (x : Judged). told_header x) f, key_whole s Z r w))
 
-    pub header_small : told_taken t.content ≡ true → t.header ≤ 256
+    pub header_small : told_taken t ≡ true → told_header t ≤ 256
     unfolding key_long
     header_small h =
         let w = judged_taken h in
@@ -156,11 +153,11 @@ module _ (s : Settings) (r z q : List ℕ) (body_at c : ℕ) (o : Octets r) (a :
             (bool (alike k (key_taken s r)))
 
     module _ {t : Judged} (et : t ≡ judged_of (body_in s r) here) where
-      pub covers_none : told_taken t.content ≡ false → false ≡ covers_in k c here
+      pub covers_none : told_taken t ≡ false → false ≡ covers_in k c here
       covers_none h = unless_taken (λ w. absurd (not_held (judged_header s (length z) r o et w).0 h))
 
       pub covers_same :
-          {x : List ℕ} {b : Bool} → told_taken t.content ≡ true → u ≡ true → x ≡ part r 2 (2 + t.header) → b ≡ alike x (key_in q body_at) →
+          {x : List ℕ} {b : Bool} → told_taken t ≡ true → u ≡ true → x ≡ part r 2 (2 + told_header t) → b ≡ alike x (key_in q body_at) →
           b ≡ covers_in k c here
       covers_same {x} {b} one eu ex eb =
           let w = judged_taken s (length z) r o et one in

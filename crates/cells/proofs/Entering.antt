@@ -7,7 +7,6 @@ use mathlib.Core.Bool.{Bool, true, false}
 use mathlib.Core.Option.{none}
 use mathlib.Core.List.{List}
 use native.Mathlib.Omega.{arith}
-use lib.ListN.{get_or, set}
 use lib.Dec.{eqb}
 use borrow.Author.Tests.{eqb-true, eqb-false}
 use Rattle.octets.specs.Octets.{Octets, number}
@@ -20,8 +19,9 @@ use Rattle.cells.specs.declared.Judged.{Judged}
 use Rattle.cells.specs.Segments.{seg_of, both}
 use Rattle.cells.specs.Rows.{segment_in, by_segment, row_at, packet_in, cell_of}
 use Rattle.cells.specs.Order.{cells_most, carries_in, cell_at, new_to, new_at, found_in, untaken_to, untaken_in}
-use Rattle.cells.specs.Inner.{counter_in, body_in, judged_of, told_held, body_start, Asked}
-use Rattle.cells.specs.Chains.{chains_all, bucket_of, key_in, bucket_in, bucket_at, Chained}
+use Rattle.cells.specs.Inner.{counter_in, body_in, judged_of, told_held, body_start, Asked, told_body}
+use Rattle.cells.specs.declared.Chains.{Chains}
+use Rattle.cells.specs.Chains.{chains_all, bucket_of, key_in, bucket_in, bucket_at, pushed, Chained}
 use Rattle.cells.proofs.Carries.{Holding, judged_one, judged_at, held_counter}
 use Rattle.cells.proofs.Mixing.{key_asked}
 use Rattle.cells.proofs.Lowest.{none_new, some_known}
@@ -47,11 +47,11 @@ asked_held s Z r o h eq es =
 -- ---- a row that is judged held
 
 module _ (s : Settings) (st : List ℕ) (Z i : ℕ) {r : List ℕ} (er : r ≡ row_at Z st i) {t : Judged} (et : t ≡ judged_of (body_in s r) (cell_of s Z r))
-    (o : Octets st) (one : told_held t.content ≡ true) where
+    (o : Octets st) (one : told_held t ≡ true) where
   there : Holding s Z r
   there = judged_one s Z r et one
 
-  pub asked : {q : List ℕ} → q ≡ packet_in r → Asked s q t.at
+  pub asked : {q : List ℕ} → q ≡ packet_in r → Asked s q (told_body t)
   asked eq = asked_held s Z r (rw er (row_plain s Z st i o)) there eq (judged_at s Z r et there).1.0
 
 -- ---- a cell, told where the body of its segment begins
@@ -72,7 +72,7 @@ module _ (s : Settings) (st : List ℕ) (Z i : ℕ) (o : Octets st) {body_at : �
     none_untaken n = sym (ap (by_segment true (λ t. untaken_to s Z st n t.key t.counter)) no_segment)
 
     -- it is on no chain
-    pub none_off : {H L : List ℕ} → Chained (bucket_at s Z st) H L i → i < cells_most → Chained (bucket_at s Z st) H L (i + 1)
+    pub none_off : {T : Chains} → Chained (bucket_at s Z st) T i → i < cells_most → Chained (bucket_at s Z st) T (i + 1)
     unfolding bucket_at
     none_off c l =
         let w : bucket_at s Z st i ≡ chains_all = ap (by_segment chains_all (λ t. bucket_of t.key t.counter)) no_segment in
@@ -119,11 +119,11 @@ module _ (s : Settings) (st : List ℕ) (Z i : ℕ) (o : Octets st) {body_at : �
         ∙ sym (ap bucket_in held_there.cell)
 
     pub some_on :
-        {b : ℕ} {H L H' L' : List ℕ} → Chained (bucket_at s Z st) H L i → i < cells_most → b ≡ bucket_of (key_in q body_at) c → b < chains_all →
-        H' ≡ set H b (i + 1) → L' ≡ set L i (get_or H b 0) → Chained (bucket_at s Z st) H' L' (i + 1)
-    some_on {b} d l eb lb eh el =
+        {b : ℕ} {T T' : Chains} → Chained (bucket_at s Z st) T i → i < cells_most → b ≡ bucket_of (key_in q body_at) c → b < chains_all →
+        T' ≡ pushed i b T → Chained (bucket_at s Z st) T' (i + 1)
+    some_on {b} d l eb lb et =
         let e : b ≡ bucket_at s Z st i = eb ∙ chain_is in
-        rw (eh, el, e) (chained_push d l (rw e at lb))
+        rw (et, e) (chained_push d l (rw e at lb))
 
 -- ---- the search for a key and counter below a cell
 

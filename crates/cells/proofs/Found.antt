@@ -9,7 +9,7 @@ use lib.ListN.{length, drop, length-take, length-drop}
 use Rattle.octets.specs.Octets.{Octets, part, number}
 use Rattle.octets.proofs.Numbers.{number_top}
 use Rattle.walk.specs.declared.Settings.{Settings}
-use Rattle.packet.specs.declared.Header.{Header}
+use Rattle.packet.specs.Answer.{Header}
 use Rattle.packet.specs.Reading.{read_packet, accepted_header, ended}
 use Rattle.packet.specs.Format.{packet_most}
 use Rattle.format.proofs.Start.{answer}

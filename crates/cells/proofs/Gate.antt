@@ -12,19 +12,12 @@ use borrow.Author.Tests.{leb-true, eqb-true, eq-eqb, ne_eqb}
 use Rattle.octets.specs.Octets.{pick}
 use Rattle.octets.proofs.Lists.{bool}
 use Rattle.walk.specs.declared.Settings.{Settings}
-use Rattle.walk.specs.declared.Walk.{Walk}
 use Rattle.walk.specs.declared.Refusal.{Refusal}
 use Rattle.walk.specs.Walk.{Reading, goes, refused, going, begun, check, refusal}
-use Rattle.walk.specs.Inner.{as_walk}
 use Rattle.cells.specs.Segments.{both}
 use Rattle.cells.specs.Order.{cells_most, length_fits, count_in, sound as all_sound, distinct, untaken, in_order, gate, through}
 use Rattle.cells.proofs.Held.{both_true}
-use Rattle.cells.specs.declared.opening.Opened.{Opened}
-use Rattle.cells.specs.Opening.{opened_of}
-
--- what an opened store is told by, whatever made its refusal
-pub opened_by : {r q : Refusal} {n : ℕ} {o : Opened} → r ≡ q → record { refusal = q; cells = n } ≡ o → record { refusal = r; cells = n } ≡ o
-opened_by {n} e h = ap (λ (x : Refusal). record { refusal = x; cells = n }) e ∙ h
+use Rattle.cells.specs.Opening.{Opened, opened_of}
 
 module _ (s : Settings) (Z : ℕ) (st : List ℕ) where
   -- what a store in order has
@@ -70,9 +63,9 @@ module _ (s : Settings) (Z : ℕ) (st : List ℕ) where
   unfolding opened_of
   open_as e = rw e refl
 
-  module _ {w : Walk} (ew : w ≡ as_walk (begun s)) where
-    number_is : w.refused ≡ (begun s).refused
-    number_is = ap (λ (x : Walk). x.refused) ew
+  module _ {q : Refusal} (eq : q ≡ refusal (begun s).refused) where
+    number_is : q.number ≡ (begun s).refused
+    number_is = ap (λ (x : Refusal). x.number) eq
 
     -- T or the profile outside its range: each test keeps the number or gives 15
     told_15 : (b : Bool) (v : Reading) → (v.refused ≡ 0) ⊎ (v.refused ≡ 15) → ((check b 15 v).refused ≡ 0) ⊎ ((check b 15 v).refused ≡ 15)
@@ -84,16 +77,16 @@ module _ (s : Settings) (Z : ℕ) (st : List ℕ) where
         by true false = inr refl
         by false c = k
 
-    refusal_15 : (w.refused ≡ 0 → ⊥) → w.refused ≡ 15
+    refusal_15 : (q.number ≡ 0 → ⊥) → (begun s).refused ≡ 15
     unfolding begun
-    refusal_15 h = ⊎_elim (λ e. absurd (h (number_is ∙ e))) (λ e. number_is ∙ e) (told_15 _ _ (told_15 _ _ (told_15 _ (goes 6) (inl refl))))
+    refusal_15 h = ⊎_elim (λ e. absurd (h (number_is ∙ e))) (λ e. e) (told_15 _ _ (told_15 _ _ (told_15 _ (goes 6) (inl refl))))
 
-    pub open_t : (w.refused ≡ 0 → ⊥) → record { refusal = refusal w.refused; cells = 0 } ≡ opened_of s Z st
+    pub open_t : (q.number ≡ 0 → ⊥) → record { refusal = q; cells = 0 } ≡ opened_of s Z st
     open_t h =
-        ap (λ (x : ℕ). record { refusal = refusal x; cells = 0 }) (refusal_15 h)
+        ap (λ (x : Refusal). record { refusal = x; cells = 0 }) (eq ∙ ap refusal (refusal_15 h))
         ∙ shut_as (gate_15 (ne_eqb (begun s).refused 0 (λ x. h (number_is ∙ x)))) (λ x. omega arith)
 
-    module _ (h : w.refused ≡ 0) {n : ℕ} (en : n ≡ pick (in_order s Z st) (count_in Z st) 0) where
+    module _ (h : q.number ≡ 0) {n : ℕ} (en : n ≡ pick (in_order s Z st) (count_in Z st) 0) where
       fine : eqb (begun s).refused 0 ≡ true
       fine = eq-eqb (begun s).refused 0 (sym number_is ∙ h)
 

@@ -12,12 +12,12 @@ use lib.Seq.{take_all, take-nil}
 use lib.Dec.{leb, eqb}
 use borrow.Author.Tests.{le-leb, leb-true, eq-eqb, ne_eqb, eqb-true, eqb-false}
 use Rattle.octets.specs.Octets.{pick, octet_at, part, number, room_of, alike}
-use Rattle.octets.proofs.Lists.{bool, below_or, alike_true}
+use Rattle.octets.proofs.Lists.{bool, below_or, alike_true, pick_false}
 use Rattle.walk.specs.declared.Settings.{Settings}
-use Rattle.packet.specs.declared.Header.{Header}
+use Rattle.packet.specs.Answer.{Header}
 use Rattle.packet.specs.Reading.{read_packet, segmented, accepted_header, primary_of}
 use Rattle.format.proofs.Start.{answer}
-use Rattle.cells.specs.declared.Content.TheVariants.{Free, Held, Broken}
+use Rattle.cells.specs.declared.Judged.TheVariants.{Free, Held, Broken}
 use Rattle.cells.specs.declared.Judged.{Judged}
 use Rattle.cells.specs.Segments.{seg_of, both}
 use Rattle.cells.specs.Rows.{taken, broken, zero_row, held_row, packet_in, may_hold, holds, records, range_of, cell_of}
@@ -100,7 +100,7 @@ part_fits Z k r e h = omega (arith, length-take k (drop 2 r), length-drop 2 r)
 
 -- what is told of a held row, by its packet's header
 abbrev noted : Header → Judged
-noted h = record { content = Held; at = h.body.at; counter = h.ids.counter; header = 0 }
+noted h = Held h.body.at h.ids.counter
 
 nothing : (a b c d : Bool) → c ≡ false → both a (both b (both c d)) ≡ false
 nothing true true c d e = rw e refl
@@ -160,7 +160,7 @@ module _ (s : Settings) (Z : ℕ) (r : List ℕ) where
       (bool (eqb (length r) Z))
 
   -- what the row is
-  pub judged_free : alike r (zero_row Z) ≡ true → record { content = Free; at = 0; counter = record { 0 = 0 }; header = 0 } ≡ judged_of (body_in s r) (cell_of s Z r)
+  pub judged_free : alike r (zero_row Z) ≡ true → Free ≡ judged_of (body_in s r) (cell_of s Z r)
   unfolding cell_of
   judged_free e = rw e refl
 
@@ -171,7 +171,7 @@ module _ (s : Settings) (Z : ℕ) (r : List ℕ) where
 
     pub judged_broken :
         holds s Z r ≡ false → records s Z r ≡ false →
-        record { content = Broken; at = 0; counter = record { 0 = 0 }; header = 0 } ≡ judged_of (body_in s r) (cell_of s Z r)
+        Broken ≡ judged_of (body_in s r) (cell_of s Z r)
     unfolding cell_of
     judged_broken e f = rw (no, e, f) refl
 
@@ -202,7 +202,7 @@ pub part_room : (r : List ℕ) (k : ℕ) {n : ℕ} → n ≡ length (part r 2 k)
 part_room r k e h = omega (arith, length-take k (drop 2 r), length-drop 2 r)
 
 module _ (s : Settings) (r z : List ℕ) (ez : z ≡ zero_row (length z)) where
-  pub told_free : {b : Bool} → b ≡ alike r z → b ≡ true → record { content = Free; at = 0; counter = record { 0 = 0 }; header = 0 } ≡ judged_of (body_in s r) (cell_of s (length z) r)
+  pub told_free : {b : Bool} → b ≡ alike r z → b ≡ true → Free ≡ judged_of (body_in s r) (cell_of s (length z) r)
   told_free e t = judged_free s (length z) r (ap (alike r) (sym ez) ∙ sym e ∙ t)
 
   module _ {b m t : Bool} {p : List ℕ} {h : Header} (eb : b ≡ alike r z) (no : b ≡ false) (ep : p ≡ part r 2 (number 2 r 6 + 7)) (eh : h ≡ read_packet s p)
@@ -226,8 +226,11 @@ module _ (s : Settings) (r z : List ℕ) (ez : z ≡ zero_row (length z)) where
     pub told_held_lem : t ≡ true → noted h ≡ judged_of (body_in s r) (cell_of s (length z) r)
     told_held_lem e = ap noted (eh ∙ ap (read_packet s) ep) ∙ judged_held s (length z) r row_free (sym row_holds ∙ e)
 
-    pub told_broken : t ≡ false → records s (length z) r ≡ false → record { content = Broken; at = 0; counter = record { 0 = 0 }; header = 0 } ≡ judged_of (body_in s r) (cell_of s (length z) r)
+    pub told_broken : t ≡ false → records s (length z) r ≡ false → Broken ≡ judged_of (body_in s r) (cell_of s (length z) r)
     told_broken e f = judged_broken s (length z) r row_free (sym row_holds ∙ e) f
+
+    pub told_refused : (h.refusal.number ≡ 0 → ⊥) → records s (length z) r ≡ false → Broken ≡ judged_of (body_in s r) (cell_of s (length z) r)
+    told_refused k f = told_broken (et ∙ ap (both m) (ap (λ (x : Bool). both x (not (eqb h.primary.flags 3))) (ne_eqb h.refusal.number 0 k)) ∙ pick_false m) f
 
 -- a counter's place is one of three
 pub place_least : (p : List ℕ) → (27 ≤ place_in p) × (place_in p ≤ 29)

@@ -1,13 +1,11 @@
 -- A key mixed in its three parts is mixed whole, and chooses one of the chains.
 -- Assumes nothing.
-use Prim.Native.Nat.{ℕ, ◌+◌, ◌-◌, ◌≤◌, ◌<◌}
-use mathlib.Core.Path.{◌≡◌, refl, ap, sym, ◌∙◌}
+use Prim.Native.Nat.{ℕ, ◌+◌, ◌-◌, ◌<◌}
+use mathlib.Core.Path.{◌≡◌, ap, sym, ◌∙◌}
 use mathlib.Core.Bool.{Bool}
-use mathlib.Core.List.{List, [], ◌∷◌, ◌++◌}
-use native.Mathlib.Numerals.{add-one}
+use mathlib.Core.List.{List, ◌++◌}
 use native.Mathlib.Omega.{arith}
-use lib.ListN.{length, get_or, drop}
-use lib.Seq.{drop-cons, drop-length}
+use Rattle.std.proofs.lemmas.List.Sums.{fold-append}
 use Rattle.octets.specs.Octets.{pick, part}
 use Rattle.walk.specs.declared.Settings.{Settings}
 use Rattle.packet.specs.Reading.{read_packet}
@@ -17,32 +15,7 @@ use Rattle.cells.specs.Chains.{mix_in, mixed, mix_start, chain_in, chains_all, b
 use Rattle.cells.proofs.Counters.{place_told}
 use Rattle.cells.proofs.SameKeys.{key_told}
 
--- ---- the loop that mixes: what is left, mixed into the number so far
-
-pub record Mixing (start : ℕ) (x : List ℕ) (m i : ℕ) : Type 0 where
-  pub most : i ≤ length x
-  pub told : mixed m (drop i x) ≡ mixed start x
-
-pub mixing_first : (start : ℕ) (x : List ℕ) → Mixing start x start 0
-mixing_first start x = record { most = omega arith; told = refl }
-
-pub mixing_turn : {start : ℕ} {x : List ℕ} {m i : ℕ} → Mixing start x m i → i < length x → Mixing start x (mix_in m (get_or x i 0)) (i + 1)
-unfolding mixed
-mixing_turn {start} {x} {m} {i} p h =
-    record { most = omega arith; told = rw (add-one i) (sym (ap (mixed m) (drop-cons x i 0 h)) ∙ p.told) }
-
-pub mixing_done : {start : ℕ} {x : List ℕ} {m i : ℕ} → Mixing start x m i → length x ≤ i → m ≡ mixed start x
-unfolding mixed
-mixing_done {start} {x} {m} {i} p h =
-    let e : i ≡ length x = omega (arith, p.most) in
-    sym (ap (mixed m) (ap (λ (k : ℕ). drop k x) e ∙ drop-length x)) ∙ p.told
-
 -- ---- one list after the other
-
-pub mixed_append : (m : ℕ) (a b : List ℕ) → mixed m (a ++ b) ≡ mixed (mixed m a) b
-unfolding mixed
-mixed_append m [] b = refl
-mixed_append m (x ∷ a) b = mixed_append (mix_in m x) a b
 
 pub key_mixed :
     (q : List ℕ) (body_at : ℕ) {a f t : ℕ} → a ≡ mixed mix_start (part q 0 2) → f ≡ mixed a (part q 6 (place_in q - 6)) →
@@ -54,8 +27,8 @@ key_mixed q body_at {a} {f} {t} ea ef et =
     let w : List ℕ = part q (place_in q + 4) (body_at - (place_in q + 4)) in
     et
     ∙ ap (λ (n : ℕ). mixed n w) (ef ∙ ap (λ (n : ℕ). mixed n v) ea)
-    ∙ sym (mixed_append (mixed mix_start u) v w)
-    ∙ sym (mixed_append mix_start u (v ++ w))
+    ∙ sym (fold-append mix_in (mixed mix_start u) v w)
+    ∙ sym (fold-append mix_in mix_start u (v ++ w))
 
 pub bucket_told : (k : List ℕ) (c : ℕ) {m r : ℕ} → m ≡ mixed mix_start k → r ≡ chain_in (mix_in m c) → r ≡ bucket_of k c
 unfolding bucket_of

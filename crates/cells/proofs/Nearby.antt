@@ -1,6 +1,6 @@
 -- The records that may cover a counter stand on few chains: a walk along a chain, and all levels.
 -- Assumes nothing.
-use Prim.Native.Nat.{ℕ, suc, ◌+◌, ◌-◌, ◌*◌, ◌/◌, ◌≤◌, ◌<◌}
+use Prim.Native.Nat.{ℕ, suc, ◌+◌, ◌*◌, ◌/◌, ◌≤◌, ◌<◌}
 use mathlib.Core.Path.{◌≡◌, refl, ap, ap₂, sym, ◌∙◌}
 use mathlib.Core.Logic.{inr, ⊎_elim}
 use mathlib.Core.Bool.{Bool, true, false, not, false≢true}
@@ -19,65 +19,61 @@ use Rattle.packet.specs.Numbers.{next_counter}
 use Rattle.cells.specs.Segments.{both, reaches}
 use Rattle.cells.specs.Rows.{Range, by_range, row_at, cell_of, key_long, range_of}
 use Rattle.cells.specs.Order.{cells_most, cell_at, all_to, covers, covers_in, untaken_to}
-use Rattle.cells.specs.Chains.{mixed, mix_start, chains_all, Chained}
+use Rattle.cells.specs.declared.Chains.{Chains}
+use Rattle.cells.specs.Chains.{mixed, mix_start, chains_all, cell_below, Chained}
 use Rattle.cells.specs.Blocks.{levels_most, twos, halved, prior, block_of, block_chain, range_chain, taken_at, hits, clear_on, clear_at, clear_by}
 use Rattle.cells.proofs.Held.{both_true}
 use Rattle.cells.proofs.Apart.{all_at}
 use Rattle.cells.proofs.Lowest.{all_each, none_new}
-use Rattle.cells.proofs.Walking.{Walked, walk_first, walk_down, walk_turn, walk_done}
+use Rattle.std.specs.Prelude.{Option, None, Some}
+use Rattle.cells.proofs.Walking.{Walked, above, above_below, walk_first, walk_down, walk_turn, walk_done}
 use Rattle.cells.proofs.Passing.{Passing, passing_first, passing_turn, all_fault, passing_all}
 use Rattle.cells.proofs.Records.{Recording, record_or, record_is}
 use Rattle.cells.proofs.Blocks.{near, block_room, halved_more}
 
 -- ---- along a chain
 
-module _ (s : Settings) (st : List ℕ) (Z n : ℕ) (k : List ℕ) (c : ℕ) {b : ℕ} {H L : List ℕ} (ch : Chained (taken_at s Z st) H L n) (fb : b < chains_all) where
-  abbrev pub Clearing : ℕ → Type 0
-  Clearing cur = Walked (taken_at s Z st) (hits s Z st k c b) n b cur n
+module _ (s : Settings) (st : List ℕ) (Z n : ℕ) (k : List ℕ) (c : ℕ) {b : ℕ} {T : Chains} (ch : Chained (taken_at s Z st) T n) (fb : b < chains_all) where
+  abbrev pub Clearing : Option ℕ → Type 0
+  Clearing cur = Walked (taken_at s Z st) (hits s Z st k c b) n b (above cur) n
 
   only : (j : ℕ) → hits s Z st k c b j ≡ true → taken_at s Z st j ≡ b
   only j e = eqb-true (taken_at s Z st j) b (both_true (eqb (taken_at s Z st j) b) (covers_in k c (cell_at s Z st j)) e).0
 
-  pub clear_head : get_or H b 0 ≤ cells_most
-  clear_head = omega (arith, ch.low b fb, ch.most)
+  pub clear_first : {cur : Option ℕ} → cur ≡ cell_below (get_or T.heads b 0) → Clearing cur
+  clear_first e = rw (e, above_below) (walk_first ch (hits s Z st k c b) b fb only)
 
-  pub clear_first : Clearing (get_or H b 0)
-  clear_first = walk_first ch (hits s Z st k c b) b fb only
+  pub clear_done : Clearing None → true ≡ clear_on s Z st n k c b
+  unfolding clear_on
+  clear_done w = sym (none_new (hits s Z st k c b) n (sym (walk_done ch (hits s Z st k c b) b fb only w refl)))
 
-  module _ {cur : ℕ} (w : Clearing cur) where
-    pub clear_done : cur ≤ 0 → true ≡ clear_on s Z st n k c b
-    unfolding clear_on
-    clear_done h = sym (none_new (hits s Z st k c b) n (sym (walk_done ch (hits s Z st k c b) b fb only w (omega arith))))
+  module _ {j : ℕ} (w : Clearing (Some j)) where
+    pub clear_small : j < cells_most
+    clear_small = omega (arith, w.low, ch.most)
 
-    module _ (h : 0 < cur) where
-      pub clear_small : cur - 1 < cells_most
-      clear_small = omega (arith, w.low, ch.most)
+    module _ {cur : Option ℕ} (e : cur ≡ cell_below (get_or T.links j 0)) where
+      next_is : above cur ≡ get_or T.links j 0
+      next_is = ap above e ∙ above_below (get_or T.links j 0)
 
-      before : cur ≡ suc (cur - 1)
-      before = omega arith
+      pub clear_less : above cur < suc j
+      clear_less = omega (arith, next_is, walk_down ch (hits s Z st k c b) b fb only w j refl)
 
-      pub clear_down : get_or L (cur - 1) 0 ≤ cur - 1
-      clear_down = walk_down ch (hits s Z st k c b) b fb only w (cur - 1) before
+    module _ {t : Bool} {r : List ℕ} (er : r ≡ row_at Z st j) (et : t ≡ covers_in k c (cell_of s Z r)) where
+      told : t ≡ covers_in k c (cell_at s Z st j)
+      told = et ∙ ap (λ (x : List ℕ). covers_in k c (cell_of s Z x)) er
 
-      pub clear_less : get_or L (cur - 1) 0 < cur
-      clear_less = omega (arith, clear_down)
+      pub clear_turn : {cur : Option ℕ} → cur ≡ cell_below (get_or T.links j 0) → t ≡ false → Clearing cur
+      clear_turn f e =
+          let g : hits s Z st k c b j ≡ false =
+          ap (both (eqb (taken_at s Z st j) b)) (sym told ∙ e) ∙ pick_false (eqb (taken_at s Z st j) b) in
+          rw (next_is f) (walk_turn ch (hits s Z st k c b) b fb only w j refl (inr (g, refl)))
 
-      module _ {t : Bool} {r : List ℕ} (er : r ≡ row_at Z st (cur - 1)) (et : t ≡ covers_in k c (cell_of s Z r)) where
-        told : t ≡ covers_in k c (cell_at s Z st (cur - 1))
-        told = et ∙ ap (λ (x : List ℕ). covers_in k c (cell_of s Z x)) er
-
-        pub clear_turn : t ≡ false → Clearing (get_or L (cur - 1) 0)
-        clear_turn e =
-            let f : hits s Z st k c b (cur - 1) ≡ false =
-            ap (both (eqb (taken_at s Z st (cur - 1)) b)) (sym told ∙ e) ∙ pick_false (eqb (taken_at s Z st (cur - 1)) b) in
-            walk_turn ch (hits s Z st k c b) b fb only w (cur - 1) before (inr (f, refl))
-
-        pub clear_fault : t ≡ true → false ≡ clear_on s Z st n k c b
-        unfolding clear_on
-        clear_fault e =
-            let f : hits s Z st k c b (cur - 1) ≡ true =
-            ap₂ both (eq-eqb (taken_at s Z st (cur - 1)) b (w.home (cur - 1) before)) (sym told ∙ e) in
-            all_fault (λ i. not (hits s Z st k c b i)) n (cur - 1) (omega (arith, w.low)) (ap not f)
+      pub clear_fault : t ≡ true → false ≡ clear_on s Z st n k c b
+      unfolding clear_on
+      clear_fault e =
+          let f : hits s Z st k c b j ≡ true =
+          ap₂ both (eq-eqb (taken_at s Z st j) b (w.home j refl)) (sym told ∙ e) in
+          all_fault (λ i. not (hits s Z st k c b i)) n j (omega (arith, w.low)) (ap not f)
 
 -- ---- on all of them
 

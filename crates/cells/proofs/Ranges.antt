@@ -7,7 +7,6 @@ use mathlib.Core.Bool.{Bool, true, false, not}
 use mathlib.Core.Option.{none}
 use mathlib.Core.List.{List}
 use native.Mathlib.Omega.{arith}
-use lib.ListN.{get_or, set}
 use lib.Dec.{eqb}
 use borrow.Author.Tests.{eq-eqb, not-true}
 use Rattle.octets.specs.Octets.{Octets, octet_at, part, number}
@@ -15,8 +14,9 @@ use Rattle.walk.specs.declared.Settings.{Settings}
 use Rattle.cells.specs.declared.Judged.{Judged}
 use Rattle.cells.specs.Rows.{Cell, range_in, by_range, row_at, cell_of, key_long, steps_between, range_of}
 use Rattle.cells.specs.Order.{cells_most, cell_at, untaken}
-use Rattle.cells.specs.Inner.{body_in, judged_of, told_taken}
-use Rattle.cells.specs.Chains.{chains_all, Chained}
+use Rattle.cells.specs.Inner.{body_in, judged_of, told_taken, told_header}
+use Rattle.cells.specs.declared.Chains.{Chains}
+use Rattle.cells.specs.Chains.{chains_all, pushed, Chained}
 use Rattle.cells.specs.Blocks.{block_of, block_chain, chain_by, range_chain, taken_at, no_marks}
 use Rattle.cells.proofs.Apart.{all_at}
 use Rattle.cells.proofs.Covered.{Clear, clear_untaken}
@@ -34,7 +34,7 @@ chain_low m j x = omega arith
 module _ (s : Settings) (st : List ℕ) (Z i : ℕ) {r : List ℕ} (er : r ≡ row_at Z st i) where
   -- no record: it is on no chain
   module _ (e : range_in (cell_at s Z st i) ≡ none) where
-    pub none_chained : {H L : List ℕ} → Chained (taken_at s Z st) H L i → i < cells_most → Chained (taken_at s Z st) H L (i + 1)
+    pub none_chained : {T : Chains} → Chained (taken_at s Z st) T i → i < cells_most → Chained (taken_at s Z st) T (i + 1)
     unfolding taken_at
     none_chained c l =
         let w : taken_at s Z st i ≡ chains_all = ap (by_range chains_all (λ g. chain_by g.key (block_of g.first g.steps))) e in
@@ -51,14 +51,14 @@ module _ (s : Settings) (st : List ℕ) (Z i : ℕ) {r : List ℕ} (er : r ≡ r
     pub row_octets : Octets r
     row_octets = rw er (row_plain s Z st i o)
 
-    pub judged_none : told_taken t.content ≡ false → range_in (cell_at s Z st i) ≡ none
+    pub judged_none : told_taken t ≡ false → range_in (cell_at s Z st i) ≡ none
     judged_none h =
         ⊎_elim
         (λ w. absurd (not_held (judged_header s Z r row_octets et w).0 h))
         (λ w. ap (λ (x : List ℕ). range_in (cell_of s Z x)) (sym er) ∙ w)
         (record_or s Z r)
 
-    module _ (one : told_taken t.content ≡ true) where
+    module _ (one : told_taken t ≡ true) where
       there : Recording s Z r
       there = judged_taken s Z r row_octets et one
 
@@ -66,12 +66,12 @@ module _ (s : Settings) (st : List ℕ) (Z i : ℕ) {r : List ℕ} (er : r ≡ r
       cell_is f = ap (λ (x : List ℕ). f (cell_of s Z x)) (sym er)
 
       module _ {b : ℕ}
-          (eb : b ≡ chain_by (part r 2 (2 + t.header)) (block_of (number 4 r (4 + t.header)) (steps_between (number 4 r (4 + t.header)) (number 4 r (4 + t.header + 4))))) where
+          (eb : b ≡ chain_by (part r 2 (2 + told_header t)) (block_of (number 4 r (4 + told_header t)) (steps_between (number 4 r (4 + told_header t)) (number 4 r (4 + told_header t + 4))))) where
         chain_is : b ≡ taken_at s Z st i
         unfolding taken_at range_of
         chain_is =
             let l = (judged_header s Z r row_octets et there).1 in
-            let n : 4 + t.header ≡ 2 + key_long s r = omega (arith, l) in
+            let n : 4 + told_header t ≡ 2 + key_long s r = omega (arith, l) in
             eb
             ∙ ap₂ (λ (x y : ℕ). chain_by (part r 2 x) (block_of (number 4 r y) (steps_between (number 4 r y) (number 4 r (y + 4))))) l n
             ∙ sym (cell_is range_chain ∙ ap range_chain (record_is s Z r there))
@@ -80,21 +80,21 @@ module _ (s : Settings) (st : List ℕ) (Z i : ℕ) {r : List ℕ} (er : r ≡ r
         some_low = rw eb (chain_low _ _ _)
 
         pub some_chained :
-            {H L H' L' : List ℕ} → Chained (taken_at s Z st) H L i → i < cells_most → H' ≡ set H b (i + 1) → L' ≡ set L i (get_or H b 0) →
-            Chained (taken_at s Z st) H' L' (i + 1)
-        some_chained d l eh el = rw (eh, el, chain_is) (chained_push d l (rw chain_is at some_low))
+            {T T' : Chains} → Chained (taken_at s Z st) T i → i < cells_most → T' ≡ pushed i b T →
+            Chained (taken_at s Z st) T' (i + 1)
+        some_chained d l et = rw (et, chain_is) (chained_push d l (rw chain_is at some_low))
 
 -- ---- the pass
 
-pub record Linking (s : Settings) (Z : ℕ) (st : List ℕ) (n : ℕ) (H L : List ℕ) (i : ℕ) : Type 0 where
+pub record Linking (s : Settings) (Z : ℕ) (st : List ℕ) (n : ℕ) (T : Chains) (i : ℕ) : Type 0 where
   pub most : i ≤ n
-  pub chained : Chained (taken_at s Z st) H L i
+  pub chained : Chained (taken_at s Z st) T i
 
-module _ {s : Settings} {Z : ℕ} {st : List ℕ} {n : ℕ} {H L : List ℕ} where
-  pub linking_first : Chained (taken_at s Z st) H L 0 → Linking s Z st n H L 0
+module _ {s : Settings} {Z : ℕ} {st : List ℕ} {n : ℕ} {T : Chains} where
+  pub linking_first : Chained (taken_at s Z st) T 0 → Linking s Z st n T 0
   linking_first c = record { most = omega arith; chained = c }
 
-  pub linking_done : {i : ℕ} → Linking s Z st n H L i → n ≤ i → Chained (taken_at s Z st) H L n
+  pub linking_done : {i : ℕ} → Linking s Z st n T i → n ≤ i → Chained (taken_at s Z st) T n
   linking_done {i} p h = let e : i ≡ n = omega (arith, p.most) in rw e at p.chained
 
 -- ---- without records no segment lies in a range

@@ -12,7 +12,7 @@ use Rattle.octets.specs.Octets.{pick, Octets, octet_at, part, number, wide, most
 use Rattle.octets.proofs.Has.{Has, has_self, has_first, has_second, has_both, has_at_lem, part_has, octets_nil, octets_one, octets_append, octets_take, octets_part}
 use Rattle.octets.proofs.Numbers.{wide_length, wide_octets, number_back}
 use Rattle.walk.specs.declared.Settings.{Settings}
-use Rattle.packet.specs.declared.Header.{Header}
+use Rattle.packet.specs.Answer.{Header}
 use Rattle.packet.specs.Format.{Head, Values, InRange, identification, fixed_octets, front_octets, counter_octets, back_octets, header_octets, secondary_octets, data_octets, octets_of}
 use Rattle.packet.specs.Reading.{read_packet, segmented, counter_size}
 use Rattle.packet.specs.Key.{counter_place, key_of}

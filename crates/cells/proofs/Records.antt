@@ -15,8 +15,11 @@ use Rattle.octets.proofs.Has.{Has, has_part, has_both, part_has, part_length}
 use Rattle.octets.proofs.Numbers.{wide_length, number_has}
 use Rattle.octets.proofs.Lists.{bool, alike_true, alike_self}
 use Rattle.walk.specs.declared.Settings.{Settings}
-use Rattle.packet.specs.declared.Header.{Header}
-use Rattle.packet.specs.Reading.{read_packet}
+use Rattle.walk.specs.declared.Refused.{Refused}
+use Rattle.walk.specs.Told.{told}
+use Rattle.walk.proofs.Refuses.{has_number}
+use Rattle.packet.specs.Answer.{Header}
+use Rattle.packet.specs.Reading.{read_packet, refused_header}
 use Rattle.cells.specs.declared.Judged.{Judged}
 use Rattle.cells.specs.Segments.{Seg, seg_of, both}
 use Rattle.cells.specs.Rows.{Range, free, held, taken, broken, range_in, zero_row, packet_in, held_row, holds, cell_of, record_row}
@@ -166,6 +169,11 @@ pub head_small :
     (s : Settings) (r : List ℕ) → Octets r → {h : Header} → h ≡ read_packet s (first_in r) → h.refusal.number ≡ 0 → h.h ≤ 256
 head_small s r o e z =
     omega (arith, ap (λ (x : Header). x.h) e, header_top s r o (ap (λ (x : Header). x.refusal.number) (sym e) ∙ z))
+
+-- a refusal has a number
+pub refused_number : (r : Refused) → (refused_header (told r)).refusal.number ≡ 0 → ⊥
+unfolding refused_header
+refused_number r e = has_number r e
 
 pub refused_record :
     (s : Settings) (Z : ℕ) (r : List ℕ) {h : Header} {t : Judged} → h ≡ read_packet s (first_in r) → (h.refusal.number ≡ 0 → ⊥) →

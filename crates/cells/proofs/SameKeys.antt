@@ -13,7 +13,7 @@ use Rattle.octets.specs.Octets.{pick, Octets, part, alike}
 use Rattle.octets.proofs.Has.{part_length}
 use Rattle.octets.proofs.Lists.{alike_self, alike_true}
 use Rattle.walk.specs.declared.Settings.{Settings}
-use Rattle.packet.specs.declared.Header.{Header}
+use Rattle.packet.specs.Answer.{Header}
 use Rattle.packet.specs.Format.{Head, header_octets}
 use Rattle.packet.specs.Reading.{read_packet, segmented, counter_size}
 use Rattle.packet.specs.Key.{counter_place, key_of, same_key}

@@ -1,14 +1,26 @@
 -- The scans over the cells, on plain values: the lowest free one, the length.
 -- Assumes nothing.
-use Prim.Native.Nat.{ℕ, suc, ◌+◌, ◌-◌, ◌*◌, ◌/◌, ◌%◌, ◌≤◌, ◌<◌}
+use Prim.Native.Nat.{ℕ, zero, suc, ◌+◌, ◌-◌, ◌*◌, ◌/◌, ◌%◌, ◌≤◌, ◌<◌}
 use mathlib.Core.Path.{◌≡◌, refl, ap, sym, ◌∙◌}
 use mathlib.Core.Logic.{⊎_elim}
-use mathlib.Core.Bool.{Bool, true, false}
+use mathlib.Core.Bool.{Bool, true, false, cond}
 use mathlib.Core.List.{List}
 use native.Mathlib.Numerals.{add-one}
 use native.Mathlib.Omega.{arith}
 use native.Mathlib.Nat.{mul-le-mul_right, suc-mul, div-zero}
 use lib.ListN.{length}
+use denote.Param.Members.{Mut}
+use denote.Ref.{Bor}
+use Rattle.std.proofs.Common.{Option, Some, None}
+use Rattle.std.proofs.iter.Yields.{nat_range_steps}
+use Rattle.std.proofs.lemmas.Iterator.{YieldsList-from_range}
+use Rattle.std.proofs.lemmas.Iterator.Search.{find_from_yields_List}
+use Rattle.std.specs.Bool.{⊤}
+use Rattle.std.specs.Fn.{CalledAt}
+use Rattle.std.specs.Iterator.{YieldsThen}
+use Rattle.std.specs.List.{FoldsTo, find, range_with_len}
+use Rattle.std.specs.Option.{MatchOption, option_map, unwrap_or}
+use Rattle.std.specs.declared.ops.Range.{Range as Numbers}
 use borrow.Author.Tests.{le-leb, lt-leb, eq-eqb, ne_eqb}
 use Rattle.octets.specs.Octets.{pick, alike, octet_at}
 use Rattle.octets.proofs.Lists.{bool, alike_true}
@@ -62,9 +74,35 @@ seeking_none {f} {n} {i} p h =
     let z : n - i ≡ 0 = omega arith in
     sym e ∙ ap (λ (k : ℕ). lowest f k i) (sym z) ∙ p.same
 
--- the lowest free cell is the lowest row of zeros
-pub row_free : (st z : List ℕ) (i : ℕ) {r : List ℕ} {b c : Bool} → r ≡ row_at (length z) st i → b ≡ alike r z → b ≡ c → alike (row_at (length z) st i) z ≡ c
-row_free st z i er eb ec = ap (λ (x : List ℕ). alike x z) (sym er) ∙ sym eb ∙ ec
+-- ---- the lowest of a range
+
+picked : (b : Bool) (r : Option ℕ) (a n m : ℕ) → unwrap_or r n ≡ m → unwrap_or (cond b (Some a) r) n ≡ pick b a m
+picked true r a n m e = refl
+picked false r a n m e = e
+
+found_from : (f : ℕ → Bool) (n a : ℕ) → unwrap_or (find f (range_with_len a n)) (a + n) ≡ lowest f n a
+unfolding lowest
+found_from f zero a = omega arith
+found_from f (suc n) a =
+    let e : (a + 1) + n ≡ a + suc n = omega arith in
+    picked (f a) (find f (range_with_len (a + 1) n)) a (a + suc n) (lowest f n (suc a))
+    (sym (ap (unwrap_or (find f (range_with_len (a + 1) n))) e) ∙ found_from f n (a + 1) ∙ ap (lowest f n) (add-one a))
+
+same_option : (r : Option ℕ) → option_map (λ x. x) r ≡ r
+same_option None = refl
+same_option (Some x) = refl
+
+-- what `find` answers of a range, where the closure is the test f, is the lowest number of which f holds
+pub first_in_range :
+    {F : Type 0} {g : Mut F (Bor ℕ × Unit {0}) Bool} {s : Numbers ℕ} (f : ℕ → Bool) (n : ℕ) (u : Numbers ℕ) (h : F) (r : Option ℕ) →
+    (xs : List ℕ) × (j : F) × YieldsThen nat_range_steps s xs r u × FoldsTo (λ p x q. CalledAt g p x false q) h xs j
+    × MatchOption r ⊤ (λ x. (k : F) × CalledAt g j x true k) →
+    s ≡ record { start = 0; end = n } → ((x : ℕ) (b : Bool) (q : F) → CalledAt g h x b q → (q ≡ h) × (b ≡ f x)) → unwrap_or r n ≡ lowest f n 0
+first_in_range f n u h r ran e k =
+    let z : 0 + n ≡ n = omega arith in
+    let m : n - 0 ≡ n = omega arith in
+    let p = find_from_yields_List f u h r ran (YieldsList-from_range 0 n n e m) k in
+    ap (λ o. unwrap_or o n) (sym (same_option r) ∙ p) ∙ sym (ap (unwrap_or (find f (range_with_len 0 n))) z) ∙ found_from f n 0
 
 -- ---- the length
 

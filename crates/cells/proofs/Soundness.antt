@@ -13,10 +13,10 @@ use Rattle.cells.specs.declared.Judged.{Judged}
 use Rattle.cells.specs.Segments.{both}
 use Rattle.cells.specs.Rows.{Cell, free, held, taken, broken, row_at, cell_of}
 use Rattle.cells.specs.Order.{is_sound, cell_at, all_to, sound}
-use Rattle.cells.specs.Inner.{body_in, judged_of, told_sound, bodies_to}
+use Rattle.cells.specs.Inner.{body_in, judged_of, told_sound, bodies_to, told_body}
 use Rattle.cells.proofs.Bodies.{body_judged, body_top}
 
-sound_told : (at : ℕ) (d : Cell) → told_sound (judged_of at d).content ≡ is_sound d
+sound_told : (at : ℕ) (d : Cell) → told_sound (judged_of at d) ≡ is_sound d
 sound_told at free = refl
 sound_told at (held t) = refl
 sound_told at (taken g) = refl
@@ -34,17 +34,17 @@ module _ {s : Settings} {Z : ℕ} {st : List ℕ} {n : ℕ} {first : List ℕ} w
 
   module _ {table : List ℕ} {a : Bool} {i : ℕ} (p : Sounding s Z st n first table a i) where
     module _ {r : List ℕ} {t : Judged} (er : r ≡ row_at Z st i) (et : t ≡ judged_of (body_in s r) (cell_of s Z r)) where
-      is_sound_lem : told_sound t.content ≡ is_sound (cell_at s Z st i)
+      is_sound_lem : told_sound t ≡ is_sound (cell_at s Z st i)
       is_sound_lem =
-          ap (λ (x : Judged). told_sound x.content) et
+          ap (λ (x : Judged). told_sound x) et
           ∙ sound_told (body_in s r) (cell_of s Z r)
           ∙ ap (λ (x : List ℕ). is_sound (cell_of s Z x)) er
 
       -- the place is small
-      pub place_small : Octets st → t.at < 65536
+      pub place_small : Octets st → told_body t < 65536
       place_small o = omega (arith, body_judged s Z st i er et, body_top s Z st i o)
 
-      pub sounding_turn : {b d : Bool} → i < n → d ≡ told_sound t.content → b ≡ both a d → Sounding s Z st n first (set table i t.at) b (i + 1)
+      pub sounding_turn : {b d : Bool} → i < n → d ≡ told_sound t → b ≡ both a d → Sounding s Z st n first (set table i (told_body t)) b (i + 1)
       unfolding sound all_to bodies_to
       sounding_turn h ed e =
           record {

@@ -19,7 +19,7 @@ use Rattle.packet.specs.Numbers.{next_counter}
 use Rattle.cells.specs.declared.Judged.{Judged}
 use Rattle.cells.specs.Segments.{seg_of, both, reaches}
 use Rattle.cells.specs.Rows.{Cell, packet_in, cell_of, by_segment}
-use Rattle.cells.specs.Inner.{place_in, counter_in, body_in, judged_of, told_held, within_in, Asked, within}
+use Rattle.cells.specs.Inner.{place_in, counter_in, body_in, judged_of, told_held, within_in, Asked, within, told_body}
 use Rattle.cells.specs.Chains.{key_in}
 use Rattle.cells.proofs.Carries.{Holding, not_held, judged_one, judged_at, held_counter, kinds}
 use Rattle.cells.proofs.Mixing.{key_asked}
@@ -109,15 +109,15 @@ module _ (s : Settings) (r z k : List ℕ) (first steps : ℕ) (o : Octets r) wh
     within_out e h = unless_held (λ there. sym (by_counter (sym h ∙ e) there))
 
     module _ {t : Judged} (et : t ≡ judged_of (body_in s r) here) where
-      pub within_not : told_held t.content ≡ false → false ≡ within_in next_counter k first steps here
+      pub within_not : told_held t ≡ false → false ≡ within_in next_counter k first steps here
       within_not h = unless_held (λ there. absurd (not_held (judged_at s (length z) r et there).0 h))
 
       pub within_same :
-          {a b : Bool} → told_held t.content ≡ true → a ≡ reaches next_counter steps first n → a ≡ true → b ≡ alike k (key_in x t.at) →
+          {a b : Bool} → told_held t ≡ true → a ≡ reaches next_counter steps first n → a ≡ true → b ≡ alike k (key_in x (told_body t)) →
           b ≡ within_in next_counter k first steps here
       within_same one ea in_it eb =
           let there = judged_one s (length z) r et one in
-          let a : Asked s p t.at =
+          let a : Asked s p (told_body t) =
           record {
             octets = octets_part r 2 (number 2 r 6 + 7) o;
             accepted = there.accepted;
@@ -125,6 +125,6 @@ module _ (s : Settings) (r z k : List ℕ) (first steps : ℕ) (o : Octets r) wh
             body = (judged_at s (length z) r et there).1.0;
           } in
           eb
-          ∙ ap (λ (w : List ℕ). alike k (key_in w t.at)) ex
-          ∙ ap (alike k) (key_asked s p t.at a)
+          ∙ ap (λ (w : List ℕ). alike k (key_in w (told_body t))) ex
+          ∙ ap (alike k) (key_asked s p (told_body t) a)
           ∙ sym (by_counter (sym in_it ∙ ea) there)

@@ -1,9 +1,12 @@
--- The chains of a store's cells: which chain a key and a counter belong to, and two tables of numbers that lead along each chain.
+-- The chains of a store's cells: which chain a key and a counter belong to, and the two tables of numbers that lead along each chain.
 -- No public promise speaks of them: they make searches short.
 -- Assumes nothing: these are definitions.
-use Rattle.std.specs.Prelude.{ℕ, suc, ◌+◌, ◌-◌, ◌*◌, ◌/◌, ◌%◌, ◌≤◌, ◌<◌, ◌≡◌, List, [], ◌∷◌, ◌++◌, length, get_or}
+use Rattle.std.specs.Prelude.{ℕ, zero, suc, ◌+◌, ◌-◌, ◌*◌, ◌/◌, ◌%◌, ◌≤◌, ◌<◌, ◌≡◌, Option, None, Some, List, ◌++◌, length, get_or, set, fold}
+use Rattle.std.specs.Borrow.{Bor}
+use Rattle.std.specs.Option.{IfSome}
 use Rattle.octets.specs.Octets.{part}
 use Rattle.walk.specs.declared.Settings.{Settings}
+use Rattle.cells.specs.declared.Chains.{Chains}
 use Rattle.cells.specs.Rows.{Cell, segment_in, by_segment}
 use Rattle.cells.specs.Order.{cells_most, cell_at}
 use Rattle.packet.specs.Format.{counter_width}
@@ -30,9 +33,8 @@ abbrev pub mix_in : ℕ → ℕ → ℕ
 mix_in m x = (m * mix_factor + x) % mix_all
 
 -- octets mixed in, one after the other
-unfoldable pub mixed : ℕ → List ℕ → ℕ
-mixed m [] = m
-mixed m (x ∷ l) = mixed (mix_in m x) l
+abbrev pub mixed : ℕ → List ℕ → ℕ
+mixed m l = fold mix_in m l
 
 -- what the mixing begins with
 abbrev pub mix_start : ℕ
@@ -61,20 +63,35 @@ bucket_in x = by_segment chains_all (λ t. bucket_of t.key t.counter) (segment_i
 unfoldable pub bucket_at : Settings → ℕ → List ℕ → ℕ → ℕ
 bucket_at s Z st i = bucket_in (cell_at s Z st i)
 
--- The first i cells, cell k on chain b k, are linked: a number in a table is 0, for none, or a cell and one more. A head is the highest
--- cell of its chain, a link the next lower one.
-pub record Chained (b : ℕ → ℕ) (heads links : List ℕ) (i : ℕ) : Type 0 where
+-- a number in a table is 0, for none, or a cell and one more
+abbrev pub cell_below : ℕ → Option ℕ
+cell_below zero = None
+cell_below (suc k) = Some k
+
+-- cell i becomes the head of chain b, and the head that was its link
+abbrev pub pushed : ℕ → ℕ → Chains → Chains
+pushed i b t = record { heads = set t.heads b (i + 1); links = set t.links i (get_or t.heads b 0) }
+
+-- The first i cells, cell k on chain b k, are linked. A head is the highest cell of its chain, a link the next lower one.
+pub record Chained (b : ℕ → ℕ) (t : Chains) (i : ℕ) : Type 0 where
   -- there is room for all of them
   pub most : i ≤ cells_most
-  pub heads_long : length heads ≡ chains_all
-  pub links_long : length links ≡ cells_most
+  pub heads_long : length t.heads ≡ chains_all
+  pub links_long : length t.links ≡ cells_most
   -- a head is one of these cells, of the head's chain
-  pub low : (x : ℕ) → x < chains_all → get_or heads x 0 ≤ i
-  pub home : (x k : ℕ) → x < chains_all → get_or heads x 0 ≡ suc k → b k ≡ x
+  pub low : (x : ℕ) → x < chains_all → get_or t.heads x 0 ≤ i
+  pub home : (x k : ℕ) → x < chains_all → get_or t.heads x 0 ≡ suc k → b k ≡ x
   -- no cell of a chain is above its head
-  pub all : (k : ℕ) → k < i → b k < chains_all → k < get_or heads (b k) 0
+  pub all : (k : ℕ) → k < i → b k < chains_all → k < get_or t.heads (b k) 0
   -- a link leads down, along the chain
-  pub down : (j : ℕ) → j < i → b j < chains_all → get_or links j 0 ≤ j
-  pub back : (j k : ℕ) → j < i → b j < chains_all → get_or links j 0 ≡ suc k → b k ≡ b j
+  pub down : (j : ℕ) → j < i → b j < chains_all → get_or t.links j 0 ≤ j
+  pub back : (j k : ℕ) → j < i → b j < chains_all → get_or t.links j 0 ≡ suc k → b k ≡ b j
   -- and leaves out no cell of it
-  pub between : (j k : ℕ) → j < i → k < j → b j < chains_all → b k ≡ b j → k < get_or links j 0
+  pub between : (j k : ℕ) → j < i → k < j → b j < chains_all → b k ≡ b j → k < get_or t.links j 0
+
+-- chains that a search is lent, or none; and what is known of them
+abbrev pub LentChains : Type 0
+LentChains = Option (Bor Chains)
+
+abbrev pub ChainedIf : (ℕ → ℕ) → LentChains → ℕ → Type 0
+ChainedIf b chains n = IfSome chains (λ t. Chained b t.now n)

@@ -6,9 +6,8 @@ use Rattle.walk.specs.declared.Settings.{Settings}
 use Rattle.packet.specs.Format.{primary_size, fixed_size, counter_width}
 use Rattle.packet.specs.Reading.{read_packet, segmented}
 use Rattle.cells.specs.Segments.{Seg, both, reaches}
-use Rattle.cells.specs.declared.Content.{Content}
-use Rattle.cells.specs.declared.Content.TheVariants.{Free, Held, Taken, Broken}
 use Rattle.cells.specs.declared.Judged.{Judged}
+use Rattle.cells.specs.declared.Judged.TheVariants.{Free, Held, Taken, Broken}
 use Rattle.cells.specs.Rows.{Cell, free, held, taken, broken, segment_in, by_segment, mark_first, row_at, packet_in}
 use Rattle.cells.specs.Order.{cell_at}
 
@@ -49,34 +48,53 @@ body_in s r = (read_packet s (packet_in r)).body.at
 
 -- what is told of a cell, with the place of its body, and of a record how long its header is
 abbrev pub judged_of : ℕ → Cell → Judged
-judged_of at free = record { content = Free; at = 0; counter = record { 0 = 0 }; header = 0 }
-judged_of at (held t) = record { content = Held; at = at; counter = record { 0 = t.counter }; header = 0 }
-judged_of at (taken g) = record { content = Taken; at = 0; counter = record { 0 = 0 }; header = length g.key - 2 }
-judged_of at broken = record { content = Broken; at = 0; counter = record { 0 = 0 }; header = 0 }
+judged_of at free = Free
+judged_of at (held t) = Held at (record { 0 = t.counter })
+judged_of at (taken g) = Taken (length g.key - 2)
+judged_of at broken = Broken
 
 -- what is told of a row with a record's mark: a record, with the length of its header, or broken
 abbrev pub recorded_of : Bool → ℕ → Judged
-recorded_of true h = record { content = Taken; at = 0; counter = record { 0 = 0 }; header = h }
-recorded_of false h = record { content = Broken; at = 0; counter = record { 0 = 0 }; header = 0 }
+recorded_of true h = Taken h
+recorded_of false h = Broken
 
 -- what is told of a cell tells whether it holds a segment, whether it is a record, and whether it is either or free
-abbrev pub told_held : Content → Bool
+abbrev pub told_held : Judged → Bool
 told_held Free = false
-told_held Held = true
-told_held Taken = false
+told_held (Held at c) = true
+told_held (Taken h) = false
 told_held Broken = false
 
-abbrev pub told_taken : Content → Bool
+abbrev pub told_taken : Judged → Bool
 told_taken Free = false
-told_taken Held = false
-told_taken Taken = true
+told_taken (Held at c) = false
+told_taken (Taken h) = true
 told_taken Broken = false
 
-abbrev pub told_sound : Content → Bool
+abbrev pub told_sound : Judged → Bool
 told_sound Free = true
-told_sound Held = true
-told_sound Taken = true
+told_sound (Held at c) = true
+told_sound (Taken h) = true
 told_sound Broken = false
+
+-- where the body of its segment begins, that segment's counter, and how long the header of a record is; 0 if it is no such cell
+abbrev pub told_body : Judged → ℕ
+told_body Free = 0
+told_body (Held at c) = at
+told_body (Taken h) = 0
+told_body Broken = 0
+
+abbrev pub told_counter : Judged → ℕ
+told_counter Free = 0
+told_counter (Held at c) = c.0
+told_counter (Taken h) = 0
+told_counter Broken = 0
+
+abbrev pub told_header : Judged → ℕ
+told_header Free = 0
+told_header (Held at c) = 0
+told_header (Taken h) = h
+told_header Broken = 0
 
 module _ (next : ℕ → ℕ) where
   -- the segment has this key, and its counter is c or one of m steps after it; and a cell that holds such a one
@@ -95,7 +113,7 @@ pub record Asked (s : Settings) (q : List ℕ) (body_at : ℕ) : Type 0 where
 
 -- where the body of the segment in cell i begins; 0 if the cell holds none
 unfoldable pub body_start : Settings → ℕ → List ℕ → ℕ → ℕ
-body_start s Z st i = (judged_of (body_in s (row_at Z st i)) (cell_at s Z st i)).at
+body_start s Z st i = told_body (judged_of (body_in s (row_at Z st i)) (cell_at s Z st i))
 
 -- those of the first n cells put into a table, each at its cell's number
 unfoldable pub bodies_to : Settings → ℕ → List ℕ → ℕ → List ℕ → List ℕ

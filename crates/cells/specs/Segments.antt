@@ -4,7 +4,7 @@
 -- Assumes nothing: these are definitions.
 use Rattle.std.specs.Prelude.{ℕ, zero, suc, List, Bool, true, false, eqb}
 use Rattle.octets.specs.Octets.{pick, part, alike}
-use Rattle.packet.specs.declared.Header.{Header}
+use Rattle.packet.specs.Answer.{Header}
 use Rattle.packet.specs.Key.{key_of}
 
 pub record Seg : Type 0 where

@@ -7,30 +7,31 @@
 // Every function takes any octets. The zero cell is lent as a slice, and its length is the cell size Z.
 //
 // Chains lead through the held cells, so that a key and a counter are found without a look at every cell: a number mixed from both
-// chooses the chain, `heads` has the highest cell of each chain and `links` the next lower one of each cell; 0 is none, and cell i is i + 1.
+// chooses the chain, and `Chains` leads from the highest cell of each chain to the next lower ones.
 #![tactic(auto)]
 
 pub mod messages;
 pub mod opening;
 mod untaken;
 
-ghost use Rattle.std.specs.Prelude.{◌≡◌, ◌+◌, ◌*◌, ◌/◌, ◌≤◌, ◌<◌, length, get_or, take, drop, set, ◌∷◌, eqb, true};
+ghost use Rattle.std.specs.Prelude.{◌≡◌, ℕ, ◌+◌, ◌*◌, ◌/◌, ◌≤◌, ◌<◌, length, get_or, take, drop, ◌∷◌, eqb};
 ghost use Rattle.std.proofs.lemmas.List.Edits.{sets};
 ghost use Rattle.octets.specs.Octets.{pick, part, number, alike};
 ghost use Rattle.cells.specs.Segments.{both, reaches};
 ghost use Rattle.cells.specs.Rows.{row_at, zero_row, cell_of, mark_first, mark_second, mark_size, packet_in, first_in, records, steps_between};
-ghost use Rattle.cells.specs.Inner.{marked_test, judged_of, recorded_of, told_held, told_taken, told_sound, body_in, place_in, counter_in, spans_alike};
+ghost use Rattle.cells.specs.Inner.{marked_test, judged_of, recorded_of, told_held, told_taken, told_sound, told_body, body_in, place_in, counter_in, spans_alike};
 ghost use Rattle.cells.specs.Inner.{within_in, Asked, body_start, bodies_to, Bodies};
 ghost use Rattle.packet.specs.Format.{primary_size, counter_width, header_most};
 ghost use Rattle.packet.specs.Reading.{read_packet};
+ghost use Rattle.packet.specs.Decoded.{decoded};
 ghost use Rattle.packet.specs.Key.{key_of};
 ghost use Rattle.packet.specs.Numbers.{next_counter};
 ghost use Rattle.cells.specs.Order.{cells_most, lowest, length_fits, sound, cell_at, carries_in, new_to, new_at, distinct, in_order, count_in, found_in, cell_size};
 ghost use Rattle.cells.specs.Order.{covers_in, untaken_to, untaken};
-ghost use Rattle.cells.specs.Chains.{mix_in, mixed, mix_start, chain_in, bucket_of, key_in, chains_all, bucket_at, Chained};
+ghost use Rattle.cells.specs.Chains.{mix_in, mixed, mix_start, chain_in, bucket_of, key_in, chains_all, bucket_at, cell_below, pushed, Chained, ChainedIf};
 
 use packet::{Header, SegmentCounter, UNSEGMENTED};
-use walk::Settings;
+use walk::{Refused, Settings};
 
 // The octets of a cell, and of one of the wide store.
 pub const CELL: usize = 1024;
@@ -41,7 +42,7 @@ pub const CELL_WIDE: usize = 2048;
 pub const CELLS_MOST: usize = 4096;
 
 // How many chains lead through a store, and what the mixing of a key begins with.
-pub const CHAINS: usize = 4096;
+const CHAINS_MOST: usize = 4096;
 
 const MIX_START: u32 = 2166136261;
 
@@ -121,7 +122,7 @@ pub fn span(x: &[u8], at: usize, n: usize) -> &[u8]
 pub fn packet_in(row: &[u8]) -> &[u8]
     ensures { result.now ≡ packet_in row.now }
 {
-    let size = octets::be16(row, 6) as usize + 7;
+    let size = octets::read::<u16>(row, 6) as usize + 7;
     span(row, MARK_SIZE, size)
 }
 
@@ -137,14 +138,14 @@ pub fn counter_place(p: &[u8]) -> usize
 pub fn counter_in(p: &[u8]) -> SegmentCounter
     ensures { result.0 ≡ counter_in p.now }
 {
-    SegmentCounter(octets::be32(p, counter_place(p)))
+    SegmentCounter(octets::read::<u32>(p, counter_place(p)))
 }
 
 // Whether two segments have the same key, told where their bodies begin.
 pub fn same_key(p: &[u8], body_at: usize, q: &[u8], q_body_at: usize) -> bool
     ensures { result ≡ spans_alike p.now body_at q.now q_body_at }
 {
-    if octets::be64(p, TRANSACTION_PLACE) != octets::be64(q, TRANSACTION_PLACE) {
+    if octets::read::<u64>(p, TRANSACTION_PLACE) != octets::read::<u64>(q, TRANSACTION_PLACE) {
         return false;
     }
     let c = counter_place(p);
@@ -190,60 +191,46 @@ fn is_marked(row: &[u8], mark: u8, n: usize, zero: &[u8]) -> bool
     octets::both(first, octets::both(second, octets::both(long, rest)))
 }
 
-// What stands in a cell: zeros, a segment, the record of a message that was taken, or none of these.
+// What a row is: zeros, a segment, with where its body begins and its counter, the record of a message that was taken, with how long its
+// header is, or none of these.
 #[derive(Clone, Copy)]
-pub enum Content {
+pub enum Judged {
     Free,
-    Held,
-    Taken,
+    Held { at: usize, counter: SegmentCounter },
+    Taken { header: usize },
     Broken,
 }
 
-// What a row is; of a held one where the body begins, and the segment counter; of a record how long its header is.
-#[derive(Clone, Copy)]
-pub struct Judged {
-    pub content: Content,
-    pub at: usize,
-    pub counter: SegmentCounter,
-    pub header: usize,
-}
-
-// Whether a row that was judged holds a segment.
-pub fn is_held(t: Judged) -> bool
-    ensures { result ≡ told_held t.content }
-{
-    let content = t.content;
-    match content {
-        Content::Free => false,
-        Content::Held => true,
-        Content::Taken => false,
-        Content::Broken => false,
+impl Judged {
+    // Whether the row holds a segment.
+    pub fn is_held(self) -> bool
+        ensures { result ≡ told_held self }
+    {
+        matches!(self, Judged::Held { .. })
     }
-}
 
-// Whether it is a record.
-pub fn is_taken(t: Judged) -> bool
-    ensures { result ≡ told_taken t.content }
-{
-    let content = t.content;
-    match content {
-        Content::Free => false,
-        Content::Held => false,
-        Content::Taken => true,
-        Content::Broken => false,
+    // Whether it is a record.
+    pub fn is_taken(self) -> bool
+        ensures { result ≡ told_taken self }
+    {
+        matches!(self, Judged::Taken { .. })
     }
-}
 
-// Whether it is free, holds one or is a record.
-fn is_sound(t: Judged) -> bool
-    ensures { result ≡ told_sound t.content }
-{
-    let content = t.content;
-    match content {
-        Content::Free => true,
-        Content::Held => true,
-        Content::Taken => true,
-        Content::Broken => false,
+    // Whether it is free, holds one or is a record.
+    fn is_sound(self) -> bool
+        ensures { result ≡ told_sound self }
+    {
+        !matches!(self, Judged::Broken)
+    }
+
+    // Where the body of its segment begins; 0 if it holds none.
+    fn body_at(self) -> usize
+        ensures { result ≡ told_body self }
+    {
+        match self {
+            Judged::Held { at, .. } => at,
+            _ => 0,
+        }
     }
 }
 
@@ -279,8 +266,8 @@ fn first_in(row: &[u8], out: &mut [u8]) -> usize
 }
 
 // What reading answers of it.
-fn read_record(s: Settings, row: &[u8]) -> Header
-    ensures { result ≡ read_packet s (first_in row.now) }
+fn read_record(s: Settings, row: &[u8]) -> Result<Header, Refused>
+    ensures { decoded result ≡ read_packet s (first_in row.now) }
 {
     let mut out = [0u8; FIRST_MOST];
     let n = first_in(row, &mut out);
@@ -309,31 +296,11 @@ fn run_at(row: &[u8], at: usize) -> Run
     ensures first_value { result.first.0 ≡ number counter_width row.now at }
     ensures steps_value { result.steps ≡ steps_between (number counter_width row.now at) (number counter_width row.now (at + counter_width)) }
 {
-    let first = SegmentCounter(octets::be32(row, at));
-    let last = SegmentCounter(octets::be32(row, at + packet::COUNTER));
+    let first = SegmentCounter(octets::read::<u32>(row, at));
+    let last = SegmentCounter(octets::read::<u32>(row, at + packet::COUNTER));
     Run {
         first: first,
         steps: steps_between(first, last),
-    }
-}
-
-// What is told of a row with a record's mark: a record, with the length of its header, or broken.
-fn recorded(whole: bool, header: usize) -> Judged
-    ensures { result ≡ recorded_of whole header }
-{
-    if whole {
-        return Judged {
-            content: Content::Taken,
-            at: 0,
-            counter: SegmentCounter(0),
-            header: header,
-        };
-    }
-    Judged {
-        content: Content::Broken,
-        at: 0,
-        counter: SegmentCounter(0),
-        header: 0,
     }
 }
 
@@ -342,18 +309,20 @@ fn judge_record(s: Settings, row: &[u8], zero: &[u8]) -> Judged
     requires { zero.now ≡ zero_row (length zero.now) }
     ensures { result ≡ recorded_of (records s (length zero.now) row.now) (read_packet s (first_in row.now)).h }
 {
-    let h = read_record(s, row);
-    let refusal = h.refusal;
-    if refusal.number != 0 {
-        return recorded(false, 0);
-    }
+    let Ok(h) = read_record(s, row) else {
+        return Judged::Broken;
+    };
     let at = HEADER_AT + h.h;
     let run = run_at(row, at);
     let end = at + packet::COUNTER + packet::COUNTER;
     let marked = is_marked(row, MARK_TAKEN, end, zero);
     let fits = end <= zero.len();
     let steps = octets::both(1 <= run.steps, run.steps <= STEPS_MOST);
-    recorded(octets::both(marked, octets::both(fits, steps)), h.h)
+    if octets::both(marked, octets::both(fits, steps)) {
+        Judged::Taken { header: h.h }
+    } else {
+        Judged::Broken
+    }
 }
 
 // What a row is, beside a zero cell, by one reading of its packet. A row of another length is broken.
@@ -362,40 +331,23 @@ pub fn judge(s: Settings, row: &[u8], zero: &[u8]) -> Judged
     ensures { result ≡ judged_of (body_in s row.now) (cell_of s (length zero.now) row.now) }
 {
     if is_free(row, zero) {
-        return Judged {
-            content: Content::Free,
-            at: 0,
-            counter: SegmentCounter(0),
-            header: 0,
-        };
+        return Judged::Free;
     }
     if octets::octet(row, 1) == MARK_TAKEN {
         return judge_record(s, row, zero);
     }
     let p = packet_in(row);
-    let h = packet::read(s, p);
-    let refusal = h.refusal;
-    let primary = h.primary;
-    let body = h.body;
-    let ids = h.ids;
-    let counter = ids.counter;
+    let Ok(h) = packet::read(s, p) else {
+        return Judged::Broken;
+    };
     let marked = is_marked(row, MARK_SECOND, MARK_SIZE + p.len(), zero);
-    if octets::both(
-        marked,
-        octets::both(refusal.number == 0, primary.flags != UNSEGMENTED),
-    ) {
-        return Judged {
-            content: Content::Held,
-            at: body.at,
-            counter: counter,
-            header: 0,
-        };
-    }
-    Judged {
-        content: Content::Broken,
-        at: 0,
-        counter: SegmentCounter(0),
-        header: 0,
+    if octets::both(marked, h.primary.flags != UNSEGMENTED) {
+        Judged::Held {
+            at: h.body.at,
+            counter: h.ids.counter,
+        }
+    } else {
+        Judged::Broken
     }
 }
 
@@ -404,14 +356,9 @@ pub fn lowest_free(store: &[u8], n: usize, zero: &[u8]) -> usize
     ensures { result ≡ lowest (λ j. alike (row_at (length zero.now) store.now j) zero.now) n 0 }
 {
     let z = zero.len();
-    let mut i: usize = 0;
-    while i < n {
-        if is_free(row(store, z, i), zero) {
-            return i;
-        }
-        i += 1;
-    }
-    n
+    (0..n)
+        .find(|i| is_free(row(store, z, *i), zero))
+        .unwrap_or(n)
 }
 
 // How many cells a store of this length has, 0 if its length does not fit.
@@ -457,21 +404,20 @@ pub fn carries_at(
     if d.0 != c.0 {
         return false;
     }
-    if octets::be64(p, TRANSACTION_PLACE) != octets::be64(q, TRANSACTION_PLACE) {
+    if octets::read::<u64>(p, TRANSACTION_PLACE) != octets::read::<u64>(q, TRANSACTION_PLACE) {
         return false;
     }
-    let t = judge(s, row, zero);
-    if !is_held(t) {
-        return false;
+    match judge(s, row, zero) {
+        Judged::Held { at, .. } => same_key(q, body_at, p, at),
+        _ => false,
     }
-    same_key(q, body_at, p, t.at)
 }
 
 // Whether octets are the key of a segment, told where its body begins.
 fn is_key(k: &[u8], p: &[u8], body_at: usize) -> bool
     ensures { result ≡ alike k.now (key_in p.now body_at) }
 {
-    if octets::be64(k, TRANSACTION_IN_KEY) != octets::be64(p, TRANSACTION_PLACE) {
+    if octets::read::<u64>(k, TRANSACTION_IN_KEY) != octets::read::<u64>(p, TRANSACTION_PLACE) {
         return false;
     }
     let c = counter_place(p);
@@ -518,14 +464,13 @@ pub fn is_within(
     if !is_reached(first, steps, counter_in(p)) {
         return false;
     }
-    if octets::be64(k, TRANSACTION_IN_KEY) != octets::be64(p, TRANSACTION_PLACE) {
+    if octets::read::<u64>(k, TRANSACTION_IN_KEY) != octets::read::<u64>(p, TRANSACTION_PLACE) {
         return false;
     }
-    let t = judge(s, row, zero);
-    if !is_held(t) {
-        return false;
+    match judge(s, row, zero) {
+        Judged::Held { at, .. } => is_key(k, p, at),
+        _ => false,
     }
-    is_key(k, p, t.at)
 }
 
 // The lowest of the first n cells that carries the key and counter of the one that is looked for; n if there is none.
@@ -543,14 +488,9 @@ pub fn find(
     ensures { result ≡ found_in s (length zero.now) store.now n (key_of q.now (read_packet s q.now)) c.0 }
 {
     let z = zero.len();
-    let mut j: usize = 0;
-    while j < n {
-        if carries_at(s, row(store, z, j), zero, q, body_at, c) {
-            return j;
-        }
-        j += 1;
-    }
-    n
+    (0..n)
+        .find(|j| carries_at(s, row(store, z, *j), zero, q, body_at, c))
+        .unwrap_or(n)
 }
 
 // Whether a cell is a record that covers the key of the one that is looked for, and the counter. The cheap tests come first: the row is
@@ -571,18 +511,23 @@ fn covers_at(
     if octets::octet(row, 1) != MARK_TAKEN {
         return false;
     }
-    if octets::be64(row, TRANSACTION_IN_RECORD) != octets::be64(q, TRANSACTION_PLACE) {
+    if octets::read::<u64>(row, TRANSACTION_IN_RECORD)
+        != octets::read::<u64>(q, TRANSACTION_PLACE)
+    {
         return false;
     }
     let run = run_at(row, octets::less(body_at, COUNTERS_BEFORE_BODY));
     if !is_reached(run.first, run.steps, c) {
         return false;
     }
-    let t = judge(s, row, zero);
-    if !is_taken(t) {
-        return false;
+    match judge(s, row, zero) {
+        Judged::Taken { header } => is_key(
+            span(row, MARK_SIZE, IDENTIFICATION + header),
+            q,
+            body_at,
+        ),
+        _ => false,
     }
-    is_key(span(row, MARK_SIZE, IDENTIFICATION + t.header), q, body_at)
 }
 
 // Whether no record in the first n cells covers the key and counter of the one that is looked for.
@@ -600,14 +545,7 @@ pub fn is_untaken(
     ensures { result ≡ untaken_to s (length zero.now) store.now n (key_of q.now (read_packet s q.now)) c.0 }
 {
     let z = zero.len();
-    let mut j: usize = 0;
-    while j < n {
-        if covers_at(s, row(store, z, j), zero, q, body_at, c) {
-            return false;
-        }
-        j += 1;
-    }
-    true
+    (0..n).all(|j| !covers_at(s, row(store, z, j), zero, q, body_at, c))
 }
 
 // Whether the packets of two segments, with what reading answered of them, have the same flags and body.
@@ -650,13 +588,7 @@ fn mix_in(m: u32, x: u32) -> u32
 fn mix(start: u32, x: &[u8]) -> u32
     ensures { result ≡ mixed start x.now }
 {
-    let mut m = start;
-    let mut i: usize = 0;
-    while i < x.len() {
-        m = mix_in(m, x[i] as u32);
-        i += 1;
-    }
-    m
+    x.iter().fold(start, |m, b| mix_in(m, u32::from(*b)))
 }
 
 // The chain by a mixed number and a counter.
@@ -664,7 +596,7 @@ fn chain(m: u32, c: SegmentCounter) -> usize
     ensures { result ≡ chain_in (mix_in m c.0) }
 {
     let x = mix_in(m, c.0) as usize;
-    (x / MIX_HALF + x) % CHAINS
+    (x / MIX_HALF + x) % CHAINS_MOST
 }
 
 // The key of a segment mixed, told where its body begins.
@@ -691,6 +623,51 @@ pub fn bucket(q: &[u8], body_at: usize, c: SegmentCounter) -> usize
     chain(mix_key(q, body_at), c)
 }
 
+// The chains through a store's cells: the highest cell of each chain, and of each cell the next lower one. 0 is none, and cell i is i + 1.
+#[derive(Drop)]
+pub struct Chains {
+    heads: [u16; CHAINS_MOST],
+    links: [u16; CELLS_MOST],
+}
+
+impl Chains {
+    // No cell is on any chain.
+    pub fn new() -> Chains
+        ensures { (b : ℕ → ℕ) → Chained b result 0 }
+    {
+        Chains {
+            heads: [0; CHAINS_MOST],
+            links: [0; CELLS_MOST],
+        }
+    }
+
+    // Cell i becomes the head of chain b, and the head that was its link.
+    fn push(&mut self, i: usize, b: usize)
+        requires i_lt_cells_most { i < cells_most }
+        requires b_lt_chains_all { b < chains_all }
+        ensures { self.new ≡ pushed i b self.old }
+    {
+        self.links[i] = self.heads[b];
+        self.heads[b] = (i + 1) as u16;
+    }
+
+    // The highest cell of chain b.
+    fn head(&self, b: usize) -> Option<usize>
+        requires { b < chains_all }
+        ensures { result ≡ cell_below (get_or self.now.heads b 0) }
+    {
+        usize::from(self.heads[b]).checked_sub(1)
+    }
+
+    // The next lower cell on the chain of cell j.
+    fn next(&self, j: usize) -> Option<usize>
+        requires { j < cells_most }
+        ensures { result ≡ cell_below (get_or self.now.links j 0) }
+    {
+        usize::from(self.links[j]).checked_sub(1)
+    }
+}
+
 // The same as `find` by a walk along chain b, which is that of the key and counter: links lead down, so the last one met is the lowest.
 fn find_on(
     s: Settings,
@@ -701,29 +678,27 @@ fn find_on(
     body_at: usize,
     c: SegmentCounter,
     b: usize,
-    heads: &[u16; CHAINS],
-    links: &[u16; CELLS_MOST],
+    chains: &Chains,
 ) -> usize
     requires zero_value { zero.now ≡ zero_row (length zero.now) }
     requires asked { Asked s q.now body_at }
-    requires chained { Chained (bucket_at s (length zero.now) store.now) heads.now links.now n }
+    requires chained { Chained (bucket_at s (length zero.now) store.now) chains.now n }
     requires b_value { b ≡ bucket_of (key_in q.now body_at) c.0 }
     ensures { result ≡ found_in s (length zero.now) store.now n (key_of q.now (read_packet s q.now)) c.0 }
 {
     let z = zero.len();
     let mut best = n;
-    let mut cur = heads[b] as usize;
-    while 0 < cur {
-        let j = cur - 1;
+    let mut cur = chains.head(b);
+    while let Some(j) = cur {
         if carries_at(s, row(store, z, j), zero, q, body_at, c) {
             best = j;
         }
-        cur = links[j] as usize;
+        cur = chains.next(j);
     }
     best
 }
 
-// The same as `find`, by a walk along one chain if the cells stand on chains.
+// The same as `find`, by a walk along one chain if the cells stand on the chains that are lent.
 pub fn find_by(
     s: Settings,
     store: &[u8],
@@ -732,31 +707,17 @@ pub fn find_by(
     q: &[u8],
     body_at: usize,
     c: SegmentCounter,
-    chained: bool,
-    heads: &[u16; CHAINS],
-    links: &[u16; CELLS_MOST],
+    chains: Option<&Chains>,
 ) -> usize
     requires zero_value { zero.now ≡ zero_row (length zero.now) }
     requires asked { Asked s q.now body_at }
-    requires chained { chained ≡ true → Chained (bucket_at s (length zero.now) store.now) heads.now links.now n }
+    requires chained { ChainedIf (bucket_at s (length zero.now) store.now) chains n }
     ensures { result ≡ found_in s (length zero.now) store.now n (key_of q.now (read_packet s q.now)) c.0 }
 {
-    if chained {
-        let b = bucket(q, body_at, c);
-        return find_on(s, store, n, zero, q, body_at, c, b, heads, links);
+    match chains {
+        Some(t) => find_on(s, store, n, zero, q, body_at, c, bucket(q, body_at, c), t),
+        None => find(s, store, n, zero, q, body_at, c),
     }
-    find(s, store, n, zero, q, body_at, c)
-}
-
-// Cell i becomes the head of chain b, and the head that was its link.
-fn push(i: usize, b: usize, heads: &mut [u16; CHAINS], links: &mut [u16; CELLS_MOST])
-    requires i_lt_cells_most { i < cells_most }
-    requires b_lt_chains_all { b < chains_all }
-    ensures heads_after { heads.new ≡ set heads.old b (i + 1) }
-    ensures links_after { links.new ≡ set links.old i (get_or heads.old b 0) }
-{
-    links[i] = heads[b];
-    heads[b] = (i + 1) as u16;
 }
 
 // Whether no cell below i has the key and counter of the one that is looked for, if those below are apart so far.
@@ -770,18 +731,17 @@ fn is_new(
     c: SegmentCounter,
     b: usize,
     apart: bool,
-    heads: &[u16; CHAINS],
-    links: &[u16; CELLS_MOST],
+    chains: &Chains,
 ) -> bool
     requires zero_value { zero.now ≡ zero_row (length zero.now) }
     requires asked { Asked s q.now body_at }
-    requires chained { Chained (bucket_at s (length zero.now) store.now) heads.now links.now i }
+    requires chained { Chained (bucket_at s (length zero.now) store.now) chains.now i }
     requires b_value { b ≡ bucket_of (key_in q.now body_at) c.0 }
     ensures { result ≡ both apart (new_to s (length zero.now) store.now i
         (key_of q.now (read_packet s q.now)) c.0) }
 {
     if apart {
-        return find_on(s, store, i, zero, q, body_at, c, b, heads, links) == i;
+        return find_on(s, store, i, zero, q, body_at, c, b, chains) == i;
     }
     false
 }
@@ -801,12 +761,10 @@ pub fn sound_by(
     ensures bodies_after { bodies.new ≡ bodies_to s (length zero.now) store.now n bodies.old }
 {
     let mut all = true;
-    let mut i: usize = 0;
-    while i < n {
+    for i in 0..n {
         let t = judge(s, row(store, zero.len(), i), zero);
-        bodies[i] = t.at as u16;
-        all = octets::both(all, is_sound(t));
-        i += 1;
+        bodies[i] = t.body_at() as u16;
+        all = octets::both(all, t.is_sound());
     }
     all
 }
@@ -820,16 +778,15 @@ fn enter(
     zero: &[u8],
     body_at: usize,
     apart: bool,
-    heads: &mut [u16; CHAINS],
-    links: &mut [u16; CELLS_MOST],
+    chains: &mut Chains,
 ) -> bool
     requires zero_value { zero.now ≡ zero_row (length zero.now) }
     requires i_lt_cells_most { i < cells_most }
     requires body_at_value { body_at ≡ body_start s (length zero.now) store.now i }
-    requires chained { Chained (bucket_at s (length zero.now) store.now) heads.old links.old i }
+    requires chained { Chained (bucket_at s (length zero.now) store.now) chains.old i }
     ensures value { result ≡ both apart (new_at s (length zero.now) store.now i
         (cell_at s (length zero.now) store.now i)) }
-    ensures chained_2 { Chained (bucket_at s (length zero.now) store.now) heads.new links.new (i + 1) }
+    ensures chained_2 { Chained (bucket_at s (length zero.now) store.now) chains.new (i + 1) }
 {
     if body_at == 0 {
         return apart;
@@ -837,8 +794,8 @@ fn enter(
     let q = packet_in(row(store, zero.len(), i));
     let c = counter_in(q);
     let b = bucket(q, body_at, c);
-    let new = is_new(s, store, i, zero, q, body_at, c, b, apart, heads, links);
-    push(i, b, heads, links);
+    let new = is_new(s, store, i, zero, q, body_at, c, b, apart, chains);
+    chains.push(i, b);
     new
 }
 
@@ -850,21 +807,18 @@ pub fn distinct_by(
     n: usize,
     zero: &[u8],
     bodies: &[u16; CELLS_MOST],
-    heads: &mut [u16; CHAINS],
-    links: &mut [u16; CELLS_MOST],
+    chains: &mut Chains,
 ) -> bool
     requires zero_value { zero.now ≡ zero_row (length zero.now) }
     requires n_le_cells_most { n ≤ cells_most }
     requires bodies { Bodies s (length zero.now) store.now bodies.now n }
-    requires chained { Chained (bucket_at s (length zero.now) store.now) heads.old links.old 0 }
+    requires chained { Chained (bucket_at s (length zero.now) store.now) chains.old 0 }
     ensures value { result ≡ distinct s (length zero.now) store.now n }
-    ensures chained_2 { Chained (bucket_at s (length zero.now) store.now) heads.new links.new n }
+    ensures chained_2 { Chained (bucket_at s (length zero.now) store.now) chains.new n }
 {
     let mut apart = true;
-    let mut i: usize = 0;
-    while i < n {
-        apart = enter(s, store, i, zero, bodies[i] as usize, apart, heads, links);
-        i += 1;
+    for i in 0..n {
+        apart = enter(s, store, i, zero, bodies[i] as usize, apart, chains);
     }
     apart
 }
@@ -878,25 +832,18 @@ pub struct Orderly {
 }
 
 // The three tests one after the other, by one table of where the bodies begin.
-pub fn order_by(
-    s: Settings,
-    store: &[u8],
-    n: usize,
-    zero: &[u8],
-    heads: &mut [u16; CHAINS],
-    links: &mut [u16; CELLS_MOST],
-) -> Orderly
+pub fn order_by(s: Settings, store: &[u8], n: usize, zero: &[u8], chains: &mut Chains) -> Orderly
     requires zero_value { zero.now ≡ zero_row (length zero.now) }
     requires n_le_cells_most { n ≤ cells_most }
-    requires chained { Chained (bucket_at s (length zero.now) store.now) heads.old links.old 0 }
+    requires chained { Chained (bucket_at s (length zero.now) store.now) chains.old 0 }
     ensures sound_value { result.sound ≡ sound s (length zero.now) store.now n }
     ensures distinct_value { result.distinct ≡ distinct s (length zero.now) store.now n }
     ensures untaken_value { result.untaken ≡ untaken s (length zero.now) store.now n }
-    ensures chained_2 { Chained (bucket_at s (length zero.now) store.now) heads.new links.new n }
+    ensures chained_2 { Chained (bucket_at s (length zero.now) store.now) chains.new n }
 {
     let mut bodies = [0u16; CELLS_MOST];
     let sound = sound_by(s, store, n, zero, &mut bodies);
-    let distinct = distinct_by(s, store, n, zero, &bodies, heads, links);
+    let distinct = distinct_by(s, store, n, zero, &bodies, chains);
     let untaken = untaken::untaken_by(s, store, n, zero, &bodies);
     Orderly {
         sound: sound,
@@ -906,23 +853,17 @@ pub fn order_by(
 }
 
 // How many cells a store in order has; 0 if it is not in order. The tables lent, which chain no cell yet, then chain all of its cells.
-pub fn in_order_by(
-    s: Settings,
-    store: &[u8],
-    zero: &[u8],
-    heads: &mut [u16; CHAINS],
-    links: &mut [u16; CELLS_MOST],
-) -> usize
+pub fn in_order_by(s: Settings, store: &[u8], zero: &[u8], chains: &mut Chains) -> usize
     requires zero_value { zero.now ≡ zero_row (length zero.now) }
-    requires chained { Chained (bucket_at s (length zero.now) store.now) heads.old links.old 0 }
+    requires chained { Chained (bucket_at s (length zero.now) store.now) chains.old 0 }
     ensures value { result ≡ pick (in_order s (length zero.now) store.now) (count_in (length zero.now) store.now) 0 }
-    ensures chained_2 { 0 < result → Chained (bucket_at s (length zero.now) store.now) heads.new links.new result }
+    ensures chained_2 { 0 < result → Chained (bucket_at s (length zero.now) store.now) chains.new result }
 {
     let n = count(store.len(), zero.len());
     if n == 0 {
         return 0;
     }
-    let o = order_by(s, store, n, zero, heads, links);
+    let o = order_by(s, store, n, zero, chains);
     if octets::both(o.sound, octets::both(o.distinct, o.untaken)) {
         return n;
     }
@@ -934,9 +875,8 @@ pub fn in_order(s: Settings, store: &[u8], zero: &[u8]) -> usize
     requires { zero.now ≡ zero_row (length zero.now) }
     ensures { result ≡ pick (in_order s (length zero.now) store.now) (count_in (length zero.now) store.now) 0 }
 {
-    let mut heads = [0u16; CHAINS];
-    let mut links = [0u16; CELLS_MOST];
-    in_order_by(s, store, zero, &mut heads, &mut links)
+    let mut chains = Chains::new();
+    in_order_by(s, store, zero, &mut chains)
 }
 
 // The same for cells of 1,024 octets, beside a zero cell made by repetition.

@@ -18,13 +18,16 @@ pub struct Piece {
 pub fn piece_in(s: Settings, row: &[u8]) -> Piece
     ensures { result ≡ piece_of (read_packet s (packet_in row.now)) }
 {
-    let p = crate::packet_in(row);
-    let h = packet::read(s, p);
-    let primary = h.primary;
-    let body = h.body;
-    Piece {
-        flags: primary.flags,
-        at: body.at,
-        length: body.length,
+    match packet::read(s, crate::packet_in(row)) {
+        Ok(h) => Piece {
+            flags: h.primary.flags,
+            at: h.body.at,
+            length: h.body.length,
+        },
+        Err(_) => Piece {
+            flags: 0,
+            at: 0,
+            length: 0,
+        },
     }
 }

@@ -1,60 +1,35 @@
 // The check before any call on a store: the settings, and the store's order.
 //
 // `store` and `join` begin with it. What follows there holds for any octets, so whoever keeps a store in order saves the check.
-ghost use Rattle.std.specs.Prelude.{◌≡◌, length};
+ghost use Rattle.std.specs.Prelude.{◌≡◌, length, IfOk};
 ghost use Rattle.cells.specs.Rows.{zero_row};
-ghost use Rattle.cells.specs.Opening.{opened_of};
+ghost use Rattle.cells.specs.Opening.{opened, opened_of};
 ghost use Rattle.cells.specs.Chains.{bucket_at, Chained};
 
-use walk::{REFUSED_ORDER, Refusal, Settings};
+use walk::{Refused, Settings};
 
-// A store whose settings and order were checked: 15 or 16, or how many cells it has.
-#[derive(Clone, Copy)]
-pub struct Opened {
-    pub refusal: Refusal,
-    pub cells: usize,
-}
-
-// The settings and the order of the store are checked. The tables lent, which chain no cell yet, then chain the cells of a store that passes.
+// The settings and the order of the store are checked: how many cells a store has that passes. The tables lent, which chain no cell yet, then chain the cells of a store that passes.
 pub fn check_by(
     s: Settings,
     store: &[u8],
     zero: &[u8],
-    heads: &mut [u16; crate::CHAINS],
-    links: &mut [u16; crate::CELLS_MOST],
-) -> Opened
+    chains: &mut crate::Chains,
+) -> Result<usize, Refused>
     requires zero_value { zero.now ≡ zero_row (length zero.now) }
-    requires chained { Chained (bucket_at s (length zero.now) store.now) heads.old links.old 0 }
-    ensures value { result ≡ opened_of s (length zero.now) store.now }
-    ensures chained_2 { result.refusal.number ≡ 0 →
-        Chained (bucket_at s (length zero.now) store.now) heads.new links.new result.cells }
+    requires chained { Chained (bucket_at s (length zero.now) store.now) chains.old 0 }
+    ensures value { opened result ≡ opened_of s (length zero.now) store.now }
+    ensures chained_2 { IfOk result (λ n. Chained (bucket_at s (length zero.now) store.now) chains.new n) }
 {
-    let w = walk::begin(s);
-    if w.refused != 0 {
-        return Opened {
-            refusal: walk::numbered(w.refused),
-            cells: 0,
-        };
-    }
-    let n = crate::in_order_by(s, store, zero, heads, links);
-    if n == 0 {
-        return Opened {
-            refusal: walk::numbered(REFUSED_ORDER),
-            cells: 0,
-        };
-    }
-    Opened {
-        refusal: walk::numbered(0),
-        cells: n,
-    }
+    s.check()?;
+    let n = crate::in_order_by(s, store, zero, chains);
+    if n == 0 { Err(Refused::Order) } else { Ok(n) }
 }
 
 // The same by tables of its own.
-pub fn check(s: Settings, store: &[u8], zero: &[u8]) -> Opened
+pub fn check(s: Settings, store: &[u8], zero: &[u8]) -> Result<usize, Refused>
     requires { zero.now ≡ zero_row (length zero.now) }
-    ensures { result ≡ opened_of s (length zero.now) store.now }
+    ensures { opened result ≡ opened_of s (length zero.now) store.now }
 {
-    let mut heads = [0u16; crate::CHAINS];
-    let mut links = [0u16; crate::CELLS_MOST];
-    check_by(s, store, zero, &mut heads, &mut links)
+    let mut chains = crate::Chains::new();
+    check_by(s, store, zero, &mut chains)
 }

@@ -31,10 +31,9 @@ struct Block {
 fn block_of(first: SegmentCounter, steps: u32) -> Block
     ensures { result ≡ block_of first.0 steps }
 {
-    let mut level: u32 = 0;
     let mut left = steps;
     let mut x = first.0;
-    while level < LEVELS_MOST {
+    for level in 0..LEVELS_MOST {
         if left == 0 {
             return Block {
                 level: level,
@@ -43,10 +42,9 @@ fn block_of(first: SegmentCounter, steps: u32) -> Block
         }
         left = left / 2;
         x = x / 2;
-        level += 1;
     }
     Block {
-        level: level,
+        level: LEVELS_MOST,
         number: x,
     }
 }
@@ -77,60 +75,36 @@ fn range_chain(row: &[u8], header: usize) -> usize
 fn no_marks(store: &[u8], n: usize, z: usize) -> bool
     ensures { result ≡ no_marks z store.now n }
 {
-    let mut i: usize = 0;
-    while i < n {
-        if octets::octet(crate::row(store, z, i), 1) == crate::MARK_TAKEN {
-            return false;
-        }
-        i += 1;
-    }
-    true
+    (0..n).all(|i| octets::octet(crate::row(store, z, i), 1) != crate::MARK_TAKEN)
 }
 
 // Cell i goes onto its chain if it is a record.
-fn enter_taken(
-    s: Settings,
-    store: &[u8],
-    i: usize,
-    zero: &[u8],
-    heads: &mut [u16; crate::CHAINS],
-    links: &mut [u16; crate::CELLS_MOST],
-)
+fn enter_taken(s: Settings, store: &[u8], i: usize, zero: &[u8], chains: &mut crate::Chains)
     requires zero_value { zero.now ≡ zero_row (length zero.now) }
     requires i_lt_cells_most { i < cells_most }
-    requires chained { Chained (taken_at s (length zero.now) store.now) heads.old links.old i }
-    ensures { Chained (taken_at s (length zero.now) store.now) heads.new links.new (i + 1) }
+    requires chained { Chained (taken_at s (length zero.now) store.now) chains.old i }
+    ensures { Chained (taken_at s (length zero.now) store.now) chains.new (i + 1) }
 {
     let r = crate::row(store, zero.len(), i);
     if octets::octet(r, 1) != crate::MARK_TAKEN {
         return;
     }
-    let t = crate::judge(s, r, zero);
-    if !crate::is_taken(t) {
+    let crate::Judged::Taken { header } = crate::judge(s, r, zero) else {
         return;
-    }
-    let b = range_chain(r, t.header);
-    crate::push(i, b, heads, links);
+    };
+    let b = range_chain(r, header);
+    chains.push(i, b);
 }
 
 // The records among the first n cells go onto their chains.
-fn chain_taken(
-    s: Settings,
-    store: &[u8],
-    n: usize,
-    zero: &[u8],
-    heads: &mut [u16; crate::CHAINS],
-    links: &mut [u16; crate::CELLS_MOST],
-)
+fn chain_taken(s: Settings, store: &[u8], n: usize, zero: &[u8], chains: &mut crate::Chains)
     requires zero_value { zero.now ≡ zero_row (length zero.now) }
     requires n_le_cells_most { n ≤ cells_most }
-    requires chained { Chained (taken_at s (length zero.now) store.now) heads.old links.old 0 }
-    ensures { Chained (taken_at s (length zero.now) store.now) heads.new links.new n }
+    requires chained { Chained (taken_at s (length zero.now) store.now) chains.old 0 }
+    ensures { Chained (taken_at s (length zero.now) store.now) chains.new n }
 {
-    let mut i: usize = 0;
-    while i < n {
-        enter_taken(s, store, i, zero, heads, links);
-        i += 1;
+    for i in 0..n {
+        enter_taken(s, store, i, zero, chains);
     }
 }
 
@@ -144,23 +118,21 @@ fn clear_on(
     body_at: usize,
     c: SegmentCounter,
     b: usize,
-    heads: &[u16; crate::CHAINS],
-    links: &[u16; crate::CELLS_MOST],
+    chains: &crate::Chains,
 ) -> bool
     requires zero_value { zero.now ≡ zero_row (length zero.now) }
     requires asked { Asked s q.now body_at }
-    requires chained { Chained (taken_at s (length zero.now) store.now) heads.now links.now n }
+    requires chained { Chained (taken_at s (length zero.now) store.now) chains.now n }
     requires b_lt_chains_all { b < chains_all }
     ensures { result ≡ clear_on s (length zero.now) store.now n (key_of q.now (read_packet s q.now)) c.0 b }
 {
     let z = zero.len();
-    let mut cur = heads[b] as usize;
-    while 0 < cur {
-        let j = cur - 1;
+    let mut cur = chains.head(b);
+    while let Some(j) = cur {
         if crate::covers_at(s, crate::row(store, z, j), zero, q, body_at, c) {
             return false;
         }
-        cur = links[j] as usize;
+        cur = chains.next(j);
     }
     true
 }
@@ -178,21 +150,20 @@ fn clear_at(
     level: u32,
     x: u32,
     top: u32,
-    heads: &[u16; crate::CHAINS],
-    links: &[u16; crate::CELLS_MOST],
+    chains: &crate::Chains,
 ) -> bool
     requires zero_value { zero.now ≡ zero_row (length zero.now) }
     requires asked { Asked s q.now body_at }
-    requires chained { Chained (taken_at s (length zero.now) store.now) heads.now links.now n }
+    requires chained { Chained (taken_at s (length zero.now) store.now) chains.now n }
     ensures { result ≡ clear_at s (length zero.now) store.now n (key_of q.now (read_packet s q.now)) c.0
         m level x top }
 {
     let here = block_chain(m, level, x);
     let before = block_chain(m, level, prior(top, x));
-    if !clear_on(s, store, n, zero, q, body_at, c, here, heads, links) {
+    if !clear_on(s, store, n, zero, q, body_at, c, here, chains) {
         return false;
     }
-    clear_on(s, store, n, zero, q, body_at, c, before, heads, links)
+    clear_on(s, store, n, zero, q, body_at, c, before, chains)
 }
 
 // The block before block x of those up to the top one: before the first comes the top one.
@@ -214,27 +185,22 @@ fn clear_near(
     q: &[u8],
     body_at: usize,
     c: SegmentCounter,
-    heads: &[u16; crate::CHAINS],
-    links: &[u16; crate::CELLS_MOST],
+    chains: &crate::Chains,
 ) -> bool
     requires zero_value { zero.now ≡ zero_row (length zero.now) }
     requires asked { Asked s q.now body_at }
-    requires chained { Chained (taken_at s (length zero.now) store.now) heads.now links.now n }
+    requires chained { Chained (taken_at s (length zero.now) store.now) chains.now n }
     ensures { result ≡ untaken_to s (length zero.now) store.now n (key_of q.now (read_packet s q.now)) c.0 }
 {
     let m = crate::mix_key(q, body_at);
     let mut x = c.0;
     let mut top = u32::MAX;
-    let mut level: u32 = 0;
-    while level <= LEVELS_MOST {
-        if !clear_at(
-            s, store, n, zero, q, body_at, c, m, level, x, top, heads, links,
-        ) {
+    for level in 0..=LEVELS_MOST {
+        if !clear_at(s, store, n, zero, q, body_at, c, m, level, x, top, chains) {
             return false;
         }
         x = x / 2;
         top = top / 2;
-        level += 1;
     }
     true
 }
@@ -247,12 +213,11 @@ fn untaken_at(
     zero: &[u8],
     i: usize,
     body_at: usize,
-    heads: &[u16; crate::CHAINS],
-    links: &[u16; crate::CELLS_MOST],
+    chains: &crate::Chains,
 ) -> bool
     requires zero_value { zero.now ≡ zero_row (length zero.now) }
     requires body_at_value { body_at ≡ body_start s (length zero.now) store.now i }
-    requires chained { Chained (taken_at s (length zero.now) store.now) heads.now links.now n }
+    requires chained { Chained (taken_at s (length zero.now) store.now) chains.now n }
     ensures { result ≡ untaken_in s (length zero.now) store.now n
         (cell_at s (length zero.now) store.now i) }
 {
@@ -260,17 +225,7 @@ fn untaken_at(
         return true;
     }
     let q = crate::packet_in(crate::row(store, zero.len(), i));
-    clear_near(
-        s,
-        store,
-        n,
-        zero,
-        q,
-        body_at,
-        crate::counter_in(q),
-        heads,
-        links,
-    )
+    clear_near(s, store, n, zero, q, body_at, crate::counter_in(q), chains)
 }
 
 // Whether no segment in the first n cells lies in the range of a record there, told where the body of each segment begins, if the records
@@ -281,23 +236,15 @@ fn untaken_all(
     n: usize,
     zero: &[u8],
     bodies: &[u16; crate::CELLS_MOST],
-    heads: &[u16; crate::CHAINS],
-    links: &[u16; crate::CELLS_MOST],
+    chains: &crate::Chains,
 ) -> bool
     requires zero_value { zero.now ≡ zero_row (length zero.now) }
     requires n_le_cells_most { n ≤ cells_most }
     requires bodies { Bodies s (length zero.now) store.now bodies.now n }
-    requires chained { Chained (taken_at s (length zero.now) store.now) heads.now links.now n }
+    requires chained { Chained (taken_at s (length zero.now) store.now) chains.now n }
     ensures { result ≡ untaken s (length zero.now) store.now n }
 {
-    let mut i: usize = 0;
-    while i < n {
-        if !untaken_at(s, store, n, zero, i, bodies[i] as usize, heads, links) {
-            return false;
-        }
-        i += 1;
-    }
-    true
+    (0..n).all(|i| untaken_at(s, store, n, zero, i, usize::from(bodies[i]), chains))
 }
 
 // The same by chains of its own: each record goes onto the chain of its key and of the block of counters in which it begins, and each segment is
@@ -314,10 +261,9 @@ fn untaken_chained(
     requires bodies { Bodies s (length zero.now) store.now bodies.now n }
     ensures { result ≡ untaken s (length zero.now) store.now n }
 {
-    let mut heads = [0u16; crate::CHAINS];
-    let mut links = [0u16; crate::CELLS_MOST];
-    chain_taken(s, store, n, zero, &mut heads, &mut links);
-    untaken_all(s, store, n, zero, bodies, &heads, &links)
+    let mut chains = crate::Chains::new();
+    chain_taken(s, store, n, zero, &mut chains);
+    untaken_all(s, store, n, zero, bodies, &chains)
 }
 
 // The same: without records nothing is searched, and no chains are made.

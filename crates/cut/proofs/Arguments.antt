@@ -11,7 +11,8 @@ use borrow.Fn.World.{ArgsD}
 use Rattle.walk.specs.declared.Settings.{Settings}
 use Rattle.sender.specs.declared.Sender.{Sender}
 use Rattle.write.specs.declared.HeaderValues.{HeaderValues}
-use Rattle.write.specs.Given.{Lent, lent}
+use Rattle.write.specs.Given.{Lent, lent_of}
+use Rattle.write.specs.Writing.{is_old}
 use Rattle.cut.specs.contracts.count as counts
 use Rattle.cut.specs.contracts.packet as cuts
 use Rattle.cut.proofs.packet.Kinds as kinds
@@ -29,17 +30,15 @@ pub record CountCall : Type 0 where
   pub long : ℕ  -- of the body
   pub sender : Sender
 
-abbrev pub count_call : (κs : L.Lfts 6) → ArgsD counts.signature κs → CountCall
+abbrev pub count_call : (κs : L.Lfts 1) → ArgsD counts.signature κs → CountCall
 count_call κs a =
     record {
       settings = a.0;
       limit = a.1.0;
       header = a.1.1.0;
-      texts =
-          lent a.1.1.1.0.now a.1.1.1.1.0.now a.1.1.1.1.1.0.now a.1.1.1.1.1.1.0.now
-          a.1.1.1.1.1.1.1.0.now a.1.1.1.1.1.1.1.1.0.now;
-      long = a.1.1.1.1.1.1.1.1.1.0;
-      sender = a.1.1.1.1.1.1.1.1.1.1.0;
+      texts = lent_of a.1.1.1.0;
+      long = a.1.1.1.1.0;
+      sender = a.1.1.1.1.1.0;
     }
 
 -- ---- `cut::packet`
@@ -54,39 +53,37 @@ pub record CutCall : Type 0 where
   pub index : ℕ
   pub output : List ℕ
 
-abbrev pub cut_call : (κs : L.Lfts 8) → ArgsD cuts.signature κs → CutCall
+abbrev pub cut_call : (κs : L.Lfts 3) → ArgsD cuts.signature κs → CutCall
 cut_call κs a =
     record {
       settings = a.0;
       limit = a.1.0;
       header = a.1.1.0;
-      texts =
-          lent a.1.1.1.0.now a.1.1.1.1.0.now a.1.1.1.1.1.0.now a.1.1.1.1.1.1.0.now
-          a.1.1.1.1.1.1.1.0.now a.1.1.1.1.1.1.1.1.0.now;
-      body = a.1.1.1.1.1.1.1.1.1.0.now;
-      sender = a.1.1.1.1.1.1.1.1.1.1.0;
-      index = a.1.1.1.1.1.1.1.1.1.1.1.0;
-      output = a.1.1.1.1.1.1.1.1.1.1.1.1.0.now;
+      texts = lent_of a.1.1.1.0;
+      body = a.1.1.1.1.0.now;
+      sender = a.1.1.1.1.1.0;
+      index = a.1.1.1.1.1.1.0;
+      output = a.1.1.1.1.1.1.1.0.now;
     }
 
 -- the output afterwards
-abbrev pub cut_output : (κs : L.Lfts 8) → AtExit (ended_of 8 kinds.ps kinds.r) κs → List ℕ
-cut_output κs x = x.1.1.1.1.1.1.1.1.1.1.1.1.0.now
+abbrev pub cut_output : (κs : L.Lfts 3) → AtExit (ended_of 3 kinds.ps kinds.r) κs → List ℕ
+cut_output κs x = x.1.1.1.1.1.1.1.0.now
 
 -- ---- `cut::count_by` and `cut::packet_by`
 
 -- whether it is the old cutter
-abbrev pub count_old : (κs : L.Lfts 6) → ArgsD count-bys.signature κs → Bool
-count_old κs a = a.0
+abbrev pub count_old : (κs : L.Lfts 1) → ArgsD count-bys.signature κs → Bool
+count_old κs a = is_old a.0
 
-abbrev pub count_by_call : (κs : L.Lfts 6) → ArgsD count-bys.signature κs → CountCall
+abbrev pub count_by_call : (κs : L.Lfts 1) → ArgsD count-bys.signature κs → CountCall
 count_by_call κs a = count_call κs a.1
 
-abbrev pub cut_old : (κs : L.Lfts 8) → ArgsD cut-bys.signature κs → Bool
-cut_old κs a = a.0
+abbrev pub cut_old : (κs : L.Lfts 3) → ArgsD cut-bys.signature κs → Bool
+cut_old κs a = is_old a.0
 
-abbrev pub cut_by_call : (κs : L.Lfts 8) → ArgsD cut-bys.signature κs → CutCall
+abbrev pub cut_by_call : (κs : L.Lfts 3) → ArgsD cut-bys.signature κs → CutCall
 cut_by_call κs a = cut_call κs a.1
 
-abbrev pub cut_by_output : (κs : L.Lfts 8) → AtExit (ended_of 8 by-kinds.ps by-kinds.r) κs → List ℕ
-cut_by_output κs x = x.1.1.1.1.1.1.1.1.1.1.1.1.1.0.now
+abbrev pub cut_by_output : (κs : L.Lfts 3) → AtExit (ended_of 3 by-kinds.ps by-kinds.r) κs → List ℕ
+cut_by_output κs x = x.1.1.1.1.1.1.1.1.0.now

@@ -1,18 +1,18 @@
--- Rounding up, flags, counters and how a message is sent: the code's forms are the definitions.
+-- Rounding up, counters and how a message is sent: the code's forms are the definitions.
 -- Assumes nothing.
-use Prim.Native.Nat.{ℕ, suc, ◌+◌, ◌-◌, ◌/◌, ◌≤◌, ◌<◌}
+use Prim.Native.Nat.{ℕ, ◌+◌, ◌-◌, ◌<◌}
 use mathlib.Core.Path.{◌≡◌, ap, sym, ◌∙◌}
 use mathlib.Core.Bool.{Bool, true, false}
 use native.Mathlib.Omega.{arith}
-use native.Mathlib.Nat.{div-zero, div-eq_of_lt, add-div_right}
-use lib.Dec.{eqb}
-use borrow.Author.Tests.{eq-eqb, ne_eqb}
+use native.Mathlib.Nat.{div-zero, div-eq_of_lt-le, add-mul}
 use Rattle.octets.specs.Octets.{pick}
 use Rattle.packet.specs.declared.SegmentCounter.{SegmentCounter}
 use Rattle.sender.specs.declared.Sender.{Sender}
 use Rattle.sender.specs.declared.Sent.{Sent}
 use Rattle.sender.specs.declared.Sent.TheVariants.{Whole, Segments}
 use Rattle.sender.specs.Sending.{counter_after, after_packet, after_segments, after_message}
+use Rattle.std.specs.Int.{div_ceil}
+use Rattle.std.proofs.lemmas.Grind.{div_ceil_times}
 use Rattle.cut.specs.Cutting.{counter_at, rounded}
 
 -- ---- rounding up
@@ -21,27 +21,13 @@ pub rounded_nothing : (B C : ℕ) → C ≡ 0 → 0 ≡ rounded B C
 unfolding rounded
 rounded_nothing B C e = rw e (sym (div-zero (B + (0 - 1))))
 
-pub rounded_none : (B C : ℕ) → B ≡ 0 → (C ≡ 0 → ⊥) → 0 ≡ rounded B C
+pub rounded_some : (B C : ℕ) → (C ≡ 0 → ⊥) → div_ceil B C ≡ rounded B C
 unfolding rounded
-rounded_none B C e h = let l : B + (C - 1) < C = omega arith in sym (div-eq_of_lt l)
-
-pub rounded_some : (B C : ℕ) → (B ≡ 0 → ⊥) → (C ≡ 0 → ⊥) → (B - 1) / C + 1 ≡ rounded B C
-unfolding rounded
-rounded_some B C b h =
+rounded_some B C h =
     let p : 0 < C = omega arith in
-    let e : B - 1 + C ≡ B + (C - 1) = omega arith in
-    sym (add-div_right (B - 1) p) ∙ ap (λ (n : ℕ). n / C) e
-
--- ---- the sequence flags
-
-pub last_flag : (i n : ℕ) → i < n → n - i ≡ 1 → eqb (suc i) n ≡ true
-last_flag i n h e = eq-eqb (suc i) n (omega arith)
-
-pub between_flag : (i n : ℕ) → i < n → (n - i ≡ 1 → ⊥) → eqb (suc i) n ≡ false
-between_flag i n h e = ne_eqb (suc i) n (λ z. e (omega arith))
-
-pub past_flag : (i n : ℕ) → n ≤ i → eqb (suc i) n ≡ false
-past_flag i n h = ne_eqb (suc i) n (λ z. omega arith)
+    let t = div_ceil_times B C p in
+    let m = add-mul (div_ceil B C) 1 C in
+    sym (div-eq_of_lt-le C (omega (arith, t)) (omega (arith, t, m)))
 
 -- ---- the counter
 

@@ -13,8 +13,9 @@ ghost use Rattle.std.specs.Prelude.{◌≡◌, false, suc, ◌+◌, length, eqb}
 ghost use Rattle.fields.specs.Inner.{capped};
 ghost use Rattle.octets.specs.Octets.{pick};
 ghost use Rattle.walk.specs.Walk.{refusal, unless};
-ghost use Rattle.write.specs.Given.{lent};
+ghost use Rattle.write.specs.Given.{lent_of};
 ghost use Rattle.write.specs.Lending.{Lends};
+ghost use Rattle.write.specs.Writing.{is_old};
 ghost use Rattle.sender.specs.declared.Sent.TheVariants.{Whole, Segments};
 ghost use Rattle.packet.specs.Format.{counter_width, flags_between, flags_first, flags_last, flags_whole};
 ghost use Rattle.cut.specs.Cutting.{limit_test, value_refusal, chunk as chunk_of, rounded};
@@ -27,7 +28,7 @@ use walk::{
     REFUSED_HEADER_LONG, REFUSED_LARGE, REFUSED_MANY_SEGMENTS, REFUSED_NO_ROOM, REFUSED_NUMBER,
     REFUSED_OUTPUT, REFUSED_SETTINGS, REFUSED_VALUE, REFUSED_WITHDRAWN, Refusal, Settings, Tested,
 };
-use write::{HeaderValues, PacketValues};
+use write::{HeaderValues, LentTexts, PacketValues, Writer};
 
 pub const LIMIT_LEAST: usize = 27;
 
@@ -64,6 +65,7 @@ pub struct Plan {
 // ---- the plan
 
 // 15: the settings and P.
+#[tactic(auto, unfolding(crate::specs::Cutting::limit_test))]
 pub fn test_limit(s: Settings, p: usize, r: Tested) -> Tested
     ensures { result ≡ limit_test s p r }
 {
@@ -74,60 +76,47 @@ pub fn test_limit(s: Settings, p: usize, r: Tested) -> Tested
 
 // 15, 22, 30, 13, 28.
 fn test_message(
-    old: bool,
+    writer: Writer,
     s: Settings,
     p: usize,
     v: HeaderValues,
-    time: &[u8],
-    zone: &[u8],
-    name: &[u8],
-    domain: &[u8],
-    lengths: &[u64],
-    id: &[u8],
+    texts: LentTexts,
     sender: Sender,
 ) -> Tested
-    ensures { result ≡ value_refusal old s p v (lent time.now zone.now name.now domain.now
-        lengths.now id.now) sender }
+    ensures { result ≡ value_refusal (is_old writer) s p v (lent_of texts.entry) sender }
 {
     let none = Tested { number: 0 };
-    let sequence_count = sender.sequence_count;
-    let has = v.has;
-    let zone_fits = write::zone_fits(old, has);
+    let zone_fits = write::zone_fits(writer, v.has);
     let a = test_limit(s, p, none);
-    let b = write::test_header(s, v, time, zone, name, domain, lengths, id, a);
-    let c = walk::unless(b, sequence_count.0 <= packet::COUNT_MOST, REFUSED_VALUE);
+    let b = write::test_header(s, v, texts, a);
+    let c = walk::unless(
+        b,
+        sender.sequence_count.0 <= packet::COUNT_MOST,
+        REFUSED_VALUE,
+    );
     let d = walk::unless(c, zone_fits, REFUSED_WITHDRAWN);
-    let e = write::test_parts(lengths.len(), d);
-    write::test_utf8(zone, name, domain, lengths, e)
+    let e = write::test_parts(texts.lengths.len(), d);
+    write::test_utf8(texts, e)
 }
 
 // C.
 fn chunk_of(p: usize, h: usize) -> usize
     ensures { result ≡ chunk_of p h }
 {
-    octets::less(octets::less(p, h), AROUND)
+    p.saturating_sub(h).saturating_sub(AROUND)
 }
 
 // B / C rounded up, 0 if C is.
 fn parts_of(b: usize, c: usize) -> usize
     ensures { result ≡ rounded b c }
 {
-    if c == 0 {
-        return 0;
-    }
-    if b == 0 {
-        return 0;
-    }
-    (b - 1) / c + 1
+    if c == 0 { 0 } else { b.div_ceil(c) }
 }
 
 fn count_of(single: bool, b: usize, c: usize) -> usize
     ensures { result ≡ packets_of single b c }
 {
-    if single {
-        return 1;
-    }
-    parts_of(b, c)
+    if single { 1 } else { parts_of(b, c) }
 }
 
 // The secondary header as it will stand in a packet.
@@ -135,12 +124,14 @@ fn header_of(single: bool, h: usize) -> usize
     ensures { result ≡ pick single h (capped (h + counter_width)) }
 {
     if single {
-        return h;
+        h
+    } else {
+        fields::plus(h, packet::COUNTER)
     }
-    fields::plus(h, packet::COUNTER)
 }
 
 // 23, 12, 24, 29, and the numbers that they are judged on.
+#[tactic(auto, unfolding(crate::specs::Inner::plan_of, crate::specs::Inner::plan_refusal))]
 pub fn plan_of(p: usize, h: usize, b: usize, r: Tested) -> Plan
     ensures { result ≡ plan_of p h b r }
 {
@@ -153,30 +144,32 @@ pub fn plan_of(p: usize, h: usize, b: usize, r: Tested) -> Plan
         header_of(single, h) <= write::HEADER_MOST,
         REFUSED_HEADER_LONG,
     );
-    let d = walk::unless(c, octets::either(single, 1 <= chunk), REFUSED_NO_ROOM);
+    let d = walk::unless(c, single || 1 <= chunk, REFUSED_NO_ROOM);
     let e = walk::unless(
         d,
-        octets::either(single, count <= packet::SEGMENTS_MOST),
+        single || count <= packet::SEGMENTS_MOST,
         REFUSED_MANY_SEGMENTS,
     );
     Plan {
         tested: e,
-        single: single,
-        chunk: chunk,
-        count: count,
+        single,
+        chunk,
+        count,
     }
 }
 
 // ---- the numbers of a sender and of a packet
 
 // The counter of segment i, 0 if there are none.
+#[tactic(auto, using(crate::proofs::Counting::counter_is))]
 fn counter_at(single: bool, first: SegmentCounter, i: usize) -> SegmentCounter
     ensures { result.0 ≡ counter_of single first i }
 {
     if single {
-        return SegmentCounter(0);
+        SegmentCounter(0)
+    } else {
+        sender::counter_after(first, i)
     }
-    sender::counter_after(first, i)
 }
 
 // The sequence flags of packet i.
@@ -189,10 +182,8 @@ fn flags_at(single: bool, count: usize, i: usize) -> u8
     if i == 0 {
         return packet::FIRST;
     }
-    if i < count {
-        if count - i == 1 {
-            return packet::LAST;
-        }
+    if i < count && count - i == 1 {
+        return packet::LAST;
     }
     packet::CONTINUATION
 }
@@ -202,9 +193,10 @@ pub fn from_of(single: bool, chunk: usize, i: usize, b: usize) -> usize
     ensures { result ≡ from_of single chunk i b }
 {
     if single {
-        return 0;
+        0
+    } else {
+        octets::place(b, chunk, i)
     }
-    octets::place(b, chunk, i)
 }
 
 // Where it ends.
@@ -212,12 +204,14 @@ pub fn to_of(single: bool, from: usize, chunk: usize, b: usize) -> usize
     ensures { result ≡ to_of single from chunk b }
 {
     if single {
-        return b;
+        b
+    } else {
+        octets::within(b, from, chunk)
     }
-    octets::within(b, from, chunk)
 }
 
 // The values of packet i.
+#[tactic(auto, unfolding(crate::specs::Inner::values_of))]
 pub fn values_at(single: bool, count: usize, sender: Sender, i: usize) -> PacketValues
     ensures { result ≡ values_of single count sender i }
 {
@@ -226,9 +220,9 @@ pub fn values_at(single: bool, count: usize, sender: Sender, i: usize) -> Packet
     let number = packet::sequence_count_after(first, i);
     let counter = counter_at(single, sender.counter, i);
     PacketValues {
-        flags: flags,
+        flags,
         sequence_count: number,
-        counter: counter,
+        counter,
     }
 }
 
@@ -237,38 +231,33 @@ pub fn sent_as(single: bool, n: usize) -> Sent
     ensures { result ≡ pick single Whole (Segments n) }
 {
     if single {
-        return Sent::Whole;
+        Sent::Whole
+    } else {
+        Sent::Segments(n)
     }
-    Sent::Segments(n)
 }
 
 // The count of the old cutter, or of today's, by whether a zone may be written.
 pub fn count_by(
-    old: bool,
+    writer: Writer,
     s: Settings,
     p: usize,
     v: HeaderValues,
-    time: &[u8],
-    zone: &[u8],
-    name: &[u8],
-    domain: &[u8],
-    lengths: &[u64],
-    id: &[u8],
+    texts: LentTexts,
     body: usize,
     sender: Sender,
 ) -> Counted
-    ensures { result ≡ count_answer old s p v (lent time.now zone.now name.now domain.now
-        lengths.now id.now) body sender }
+    ensures { result ≡ count_answer (is_old writer) s p v (lent_of texts.entry) body sender }
 {
-    let values = test_message(old, s, p, v, time, zone, name, domain, lengths, id, sender);
-    let h = write::header_size(s, v, time, zone, name, domain, lengths, id);
+    let values = test_message(writer, s, p, v, texts, sender);
+    let h = write::header_size(s, v, texts);
     let plan = plan_of(p, h, body, values);
     let tested = plan.tested;
     if tested.number != 0 {
         return Counted {
             refusal: walk::numbered(tested.number),
             count: 0,
-            sender: sender,
+            sender,
         };
     }
     let sent = sent_as(plan.single, plan.count);
@@ -285,21 +274,13 @@ pub fn count(
     s: Settings,
     p: usize,
     v: HeaderValues,
-    time: &[u8],
-    zone: &[u8],
-    name: &[u8],
-    domain: &[u8],
-    lengths: &[u64],
-    id: &[u8],
+    texts: LentTexts,
     body: usize,
     sender: Sender,
 ) -> Counted
-    ensures { result ≡ count_answer false s p v (lent time.now zone.now name.now domain.now
-        lengths.now id.now) body sender }
+    ensures { result ≡ count_answer false s p v (lent_of texts.entry) body sender }
 {
-    count_by(
-        false, s, p, v, time, zone, name, domain, lengths, id, body, sender,
-    )
+    count_by(Writer::Today, s, p, v, texts, body, sender)
 }
 
 // What is answered: a refusal's number, the octets written, and the sender as it was.
@@ -308,36 +289,31 @@ fn told(k: u8, length: usize, sender: Sender) -> Cut
 {
     Cut {
         refusal: walk::numbered(k),
-        length: length,
-        sender: sender,
+        length,
+        sender,
     }
 }
 
 // Packet number i by the old cutter, or by today's, by whether a zone may be written.
 pub fn packet_by(
-    old: bool,
+    writer: Writer,
     s: Settings,
     p: usize,
     v: HeaderValues,
-    time: &[u8],
-    zone: &[u8],
-    name: &[u8],
-    domain: &[u8],
-    lengths: &[u64],
-    id: &[u8],
+    texts: LentTexts,
     body: &[u8],
     sender: Sender,
     i: usize,
     out: &mut [u8],
 ) -> Cut
-    ensures { let t = lent time.now zone.now name.now domain.now lengths.now
-        id.now in
-        (result ≡ packet_answer old s p v t body.now sender i (length out.old))
-        × (out.new ≡ packet_output old s p v t body.now sender i out.old)
+    ensures { let t = lent_of texts.entry in
+        (result ≡ packet_answer (is_old writer) s p v t body.now sender i (length out.old))
+        × (out.new ≡ packet_output (is_old writer) s p v t body.now sender i out.old)
         × Lends v t body.now }
 {
-    let values = test_message(old, s, p, v, time, zone, name, domain, lengths, id, sender);
-    let h = write::header_size(s, v, time, zone, name, domain, lengths, id);
+    write::lent_in_octets(texts, body);
+    let values = test_message(writer, s, p, v, texts, sender);
+    let h = write::header_size(s, v, texts);
     let plan = plan_of(p, h, body.len(), values);
     let o = values_at(plan.single, plan.count, sender, i);
     let from = from_of(plan.single, plan.chunk, i, body.len());
@@ -350,7 +326,7 @@ pub fn packet_by(
         return told(r.number, 0, sender);
     }
     let n = size - 7;
-    write::put_packet(s, out, v, o, n, time, zone, name, domain, lengths, id, part);
+    write::put_packet(s, out, v, o, n, texts, part);
     told(0, size, sender)
 }
 
@@ -359,24 +335,16 @@ pub fn packet(
     s: Settings,
     p: usize,
     v: HeaderValues,
-    time: &[u8],
-    zone: &[u8],
-    name: &[u8],
-    domain: &[u8],
-    lengths: &[u64],
-    id: &[u8],
+    texts: LentTexts,
     body: &[u8],
     sender: Sender,
     i: usize,
     out: &mut [u8],
 ) -> Cut
-    ensures { let t = lent time.now zone.now name.now domain.now lengths.now
-        id.now in
+    ensures { let t = lent_of texts.entry in
         (result ≡ packet_answer false s p v t body.now sender i (length out.old))
         × (out.new ≡ packet_output false s p v t body.now sender i out.old)
         × Lends v t body.now }
 {
-    packet_by(
-        false, s, p, v, time, zone, name, domain, lengths, id, body, sender, i, out,
-    )
+    packet_by(Writer::Today, s, p, v, texts, body, sender, i, out)
 }

@@ -33,15 +33,19 @@ use Rattle.fewest.proofs.Calls.{packet_wrote, packet_by_wrote}
 use Rattle.cells.specs.Order.{count_in, cell_size, gate}
 use Rattle.cells.specs.Messages.{Run, cells_of, picked}
 use Rattle.arrival.specs.Arriving.{Arrived, whole, stored, again, late, refused, arrived, store_with}
-use Rattle.arrival.specs.declared.Arrival.TheVariants.{Answer}
+use Rattle.arrival.specs.Answer.{Answer}
 use Rattle.arrival.specs.declared.Kind.TheVariants.{Taken as Repeated}
 use Rattle.taking.specs.Taking.{Took, message, unable, writing, drawn, took_in, took}
 use Rattle.taking.specs.Forgetting.{forgot}
-use Rattle.taking.specs.declared.Taken.{Taken}
+use Rattle.taking.specs.Answer.{Taken}
 use Rattle.arrival.specs.Told.{arrival_of}
 use Rattle.taking.specs.Told.{taken_of}
 use Rattle.taking.proofs.Checked.{took_open, took_shut}
 use Rattle.store.proofs.Arguments.{arrive_call, arrive_store, take_call, take_store, take_output, forget_call, forget_store}
+use Rattle.walk.specs.Told.{said}
+use Rattle.arrival.specs.Answer.{arrival_answer}
+use Rattle.taking.specs.Answer.{taken_answer}
+use Rattle.join.specs.Answer.{joined_answer}
 use Rattle.store.proofs.arrive.Reads as arrives
 use Rattle.store.proofs.take.Reads as takes
 use Rattle.store.proofs.forget.Reads as forgets
@@ -56,7 +60,7 @@ use Rattle.demand3.specs.Whole.{Delivers, Out}
 
 -- `store::arrive`
 pub arrive_answers : (κs : L.Lfts 2) (a : _) (r : _) (x : _) → arrives.Post κs a r x →
-    r ≡ arrival_of (arrived (arrive_call κs a).settings cell_size (arrive_call κs a).store (arrive_call κs a).packet)
+    arrival_answer r ≡ arrival_of (arrived (arrive_call κs a).settings cell_size (arrive_call κs a).store (arrive_call κs a).packet)
 arrive_answers κs a r x k = k.0
 
 pub arrive_steps : (κs : L.Lfts 2) (a : _) (r : _) (x : _) → arrives.Post κs a r x →
@@ -71,14 +75,14 @@ pub arrive_out : (κs : L.Lfts 2) (a : _) (r : _) (x : _) → arrives.Post κs a
     (seg_of (arrive_call κs a).packet (read_packet (arrive_call κs a).settings (arrive_call κs a).packet)).key ≡ key_in (arrive_call κs a).settings m →
     (i : ℕ) → i < many_of (arrive_call κs a).settings m →
     (seg_of (arrive_call κs a).packet (read_packet (arrive_call κs a).settings (arrive_call κs a).packet)).counter ≡ counter_in (arrive_call κs a).settings m i →
-    (r ≡ Answer Repeated) × (arrive_store κs x ≡ (arrive_call κs a).store)
+    (arrival_answer r ≡ Answer Repeated) × (arrive_store κs x ≡ (arrive_call κs a).store)
 arrive_out κs a r x k n m o ok seg key i l c =
     let v = o.repeats (arrive_call κs a).packet ok seg key i l c in
     (arrive_answers κs a r x k ∙ ap arrival_of v.0, k.1 ∙ v.1)
 
 -- `store::forget`
 pub forget_answers : (κs : L.Lfts 1) (a : _) (r : _) (x : _) → forgets.Post κs a r x →
-    r ≡ refusal (forgot (forget_call κs a).settings cell_size (forget_call κs a).store (forget_call κs a).number)
+    said r ≡ refusal (forgot (forget_call κs a).settings cell_size (forget_call κs a).store (forget_call κs a).number)
 forget_answers κs a r x k = k.0
 
 pub forget_steps : (κs : L.Lfts 1) (a : _) (r : _) (x : _) → forgets.Post κs a r x →
@@ -122,7 +126,7 @@ module _ (s : Settings) (Z : ℕ) (st out p : List ℕ) where
 
 -- `store::take`
 pub take_answers : (κs : L.Lfts 2) (a : _) (r : _) (x : _) → takes.Post κs a r x →
-    some r ≡ map taken_of (took_by (take_call κs a).settings cell_size (take_call κs a).store (taking (take_call κs a).output))
+    some (taken_answer r) ≡ map taken_of (took_by (take_call κs a).settings cell_size (take_call κs a).store (taking (take_call κs a).output))
 unfolding took_by
 take_answers κs a r x k = ap some k.0
 
@@ -138,13 +142,13 @@ take_steps κs a r x k = k.1.1
 
 -- `join::join`
 pub join_answers : (κs : L.Lfts 3) (a : _) (r : _) (x : _) → joins.Post κs a r x → (t : Took) →
-    took_by (join_call κs a).settings cell_size (join_call κs a).store (joining (join_call κs a).packet (join_call κs a).output) ≡ some t → r ≡ joined_of (took_as t)
+    took_by (join_call κs a).settings cell_size (join_call κs a).store (joining (join_call κs a).packet (join_call κs a).output) ≡ some t → joined_answer r ≡ joined_of (took_as t)
 join_answers κs a r x k t e =
     k.0 ∙ ap joined_of (joining_takes (join_call κs a).settings cell_size (join_call κs a).store (join_call κs a).output (join_call κs a).packet t e)
 
 pub join_ends : (κs : L.Lfts 3) (a : _) (r : _) (x : _) → joins.Post κs a r x →
     took_by (join_call κs a).settings cell_size (join_call κs a).store (joining (join_call κs a).packet (join_call κs a).output) ≡ none →
-    (j : Joining) × (r ≡ joined_of j) × Ended (join_call κs a).settings (join_call κs a).packet
+    (j : Joining) × (joined_answer r ≡ joined_of j) × Ended (join_call κs a).settings (join_call κs a).packet
     (arrived (join_call κs a).settings cell_size (join_call κs a).store (join_call κs a).packet) j
 join_ends κs a r x k e = (_, k.0, joining_ends (join_call κs a).settings cell_size (join_call κs a).store (join_call κs a).output (join_call κs a).packet e)
 
@@ -210,15 +214,15 @@ module _ (s : Settings) (m : Sending) where
 
 pub take_hands_out : (κs : L.Lfts 2) (a : _) (r : _) (x : _) → takes.Post κs a r x → (n : ℕ) (m : Sending) →
     Delivers (take_call κs a).settings cell_size n m (take_call κs a).store (taking (take_call κs a).output) →
-    (r ≡ its_answer (take_call κs a).settings m) × (take_output κs x ≡ its_output (take_call κs a).settings m (take_call κs a).output)
+    (taken_answer r ≡ its_answer (take_call κs a).settings m) × (take_output κs x ≡ its_output (take_call κs a).settings m (take_call κs a).output)
 take_hands_out κs a r x k n m d = (
-  some-injective r (its_answer (take_call κs a).settings m) (take_answers κs a r x k ∙ d.told),
+  some-injective (taken_answer r) (its_answer (take_call κs a).settings m) (take_answers κs a r x k ∙ d.told),
   take_writes κs a r x k ∙ d.written,
 )
 
 pub join_hands_out : (κs : L.Lfts 3) (a : _) (r : _) (x : _) → joins.Post κs a r x → (n : ℕ) (m : Sending) →
     Delivers (join_call κs a).settings cell_size n m (join_call κs a).store (joining (join_call κs a).packet (join_call κs a).output) →
-    (r ≡ taken (its_answer (join_call κs a).settings m)) × (join_output κs x ≡ its_output (join_call κs a).settings m (join_call κs a).output)
+    (joined_answer r ≡ taken (its_answer (join_call κs a).settings m)) × (join_output κs x ≡ its_output (join_call κs a).settings m (join_call κs a).output)
 join_hands_out κs a r x k n m d = (
   k.0
       ∙ joined_tells (join_call κs a).settings cell_size (join_call κs a).store (join_call κs a).packet (join_call κs a).output (its_answer (join_call κs a).settings m) refl d.told,
@@ -236,25 +240,25 @@ plain_count : (old : Bool) (s : Settings) (P B : ℕ) (v : HeaderValues) (t : Le
 plain_count old s P B v t d r k body e = ap (λ (x : ℕ). count_answer old s P v t x d) e ∙ sym k
 
 -- `cut::count`
-pub count_steps : (κs : L.Lfts 6) (a : _) (r : _) (x : _) → counts.Post κs a r x → (body : List ℕ) → length body ≡ (count_call κs a).long →
+pub count_steps : (κs : L.Lfts 1) (a : _) (r : _) (x : _) → counts.Post κs a r x → (body : List ℕ) → length body ≡ (count_call κs a).long →
     (let c = count_call κs a in count_of c.settings (cutting false c.limit c.header c.texts body c.sender)) ≡ r
 count_steps κs a r x k body e =
     let c = count_call κs a in plain_count false c.settings c.limit c.long c.header c.texts c.sender r k body e
 
 -- `cut::packet`
-pub packet_steps : (κs : L.Lfts 8) (a : _) (r : _) (x : _) → cuts.Post κs a r x → r.refusal.number ≡ 0 →
+pub packet_steps : (κs : L.Lfts 3) (a : _) (r : _) (x : _) → cuts.Post κs a r x → r.refusal.number ≡ 0 →
     take r.length (cut_output κs x) ≡
     (let c = cut_call κs a in packet_of c.settings (cutting false c.limit c.header c.texts c.body c.sender) c.index)
 packet_steps κs a r x k z = (packet_wrote κs a r x k z).octets
 
 -- and the old cutter, `cut::count_by` and `cut::packet_by`, with a zone too
-pub count_by_steps : (κs : L.Lfts 6) (a : _) (r : _) (x : _) → count-bys.Post κs a r x → (body : List ℕ) →
+pub count_by_steps : (κs : L.Lfts 1) (a : _) (r : _) (x : _) → count-bys.Post κs a r x → (body : List ℕ) →
     length body ≡ (count_by_call κs a).long →
     (let c = count_by_call κs a in count_of c.settings (cutting (count_old κs a) c.limit c.header c.texts body c.sender)) ≡ r
 count_by_steps κs a r x k body e =
     let c = count_by_call κs a in plain_count (count_old κs a) c.settings c.limit c.long c.header c.texts c.sender r k body e
 
-pub packet_by_steps : (κs : L.Lfts 8) (a : _) (r : _) (x : _) → cut-bys.Post κs a r x → r.refusal.number ≡ 0 →
+pub packet_by_steps : (κs : L.Lfts 3) (a : _) (r : _) (x : _) → cut-bys.Post κs a r x → r.refusal.number ≡ 0 →
     take r.length (cut_by_output κs x) ≡
     (let c = cut_by_call κs a in
     packet_of c.settings (cutting (cut_old κs a) c.limit c.header c.texts c.body c.sender) c.index)

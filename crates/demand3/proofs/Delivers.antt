@@ -15,7 +15,7 @@ use Rattle.walk.specs.declared.Settings.{Settings}
 use Rattle.packet.specs.Numbers.{next_counter, steps_most}
 use Rattle.cells.specs.Rows.{Cell, held, row_at, zero_row}
 use Rattle.cells.specs.Order.{count_in, cell_at}
-use Rattle.taking.specs.declared.Taken.{Taken}
+use Rattle.taking.specs.Answer.{Taken}
 use Rattle.cells.specs.Messages.{Run, body_of, segments, picked}
 use Rattle.taking.specs.Taking.{Took, message, unable, writing, took, out_with, store_less, record_of}
 use Rattle.walk.specs.Walk.{refusal}

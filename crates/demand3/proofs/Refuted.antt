@@ -20,7 +20,7 @@ use Rattle.packet.specs.Numbers.{next_counter, steps_most}
 use Rattle.write.specs.Given.{head_of}
 use Rattle.cells.specs.Segments.{carries, same_rest, reaches}
 use Rattle.cells.specs.Order.{cell_size}
-use Rattle.taking.specs.declared.Taken.{Taken}
+use Rattle.taking.specs.Answer.{Taken}
 use Rattle.cells.specs.Messages.{Run, look, role_of, bodies, body_of, rest_from, run_from, pick_in, picked, among}
 use Rattle.taking.specs.Taking.{Took, message, unable}
 use Rattle.walk.specs.Walk.{refusal}

@@ -15,7 +15,7 @@ use Rattle.octets.proofs.Lists.{bool}
 use Rattle.walk.specs.declared.Settings.{Settings}
 use Rattle.walk.specs.Walk.{Reading, header_bound}
 use Rattle.fields.specs.Fields.{opt}
-use Rattle.packet.specs.declared.Header.{Header}
+use Rattle.packet.specs.Answer.{Header}
 use Rattle.packet.specs.Format.{Values, presence, identification, fixed_octets, secondary_octets, data_octets, octets_of, flags_whole, counter_width}
 use Rattle.packet.specs.FixedPart.{wide_field}
 use Rattle.packet.specs.Reading.{read_packet, segmented, accepted_header, primary_of, ids_of}

@@ -15,6 +15,8 @@ ghost use Rattle.cells.specs.Inner.{counter_in};
 ghost use Rattle.entries.specs.Lines.{identity_in, decimal, flags_word, kept_octets};
 ghost use Rattle.entries.specs.Lines.{next_pieces, counter_pieces, flags_pieces, entry_pieces, kept_pieces, skipped_pieces, line_pieces};
 
+use salvage::{Entry, Kind, Part};
+
 // The room of the longest line.
 pub const LINE: usize = 128;
 
@@ -25,9 +27,6 @@ const TRANSACTION_AT: usize = 18;
 
 // The octets of the mark before a packet.
 const MARK: usize = 2;
-
-// The kind of a kept entry.
-const KEPT: u64 = 1;
 
 // The sequence flags.
 const FIRST: u8 = 1;
@@ -60,9 +59,9 @@ fn counter(p: &[u8], flags: u8) -> u32
 pub fn whose(p: &[u8]) -> Identity
     ensures { result ≡ identity_in p.now }
 {
-    let apid = octets::be16(p, 0) % 2048;
+    let apid = octets::read::<u16>(p, 0) % 2048;
     let flags = octets::octet(p, FLAGS_AT) / 64;
-    let transaction = octets::be64(p, TRANSACTION_AT);
+    let transaction = octets::read::<u64>(p, TRANSACTION_AT);
     let number = counter(p, flags);
     Identity {
         apid: apid,
@@ -91,28 +90,25 @@ fn put_next(out: &mut [u8], at: usize, n: u64) -> usize
 }
 
 // A word, a place and a length.
-fn put_entry(out: &mut [u8], at: usize, word: &[u8], place: u64, long: u64) -> usize
-    ensures { Lays (laid out.old at) (entry_pieces word.now place long) out.new result }
+fn put_entry(out: &mut [u8], at: usize, word: &[u8], entry: Entry) -> usize
+    ensures { Lays (laid out.old at) (entry_pieces word.now entry.place entry.long) out.new result }
 {
     let a = octets::lay(out, at, word);
-    let b = put_next(out, a, place);
-    put_next(out, b, long)
+    let b = put_next(out, a, entry.place as u64);
+    put_next(out, b, entry.long as u64)
 }
 
 // The sequence flags in a word.
-fn put_word(out: &mut [u8], at: usize, flags: u8) -> usize
-    ensures { Lays (laid out.old at) (flags_word flags ∷ []) out.new result }
+#[tactic(auto, unfolding(crate::specs::Lines::flags_word))]
+fn word(flags: u8) -> &'static [u8]
+    ensures { result.now ≡ flags_word flags }
 {
-    if flags == FIRST {
-        return octets::lay(out, at, b"first");
+    match flags {
+        FIRST => b"first",
+        LAST => b"last",
+        UNSEGMENTED => b"unsegmented",
+        _ => b"continuation",
     }
-    if flags == LAST {
-        return octets::lay(out, at, b"last");
-    }
-    if flags == UNSEGMENTED {
-        return octets::lay(out, at, b"unsegmented");
-    }
-    octets::lay(out, at, b"continuation")
 }
 
 // A comma, and the segment counter unless the packet is unsegmented.
@@ -130,16 +126,16 @@ fn put_flags(out: &mut [u8], at: usize, flags: u8, number: u32) -> usize
     ensures { Lays (laid out.old at) (flags_pieces flags number) out.new result }
 {
     let a = octets::lay(out, at, b",");
-    let b = put_word(out, a, flags);
+    let b = octets::lay(out, a, word(flags));
     put_counter(out, b, flags, number)
 }
 
 // The line of a kept entry, from a place on; the place after it.
-fn put_kept(out: &mut [u8], at: usize, place: u64, long: u64, id: Identity) -> usize
-    ensures { Lays (laid out.old at) (kept_pieces place long id) out.new result }
+fn put_kept(out: &mut [u8], at: usize, entry: Entry, id: Identity) -> usize
+    ensures { Lays (laid out.old at) (kept_pieces entry.place entry.long id) out.new result }
 {
     let apid = id.apid as u64;
-    let a = put_entry(out, at, b"kept", place, long);
+    let a = put_entry(out, at, b"kept", entry);
     let b = put_next(out, a, apid);
     let c = put_next(out, b, id.transaction);
     let d = put_flags(out, c, id.flags, id.counter);
@@ -147,41 +143,39 @@ fn put_kept(out: &mut [u8], at: usize, place: u64, long: u64, id: Identity) -> u
 }
 
 // The line of a skipped stretch.
-fn put_skipped(out: &mut [u8], at: usize, place: u64, long: u64) -> usize
-    ensures { Lays (laid out.old at) (skipped_pieces place long) out.new result }
+fn put_skipped(out: &mut [u8], at: usize, entry: Entry) -> usize
+    ensures { Lays (laid out.old at) (skipped_pieces entry.place entry.long) out.new result }
 {
-    let a = put_entry(out, at, b"skipped", place, long);
+    let a = put_entry(out, at, b"skipped", entry);
     octets::lay(out, a, b",,,,\n")
 }
 
-// ---- an entry, with the part of the file in hand from `off` on
+// ---- an entry, with a part of the file in hand
 
 // What is written of an entry: of a kept one mark and packet as they stand in the part, of a stretch nothing.
-pub fn kept_in(y: &[u8], off: usize, kind: u64, place: usize, long: usize) -> &[u8]
-    ensures { result.now ≡ kept_octets y.now off kind place long }
+pub fn kept_in<'a>(part: Part<'a>, entry: Entry) -> &'a [u8]
+    ensures { result.now ≡ kept_octets part.entry.octets.now part.entry.off entry }
 {
-    if kind != KEPT {
-        return &y[0..0];
+    match entry.kind {
+        Kind::Kept => cells::span(
+            part.octets,
+            entry.place.saturating_sub(part.off),
+            entry.long,
+        ),
+        Kind::Skipped => &[],
     }
-    cells::span(y, octets::less(place, off), long)
 }
 
 // The line of an entry, from a place on; the place after it.
-pub fn put_line(
-    out: &mut [u8],
-    at: usize,
-    y: &[u8],
-    off: usize,
-    kind: u64,
-    place: usize,
-    long: usize,
-) -> usize
-    ensures { Lays (laid out.old at) (line_pieces y.now off kind place long) out.new result }
+pub fn put_line(out: &mut [u8], at: usize, part: Part, entry: Entry) -> usize
+    ensures { Lays (laid out.old at) (line_pieces part.entry.octets.now part.entry.off entry) out.new result }
 {
-    if kind != KEPT {
-        return put_skipped(out, at, place as u64, long as u64);
+    match entry.kind {
+        Kind::Kept => {
+            let x = kept_in(part, entry);
+            let id = whose(cells::span(x, MARK, entry.long));
+            put_kept(out, at, entry, id)
+        }
+        Kind::Skipped => put_skipped(out, at, entry),
     }
-    let x = kept_in(y, off, kind, place, long);
-    let id = whose(cells::span(x, MARK, long));
-    put_kept(out, at, place as u64, long as u64, id)
 }

@@ -102,13 +102,13 @@ module _ (old : Bool) (s : Settings) (P : ℕ) (v : HeaderValues) (t : Lent) (bo
 -- ---- `cut::count`
 
 pub count_counts :
-    (κs : L.Lfts 6) (a : _) (r : _) (x : _) → counts.Post κs a r x → r.refusal.number ≡ 0 →
+    (κs : L.Lfts 1) (a : _) (r : _) (x : _) → counts.Post κs a r x → r.refusal.number ≡ 0 →
     Counts false (count_call κs a).settings (count_call κs a).limit (count_call κs a).header (count_call κs a).texts (count_call κs a).long
     (count_call κs a).sender r
 count_counts κs a r x k z = plain_counts false _ _ _ _ _ _ r k z
 
 pub count_fewest :
-    (κs : L.Lfts 6) (a : _) (r : _) (x : _) → counts.Post κs a r x → r.refusal.number ≡ 0 → (body : List ℕ) →
+    (κs : L.Lfts 1) (a : _) (r : _) (x : _) → counts.Post κs a r x → r.refusal.number ≡ 0 → (body : List ℕ) →
     length body ≡ (count_call κs a).long → (ps : List (List ℕ)) →
     Carries (count_call κs a).settings (head_of (count_call κs a).header (count_call κs a).texts) body (count_call κs a).limit ps →
     r.count ≤ length ps
@@ -117,13 +117,13 @@ count_fewest κs a r x k z body n ps c =
 
 -- and the old cutter's, with a zone too
 pub count_by_counts :
-    (κs : L.Lfts 6) (a : _) (r : _) (x : _) → count-bys.Post κs a r x → r.refusal.number ≡ 0 →
+    (κs : L.Lfts 1) (a : _) (r : _) (x : _) → count-bys.Post κs a r x → r.refusal.number ≡ 0 →
     Counts (count_old κs a) (count_by_call κs a).settings (count_by_call κs a).limit (count_by_call κs a).header
     (count_by_call κs a).texts (count_by_call κs a).long (count_by_call κs a).sender r
 count_by_counts κs a r x k z = plain_counts (count_old κs a) _ _ _ _ _ _ r k z
 
 pub count_by_fewest :
-    (κs : L.Lfts 6) (a : _) (r : _) (x : _) → count-bys.Post κs a r x → r.refusal.number ≡ 0 → (body : List ℕ) →
+    (κs : L.Lfts 1) (a : _) (r : _) (x : _) → count-bys.Post κs a r x → r.refusal.number ≡ 0 → (body : List ℕ) →
     length body ≡ (count_by_call κs a).long → (ps : List (List ℕ)) →
     Carries (count_by_call κs a).settings (head_of (count_by_call κs a).header (count_by_call κs a).texts) body
     (count_by_call κs a).limit ps →
@@ -135,14 +135,14 @@ count_by_fewest κs a r x k z body n ps c =
 -- ---- `cut::packet`
 
 pub packet_wrote :
-    (κs : L.Lfts 8) (a : _) (r : _) (x : _) → cuts.Post κs a r x → r.refusal.number ≡ 0 →
+    (κs : L.Lfts 3) (a : _) (r : _) (x : _) → cuts.Post κs a r x → r.refusal.number ≡ 0 →
     Wrote false (cut_call κs a).settings (cut_call κs a).limit (cut_call κs a).header (cut_call κs a).texts (cut_call κs a).body
     (cut_call κs a).sender (cut_call κs a).index r (cut_call κs a).output (cut_output κs x)
 packet_wrote κs a r x k z = plain_wrote false _ _ _ _ _ _ _ r _ _ k.0 k.1 z
 
 -- what it wrote reads back as packet number i
 pub packet_back :
-    (κs : L.Lfts 8) (a : _) (r : _) (x : _) → cuts.Post κs a r x → r.refusal.number ≡ 0 →
+    (κs : L.Lfts 3) (a : _) (r : _) (x : _) → cuts.Post κs a r x → r.refusal.number ≡ 0 →
     Back (cut_call κs a).settings (cut_call κs a).limit (cut_call κs a).header (cut_call κs a).texts (cut_call κs a).body
     (cut_call κs a).sender (cut_call κs a).index (take r.length (cut_output κs x))
 packet_back κs a r x k z =
@@ -151,13 +151,13 @@ packet_back κs a r x k z =
 
 -- and the old cutter's, with a zone too
 pub packet_by_wrote :
-    (κs : L.Lfts 8) (a : _) (r : _) (x : _) → cut-bys.Post κs a r x → r.refusal.number ≡ 0 →
+    (κs : L.Lfts 3) (a : _) (r : _) (x : _) → cut-bys.Post κs a r x → r.refusal.number ≡ 0 →
     Wrote (cut_old κs a) (cut_by_call κs a).settings (cut_by_call κs a).limit (cut_by_call κs a).header (cut_by_call κs a).texts
     (cut_by_call κs a).body (cut_by_call κs a).sender (cut_by_call κs a).index r (cut_by_call κs a).output (cut_by_output κs x)
 packet_by_wrote κs a r x k z = plain_wrote (cut_old κs a) _ _ _ _ _ _ _ r _ _ k.0 k.1 z
 
 pub packet_by_back :
-    (κs : L.Lfts 8) (a : _) (r : _) (x : _) → cut-bys.Post κs a r x → r.refusal.number ≡ 0 →
+    (κs : L.Lfts 3) (a : _) (r : _) (x : _) → cut-bys.Post κs a r x → r.refusal.number ≡ 0 →
     Back (cut_by_call κs a).settings (cut_by_call κs a).limit (cut_by_call κs a).header (cut_by_call κs a).texts
     (cut_by_call κs a).body (cut_by_call κs a).sender (cut_by_call κs a).index (take r.length (cut_by_output κs x))
 packet_by_back κs a r x k z =
@@ -166,12 +166,12 @@ packet_by_back κs a r x k z =
 
 -- ---- the same arguments, the same answer and the same output
 
-pub count_same_answer : (κs : L.Lfts 6) (a : _) (r q : _) (s t : _) → counts.Post κs a r s → counts.Post κs a q t → r ≡ q
+pub count_same_answer : (κs : L.Lfts 1) (a : _) (r q : _) (s t : _) → counts.Post κs a r s → counts.Post κs a q t → r ≡ q
 count_same_answer κs a r q s t k j = k ∙ sym j
 
-pub packet_same_answer : (κs : L.Lfts 8) (a : _) (r q : _) (s t : _) → cuts.Post κs a r s → cuts.Post κs a q t → r ≡ q
+pub packet_same_answer : (κs : L.Lfts 3) (a : _) (r q : _) (s t : _) → cuts.Post κs a r s → cuts.Post κs a q t → r ≡ q
 packet_same_answer κs a r q s t k j = k.0 ∙ sym j.0
 
 pub packet_same_lent :
-    (κs : L.Lfts 8) (a : _) (r q : _) (s t : _) → cuts.Post κs a r s → cuts.Post κs a q t → cut_output κs s ≡ cut_output κs t
+    (κs : L.Lfts 3) (a : _) (r q : _) (s t : _) → cuts.Post κs a r s → cuts.Post κs a q t → cut_output κs s ≡ cut_output κs t
 packet_same_lent κs a r q s t k j = k.1 ∙ sym j.1

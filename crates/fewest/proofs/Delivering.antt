@@ -16,8 +16,12 @@ use Rattle.octets.proofs.Lists.{bool}
 use Rattle.walk.specs.declared.Settings.{Settings}
 use Rattle.walk.specs.declared.Tested.{Tested}
 use Rattle.fields.specs.Form.{joined}
-use Rattle.packet.specs.declared.Header.{Header}
+use Rattle.packet.specs.Answer.{Header}
 use Rattle.packet.specs.Reading.{read_packet}
+use Rattle.std.specs.Prelude.{Result}
+use Rattle.walk.specs.declared.Refused.{Refused}
+use Rattle.packet.specs.declared.Header.{Header as Decoded}
+use Rattle.packet.specs.Decoded.{decoded}
 use Rattle.packet.proofs.read.Reads as reads
 use Rattle.packet.proofs.Arguments.{ReadCall, read_call}
 use Rattle.sender.specs.declared.Sender.{Sender}
@@ -189,14 +193,14 @@ module _
 
 -- what `packet::read` was asked and answered
 read_packet_lem :
-    (s : Settings) (p : List ℕ) (h : Header) (μs : L.Lfts 1) (f : _) (u : _) → reads.Post μs f h u → read_call μs f ≡ asked_read s p →
-    h ≡ read_packet s (read_call μs f).packet
-read_packet_lem s p h μs f u o w = subst (λ (x : ReadCall). h ≡ read_packet x.settings (read_call μs f).packet) w o.0
+    (s : Settings) (p : List ℕ) (h : Result Decoded Refused) (μs : L.Lfts 1) (f : _) (u : _) → reads.Post μs f h u → read_call μs f ≡ asked_read s p →
+    decoded h ≡ read_packet s (read_call μs f).packet
+read_packet_lem s p h μs f u o w = subst (λ (x : ReadCall). decoded h ≡ read_packet x.settings (read_call μs f).packet) w o.0
 
 -- ---- `cut::count` and `cut::packet`
 
 module _
-    (κs : L.Lfts 6)
+    (κs : L.Lfts 1)
     (a : _)
     (r : _)
     (x : _)
@@ -204,7 +208,7 @@ module _
     (z : r.refusal.number ≡ 0)
     (body : List ℕ)
     (m : length body ≡ (count_call κs a).long)
-    (λs : ℕ → L.Lfts 8)
+    (λs : ℕ → L.Lfts 3)
     (b : (i : ℕ) → _)
     (q : ℕ → Cut)
     (y : (i : ℕ) → _)
@@ -223,21 +227,21 @@ module _
 
   -- and the outputs, as many octets of each as its call answers, read by `packet::read`, are the message delivered
   pub cut_delivers :
-      (μs : ℕ → L.Lfts 1) (f : (i : ℕ) → _) (h : ℕ → Header) (u : (i : ℕ) → _) →
+      (μs : ℕ → L.Lfts 1) (f : (i : ℕ) → _) (h : ℕ → Result Decoded Refused) (u : (i : ℕ) → _) →
       ((i : ℕ) → i < r.count → reads.Post (μs i) (f i) (h i) (u i)) →
       ((i : ℕ) → i < r.count → read_call (μs i) (f i) ≡ asked_read (count_call κs a).settings (take (q i).length (cut_output (λs i) (y i)))) →
       (let c = count_call κs a in
-      Delivers c.settings c.limit c.header c.texts c.sender r.count body (λ (i : ℕ). (read_call (μs i) (f i)).packet) h)
+      Delivers c.settings c.limit c.header c.texts c.sender r.count body (λ (i : ℕ). (read_call (μs i) (f i)).packet) (λ (i : ℕ). decoded (h i)))
   cut_delivers μs f h u o w =
       plain_delivers false (count_call κs a) r k z body m q (λ (i : ℕ). cut_output (λs i) (y i)) out does g
-      (λ (i : ℕ). (read_call (μs i) (f i)).packet) h
+      (λ (i : ℕ). (read_call (μs i) (f i)).packet) (λ (i : ℕ). decoded (h i))
       (λ i l. ap (λ (x : ReadCall). x.packet) (w i l))
       (λ i l. read_packet_lem _ _ (h i) (μs i) (f i) (u i) (o i l) (w i l))
 
 -- ---- `cut::count_by` and `cut::packet_by`: the old cutter, with a zone too
 
 module _
-    (κs : L.Lfts 6)
+    (κs : L.Lfts 1)
     (a : _)
     (r : _)
     (x : _)
@@ -245,7 +249,7 @@ module _
     (z : r.refusal.number ≡ 0)
     (body : List ℕ)
     (m : length body ≡ (count_by_call κs a).long)
-    (λs : ℕ → L.Lfts 8)
+    (λs : ℕ → L.Lfts 3)
     (b : (i : ℕ) → _)
     (q : ℕ → Cut)
     (y : (i : ℕ) → _)
@@ -266,14 +270,14 @@ module _
       plain_not_refused (count_old κs a) (count_by_call κs a) r k z body m q (λ (i : ℕ). cut_by_output (λs i) (y i)) out by_does g
 
   pub cut_by_delivers :
-      (μs : ℕ → L.Lfts 1) (f : (i : ℕ) → _) (h : ℕ → Header) (u : (i : ℕ) → _) →
+      (μs : ℕ → L.Lfts 1) (f : (i : ℕ) → _) (h : ℕ → Result Decoded Refused) (u : (i : ℕ) → _) →
       ((i : ℕ) → i < r.count → reads.Post (μs i) (f i) (h i) (u i)) →
       ((i : ℕ) → i < r.count →
       read_call (μs i) (f i) ≡ asked_read (count_by_call κs a).settings (take (q i).length (cut_by_output (λs i) (y i)))) →
       (let c = count_by_call κs a in
-      Delivers c.settings c.limit c.header c.texts c.sender r.count body (λ (i : ℕ). (read_call (μs i) (f i)).packet) h)
+      Delivers c.settings c.limit c.header c.texts c.sender r.count body (λ (i : ℕ). (read_call (μs i) (f i)).packet) (λ (i : ℕ). decoded (h i)))
   cut_by_delivers μs f h u n w =
       plain_delivers (count_old κs a) (count_by_call κs a) r k z body m q (λ (i : ℕ). cut_by_output (λs i) (y i)) out by_does g
-      (λ (i : ℕ). (read_call (μs i) (f i)).packet) h
+      (λ (i : ℕ). (read_call (μs i) (f i)).packet) (λ (i : ℕ). decoded (h i))
       (λ i l. ap (λ (x : ReadCall). x.packet) (w i l))
       (λ i l. read_packet_lem _ _ (h i) (μs i) (f i) (u i) (n i l) (w i l))

@@ -3,7 +3,7 @@
 use Rattle.std.specs.Prelude.{ℕ, suc, ◌+◌, ◌%◌, ◌≤◌, ◌<◌, ◌≡◌, List, ◌++◌, length}
 use Rattle.walk.specs.declared.Settings.{Settings}
 use Rattle.fields.specs.Form.{joined}
-use Rattle.packet.specs.declared.Header.{Header}
+use Rattle.packet.specs.Answer.{Header}
 use Rattle.packet.specs.Format.{flags_between, flags_first, flags_last, flags_whole, identification, header_octets}
 use Rattle.packet.specs.Key.{key_of}
 use Rattle.packet.specs.Numbers.{next_counter}

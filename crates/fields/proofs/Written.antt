@@ -14,8 +14,7 @@ use Rattle.octets.specs.Laying.{Laid, laid, lay_all, Lays}
 use Rattle.octets.proofs.Lists.{below_or}
 use Rattle.octets.proofs.Places.{next_part, rest_part}
 use Rattle.octets.proofs.Laying.{lays_both, lays_none, lay_fits, lay_not}
-use Rattle.varint.specs.declared.Wrote.{Wrote}
-use Rattle.varint.specs.declared.Wrote.TheVariants.{Done, Full}
+use Rattle.std.specs.Prelude.{Option, Some, None, unwrap_or}
 use Rattle.varint.specs.Varint.{write, written}
 use Rattle.varint.specs.Answer.{put_of}
 use Rattle.walk.specs.declared.Settings.{Settings}
@@ -24,40 +23,32 @@ use Rattle.fields.specs.Inner.{part_pieces, parts_pieces}
 
 -- ---- a number
 
-module _ (l k : List ℕ) (at n : ℕ) {r : Wrote} (e : r ≡ put_of l at n) (f : k ≡ written l at n) where
-  fits_done : at + length (write n) ≤ length l → (r ≡ Done (at + length (write n))) × (k ≡ sets l at (write n))
+module _ (l k : List ℕ) (at n : ℕ) {r : Option ℕ} (e : r ≡ put_of l at n) (f : k ≡ written l at n) where
+  fits_done : at + length (write n) ≤ length l → (r ≡ Some (at + length (write n))) × (k ≡ sets l at (write n))
   unfolding put_of written
   fits_done h =
       let t = le-leb _ _ h in
       (e ∙ rw (t, put_of), f ∙ rw (t, written))
 
-  not_full : length l < at + length (write n) → (r ≡ Full) × (k ≡ l)
+  not_full : length l < at + length (write n) → (r ≡ None) × (k ≡ l)
   unfolding put_of written
   not_full h =
       let t = lt-leb _ _ h in
       (e ∙ rw (t, put_of), f ∙ rw (t, written))
 
-  pub number_done : {next : ℕ} → r ≡ Done next → Lays (laid l at) (write n ∷ []) k next
+  -- the place after it, or where it was to begin if it does not fit
+  pub number_laid : Lays (laid l at) (write n ∷ []) k (unwrap_or r at)
   unfolding lay_all
-  number_done {next} d =
-      ⊎_elim
-      (λ h. let g = not_full h in let z : ◌≡◌ {A = ℕ} 0 1 = cc in absurd (omega arith))
-      (λ h.
-      let g = fits_done h in
-      let y : next ≡ at + length (write n) = cc in
-      let m = lay_fits (write n) (laid l at) h in
-      record { place = y ∙ ap (λ (x : Laid). x.at) (sym m); octets = g.1 ∙ ap (λ (x : Laid). x.list) (sym m) })
-      (below_or _ _)
-
-  pub number_full : r ≡ Full → Lays (laid l at) (write n ∷ []) k at
-  unfolding lay_all
-  number_full d =
+  number_laid =
       ⊎_elim
       (λ h.
       let g = not_full h in
       let m = lay_not (write n) _ h in
-      record { place = ap (λ (x : Laid). x.at) (sym m); octets = g.1 ∙ ap (λ (x : Laid). x.list) (sym m) })
-      (λ h. let g = fits_done h in let z : ◌≡◌ {A = ℕ} 0 1 = cc in absurd (omega arith))
+      record { place = rw (g.0) (ap (λ (x : Laid). x.at) (sym m)); octets = g.1 ∙ ap (λ (x : Laid). x.list) (sym m) })
+      (λ h.
+      let g = fits_done h in
+      let m = lay_fits (write n) (laid l at) h in
+      record { place = rw (g.0) (ap (λ (x : Laid). x.at) (sym m)); octets = g.1 ∙ ap (λ (x : Laid). x.list) (sym m) })
       (below_or _ _)
 
 -- ---- the parts of a domain

@@ -3,25 +3,19 @@
 -- Assumes nothing: these are definitions.
 use Rattle.std.specs.Prelude.{List, [], ◌∷◌, ◌++◌, ℕ, min, length}
 use Rattle.walk.specs.declared.Settings.{Settings}
-use Rattle.walk.specs.Walk.{Step}
-use Rattle.walk.specs.Inner.{as_walk, of_walk}
-use Rattle.fields.specs.declared.Place.{Place}
-use Rattle.fields.specs.declared.Text.{Text}
+use Rattle.walk.specs.declared.Bound.{Bound}
+use Rattle.walk.specs.Walk.{Reading, Step}
 use Rattle.fields.specs.declared.Domain.{Domain}
-use Rattle.fields.specs.Fields.{Parts}
+use Rattle.fields.specs.Fields.{domain}
 use Rattle.fields.specs.Form.{uinteger_octets}
 
-abbrev pub as_text : Step Place → Text
-as_text t = record { walk = as_walk t.walk; place = t.value }
-
-abbrev pub of_text : Text → Step Place
-of_text t = record { walk = of_walk t.walk; value = t.place }
-
-abbrev pub as_domain : Step Parts → Domain
-as_domain d = record { walk = as_walk d.walk; count = d.value.count; parts = d.value.places }
-
-abbrev pub of_domain : Domain → Step Parts
-of_domain d = record { walk = of_walk d.walk; value = record { count = d.count; places = d.parts } }
+-- a domain's step, in the code's struct
+abbrev pub domain_step : Settings → Bound → List ℕ → Reading → Step Domain
+domain_step s b p w =
+    record {
+      walk = (domain s b p w).walk;
+      value = record { count = (domain s b p w).value.count; parts = (domain s b p w).value.places };
+    }
 
 unfoldable pub blob_pieces : Settings → List ℕ → List (List ℕ)
 blob_pieces s x = uinteger_octets s (length x) ∷ x ∷ []

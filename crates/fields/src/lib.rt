@@ -4,28 +4,20 @@
 //   domain:                   count  | 1 | length | octets | 1 | length | octets ..
 //
 // A length and a count are UIntegers, Varints or four octets, as the settings have them.
-// A step of reading takes any slice and any walk, and answers the walk after the field and where its content stands. A writing
-// takes any buffer and any place: piece by piece, each whole or not at all, and answers the place after it. A `blob` is octets of any
-// value; a `text` is written the same, and its octets are well-formed UTF-8, by crate `utf8`. Reading tests that; who writes has tested
-// it before.
+// A step of reading takes a reader, and answers where the field's content stands. A writing takes any buffer and any place: piece by
+// piece, each whole or not at all, and answers the place after it. A `blob` is octets of any value; a `text` is written the same, and its
+// octets are well-formed UTF-8, by crate `utf8`. Reading tests that; who writes has tested it before.
 #![tactic(auto)]
 
-ghost use Rattle.std.specs.Prelude.{◌≡◌, ◌+◌, ◌<◌, ◌≤◌, length, [], ◌∷◌};
-ghost use Rattle.octets.specs.Octets.{part as stretch};
+ghost use Rattle.std.specs.Prelude.{◌≡◌, ◌+◌, ◌≤◌, IfOk, length, [], ◌∷◌};
 ghost use Rattle.octets.specs.Laying.{laid, Lays};
-ghost use Rattle.utf8.specs.Test.{is_text};
 ghost use Rattle.varint.specs.Varint.{write};
-ghost use Rattle.walk.specs.Inner.{of_walk, as_uinteger};
-ghost use Rattle.walk.specs.Walk.{uinteger};
-ghost use Rattle.fields.specs.Fields.{nowhere, opt, block, blob, text, part, no_parts, parts_to, domain};
+ghost use Rattle.walk.specs.Read.{Reads};
+ghost use Rattle.fields.specs.Fields.{block, blob, text, marked_text, part};
 ghost use Rattle.fields.specs.Form.{uinteger_octets, domain_octets, split, all_text};
-ghost use Rattle.fields.specs.Inner.{as_text, as_domain, of_domain, blob_pieces, text_pieces, part_pieces, parts_pieces, domain_pieces, capped_to, capped};
+ghost use Rattle.fields.specs.Inner.{domain_step, blob_pieces, text_pieces, part_pieces, parts_pieces, domain_pieces, capped_to, capped};
 
-use varint::Wrote;
-use walk::{
-    Bound, PROFILE_FIXED, REFUSED_DOMAIN_PART, REFUSED_MANY_PARTS, REFUSED_TEXT, Settings,
-    UINTEGER, UInteger, Walk,
-};
+use walk::{PROFILE_FIXED, Reader, Refused, Settings, UINTEGER, ensure};
 
 // The most parts that a domain holds.
 pub const PARTS: usize = 16;
@@ -40,205 +32,87 @@ pub struct Place {
     pub length: usize,
 }
 
-#[derive(Clone, Copy)]
-pub struct Text {
-    pub walk: Walk,
-    pub place: Place,
-}
+// A place that is none.
+pub const NOWHERE: Place = Place { at: 0, length: 0 };
 
+// How many parts a domain has, and where each stands.
 #[derive(Clone, Copy)]
 pub struct Domain {
-    pub walk: Walk,
     pub count: usize,
     pub parts: [Place; 16],
 }
 
-// A number if it is there, else 0.
-pub fn uinteger_if(there: bool, s: Settings, b: Bound, p: &[u8], w: Walk) -> UInteger
-    ensures { result ≡ as_uinteger (opt there 0 (uinteger s b p.now) (of_walk w)) }
+// The domain that is none.
+pub const NO_DOMAIN: Domain = Domain {
+    count: 0,
+    parts: [NOWHERE; 16],
+};
+
+// n octets, as they are.
+#[tactic(auto, unfolding(crate::specs::Fields::block))]
+pub fn read_block(reader: &mut Reader, n: usize) -> Result<Place, Refused>
+    ensures { Reads (block n reader.old.bound reader.old.octets.now) reader.old reader.new result }
 {
-    if there {
-        return walk::read_uinteger(s, b, p, w);
-    }
-    UInteger { walk: w, value: 0 }
+    let at = reader.at;
+    reader.skip(n)?;
+    Ok(Place { at, length: n })
 }
 
-// n octets if they are there.
-pub fn block_if(there: bool, n: usize, b: Bound, p: &[u8], w: Walk) -> Text
-    ensures { result ≡ as_text (opt there nowhere (block n b p.now) (of_walk w)) }
+// A length and as many octets: one field.
+pub fn read_blob(reader: &mut Reader) -> Result<Place, Refused>
+    ensures reads { Reads (blob reader.old.settings reader.old.bound reader.old.octets.now) reader.old reader.new result }
+    ensures inside { IfOk result (λ x. x.at + x.length ≤ length reader.old.octets.now) }
 {
-    if there {
-        let end = w.octets(b, p, n);
-        let place = Place {
-            at: w.at,
-            length: n,
-        };
-        return Text {
-            walk: end,
-            place: place,
-        };
-    }
-    let place = Place { at: 0, length: 0 };
-    Text {
-        walk: w,
-        place: place,
-    }
-}
-
-pub fn read_blob(s: Settings, b: Bound, p: &[u8], w: Walk) -> Text
-    ensures { result ≡ as_text (blob s b p.now (of_walk w)) }
-{
-    let n = walk::read_uinteger(s, b, p, w);
-    let v = n.walk;
-    let length = n.value as usize;
-    let end = v.octets(b, p, length).field_from(w);
-    let place = Place {
-        at: v.at,
-        length: length,
-    };
-    Text {
-        walk: end,
-        place: place,
+    let start = reader.at;
+    let length = reader.uinteger()? as usize;
+    let at = reader.at;
+    match reader.skip(length) {
+        Ok(()) => Ok(Place { at, length }),
+        Err(refused) => Err(refused.began(start)),
     }
 }
 
-// n octets from a place on, as far as there are any, are text.
-fn is_text_at(p: &[u8], at: usize, n: usize) -> bool
-    ensures { result ≡ is_text (stretch p.now at n) }
+// A text: the same, tested for 28 once its octets are there.
+pub fn read_text(reader: &mut Reader) -> Result<Place, Refused>
+    ensures { Reads (text reader.old.settings reader.old.bound reader.old.octets.now) reader.old reader.new result }
 {
-    if p.len() < at {
-        return true;
-    }
-    let end = octets::within(p.len(), at, n);
-    utf8::is_text(&p[at..end])
+    let place = read_blob(reader)?;
+    let content = &reader.octets[place.at..place.at + place.length];
+    ensure(utf8::is_text(content), Refused::Text)?;
+    Ok(place)
 }
 
-// A text: the same, tested for 28. If it was refused there is nothing to test.
-pub fn read_text(s: Settings, b: Bound, p: &[u8], w: Walk) -> Text
-    ensures { result ≡ as_text (text s b p.now (of_walk w)) }
+// An octet of 1, else 11, and a text.
+fn read_marked_text(reader: &mut Reader) -> Result<Place, Refused>
+    ensures { Reads (marked_text reader.old.settings reader.old.bound reader.old.octets.now) reader.old reader.new result }
 {
-    let t = read_blob(s, b, p, w);
-    let end = t.walk;
-    let place = t.place;
-    if end.refused != 0 {
-        return t;
-    }
-    if is_text_at(p, place.at, place.length) {
-        return t;
-    }
-    let tested = walk::refused(end.at, REFUSED_TEXT);
-    Text {
-        walk: tested,
-        place: place,
-    }
+    let mark = reader.octet()?;
+    ensure(mark == 1, Refused::DomainPart)?;
+    read_text(reader)
 }
 
-// An authentication id if it is there.
-pub fn blob_if(there: bool, s: Settings, b: Bound, p: &[u8], w: Walk) -> Text
-    ensures { result ≡ as_text (opt there nowhere (blob s b p.now) (of_walk w)) }
+// A domain part: one field.
+fn read_part(reader: &mut Reader) -> Result<Place, Refused>
+    ensures { Reads (part reader.old.settings reader.old.bound reader.old.octets.now) reader.old reader.new result }
 {
-    if there {
-        return read_blob(s, b, p, w);
-    }
-    let place = Place { at: 0, length: 0 };
-    Text {
-        walk: w,
-        place: place,
-    }
-}
-
-// A text if it is there.
-pub fn text_if(there: bool, s: Settings, b: Bound, p: &[u8], w: Walk) -> Text
-    ensures { result ≡ as_text (opt there nowhere (text s b p.now) (of_walk w)) }
-{
-    if there {
-        return read_text(s, b, p, w);
-    }
-    let place = Place { at: 0, length: 0 };
-    Text {
-        walk: w,
-        place: place,
-    }
-}
-
-// A domain part: an octet of 1, else 11, and a text.
-fn read_part(s: Settings, b: Bound, p: &[u8], w: Walk) -> Text
-    ensures { result ≡ as_text (part s b p.now (of_walk w)) }
-{
-    let mark = octets::octet(p, w.at);
-    let t = read_text(
-        s,
-        b,
-        p,
-        w.octets(b, p, 1).check(mark == 1, REFUSED_DOMAIN_PART),
-    );
-    let v = t.walk;
-    let place = t.place;
-    let end = v.field_from(w);
-    Text {
-        walk: end,
-        place: place,
-    }
-}
-
-// The first n parts: there are sixteen places. They stay where they are, and only the walk goes from part to part.
-fn parts_to(s: Settings, b: Bound, p: &[u8], n: usize, d: Domain) -> Domain
-    requires { n ≤ 16 }
-    ensures { result ≡ as_domain (parts_to s b p.now n (of_domain d)) }
-{
-    let count = d.count;
-    let mut parts = d.parts;
-    let mut w = d.walk;
-    let mut k = 0;
-    while k < n {
-        let t = read_part(s, b, p, w);
-        let place = t.place;
-        let end = t.walk;
-        parts[k] = place;
-        w = end;
-        k += 1;
-    }
-    Domain {
-        walk: w,
-        count: count,
-        parts: parts,
-    }
-}
-
-// A domain with no place yet.
-fn no_parts(w: Walk, count: usize) -> Domain
-    ensures { result ≡ as_domain (record { walk = of_walk w; value = no_parts count }) }
-{
-    let none = Place { at: 0, length: 0 };
-    let parts = [none; 16];
-    Domain {
-        walk: w,
-        count: count,
-        parts: parts,
+    let start = reader.at;
+    match read_marked_text(reader) {
+        Ok(place) => Ok(place),
+        Err(refused) => Err(refused.began(start)),
     }
 }
 
 // A count, above sixteen refused by 13, and as many parts.
-pub fn read_domain(s: Settings, b: Bound, p: &[u8], w: Walk) -> Domain
-    ensures { result ≡ as_domain (domain s b p.now (of_walk w)) }
+pub fn read_domain(reader: &mut Reader) -> Result<Domain, Refused>
+    ensures { Reads (domain_step reader.old.settings reader.old.bound reader.old.octets.now) reader.old reader.new result }
 {
-    let n = walk::read_uinteger(s, b, p, w);
-    let v = n.walk;
-    let count = n.value as usize;
-    if count <= PARTS {
-        return parts_to(s, b, p, count, no_parts(v, count));
+    let count = reader.uinteger()? as usize;
+    ensure(count <= PARTS, Refused::ManyParts)?;
+    let mut parts = [NOWHERE; 16];
+    for k in 0..count {
+        parts[k] = read_part(reader)?;
     }
-    no_parts(v.check(false, REFUSED_MANY_PARTS), 0)
-}
-
-// A domain if it is there.
-pub fn domain_if(there: bool, s: Settings, b: Bound, p: &[u8], w: Walk) -> Domain
-    ensures { result ≡ as_domain (opt there (no_parts 0) (domain s b p.now) (of_walk w)) }
-{
-    if there {
-        return read_domain(s, b, p, w);
-    }
-    no_parts(w, 0)
+    Ok(Domain { count, parts })
 }
 
 // ---- writing: each field at a place of a lent buffer, and the place after it
@@ -246,10 +120,7 @@ pub fn domain_if(there: bool, s: Settings, b: Bound, p: &[u8], w: Walk) -> Domai
 fn put_varint(out: &mut [u8], at: usize, n: u64) -> usize
     ensures { Lays (laid out.old at) (write n ∷ []) out.new result }
 {
-    match varint::put(out, at, n) {
-        Wrote::Done(next) => next,
-        Wrote::Full => at,
-    }
+    varint::put(out, at, n).unwrap_or(at)
 }
 
 pub fn put_uinteger(s: Settings, out: &mut [u8], at: usize, n: u64) -> usize

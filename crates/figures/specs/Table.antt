@@ -6,7 +6,7 @@ use Rattle.std.specs.Prelude.{ℕ, ◌*◌, false, List, [], ◌∷◌, length, 
 use Rattle.octets.specs.Octets.{pick, number as number_at}
 use Rattle.varint.specs.Varint.{write}
 use Rattle.walk.specs.Walk.{Step, goes, header_bound, uinteger}
-use Rattle.packet.specs.declared.Header.{Header}
+use Rattle.packet.specs.Answer.{Header}
 use Rattle.packet.specs.Reading.{read_packet}
 use Rattle.write.specs.Writing.{write_output}
 use Rattle.cut.specs.declared.Counted.{Counted}

@@ -5,6 +5,8 @@ use mathlib.Core.Path.{◌≡◌, refl, ap, sym, ◌∙◌}
 use mathlib.Core.Bool.{Bool, true, false}
 use mathlib.Core.List.{List, [], ◌∷◌}
 use native.Mathlib.Omega.{arith}
+use Rattle.std.specs.Prelude.{Option, Some, None}
+use Rattle.std.specs.Option.{IfSome}
 use native.Mathlib.Numerals.{add-one}
 use lib.Dec.{eqb}
 use lib.ListN.{length, take, drop, set, length-take}
@@ -15,32 +17,30 @@ use Rattle.utf8.specs.Test.{is_text}
 use Rattle.varint.specs.Varint.{value, read, final, read_at}
 use Rattle.varint.proofs.Steps.{step_final}
 use Rattle.walk.specs.declared.Settings.{Settings}
-use Rattle.walk.specs.declared.UInteger.{UInteger}
+use Rattle.walk.specs.declared.Bound.{Bound}
+use Rattle.walk.specs.declared.Reader.{Reader}
+use Rattle.walk.specs.Read.{Went}
 use Rattle.walk.specs.Walk.{Reading, Step, goes, header_bound, header_end, octets, varint_step, varint_field, wide_field, uinteger}
-use Rattle.walk.specs.Inner.{as_uinteger}
 use Rattle.walk.proofs.Steps.{octets_goes, check_ok, field_goes, number_found}
 use Rattle.fields.specs.Fields.{place, opt, block, blob, text, marked_text, part}
 use Rattle.packet.specs.FixedPart.{octet_field}
 use Rattle.flat.specs.Told.{place_numbers}
 use Rattle.filling.specs.Filling.{Within, Found, Into, one}
 
+-- what the last step answers, if it answers
+pub if_more : {A : Type 0} (r : Option A) (P Q : A → Type 0) → ((x : A) → P x → Q x) → IfSome r P → IfSome r Q
+if_more None P Q f h = tt
+if_more (Some x) P Q f h = f x h
+
 -- another place before the same limit
 pub moved : {p : List ℕ} {lim at : ℕ} (r : ℕ) → Within p lim at → r ≤ lim → Within p lim r
 moved r w h = record { limit = w.limit; inside = w.inside; here = h }
 
 module _ {p : List ℕ} {lim at : ℕ} (w : Within p lim at) where
-  pub long_way :
-      {A : Type 0} {told : A → List ℕ} {k : ℕ} {l : List ℕ} {step : Step A} {m : List ℕ} → Into p step told k lim l m 0
-  long_way =
-      record { within = moved 0 w (omega arith); walk = λ h. absurd (omega arith); same = λ h. absurd (omega arith) }
-
-  pub not_found : {step : Step ℕ} {n v : ℕ} → n ≡ 0 → Found p step lim n v
-  not_found {n = n} e = record { within = moved n w (omega arith); same = λ h. absurd (omega arith) }
-
   pub absent :
       {A : Type 0} {told : A → List ℕ} {k : ℕ} {l : List ℕ} (none : A) (step : Reading → Step A) {there : Bool} {m : List ℕ} →
       there ≡ false → m ≡ sets l k (told none) → Into p (opt there none step (goes at)) told k lim l m at
-  absent none step e q = record { within = w; walk = λ j. rw e refl; same = λ j. rw e q }
+  absent none step e q = record { within = w; walk = rw e refl; same = rw e q }
 
 module _ {A : Type 0} {told : A → List ℕ} {p : List ℕ} {k lim : ℕ} {l : List ℕ} where
   pub present :
@@ -52,7 +52,7 @@ module _ {A : Type 0} {told : A → List ℕ} {p : List ℕ} {k lim : ℕ} {l : 
   pub into_by :
       {step : Step A} {r : ℕ} {v : A} {m : List ℕ} → Within p lim r → step ≡ record { walk = goes r; value = v } →
       m ≡ sets l k (told v) → Into p step told k lim l m r
-  into_by w e q = record { within = w; walk = λ j. rw e refl; same = λ j. rw e q }
+  into_by w e q = record { within = w; walk = rw e refl; same = rw e q }
 
 -- ---- numbers
 
@@ -75,7 +75,7 @@ module _ (p : List ℕ) {lim at : ℕ} (w : Within p lim at) (b : at < lim) wher
       {k v : ℕ} {l : List ℕ} → v ≡ octet_at p at → Into p (octet_field header_bound p (goes at)) one k lim l (set l k v) (at + 1)
   unfolding octet_field
   octet_there {k} {v} {l} e =
-      record { within = moved (at + 1) w (omega arith); walk = λ j. one_there; same = λ j. ap (set l k) e }
+      record { within = moved (at + 1) w (omega arith); walk = one_there; same = ap (set l k) e }
 
   varint_one : {v : ℕ} → v ≡ octet_at p at → v < 128 → varint_field header_bound p (goes at) ≡ record { walk = goes (at + 1); value = v }
   unfolding varint_step
@@ -111,18 +111,12 @@ module _ (s : Settings) (p : List ℕ) {lim at : ℕ} (w : Within p lim at) wher
 
   -- a number told by its reader
   pub number_read :
-      {n : UInteger} → n ≡ as_uinteger (uinteger s header_bound p (goes at)) → n.walk.refused ≡ 0 → n.walk.at ≤ lim →
-      Found p (uinteger s header_bound p (goes at)) lim n.walk.at n.value
-  number_read {n} e z t =
+      {r q : Reader} {b : Bound} {v : ℕ} → b ≡ header_bound → Went (uinteger s b p (goes at)) r q v → q.at ≤ lim →
+      Found p (uinteger s header_bound p (goes at)) lim q.at v
+  number_read {q = q} e h t =
       record {
-        within = moved n.walk.at w t;
-        same =
-            λ j.
-            let x = uinteger s header_bound p (goes at) in
-            let a : x.walk.at ≡ n.walk.at = ap (λ (y : UInteger). y.walk.at) (sym e) in
-            let b : x.walk.refused ≡ 0 = ap (λ (y : UInteger). y.walk.refused) (sym e) ∙ z in
-            let c : x.value ≡ n.value = ap (λ (y : UInteger). y.value) (sym e) in
-            λ i. record { walk = record { at = a i; refused = b i }; value = c i };
+        within = moved q.at w t;
+        same = ap (λ (b : Bound). uinteger s b p (goes at)) (sym e) ∙ (λ i. record { walk = h.walk i; value = h.value i });
       }
 
 -- a number found is laid
@@ -131,8 +125,8 @@ pub number_laid :
 number_laid {k = k} {l = l} f =
     record {
       within = f.within;
-      walk = λ j. ap (λ (x : Step ℕ). x.walk) (f.same j);
-      same = λ j. ap (λ (x : Step ℕ). set l k x.value) (sym (f.same j));
+      walk = ap (λ (x : Step ℕ). x.walk) f.same;
+      same = ap (λ (x : Step ℕ). set l k x.value) (sym f.same);
     }
 
 -- ---- octets of a known length
@@ -150,18 +144,18 @@ module _ (p : List ℕ) {lim at : ℕ} (w : Within p lim at) where
   block_there n t q =
       record {
         within = moved (at + n) w t;
-        walk = λ j. octets_goes header_bound p n (goes at) refl (omega (arith, w.limit)) (omega (arith, w.inside));
-        same = λ j. q;
+        walk = octets_goes header_bound p n (goes at) refl (omega (arith, w.limit)) (omega (arith, w.inside));
+        same = q;
       }
 
 -- ---- a length and so many octets
 
-module _ (s : Settings) (p : List ℕ) (at : ℕ) {lim n v : ℕ} (f : Found p (uinteger s header_bound p (goes at)) lim n v) (z : 0 < n) (t : n + v ≤ lim) where
+module _ (s : Settings) (p : List ℕ) (at : ℕ) {lim n v : ℕ} (f : Found p (uinteger s header_bound p (goes at)) lim n v) (t : n + v ≤ lim) where
   pub blob_is : blob s header_bound p (goes at) ≡ record { walk = goes (n + v); value = place n v }
   unfolding blob
   blob_is =
       let e = octets_goes header_bound p v (goes n) refl (omega (arith, f.within.limit)) (omega (arith, f.within.inside)) in
-      rw (f.same z, e) (ap (λ (x : Reading). record { walk = x; value = place n v }) (field_goes (goes at) (goes (n + v)) refl))
+      rw (f.same, e) (ap (λ (x : Reading). record { walk = x; value = place n v }) (field_goes (goes at) (goes (n + v)) refl))
 
   pub text_is :
       is_text (stretch p n v) ≡ true → text s header_bound p (goes at) ≡ record { walk = goes (n + v); value = place n v }
@@ -191,8 +185,8 @@ module _ (s : Settings) (p : List ℕ) {lim at : ℕ} (w : Within p lim at) (b :
   part_there {r = r} i =
       record {
         within = i.within;
-        walk = λ j. rw (marked_is, i.walk j) (field_goes (goes at) (goes r) refl);
-        same = λ j. rw marked_is (i.same j);
+        walk = rw (marked_is, i.walk) (field_goes (goes at) (goes r) refl);
+        same = rw marked_is i.same;
       }
 
 -- two numbers, one after the other

@@ -1,12 +1,12 @@
 -- The parts of a domain, each laid where it belongs; after the last, zeros.
 -- Assumes nothing.
-use Prim.Native.Nat.{ℕ, zero, suc, ◌+◌, ◌*◌, ◌-◌, ◌≤◌, ◌<◌}
+use Prim.Native.Nat.{ℕ, zero, suc, ◌+◌, ◌*◌, ◌≤◌, ◌<◌}
 use mathlib.Core.Path.{◌≡◌, refl, ap, sym, ◌∙◌}
 use mathlib.Core.Logic.{⊎_elim}
-use mathlib.Core.List.{List, [], ◌∷◌, ◌++◌}
+use mathlib.Core.List.{List, ◌++◌}
 use native.Mathlib.Omega.{arith}
 use native.Mathlib.Numerals.{add-one}
-use lib.ListN.{length, get_or, set, replicate, length-set, length-replicate, get_or-replicate, get_or-eq_default}
+use lib.ListN.{take, drop, length-take, length-drop, length, get_or, set, replicate, length-set, length-replicate, get_or-replicate, get_or-eq_default}
 use lib.Seq.{sets, get_or-set_same, get_or-set_other}
 use borrow.Author.Tests.{le-leb}
 use Rattle.octets.proofs.Lists.{sets_append, below_or}
@@ -14,10 +14,9 @@ use Rattle.walk.specs.declared.Settings.{Settings}
 use Rattle.walk.specs.Walk.{Step, goes, header_bound, uinteger}
 use Rattle.fields.specs.declared.Place.{Place}
 use Rattle.fields.specs.Fields.{Parts, nowhere, no_parts, part, part_at, parts_to, domain}
-use Rattle.flat.specs.Told.{place_numbers, places_to, text_numbers}
+use Rattle.flat.specs.Told.{place_numbers, places_to}
 use Rattle.flat.proofs.Placing.{Placed, placed_next, places_length}
 use Rattle.filling.specs.Filling.{Within, Found, Into, NoneFrom, parts_numbers}
-use Rattle.light.specs.Light.{no_texts}
 
 -- a place set after the first j of them changes none of these
 places_set : (j k : ℕ) (ps : List Place) (v : Place) → j ≤ k → places_to j (set ps k v) ≡ places_to j ps
@@ -61,45 +60,44 @@ module _ (s : Settings) (p : List ℕ) (n from : ℕ) where
   parts_none zero j h = nowhere_from j h
   parts_none (suc k) j h = get_or-set_other (places k) k j _ nowhere (λ e. omega arith) ∙ parts_none k j (omega arith)
 
-  -- k parts are laid; at is the place after them, 0 where one was left to the long way
+  -- k parts are laid; at is the place after them
   pub record Parted (lim : ℕ) (l m : List ℕ) (at k : ℕ) : Type 0 where
     pub within : k ≤ n
     pub here : Within p lim at
-    pub walk : 0 < at → (to k).walk ≡ goes at
-    pub same : 0 < at → m ≡ sets l 35 (places_to k (places k))
+    pub walk : (to k).walk ≡ goes at
+    pub same : m ≡ sets l 35 (places_to k (places k))
 
   pub parted_none : {lim : ℕ} (l : List ℕ) → Within p lim from → Parted lim l l from 0
   unfolding parts_to places_to
-  parted_none l t = record { within = omega arith; here = t; walk = λ h. refl; same = λ h. refl }
+  parted_none l t = record { within = omega arith; here = t; walk = refl; same = refl }
 
   pub parted_next :
       {lim : ℕ} {l m o : List ℕ} {at r k : ℕ} → n ≤ 16 → Parted lim l m at k → k < n →
-      Into p (part s header_bound p (goes at)) place_numbers (35 + 2 * k) lim m o r → (0 < r → 0 < at) → Parted lim l o r (k + 1)
+      Into p (part s header_bound p (goes at)) place_numbers (35 + 2 * k) lim m o r → Parted lim l o r (k + 1)
   unfolding parts_to part_at places_to
-  parted_next {lim} {l} {m} {o} {at} {r} {k} f d h i g =
+  parted_next {lim} {l} {m} {o} {at} {r} {k} f d h i =
       rw add-one
       record {
         within = omega arith;
         here = i.within;
-        walk = λ j. rw (d.walk (g j)) (i.walk j);
+        walk = rw d.walk i.walk;
         same =
-            λ j.
             let v = (part s header_bound p (goes at)).value in
             let x = places_to k (places k) in
             let a : places_to k (set (places k) k v) ≡ x = places_set k k (places k) v (omega arith) in
             let b : get_or (set (places k) k v) k nowhere ≡ v =
             get_or-set_same (places k) k v nowhere (omega (arith, parts_sixteen k)) in
             let c : sets m (35 + 2 * k) (place_numbers v) ≡ sets (sets l 35 x) (35 + length x) (place_numbers v) =
-            rw (d.same (g j), places_length k (places k)) in
-            let q : o ≡ sets l 35 (x ++ place_numbers v) = i.same j ∙ c ∙ sets_append l 35 x (place_numbers v) in
-            rw (d.walk (g j), a, b) q;
+            rw (d.same, places_length k (places k)) in
+            let q : o ≡ sets l 35 (x ++ place_numbers v) = i.same ∙ c ∙ sets_append l 35 x (place_numbers v) in
+            rw (d.walk, a, b) q;
       }
 
   pub parted_done :
       {lim : ℕ} {l m : List ℕ} {at k : ℕ} → Parted lim l m at k → n ≤ k → Into p (to n) (λ d. places_to n d.places) 35 lim l m at
   parted_done {lim} {l} {m} {at} {k} d h =
       let e : k ≡ n = omega (arith, d.within) in
-      record { within = d.here; walk = λ j. rw e at (d.walk j); same = λ j. rw e at (d.same j) }
+      record { within = d.here; walk = rw e at d.walk; same = rw e at d.same }
 
 -- zeros after the last part
 pub record Emptied (from : ℕ) (l m : List ℕ) (k : ℕ) : Type 0 where
@@ -133,10 +131,10 @@ nothing_there l {o} z =
     z (replicate 16 nowhere) (set l 34 0) nowhere_from (nothing (set l 34 0) (replicate 16 nowhere))
 
 -- the whole domain, from its count on
-module _ (s : Settings) (p : List ℕ) (at : ℕ) {lim next n : ℕ} (c : Found p (uinteger s header_bound p (goes at)) lim next n) (z : 0 < next) (f : n ≤ 16) where
+module _ (s : Settings) (p : List ℕ) (at : ℕ) {lim next n : ℕ} (c : Found p (uinteger s header_bound p (goes at)) lim next n) (f : n ≤ 16) where
   domain_is : domain s header_bound p (goes at) ≡ parts_to s header_bound p n (begin n next)
   unfolding domain
-  domain_is = rw (c.same z, le-leb n 16 f)
+  domain_is = rw (c.same, le-leb n 16 f)
 
   pub domain_there :
       {l m o : List ℕ} {r : ℕ} →
@@ -147,42 +145,12 @@ module _ (s : Settings) (p : List ℕ) (at : ℕ) {lim next n : ℕ} (c : Found 
       let ps = (parts_to s header_bound p n (begin n next)).value.places in
       record {
         within = i.within;
-        walk = λ j. rw domain_is (i.walk j);
+        walk = rw domain_is i.walk;
         same =
-            λ j.
-            let a : o ≡ sets (set l 34 n) 35 (places_to 16 ps) = y ps (set l 34 n) (parts_none s p n next n) (i.same j) in
+            let a : o ≡ sets (set l 34 n) 35 (places_to 16 ps) = y ps (set l 34 n) (parts_none s p n next n) i.same in
             rw (domain_is, parts_count s p n next n) a;
       }
 
--- ---- zeros one after another
-
-abbrev zeros : ℕ → List ℕ
-zeros n = replicate n 0
-
-zeros_more : (n : ℕ) → zeros n ++ (0 ∷ []) ≡ zeros (suc n)
-zeros_more zero = refl
-zeros_more (suc n) = ap (λ (l : List ℕ). 0 ∷ l) (zeros_more n)
-
--- from place 28 up to k all is zero
-pub record Zeroed (l m : List ℕ) (k : ℕ) : Type 0 where
-  pub least : 28 ≤ k
-  pub most : k ≤ 69
-  pub same : m ≡ sets l 28 (zeros (k - 28))
-
-pub zeroed_none : (l : List ℕ) → Zeroed l l 28
-zeroed_none l = record { least = omega arith; most = omega arith; same = refl }
-
-pub zeroed_next : {l m : List ℕ} {k : ℕ} → Zeroed l m k → k < 69 → Zeroed l (set m k 0) (k + 1)
-zeroed_next {l} {m} {k} z h =
-    let n : ℕ = k - 28 in
-    let a : k ≡ 28 + length (zeros n) = omega (arith, length-replicate {A = ℕ} n 0, z.least) in
-    let b : k + 1 - 28 ≡ suc n = omega (arith, z.least) in
-    let e : set m k 0 ≡ sets (sets l 28 (zeros n)) (28 + length (zeros n)) (0 ∷ []) = rw (z.same, sym a) in
-    let f : sets l 28 (zeros n ++ (0 ∷ [])) ≡ sets l 28 (zeros (k + 1 - 28)) = rw (zeros_more n, b) in
-    record { least = omega (arith, z.least); most = omega arith; same = e ∙ sets_append l 28 (zeros n) (0 ∷ []) ∙ f }
-
-pub zeroed_all : {l m : List ℕ} {k : ℕ} → Zeroed l m k → 69 ≤ k → m ≡ sets l 28 (text_numbers no_texts)
-unfolding places_to
-zeroed_all {l} {m} {k} z h =
-    let e : k - 28 ≡ 41 = omega (arith, z.most) in
-    z.same ∙ ap (λ (n : ℕ). sets l 28 (zeros n)) e
+-- the places of the texts
+pub texts_long : (l : List ℕ) → length l ≡ 75 → length (take 41 (drop 28 l)) ≡ 41
+texts_long l e = omega (arith, length-take 41 (drop 28 l), length-drop 28 l)

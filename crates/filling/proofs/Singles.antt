@@ -49,15 +49,14 @@ single_each p (suc n) at l h j u v =
 
 -- ---- a run of them
 
-pub single_none : (p : List ℕ) {lim from to : ℕ} → 0 < from → to ≤ lim → to ≤ from → Single p lim from to
-single_none p z t h = record { start = z; top = t; each = λ j u v. absurd (omega arith) }
+pub single_none : (p : List ℕ) {lim from to : ℕ} → to ≤ lim → to ≤ from → Single p lim from to
+single_none p t h = record { top = t; each = λ j u v. absurd (omega arith) }
 
 pub single_more :
     (p : List ℕ) {lim from to end : ℕ} → Single p lim from to → to ≤ end → end ≤ lim → lim ≤ length p → all_single (stretch p to (end - to)) ≡ true →
     Single p lim from end
 single_more p {lim} {from} {to} {end} s e t l h =
     record {
-      start = s.start;
       top = t;
       each =
           λ j u v.
@@ -88,7 +87,6 @@ module _
       record {
         within = moved (at + 2) w (omega (arith, q.ends, q.top, g.top));
         same =
-            λ h.
             let small = g.each (at + 1) (omega (arith, q.after)) (omega (arith, q.ends, q.top)) in
             let e : at + 1 + 1 ≡ at + 2 = omega arith in
             rw e at (number_one s p after v (omega (arith, q.ends, q.top, g.top)) refl small);
@@ -100,5 +98,5 @@ module _
       let e : at + 2 + (r - (at + 2)) ≡ r = omega (arith, q.ends) in
       let f : Found p (uinteger s header_bound p (goes (at + 1))) lim (at + 2) (r - (at + 2)) = rw n at length_found in
       let x = run_text p (at + 2) r g (omega (arith, q.after)) q.top in
-      let t = text_is s p (at + 1) f (omega arith) (omega (arith, e, q.top, g.top)) x in
+      let t = text_is s p (at + 1) f (omega (arith, e, q.top, g.top)) x in
       rw e at (part_is s p w (omega (arith, q.ends, q.top, g.top)) q.mark t)

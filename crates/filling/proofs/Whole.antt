@@ -1,10 +1,9 @@
 -- From the steps to the whole answer: if every step goes on, what was laid is what reading answers.
 -- Assumes nothing.
-use Prim.Native.Nat.{ℕ, ◌-◌, ◌<◌}
+use Prim.Native.Nat.{ℕ, ◌-◌}
 use mathlib.Core.Path.{◌≡◌, refl, ap, sym, ◌∙◌}
 use mathlib.Core.Bool.{Bool}
 use mathlib.Core.List.{List, [], ◌∷◌, ◌++◌}
-use native.Mathlib.Omega.{arith}
 use lib.ListN.{length, set}
 use lib.Seq.{sets}
 use Rattle.octets.specs.Octets.{octet_at}
@@ -32,15 +31,14 @@ module _ (s : Settings) (seg : Bool) (has : Present) (p : List ℕ) (v : Reading
     (ia : Into p (opt has.source 0 (octet_field header_bound p) v) one 24 lim l m1 a)
     (ib : Into p (opt has.destination 0 (octet_field header_bound p) (goes a)) one 25 lim m1 m2 b)
     (ic : Into p (opt seg 0 (wide_field 4 header_bound p) (goes b)) one 26 lim m2 m3 c)
-    (id : Into p (opt has.priority 0 (uinteger s header_bound p) (goes c)) one 27 lim m3 m r)
-    (za : 0 < a) (zb : 0 < b) (zc : 0 < c) where
+    (id : Into p (opt has.priority 0 (uinteger s header_bound p) (goes c)) one 27 lim m3 m r) where
   pub ids_laid : Into p (ids_of s header_bound seg has p v) ids_numbers 24 lim l m r
   unfolding ids_of
   ids_laid =
       record {
         within = id.within;
-        walk = λ j. rw (ia.walk za, ib.walk zb, ic.walk zc) (id.walk j);
-        same = λ j. rw (ia.walk za, ib.walk zb, ic.walk zc) (rw (sym (ia.same za), sym (ib.same zb), sym (ic.same zc)) (id.same j));
+        walk = rw (ia.walk, ib.walk, ic.walk) id.walk;
+        same = rw (ia.walk, ib.walk, ic.walk) (rw (sym ia.same, sym ib.same, sym ic.same) id.same);
       }
 
 module _ (s : Settings) (has : Present) (p : List ℕ) (v : Reading) {lim : ℕ} {l m1 m2 m3 m4 m : List ℕ} {a b c d r : ℕ}
@@ -48,8 +46,7 @@ module _ (s : Settings) (has : Present) (p : List ℕ) (v : Reading) {lim : ℕ}
     (ib : Into p (opt has.zone nowhere (text s header_bound p) (goes a)) place_numbers 30 lim m1 m2 b)
     (ic : Into p (opt has.session_name nowhere (text s header_bound p) (goes b)) place_numbers 32 lim m2 m3 c)
     (id : Into p (opt has.domain (no_parts 0) (domain s header_bound p) (goes c)) parts_numbers 34 lim m3 m4 d)
-    (ie : Into p (opt has.authentication nowhere (blob s header_bound p) (goes d)) place_numbers 67 lim m4 m r)
-    (za : 0 < a) (zb : 0 < b) (zc : 0 < c) (zd : 0 < d) where
+    (ie : Into p (opt has.authentication nowhere (blob s header_bound p) (goes d)) place_numbers 67 lim m4 m r) where
   texts_is :
       texts_of s header_bound has p v
       ≡ record {
@@ -65,16 +62,15 @@ module _ (s : Settings) (has : Present) (p : List ℕ) (v : Reading) {lim : ℕ}
             };
       }
   unfolding texts_of
-  texts_is = rw (ia.walk za, ib.walk zb, ic.walk zc, id.walk zd)
+  texts_is = rw (ia.walk, ib.walk, ic.walk, id.walk)
 
   pub all_texts_laid : Into p (texts_of s header_bound has p v) text_numbers 28 lim l m r
   all_texts_laid =
       record {
         within = ie.within;
-        walk = λ j. ap (λ (x : Step Texts). x.walk) texts_is ∙ ie.walk j;
+        walk = ap (λ (x : Step Texts). x.walk) texts_is ∙ ie.walk;
         same =
-            λ j.
-            texts_laid _ l 28 m1 m2 m3 m4 m (ia.same za) (ib.same zb) (ic.same zc) (id.same zd) (ie.same j)
+            texts_laid _ l 28 m1 m2 m3 m4 m ia.same ib.same ic.same id.same ie.same
             ∙ ap (λ (x : Step Texts). sets l 28 (text_numbers x.value)) (sym texts_is);
       }
 
@@ -100,18 +96,17 @@ module _ (s : Settings) (p : List ℕ) (r : Ready s p) {has : Present} (eh : has
 pub all_laid :
     (s : Settings) (p : List ℕ) → Ready s p → {seg : Bool} → seg ≡ segmented p → {f : ℕ} → f ≡ octet_at p 26 → {lim d j : ℕ} (l : List ℕ) {m1 m2 m3 o : List ℕ} →
     length l ≡ 75 → m1 ≡ sets l 0 (front_numbers f p) →
-    Into p (ids_of s header_bound seg (flags_of f) p (goes 27)) ids_numbers 24 lim m1 m2 d → 0 < d →
-    Into p (texts_of s header_bound (flags_of f) p (goes d)) text_numbers 28 lim m2 m3 j → 0 < j → Ended p f j m3 o → o ≡ read_numbers (read_packet s p)
-all_laid s p r es ef l n e1 ii zd it zj eb =
+    Into p (ids_of s header_bound seg (flags_of f) p (goes 27)) ids_numbers 24 lim m1 m2 d →
+    Into p (texts_of s header_bound (flags_of f) p (goes d)) text_numbers 28 lim m2 m3 j → Ended p f j m3 o → o ≡ read_numbers (read_packet s p)
+all_laid s p r es ef l n e1 ii it eb =
     let jd = rw es at ii in
-    whole_laid s p r (ap flags_of ef) (jd.walk zd) (it.walk zj) eb.walk l n e1 (jd.same zd) (it.same zj) eb.same
+    whole_laid s p r (ap flags_of ef) jd.walk it.walk eb.walk l n e1 jd.same it.same eb.same
 
 -- ---- a packet with no flag set
 
 module _ (s : Settings) (p : List ℕ) (r : Ready s p) {seg : Bool} (es : seg ≡ segmented p) (e0 : octet_at p 26 ≡ 0) {lim c : ℕ}
     (l : List ℕ) {m1 m2 m3 o : List ℕ} (w : Within p lim 27) (n : length l ≡ 75) (e1 : m1 ≡ sets l 0 (front_numbers 0 p))
     (ic : Into p (opt seg 0 (wide_field 4 header_bound p) (goes 27)) one 26 lim (set (set m1 24 0) 25 0) m2 c)
-    (zc : 0 < c)
     (e3 : m3 ≡ sets (set m2 27 0) 28 (text_numbers no_texts))
     (eb : Ended p 0 c m3 o) where
   no_source : Into p (opt (flags_of 0).source 0 (octet_field header_bound p) (goes 27)) one 24 lim m1 (set m1 24 0) 27
@@ -129,6 +124,6 @@ module _ (s : Settings) (p : List ℕ) (r : Ready s p) {seg : Bool} (es : seg �
 
   pub plain_laid : o ≡ read_numbers (read_packet s p)
   plain_laid =
-      let ii = ids_laid s seg (flags_of 0) p (goes 27) no_source no_destination ic no_priority (omega arith) (omega arith) zc in
+      let ii = ids_laid s seg (flags_of 0) p (goes 27) no_source no_destination ic no_priority in
       let it = into_by ic.within (no_texts_there s p (goes c)) e3 in
-      all_laid s p r es (sym e0) l n e1 ii zc it zc eb
+      all_laid s p r es (sym e0) l n e1 ii it eb

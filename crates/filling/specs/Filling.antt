@@ -1,4 +1,4 @@
--- Reading into a lent answer, field by field: what each step of it tells. If a step answers 0 the long way is taken, and nothing is
+-- Reading into a lent answer, field by field: what each step of it tells. If a step answers None the long way is taken, and nothing is
 -- told of the answer.
 -- Assumes nothing: these are definitions.
 use Rattle.std.specs.Prelude.{ℕ, ◌+◌, ◌-◌, ◌≤◌, ◌<◌, ◌≡◌, List, [], ◌∷◌, ◌++◌, length, get_or}
@@ -22,20 +22,19 @@ pub record Within (p : List ℕ) (lim at : ℕ) : Type 0 where
 -- a step of reading that found a number; n is the place after it
 pub record Found (p : List ℕ) (step : Step ℕ) (lim n v : ℕ) : Type 0 where
   pub within : Within p lim n
-  pub same : 0 < n → step ≡ record { walk = goes n; value = v }
+  pub same : step ≡ record { walk = goes n; value = v }
 
 -- a step of reading whose numbers were laid over l from k on, which is m; r is the place after the field
 pub record Into {A : Type 0} (p : List ℕ) (step : Step A) (told : A → List ℕ) (k lim : ℕ) (l m : List ℕ) (r : ℕ) : Type 0 where
   pub within : Within p lim r
-  pub walk : 0 < r → step.walk ≡ goes r
-  pub same : 0 < r → m ≡ sets l k (told step.value)
+  pub walk : step.walk ≡ goes r
+  pub same : m ≡ sets l k (told step.value)
 
 abbrev pub one : ℕ → List ℕ
 one x = x ∷ []
 
 -- the octets from one place to another are characters by themselves
 pub record Single (p : List ℕ) (lim from to : ℕ) : Type 0 where
-  pub start : 0 < from
   pub top : to ≤ lim
   pub each : (j : ℕ) → from ≤ j → j < to → octet_at p j < 128
 

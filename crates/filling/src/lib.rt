@@ -1,10 +1,10 @@
-// Reading a packet into a lent answer: each step lays its numbers where the answer is lent and answers the place after its field, or 0 for
+// Reading a packet into a lent answer: each step lays its numbers where the answer is lent and answers the place after its field, or None for
 // the long way. The long way is `flat::read`. It makes every refusal; here is only what is accepted.
 //
 // The fixed part is tested once and then read at its own places. A UInteger is told at once if it is a Varint of one octet or has four.
 #![tactic(auto)]
 
-ghost use Rattle.std.specs.Prelude.{◌≡◌, true, List, ◌∷◌, ℕ, ◌+◌, ◌-◌, ◌≤◌, ◌<◌, length};
+ghost use Rattle.std.specs.Prelude.{◌≡◌, IfSome, true, List, [], ◌∷◌, ℕ, ◌+◌, ◌-◌, ◌≤◌, ◌<◌, length};
 ghost use Rattle.std.proofs.lemmas.List.Edits.{sets};
 ghost use Rattle.octets.specs.Octets.{pick, octet_at, number as number_of, part as stretch};
 ghost use Rattle.utf8.specs.Test.{is_text};
@@ -21,22 +21,16 @@ ghost use Rattle.filling.specs.Filling.{Ended};
 
 use flat::READ;
 use packet::COUNTER;
-use walk::{HEADER_END, PROFILE_FIXED, Settings, UINTEGER};
+use walk::{HEADER_END, PROFILE_FIXED, Reader, Settings, UINTEGER};
 
 // How many octets are tested at once for being characters by themselves.
 const BLOCK: usize = 32;
 
-// A UInteger, and the place after it; 0 for the long way.
+// A UInteger, and the place after it.
 #[derive(Clone, Copy)]
 struct Number {
     next: usize,
     value: usize,
-}
-
-fn no_number() -> Number
-    ensures { result.next ≡ 0 }
-{
-    Number { next: 0, value: 0 }
 }
 
 // The octets up to the header's limit.
@@ -44,11 +38,7 @@ fn limit_of(p: &[u8]) -> usize
     requires { 27 ≤ length p.now }
     ensures { Within p.now result 27 }
 {
-    if p.len() < HEADER_END {
-        p.len()
-    } else {
-        HEADER_END
-    }
+    p.len().min(HEADER_END)
 }
 
 // What the type of an answer says, for the proof: nothing is done.
@@ -131,85 +121,93 @@ fn octet_into(
     at: usize,
     k: usize,
     answer: &mut [u64; READ],
-) -> usize
+) -> Option<usize>
     requires within { Within p.now lim at }
     requires k_bound { k < 75 }
-    ensures { Into p.now (opt there 0 (octet_field header_bound p.now) (goes_at at))
-        one k lim answer.old answer.new result }
+    ensures { IfSome result (Into p.now (opt there 0 (octet_field header_bound p.now) (goes_at at))
+        one k lim answer.old answer.new) }
 {
-    if there {
-        if lim <= at {
-            return 0;
-        }
-        answer[k] = light::octet(p, at);
-        return at + 1;
+    if !there {
+        answer[k] = 0;
+        return Some(at);
     }
-    answer[k] = 0;
-    at
+    if lim <= at {
+        return None;
+    }
+    answer[k] = light::octet(p, at);
+    Some(at + 1)
 }
 
-fn counter_into(there: bool, p: &[u8], lim: usize, at: usize, answer: &mut [u64; READ]) -> usize
+fn counter_into(
+    there: bool,
+    p: &[u8],
+    lim: usize,
+    at: usize,
+    answer: &mut [u64; READ],
+) -> Option<usize>
     requires { Within p.now lim at }
-    ensures { Into p.now (opt there 0 (wide_field 4 header_bound p.now) (goes_at at))
-        one 26 lim answer.old answer.new result }
+    ensures { IfSome result (Into p.now (opt there 0 (wide_field 4 header_bound p.now) (goes_at at))
+        one 26 lim answer.old answer.new) }
 {
-    if there {
-        if lim < at + COUNTER {
-            return 0;
-        }
-        answer[26] = light::double(p, at);
-        return at + COUNTER;
+    if !there {
+        answer[26] = 0;
+        return Some(at);
     }
-    answer[26] = 0;
-    at
+    if lim < at + COUNTER {
+        return None;
+    }
+    answer[26] = light::double(p, at);
+    Some(at + COUNTER)
 }
 
 // A UInteger of more octets than one, by its reader.
-fn number_long(s: Settings, p: &[u8], lim: usize, at: usize) -> Number
+fn number_long(s: Settings, p: &[u8], lim: usize, at: usize) -> Option<Number>
     requires { Within p.now lim at }
-    ensures { Found p.now (uinteger s header_bound p.now (goes_at at)) lim result.next result.value }
+    ensures { IfSome result (λ n. Found p.now (uinteger s header_bound p.now (goes_at at)) lim n.next n.value) }
 {
-    let n = walk::read_uinteger(s, walk::header_bound(), p, walk::goes(at));
-    let w = n.walk;
-    let value = n.value as usize;
-    if w.refused != 0 {
-        return no_number();
+    let mut reader = Reader {
+        octets: p,
+        settings: s,
+        bound: walk::header_bound(),
+        at,
+    };
+    let Ok(value) = reader.uinteger() else {
+        return None;
+    };
+    if lim < reader.at {
+        return None;
     }
-    if lim < w.at {
-        return no_number();
-    }
-    Number {
-        next: w.at,
-        value: value,
-    }
+    Some(Number {
+        next: reader.at,
+        value: value as usize,
+    })
 }
 
 // A UInteger, all of it before the limit.
-fn number_at(s: Settings, p: &[u8], lim: usize, at: usize) -> Number
+fn number_at(s: Settings, p: &[u8], lim: usize, at: usize) -> Option<Number>
     requires { Within p.now lim at }
-    ensures { Found p.now (uinteger s header_bound p.now (goes_at at)) lim result.next result.value }
+    ensures { IfSome result (λ n. Found p.now (uinteger s header_bound p.now (goes_at at)) lim n.next n.value) }
 {
     if s.profile == PROFILE_FIXED {
         if lim < at + UINTEGER {
-            return no_number();
+            return None;
         }
-        let four = light::double(p, at) as usize;
-        return Number {
+        return Some(Number {
             next: at + UINTEGER,
-            value: four,
-        };
+            value: light::double(p, at) as usize,
+        });
     }
     if lim <= at {
-        return no_number();
+        return None;
     }
     let one = light::octet(p, at) as usize;
     if 127 < one {
         return number_long(s, p, lim, at);
     }
-    Number {
+    Some(Number {
         next: at + 1,
         value: one,
-    }
+    })
 }
 
 fn number_into(
@@ -219,18 +217,18 @@ fn number_into(
     lim: usize,
     at: usize,
     answer: &mut [u64; READ],
-) -> usize
+) -> Option<usize>
     requires { Within p.now lim at }
-    ensures { Into p.now (opt there 0 (uinteger s header_bound p.now) (goes_at at))
-        one 27 lim answer.old answer.new result }
+    ensures { IfSome result (Into p.now (opt there 0 (uinteger s header_bound p.now) (goes_at at))
+        one 27 lim answer.old answer.new) }
 {
-    if there {
-        let n = number_at(s, p, lim, at);
-        answer[27] = n.value as u64;
-        return n.next;
+    if !there {
+        answer[27] = 0;
+        return Some(at);
     }
-    answer[27] = 0;
-    at
+    let n = number_at(s, p, lim, at)?;
+    answer[27] = n.value as u64;
+    Some(n.next)
 }
 
 fn block_into(
@@ -240,29 +238,26 @@ fn block_into(
     lim: usize,
     at: usize,
     answer: &mut [u64; READ],
-) -> usize
+) -> Option<usize>
     requires within { Within p.now lim at }
     requires n_bound { n ≤ 16 }
-    ensures { Into p.now (opt there nowhere (block n header_bound p.now) (goes_at at))
-        place_numbers 28 lim answer.old answer.new result }
+    ensures { IfSome result (Into p.now (opt there nowhere (block n header_bound p.now) (goes_at at))
+        place_numbers 28 lim answer.old answer.new) }
 {
-    if there {
-        if lim < at + n {
-            return 0;
-        }
-        answer[28] = at as u64;
-        answer[29] = n as u64;
-        return at + n;
+    if !there {
+        none_into(28, answer);
+        return Some(at);
     }
-    answer[28] = 0;
-    answer[29] = 0;
-    at
+    if lim < at + n {
+        return None;
+    }
+    place_into(28, at, n, answer);
+    Some(at + n)
 }
 
 // How far the octets from a place on are characters by themselves, block by block.
 fn single_to(p: &[u8], lim: usize, from: usize) -> usize
-    requires within { Within p.now lim from }
-    requires from_nonzero { 0 < from }
+    requires { Within p.now lim from }
     ensures { Single p.now lim from result }
 {
     let mut to = from;
@@ -278,14 +273,10 @@ fn single_to(p: &[u8], lim: usize, from: usize) -> usize
 
 // The same, if texts may follow.
 fn single_if(there: bool, p: &[u8], lim: usize, from: usize) -> usize
-    requires within { Within p.now lim from }
-    requires from_nonzero { 0 < from }
+    requires { Within p.now lim from }
     ensures { Single p.now lim from result }
 {
-    if there {
-        return single_to(p, lim, from);
-    }
-    0
+    if there { single_to(p, lim, from) } else { 0 }
 }
 
 // Whether octets up to an end are text; those of a run of single ones are.
@@ -295,10 +286,8 @@ fn is_text(p: &[u8], lim: usize, from: usize, to: usize, at: usize, end: usize) 
     requires single { Single p.now lim from to }
     ensures { result ≡ true → is_text (stretch p.now at (end - at)) ≡ true }
 {
-    if from <= at {
-        if end <= to {
-            return true;
-        }
+    if from <= at && end <= to {
+        return true;
     }
     utf8::is_text(&p[at..end])
 }
@@ -311,21 +300,17 @@ fn blob_at(
     at: usize,
     k: usize,
     answer: &mut [u64; READ],
-) -> usize
+) -> Option<usize>
     requires within { Within p.now lim at }
     requires k_bound { k + 1 < 75 }
-    ensures { Into p.now (blob s header_bound p.now (goes_at at)) place_numbers k lim answer.old answer.new result }
+    ensures { IfSome result (Into p.now (blob s header_bound p.now (goes_at at)) place_numbers k lim answer.old answer.new) }
 {
-    let n = number_at(s, p, lim, at);
-    if n.next == 0 {
-        return 0;
-    }
+    let n = number_at(s, p, lim, at)?;
     if lim - n.next < n.value {
-        return 0;
+        return None;
     }
-    answer[k] = n.next as u64;
-    answer[k + 1] = n.value as u64;
-    n.next + n.value
+    place_into(k, n.next, n.value, answer);
+    Some(n.next + n.value)
 }
 
 // The same, and the octets are text.
@@ -338,26 +323,22 @@ fn text_at(
     at: usize,
     k: usize,
     answer: &mut [u64; READ],
-) -> usize
+) -> Option<usize>
     requires single { Single p.now lim from to }
     requires within { Within p.now lim at }
     requires k_bound { k + 1 < 75 }
-    ensures { Into p.now (text s header_bound p.now (goes_at at)) place_numbers k lim answer.old answer.new result }
+    ensures { IfSome result (Into p.now (text s header_bound p.now (goes_at at)) place_numbers k lim answer.old answer.new) }
 {
-    let n = number_at(s, p, lim, at);
-    if n.next == 0 {
-        return 0;
-    }
+    let n = number_at(s, p, lim, at)?;
     if lim - n.next < n.value {
-        return 0;
+        return None;
     }
     let end = n.next + n.value;
-    if is_text(p, lim, from, to, n.next, end) {
-        answer[k] = n.next as u64;
-        answer[k + 1] = n.value as u64;
-        return end;
+    if !is_text(p, lim, from, to, n.next, end) {
+        return None;
     }
-    0
+    place_into(k, n.next, n.value, answer);
+    Some(end)
 }
 
 fn blob_into(
@@ -367,17 +348,16 @@ fn blob_into(
     lim: usize,
     at: usize,
     answer: &mut [u64; READ],
-) -> usize
+) -> Option<usize>
     requires { Within p.now lim at }
-    ensures { Into p.now (opt there nowhere (blob s header_bound p.now) (goes_at at))
-        place_numbers 67 lim answer.old answer.new result }
+    ensures { IfSome result (Into p.now (opt there nowhere (blob s header_bound p.now) (goes_at at))
+        place_numbers 67 lim answer.old answer.new) }
 {
-    if there {
-        return blob_at(s, p, lim, at, 67, answer);
+    if !there {
+        none_into(67, answer);
+        return Some(at);
     }
-    answer[67] = 0;
-    answer[68] = 0;
-    at
+    blob_at(s, p, lim, at, 67, answer)
 }
 
 fn text_into(
@@ -390,22 +370,21 @@ fn text_into(
     at: usize,
     k: usize,
     answer: &mut [u64; READ],
-) -> usize
+) -> Option<usize>
     requires single { Single p.now lim from to }
     requires within { Within p.now lim at }
     requires k_bound { k + 1 < 75 }
-    ensures { Into p.now (opt there nowhere (text s header_bound p.now) (goes_at at))
-        place_numbers k lim answer.old answer.new result }
+    ensures { IfSome result (Into p.now (opt there nowhere (text s header_bound p.now) (goes_at at))
+        place_numbers k lim answer.old answer.new) }
 {
-    if there {
-        return text_at(s, p, lim, from, to, at, k, answer);
+    if !there {
+        none_into(k, answer);
+        return Some(at);
     }
-    answer[k] = 0;
-    answer[k + 1] = 0;
-    at
+    text_at(s, p, lim, from, to, at, k, answer)
 }
 
-// A part at a place that is not 0.
+// A part, by its number's reader.
 fn part_into(
     s: Settings,
     p: &[u8],
@@ -415,46 +394,30 @@ fn part_into(
     at: usize,
     k: usize,
     answer: &mut [u64; READ],
-) -> usize
+) -> Option<usize>
     requires single { Single p.now lim from to }
     requires within { Within p.now lim at }
     requires k_bound { k + 1 < 75 }
-    ensures told { Into p.now (part s header_bound p.now (goes_at at))
-        place_numbers k lim answer.old answer.new result }
-    ensures before { 0 < result → 0 < at }
+    ensures { IfSome result (Into p.now (part s header_bound p.now (goes_at at))
+        place_numbers k lim answer.old answer.new) }
 {
-    if at == 0 {
-        return 0;
-    }
-    if lim <= at {
-        return 0;
-    }
-    if light::octet(p, at) != 1 {
-        return 0;
+    if lim <= at || light::octet(p, at) != 1 {
+        return None;
     }
     text_at(s, p, lim, from, to, at + 1, k, answer)
 }
 
-// The end of a part whose length is a Varint, all of it among single octets; 0 if it is not so.
-fn quick_end(p: &[u8], lim: usize, from: usize, to: usize, at: usize) -> usize
+// The end of a part whose length is a Varint, all of it among single octets.
+fn quick_end(p: &[u8], lim: usize, from: usize, to: usize, at: usize) -> Option<usize>
     requires single { Single p.now lim from to }
     requires within { Within p.now lim at }
-    ensures { 0 < result → Quick p.now from to at result }
+    ensures { IfSome result (Quick p.now from to at) }
 {
-    if at < from {
-        return 0;
-    }
-    if to < at + 2 {
-        return 0;
-    }
-    if light::octet(p, at) != 1 {
-        return 0;
+    if at < from || to < at + 2 || light::octet(p, at) != 1 {
+        return None;
     }
     let end = at + 2 + light::octet(p, at + 1) as usize;
-    if to < end {
-        return 0;
-    }
-    end
+    if to < end { None } else { Some(end) }
 }
 
 // A part: with Varints most are told at once.
@@ -467,24 +430,30 @@ fn part_at(
     at: usize,
     k: usize,
     answer: &mut [u64; READ],
-) -> usize
+) -> Option<usize>
     requires single { Single p.now lim from to }
     requires within { Within p.now lim at }
     requires k_bound { k + 1 < 75 }
-    ensures told { Into p.now (part s header_bound p.now (goes_at at))
-        place_numbers k lim answer.old answer.new result }
-    ensures before { 0 < result → 0 < at }
+    ensures { IfSome result (Into p.now (part s header_bound p.now (goes_at at))
+        place_numbers k lim answer.old answer.new) }
 {
-    let end = quick_end(p, lim, from, to, at);
     if s.profile == PROFILE_FIXED {
         return part_into(s, p, lim, from, to, at, k, answer);
     }
-    if end == 0 {
+    let Some(end) = quick_end(p, lim, from, to, at) else {
         return part_into(s, p, lim, from, to, at, k, answer);
-    }
-    answer[k] = (at + 2) as u64;
-    answer[k + 1] = (end - (at + 2)) as u64;
-    end
+    };
+    place_into(k, at + 2, end - (at + 2), answer);
+    Some(end)
+}
+
+// A place and a length.
+fn place_into(k: usize, at: usize, length: usize, answer: &mut [u64; READ])
+    requires { k + 1 < 75 }
+    ensures { answer.new ≡ sets answer.old k (at ∷ length ∷ []) }
+{
+    answer[k] = at as u64;
+    answer[k + 1] = length as u64;
 }
 
 // Two zeros where no part stands.
@@ -492,19 +461,17 @@ fn none_into(k: usize, answer: &mut [u64; READ])
     requires { k + 1 < 75 }
     ensures { answer.new ≡ sets answer.old k (place_numbers nowhere) }
 {
-    answer[k] = 0;
-    answer[k + 1] = 0;
+    place_into(k, 0, 0, answer);
 }
 
 // No places from a part on.
 fn no_places(from: usize, answer: &mut [u64; READ])
     requires { from ≤ 16 }
-    ensures { (ps : List Place) (l : List ℕ) → NoneFrom ps from → answer.old ≡ sets l 35 (places_to from ps) → answer.new ≡ sets l 35 (places_to 16 ps) }
+    ensures { (ps : List Place) (l : List ℕ) → NoneFrom ps from → answer.old ≡ sets l 35 (places_to from ps)
+        → answer.new ≡ sets l 35 (places_to 16 ps) }
 {
-    let mut k = from;
-    while k < 16 {
+    for k in from..16 {
         none_into(35 + 2 * k, answer);
-        k += 1;
     }
 }
 
@@ -518,20 +485,18 @@ fn parts_into(
     n: usize,
     start: usize,
     answer: &mut [u64; READ],
-) -> usize
+) -> Option<usize>
     requires single { Single p.now lim from to }
     requires within { Within p.now lim start }
     requires n_bound { n ≤ 16 }
-    ensures { Into p.now (parts_to s header_bound p.now n (record { walk = goes_at start; value = no_parts n }))
-        (λ d. places_to n d.places) 35 lim answer.old answer.new result }
+    ensures { IfSome result (Into p.now (parts_to s header_bound p.now n (record { walk = goes_at start; value = no_parts n }))
+        (λ d. places_to n d.places) 35 lim answer.old answer.new) }
 {
     let mut at = start;
-    let mut k: usize = 0;
-    while k < n {
-        at = part_at(s, p, lim, from, to, at, 35 + 2 * k, answer);
-        k += 1;
+    for k in 0..n {
+        at = part_at(s, p, lim, from, to, at, 35 + 2 * k, answer)?;
     }
-    at
+    Some(at)
 }
 
 fn domain_into(
@@ -543,75 +508,64 @@ fn domain_into(
     to: usize,
     at: usize,
     answer: &mut [u64; READ],
-) -> usize
+) -> Option<usize>
     requires single { Single p.now lim from to }
     requires within { Within p.now lim at }
-    ensures { Into p.now (opt there (no_parts 0) (domain s header_bound p.now) (goes_at at))
-        parts_numbers 34 lim answer.old answer.new result }
+    ensures { IfSome result (Into p.now (opt there (no_parts 0) (domain s header_bound p.now) (goes_at at))
+        parts_numbers 34 lim answer.old answer.new) }
 {
-    if there {
-        let n = number_at(s, p, lim, at);
-        let count = n.value;
-        if n.next == 0 {
-            return 0;
-        }
-        if 16 < count {
-            return 0;
-        }
-        answer[34] = count as u64;
-        let end = parts_into(s, p, lim, from, to, count, n.next, answer);
-        no_places(count, answer);
-        return end;
+    if !there {
+        answer[34] = 0;
+        no_places(0, answer);
+        return Some(at);
     }
-    answer[34] = 0;
-    no_places(0, answer);
-    at
+    let n = number_at(s, p, lim, at)?;
+    if 16 < n.value {
+        return None;
+    }
+    answer[34] = n.value as u64;
+    let end = parts_into(s, p, lim, from, to, n.value, n.next, answer)?;
+    no_places(n.value, answer);
+    Some(end)
 }
 
 // Whether a segment has a body.
 fn has_body(seg: bool, p: &[u8], at: usize) -> bool
     ensures { result ≡ true → seg ≡ true → at < length p.now }
 {
-    if seg {
-        return at < p.len();
-    }
-    true
+    !seg || at < p.len()
 }
 
 fn counter_size(seg: bool) -> usize
     ensures { result ≡ pick seg 4 0 }
 {
-    if seg {
-        return 4;
-    }
-    0
+    if seg { COUNTER } else { 0 }
 }
 
-// H and the body; no refusal, which tells nothing; and whether a zone is there.
-fn end_into(seg: bool, f: u64, p: &[u8], at: usize, answer: &mut [u64; READ]) -> bool
+// H and the body; no refusal, which tells nothing; and whether a zone is there. None for the long way.
+fn end_into(seg: bool, f: u64, p: &[u8], at: usize, answer: &mut [u64; READ]) -> Option<()>
     requires at_in_bounds { at ≤ length p.now }
     requires seg_value { seg ≡ segmented p.now }
-    ensures { result ≡ true → Ended p.now f at answer.old answer.new }
+    ensures { IfSome result (λ _. Ended p.now f at answer.old answer.new) }
 {
-    let h = octets::less(octets::less(at, 6), counter_size(seg));
+    let h = at.saturating_sub(6).saturating_sub(counter_size(seg));
     answer[69] = h as u64;
     answer[70] = at as u64;
     answer[71] = (p.len() - at) as u64;
     answer[72] = 0;
     answer[73] = 0;
     answer[74] = f / 8 % 2;
-    has_body(seg, p, at)
+    if !has_body(seg, p, at) {
+        return None;
+    }
+    Some(())
 }
 
 // No timestamp, no texts, no domain, no authentication id.
 fn no_texts(answer: &mut [u64; READ])
     ensures { answer.new ≡ sets answer.old 28 (text_numbers no_texts) }
 {
-    let mut k: usize = 28;
-    while k < 69 {
-        answer[k] = 0;
-        k += 1;
-    }
+    answer[28..69].fill(0);
 }
 
 // All up to the presence octet, of which f are the flags.
@@ -626,23 +580,21 @@ fn fixed_into(f: u64, p: &[u8], answer: &mut [u64; READ])
 }
 
 // Source id, destination id, segment counter, priority.
-fn ids_into(s: Settings, f: u64, seg: bool, p: &[u8], lim: usize, answer: &mut [u64; READ]) -> usize
+fn ids_into(
+    s: Settings,
+    f: u64,
+    seg: bool,
+    p: &[u8],
+    lim: usize,
+    answer: &mut [u64; READ],
+) -> Option<usize>
     requires { Within p.now lim 27 }
-    ensures { Into p.now (ids_of s header_bound seg (flags_of f) p.now (goes_at 27))
-        ids_numbers 24 lim answer.old answer.new result }
+    ensures { IfSome result (Into p.now (ids_of s header_bound seg (flags_of f) p.now (goes_at 27))
+        ids_numbers 24 lim answer.old answer.new) }
 {
-    let a = octet_into(f / 128 % 2 == 1, p, lim, 27, 24, answer);
-    if a == 0 {
-        return 0;
-    }
-    let b = octet_into(f / 64 % 2 == 1, p, lim, a, 25, answer);
-    if b == 0 {
-        return 0;
-    }
-    let c = counter_into(seg, p, lim, b, answer);
-    if c == 0 {
-        return 0;
-    }
+    let a = octet_into(f / 128 % 2 == 1, p, lim, 27, 24, answer)?;
+    let b = octet_into(f / 64 % 2 == 1, p, lim, a, 25, answer)?;
+    let c = counter_into(seg, p, lim, b, answer)?;
     number_into(f / 32 % 2 == 1, s, p, lim, c, answer)
 }
 
@@ -654,58 +606,40 @@ fn texts_into(
     lim: usize,
     at: usize,
     answer: &mut [u64; READ],
-) -> usize
+) -> Option<usize>
     requires t_bound { s.t ≤ 16 }
     requires within { Within p.now lim at }
-    ensures { Into p.now (texts_of s header_bound (flags_of f) p.now (goes_at at))
-        text_numbers 28 lim answer.old answer.new result }
+    ensures { IfSome result (Into p.now (texts_of s header_bound (flags_of f) p.now (goes_at at))
+        text_numbers 28 lim answer.old answer.new) }
 {
-    let a = block_into(f / 16 % 2 == 1, s.t, p, lim, at, answer);
-    if a == 0 {
-        return 0;
-    }
+    let a = block_into(f / 16 % 2 == 1, s.t, p, lim, at, answer)?;
     let to = single_if(f / 2 % 8 != 0, p, lim, a);
-    let b = text_into(f / 8 % 2 == 1, s, p, lim, a, to, a, 30, answer);
-    if b == 0 {
-        return 0;
-    }
-    let c = text_into(f / 4 % 2 == 1, s, p, lim, a, to, b, 32, answer);
-    if c == 0 {
-        return 0;
-    }
-    let d = domain_into(f / 2 % 2 == 1, s, p, lim, a, to, c, answer);
-    if d == 0 {
-        return 0;
-    }
+    let b = text_into(f / 8 % 2 == 1, s, p, lim, a, to, a, 30, answer)?;
+    let c = text_into(f / 4 % 2 == 1, s, p, lim, a, to, b, 32, answer)?;
+    let d = domain_into(f / 2 % 2 == 1, s, p, lim, a, to, c, answer)?;
     blob_into(f % 2 == 1, s, p, lim, d, answer)
 }
 
-// The whole answer; false for the long way.
-fn all_into(s: Settings, p: &[u8], answer: &mut [u64; READ]) -> bool
+// The whole answer; None for the long way.
+fn all_into(s: Settings, p: &[u8], answer: &mut [u64; READ]) -> Option<()>
     requires { Ready s p.now }
-    ensures { result ≡ true → answer.new ≡ read_numbers (read_packet s p.now) }
+    ensures { IfSome result (λ _. answer.new ≡ read_numbers (read_packet s p.now)) }
 {
     let lim = limit_of(p);
     let f = light::octet(p, 26);
     let seg = light::is_segment(p);
     counted(*answer);
     fixed_into(f, p, answer);
-    let d = ids_into(s, f, seg, p, lim, answer);
-    if d == 0 {
-        return false;
-    }
-    let j = texts_into(s, f, p, lim, d, answer);
-    if j == 0 {
-        return false;
-    }
+    let d = ids_into(s, f, seg, p, lim, answer)?;
+    let j = texts_into(s, f, p, lim, d, answer)?;
     end_into(seg, f, p, j, answer)
 }
 
 // The same for a packet whose presence flags are all 0.
-fn plain_into(s: Settings, p: &[u8], answer: &mut [u64; READ]) -> bool
+fn plain_into(s: Settings, p: &[u8], answer: &mut [u64; READ]) -> Option<()>
     requires ready { Ready s p.now }
     requires p_value { octet_at p.now 26 ≡ 0 }
-    ensures { result ≡ true → answer.new ≡ read_numbers (read_packet s p.now) }
+    ensures { IfSome result (λ _. answer.new ≡ read_numbers (read_packet s p.now)) }
 {
     let lim = limit_of(p);
     let seg = light::is_segment(p);
@@ -713,33 +647,32 @@ fn plain_into(s: Settings, p: &[u8], answer: &mut [u64; READ]) -> bool
     fixed_into(0, p, answer);
     answer[24] = 0;
     answer[25] = 0;
-    let c = counter_into(seg, p, lim, 27, answer);
-    if c == 0 {
-        return false;
-    }
+    let c = counter_into(seg, p, lim, 27, answer)?;
     answer[27] = 0;
     no_texts(answer);
     end_into(seg, 0, p, c, answer)
+}
+
+// The short way, if the packet goes it.
+fn short_into(s: Settings, p: &[u8], answer: &mut [u64; READ]) -> Option<()>
+    ensures { IfSome result (λ _. answer.new ≡ read_numbers (read_packet s p.now)) }
+{
+    if !light::ready(s, p) {
+        return None;
+    }
+    if light::octet(p, 26) == 0 {
+        plain_into(s, p, answer)
+    } else {
+        all_into(s, p, answer)
+    }
 }
 
 // Reading a packet into a lent answer.
 pub fn read_into(t: u64, profile: u64, packet: &[u8], answer: &mut [u64; READ])
     ensures { answer.new ≡ read_numbers (read_packet (settings_of t profile) packet.now) }
 {
-    let s = Settings {
-        t: t as usize,
-        profile: profile,
-    };
-    if light::ready(s, packet) {
-        if light::octet(packet, 26) == 0 {
-            if plain_into(s, packet, answer) {
-                return;
-            }
-        } else {
-            if all_into(s, packet, answer) {
-                return;
-            }
-        }
+    let s = flat::settings(t, profile);
+    if short_into(s, packet, answer).is_none() {
+        *answer = flat::read(t, profile, packet);
     }
-    *answer = flat::read(t, profile, packet);
 }

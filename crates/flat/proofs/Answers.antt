@@ -2,13 +2,15 @@
 -- Assumes nothing.
 use Prim.Native.Nat.{ℕ, ◌+◌}
 use mathlib.Core.Path.{◌≡◌, refl, ap, sym, ◌∙◌}
+use mathlib.Core.Bool.{Bool, true, false}
+use mir.Val.{bool_byte}
 use mathlib.Core.List.{List, [], ◌∷◌, ◌++◌, append_assoc, append-nil}
 use native.Mathlib.Omega.{arith}
 use lib.ListN.{length, length-append, set}
 use lib.Seq.{sets, sets-eq, drop-length}
 use Rattle.octets.proofs.Lists.{sets_append}
 use Rattle.packet.specs.Format.{bit}
-use Rattle.packet.specs.declared.Header.{Header}
+use Rattle.packet.specs.Answer.{Header}
 use Rattle.packet.specs.declared.Texts.{Texts}
 use Rattle.flat.specs.Told.{primary_numbers, name_numbers, routing_numbers, present_numbers, ids_numbers, place_numbers, places_to, text_numbers, told_beside, read_numbers}
 use Rattle.flat.proofs.Placing.{places_length}
@@ -18,6 +20,11 @@ pub sets_all : (l x : List ℕ) → length x ≡ length l → sets l 0 x ≡ x
 sets_all l x e =
     let k : 0 + length x ≡ length l = omega (arith, e) in
     sets-eq x l 0 (omega (arith, e)) ∙ rw (k, drop-length l, append-nil x)
+
+-- a truth value as a number
+pub bit_is : (b : Bool) → bool_byte b ≡ bit b
+bit_is true = refl
+bit_is false = refl
 
 -- one list laid behind another
 pub then_laid :

@@ -1,7 +1,7 @@
 -- The values that plain numbers stand for, and which numbers fit. A number above what its field's type holds does not fit, and is
 -- refused by 22 before anything is made narrower. T, P, i and a body's length are any numbers of 64 bits, and so is a text's length.
 -- Assumes nothing: these are definitions.
-use Rattle.std.specs.Prelude.{ℕ, zero, suc, ◌+◌, Bool, true, false, List, [], ◌∷◌, leb, eqb}
+use Rattle.std.specs.Prelude.{ℕ, zero, suc, ◌+◌, ◌≤◌, Bool, true, false, List, [], ◌∷◌, leb, eqb}
 use Rattle.octets.specs.Octets.{pick, most8, most16, most32, octet_at as number_at}
 use Rattle.packet.specs.declared.Present.{Present}
 use Rattle.sender.specs.declared.Sender.{Sender}
@@ -29,6 +29,17 @@ header_widths =
 
 abbrev pub header_fits : List ℕ → Bool
 header_fits l = fits_to 24 l header_widths
+
+-- eight presence flags from place k on are 0 or 1
+pub record FlagsFit (k : ℕ) (l : List ℕ) : Type 0 where
+  pub source : number_at l k ≤ 1
+  pub destination : number_at l (k + 1) ≤ 1
+  pub priority : number_at l (k + 2) ≤ 1
+  pub timestamp : number_at l (k + 3) ≤ 1
+  pub zone : number_at l (k + 4) ≤ 1
+  pub session_name : number_at l (k + 5) ≤ 1
+  pub domain : number_at l (k + 6) ≤ 1
+  pub authentication : number_at l (k + 7) ≤ 1
 
 -- eight presence flags, from place k on
 abbrev pub present_from : ℕ → List ℕ → Present

@@ -4,14 +4,18 @@
 // field before it is made narrower: one too wide is 22, after 15 for T, the profile or P. Then the call itself is made, and its answer told.
 #![tactic(auto)]
 
-ghost use Rattle.std.specs.Prelude.{◌≡◌, true, false, ◌+◌, ◌≤◌, length};
+ghost use Rattle.std.specs.Prelude.{◌≡◌, true, false, ◌+◌, ◌≤◌, ◌<◌, ◌∷◌, eqb, length, MatchResult};
+ghost use Rattle.sender.specs.declared.Sender.{Sender};
 ghost use Rattle.std.proofs.lemmas.List.Edits.{sets};
 ghost use Rattle.walk.specs.Walk.{settings_of};
-ghost use Rattle.packet.specs.Reading.{read_packet};
-ghost use Rattle.write.specs.Given.{lent};
-ghost use Rattle.flat.specs.Given.{fits_to, header_fits, present_of, header_of, packet_fits, packet_of, sender_fits, sender_of};
+ghost use Rattle.packet.specs.Reading.{read_packet, refused_header};
+ghost use Rattle.packet.specs.Decoded.{whole};
+ghost use Rattle.walk.specs.Told.{told};
+ghost use Rattle.write.specs.Answer.{written};
+ghost use Rattle.write.specs.Given.{lent_of};
+ghost use Rattle.flat.specs.Given.{fits_to, FlagsFit, header_fits, present_from, header_of, packet_fits, packet_of, sender_fits, sender_of};
 ghost use Rattle.flat.specs.Answers.{too_wide, next_numbers, write_refused, write_numbers, write_out, after_packet_numbers};
-ghost use Rattle.flat.specs.Answers.{after_segment_numbers, cut_refused, count_numbers, packet_numbers, packet_out};
+ghost use Rattle.flat.specs.Answers.{given, after_segment_numbers, cut_refused, count_numbers, packet_numbers, packet_out};
 ghost use Rattle.flat.specs.Told.{primary_numbers, name_numbers, routing_numbers, present_numbers, ids_numbers, place_numbers, places_to};
 ghost use Rattle.flat.specs.Told.{text_numbers, read_numbers, written_numbers, sender_numbers, counted_numbers, cut_numbers};
 
@@ -21,9 +25,10 @@ use packet::{
     Apid, Fixed, Header, Ids, Present, Primary, SecondaryApid, SegmentCounter, SequenceCount, Texts,
 };
 use sender::Sender;
+use std::num::TryFromIntError;
 use varint::{MOST_16, MOST_32};
-use walk::{REFUSED_VALUE, Settings, Tested};
-use write::{HeaderValues, PacketValues, Written};
+use walk::{REFUSED_VALUE, Refused, Settings, Tested};
+use write::{HeaderValues, LentTexts, PacketValues};
 
 // How many numbers reading answers.
 pub const READ: usize = 75;
@@ -38,262 +43,249 @@ pub const CUT: usize = 4;
 // The refusal of a number that is too wide for its field.
 const TOO_WIDE: u64 = 22;
 
-// How many numbers a header has, and the largest that the type of each field holds.
+// How many numbers a header has.
 pub const HEADER: usize = 24;
 
-const HEADER_WIDTHS: [u64; HEADER] = [
-    255,
-    MOST_16,
-    255,
-    MOST_32,
-    MOST_32,
-    MOST_32,
-    MOST_16,
-    255,
-    255,
-    255,
-    MOST_16,
-    MOST_32,
-    u64::MAX,
-    1,
-    1,
-    1,
-    1,
-    1,
-    1,
-    1,
-    1,
-    MOST_16,
-    MOST_16,
-    u64::MAX,
-];
+// How many numbers tell of a packet's texts.
+const TEXTS: usize = 41;
+
+// Numbers laid over others from a place on. Inner: the crates beside this one lay theirs by it too.
+pub fn put<T: Copy>(out: &mut [T], at: usize, from: &[T])
+    requires { at + length from.now ≤ length out.old }
+    ensures { out.new ≡ sets out.old at from.now }
+{
+    out[at..at + from.len()].copy_from_slice(from);
+}
 
 // ---- the answer of reading
 
-fn put_primary(answer: &mut [u64; READ], p: Primary)
-    ensures { answer.new ≡ sets answer.old 1 (primary_numbers p) }
+fn primary_numbers(p: Primary) -> [u64; 4]
+    ensures { result ≡ primary_numbers p }
 {
-    let apid = p.apid;
-    let sequence_count = p.sequence_count;
-    answer[1] = p.packet_type as u64;
-    answer[2] = apid.0 as u64;
-    answer[3] = p.flags as u64;
-    answer[4] = sequence_count.0 as u64;
+    [
+        p.packet_type as u64,
+        p.apid.0 as u64,
+        p.flags as u64,
+        p.sequence_count.0 as u64,
+    ]
 }
 
 // SDU type to area version.
-fn put_names(answer: &mut [u64; READ], f: Fixed)
-    ensures { answer.new ≡ sets answer.old 5 (name_numbers f) }
+fn name_numbers(f: Fixed) -> [u64; 5]
+    ensures { result ≡ name_numbers f }
 {
-    answer[5] = f.sdu as u64;
-    answer[6] = f.area as u64;
-    answer[7] = f.service as u64;
-    answer[8] = f.operation as u64;
-    answer[9] = f.version as u64;
+    [
+        f.sdu as u64,
+        f.area as u64,
+        f.service as u64,
+        f.operation as u64,
+        f.version as u64,
+    ]
 }
 
 // Error to transaction id.
-fn put_routing(answer: &mut [u64; READ], f: Fixed)
-    ensures { answer.new ≡ sets answer.old 10 (routing_numbers f) }
+fn routing_numbers(f: Fixed) -> [u64; 6]
+    ensures { result ≡ routing_numbers f }
 {
-    let apid = f.secondary_apid;
-    answer[10] = f.error as u64;
-    answer[11] = f.qos as u64;
-    answer[12] = f.session as u64;
-    answer[13] = apid.0 as u64;
-    answer[14] = f.qualifier as u64;
-    answer[15] = f.transaction;
+    [
+        f.error as u64,
+        f.qos as u64,
+        f.session as u64,
+        f.secondary_apid.0 as u64,
+        f.qualifier as u64,
+        f.transaction,
+    ]
 }
 
-fn put_present(answer: &mut [u64; READ], has: Present)
-    ensures { answer.new ≡ sets answer.old 16 (present_numbers has) }
+// Inner: crate `flat_pdu` tells presence flags, places and texts by these too.
+pub fn present_numbers(has: Present) -> [u64; 8]
+    ensures { result ≡ present_numbers has }
 {
-    answer[16] = octets::bit_of(has.source);
-    answer[17] = octets::bit_of(has.destination);
-    answer[18] = octets::bit_of(has.priority);
-    answer[19] = octets::bit_of(has.timestamp);
-    answer[20] = octets::bit_of(has.zone);
-    answer[21] = octets::bit_of(has.session_name);
-    answer[22] = octets::bit_of(has.domain);
-    answer[23] = octets::bit_of(has.authentication);
+    [
+        u64::from(has.source),
+        u64::from(has.destination),
+        u64::from(has.priority),
+        u64::from(has.timestamp),
+        u64::from(has.zone),
+        u64::from(has.session_name),
+        u64::from(has.domain),
+        u64::from(has.authentication),
+    ]
 }
 
-fn put_ids(answer: &mut [u64; READ], ids: Ids)
-    ensures { answer.new ≡ sets answer.old 24 (ids_numbers ids) }
+fn ids_numbers(ids: Ids) -> [u64; 4]
+    ensures { result ≡ ids_numbers ids }
 {
-    let counter = ids.counter;
-    answer[24] = ids.source as u64;
-    answer[25] = ids.destination as u64;
-    answer[26] = counter.0 as u64;
-    answer[27] = ids.priority as u64;
+    [
+        ids.source as u64,
+        ids.destination as u64,
+        ids.counter.0 as u64,
+        ids.priority as u64,
+    ]
 }
 
-fn put_place(answer: &mut [u64; READ], at: usize, p: Place)
-    requires { at + 2 ≤ 75 }
-    ensures { answer.new ≡ sets answer.old at (place_numbers p) }
+pub fn place_numbers(p: Place) -> [u64; 2]
+    ensures { result ≡ place_numbers p }
 {
-    answer[at] = p.at as u64;
-    answer[at + 1] = p.length as u64;
-}
-
-// The sixteen places of a domain.
-fn put_domain(answer: &mut [u64; READ], parts: [Place; 16])
-    ensures { answer.new ≡ sets answer.old 35 (places_to 16 parts) }
-{
-    let mut k: usize = 0;
-    while k < 16 {
-        put_place(answer, 35 + 2 * k, parts[k]);
-        k += 1;
-    }
+    [p.at as u64, p.length as u64]
 }
 
 // Timestamp to authentication id.
-fn put_texts(answer: &mut [u64; READ], texts: Texts)
-    ensures { answer.new ≡ sets answer.old 28 (text_numbers texts) }
+pub fn text_numbers(texts: Texts) -> [u64; TEXTS]
+    ensures { result ≡ text_numbers texts }
 {
-    let parts = texts.parts;
-    put_place(answer, 28, texts.timestamp);
-    put_place(answer, 30, texts.zone);
-    put_place(answer, 32, texts.session_name);
-    answer[34] = texts.count as u64;
-    put_domain(answer, parts);
-    put_place(answer, 67, texts.authentication);
+    let mut numbers = [0; TEXTS];
+    put(&mut numbers, 0, &place_numbers(texts.timestamp));
+    put(&mut numbers, 2, &place_numbers(texts.zone));
+    put(&mut numbers, 4, &place_numbers(texts.session_name));
+    numbers[6] = texts.count as u64;
+    for (k, part) in texts.parts.iter().enumerate() {
+        put(&mut numbers, 7 + 2 * k, &place_numbers(*part));
+    }
+    put(&mut numbers, 39, &place_numbers(texts.authentication));
+    numbers
 }
 
-// The numbers of a header that was read.
+// The numbers of a header that was read: no refusal, and what is told beside none.
 fn header_numbers(h: Header) -> [u64; READ]
-    ensures { result ≡ read_numbers h }
+    ensures { result ≡ read_numbers (whole h) }
 {
-    let mut answer = [0u64; READ];
-    let refusal = h.refusal;
-    answer[0] = refusal.number as u64;
-    put_primary(&mut answer, h.primary);
-    put_names(&mut answer, h.fixed);
-    put_routing(&mut answer, h.fixed);
-    put_present(&mut answer, h.has);
-    put_ids(&mut answer, h.ids);
-    put_texts(&mut answer, h.texts);
-    answer[69] = h.h as u64;
-    put_place(&mut answer, 70, h.body);
-    answer[72] = refusal.octets as u64;
-    answer[73] = refusal.place as u64;
-    answer[74] = octets::bit_of(h.withdrawn);
+    let mut answer = [0; READ];
+    put(&mut answer, 1, &primary_numbers(h.primary));
+    put(&mut answer, 5, &name_numbers(h.fixed));
+    put(&mut answer, 10, &routing_numbers(h.fixed));
+    put(&mut answer, 16, &present_numbers(h.has));
+    put(&mut answer, 24, &ids_numbers(h.ids));
+    put(&mut answer, 28, &text_numbers(h.texts));
+    let [body, length] = place_numbers(h.body);
+    let end = [h.h as u64, body, length, 0, 0, u64::from(h.withdrawn)];
+    put(&mut answer, 69, &end);
     answer
+}
+
+// And of a refusal: what it tells, and zeros.
+fn refused_numbers(refused: Refused) -> [u64; READ]
+    ensures { result ≡ read_numbers (refused_header (told refused)) }
+{
+    let mut answer = [0; READ];
+    answer[0] = refused.number() as u64;
+    answer[72] = refused.octets() as u64;
+    answer[73] = refused.place() as u64;
+    answer
+}
+
+// The settings that two numbers stand for. Inner: the crates beside this one make theirs by it too.
+pub fn settings(t: u64, profile: u64) -> Settings
+    ensures { result ≡ settings_of t profile }
+{
+    Settings {
+        t: t as usize,
+        profile,
+    }
 }
 
 // Reading a packet.
 pub fn read(t: u64, profile: u64, packet: &[u8]) -> [u64; READ]
     ensures { result ≡ read_numbers (read_packet (settings_of t profile) packet.now) }
 {
-    let s = Settings {
-        t: t as usize,
-        profile: profile,
-    };
-    header_numbers(packet::read(s, packet))
+    match packet::read(settings(t, profile), packet) {
+        Ok(h) => header_numbers(h),
+        Err(refused) => refused_numbers(refused),
+    }
 }
 
 // ---- numbers to values
 
-// Whether each number is at most the width beside it.
+// A number is too wide for the type of its field.
+#[derive(Clone, Copy, Debug, PartialEq, Eq)]
+pub struct TooWide;
+
+impl From<TryFromIntError> for TooWide {
+    fn from(_error: TryFromIntError) -> TooWide {
+        TooWide
+    }
+}
+
+// Whether each number is at most the width beside it. Inner: crate `laying` tests its limits by it.
 pub fn fits(list: &[u64], widths: &[u64]) -> bool
     requires { length widths.now ≤ length list.now }
     ensures { result ≡ fits_to (length widths.now) list.now widths.now }
 {
-    let mut ok = true;
-    let mut k: usize = 0;
-    while k < widths.len() {
-        ok = octets::both(ok, list[k] <= widths[k]);
-        k += 1;
-    }
-    ok
+    list.iter().zip(widths).all(|(n, most)| n <= most)
 }
 
-fn header_fits(h: &[u64; HEADER]) -> bool
-    ensures { result ≡ header_fits h.now }
+fn flag_of(n: u64) -> Result<bool, TooWide>
+    ensures { MatchResult result (λ b. (n ≤ 1) × (b ≡ eqb n 1)) (λ _. 1 < n) }
 {
-    let widths = HEADER_WIDTHS;
-    fits(h, &widths)
-}
-
-fn packet_fits(flags: u64, sequence_count: u64, counter: u64) -> bool
-    ensures { result ≡ packet_fits flags sequence_count counter }
-{
-    let list = [flags, sequence_count, counter];
-    let widths = [255, MOST_16, MOST_32];
-    fits(&list, &widths)
-}
-
-fn present_of(h: &[u64; HEADER]) -> Present
-    ensures { result ≡ present_of h.now }
-{
-    Present {
-        source: h[13] == 1,
-        destination: h[14] == 1,
-        priority: h[15] == 1,
-        timestamp: h[16] == 1,
-        zone: h[17] == 1,
-        session_name: h[18] == 1,
-        domain: h[19] == 1,
-        authentication: h[20] == 1,
+    match n {
+        0 => Ok(false),
+        1 => Ok(true),
+        _ => Err(TooWide),
     }
 }
 
-// The header, whose numbers fit.
-fn header_of(h: &[u64; HEADER]) -> HeaderValues
-    requires { header_fits h.now ≡ true }
-    ensures { result ≡ header_of h.now }
+// Eight presence flags from a place on. Inner: crate `flat_pdu` reads its flags by it too.
+pub fn present_of(l: &[u64], at: usize) -> Result<Present, TooWide>
+    requires { at + 8 ≤ length l.now }
+    ensures { MatchResult result (λ has. FlagsFit at l.now × (has ≡ present_from at l.now)) (λ _. FlagsFit at l.now → ⊥) }
 {
-    let has = present_of(h);
-    HeaderValues {
-        packet_type: h[0] as u8,
-        apid: Apid(h[1] as u16),
-        sdu: h[2] as u8,
-        area: h[3] as u32,
-        service: h[4] as u32,
-        operation: h[5] as u32,
-        version: h[6] as u16,
-        error: h[7] as u8,
-        qos: h[8] as u8,
-        session: h[9] as u8,
-        secondary_apid: SecondaryApid(h[10] as u16),
-        qualifier: h[11] as u32,
+    Ok(Present {
+        source: flag_of(l[at])?,
+        destination: flag_of(l[at + 1])?,
+        priority: flag_of(l[at + 2])?,
+        timestamp: flag_of(l[at + 3])?,
+        zone: flag_of(l[at + 4])?,
+        session_name: flag_of(l[at + 5])?,
+        domain: flag_of(l[at + 6])?,
+        authentication: flag_of(l[at + 7])?,
+    })
+}
+
+fn header_of(h: &[u64; HEADER]) -> Result<HeaderValues, TooWide>
+    ensures { MatchResult result (λ v. (header_fits h.now ≡ true) × (v ≡ header_of h.now)) (λ _. header_fits h.now ≡ false) }
+{
+    Ok(HeaderValues {
+        packet_type: u8::try_from(h[0])?,
+        apid: Apid(u16::try_from(h[1])?),
+        sdu: u8::try_from(h[2])?,
+        area: u32::try_from(h[3])?,
+        service: u32::try_from(h[4])?,
+        operation: u32::try_from(h[5])?,
+        version: u16::try_from(h[6])?,
+        error: u8::try_from(h[7])?,
+        qos: u8::try_from(h[8])?,
+        session: u8::try_from(h[9])?,
+        secondary_apid: SecondaryApid(u16::try_from(h[10])?),
+        qualifier: u32::try_from(h[11])?,
         transaction: h[12],
-        has: has,
-        source: h[21] as u16,
-        destination: h[22] as u16,
+        has: present_of(h, 13)?,
+        source: u16::try_from(h[21])?,
+        destination: u16::try_from(h[22])?,
         priority: h[23],
-    }
+    })
 }
 
-// A packet's own values, which fit.
-fn packet_of(flags: u64, sequence_count: u64, counter: u64) -> PacketValues
-    requires { packet_fits flags sequence_count counter ≡ true }
-    ensures { result ≡ packet_of flags sequence_count counter }
+// A packet's own values.
+fn packet_of(flags: u64, sequence_count: u64, counter: u64) -> Result<PacketValues, TooWide>
+    ensures { MatchResult result
+        (λ o. (packet_fits flags sequence_count counter ≡ true) × (o ≡ packet_of flags sequence_count counter))
+        (λ _. packet_fits flags sequence_count counter ≡ false) }
 {
-    PacketValues {
-        flags: flags as u8,
-        sequence_count: SequenceCount(sequence_count as u16),
-        counter: SegmentCounter(counter as u32),
-    }
+    Ok(PacketValues {
+        flags: u8::try_from(flags)?,
+        sequence_count: SequenceCount(u16::try_from(sequence_count)?),
+        counter: SegmentCounter(u32::try_from(counter)?),
+    })
 }
 
-// Whether a sender's numbers fit.
-fn sender_fits(d: &[u64; SENDER]) -> bool
-    ensures { result ≡ sender_fits d.now }
+// Inner: crate `laying` uses it too.
+pub fn sender_of(d: &[u64; SENDER]) -> Result<Sender, TooWide>
+    ensures { MatchResult result (λ a. (sender_fits d.now ≡ true) × (a ≡ sender_of d.now)) (λ _. sender_fits d.now ≡ false) }
 {
-    let widths = [MOST_16, MOST_32];
-    fits(d, &widths)
-}
-
-// The sender, whose numbers fit. Inner: crate `laying` uses it too.
-pub fn sender_of(d: &[u64; SENDER]) -> Sender
-    requires { sender_fits d.now ≡ true }
-    ensures { result ≡ sender_of d.now }
-{
-    Sender {
-        sequence_count: SequenceCount(d[0] as u16),
-        counter: SegmentCounter(d[1] as u32),
-    }
+    Ok(Sender {
+        sequence_count: SequenceCount(u16::try_from(d[0])?),
+        counter: SegmentCounter(u32::try_from(d[1])?),
+    })
 }
 
 // ---- values to numbers
@@ -301,25 +293,21 @@ pub fn sender_of(d: &[u64; SENDER]) -> Sender
 fn sender_numbers(d: Sender) -> [u64; SENDER]
     ensures { result ≡ sender_numbers d }
 {
-    let sequence_count = d.sequence_count;
-    let counter = d.counter;
-    [sequence_count.0 as u64, counter.0 as u64]
+    [d.sequence_count.0 as u64, d.counter.0 as u64]
 }
 
 fn counted_numbers(r: Counted) -> [u64; CUT]
     ensures { result ≡ counted_numbers r }
 {
-    let refusal = r.refusal;
-    let d = sender_numbers(r.sender);
-    [refusal.number as u64, r.count as u64, d[0], d[1]]
+    let [count, counter] = sender_numbers(r.sender);
+    [r.refusal.number as u64, r.count as u64, count, counter]
 }
 
 fn cut_numbers(r: Cut) -> [u64; CUT]
     ensures { result ≡ cut_numbers r }
 {
-    let refusal = r.refusal;
-    let d = sender_numbers(r.sender);
-    [refusal.number as u64, r.length as u64, d[0], d[1]]
+    let [count, counter] = sender_numbers(r.sender);
+    [r.refusal.number as u64, r.length as u64, count, counter]
 }
 
 // ---- the calls
@@ -328,34 +316,36 @@ fn cut_numbers(r: Cut) -> [u64; CUT]
 pub fn next_sequence_count(sequence_count: u64) -> [u64; 2]
     ensures { result ≡ next_numbers sequence_count }
 {
-    if MOST_16 < sequence_count {
-        return [TOO_WIDE, 0];
+    match u16::try_from(sequence_count) {
+        Ok(count) => {
+            let next = packet::next_sequence_count(SequenceCount(count));
+            [0, next.0 as u64]
+        }
+        Err(_) => [TOO_WIDE, 0],
     }
-    let next = packet::next_sequence_count(SequenceCount(sequence_count as u16));
-    [0, next.0 as u64]
 }
 
 // The refusal of a number that does not fit, after that of the settings.
 fn too_wide(r: Tested) -> u64
     ensures { result ≡ too_wide r }
 {
-    let q = walk::unless(r, false, REFUSED_VALUE);
-    q.number as u64
+    walk::unless(r, false, REFUSED_VALUE).number as u64
 }
 
 fn write_too_wide(s: Settings) -> [u64; 2]
     ensures { result ≡ write_refused s }
 {
     let none = Tested { number: 0 };
-    let number = too_wide(write::test_settings(s, none));
-    [number, 0]
+    [too_wide(write::test_settings(s, none)), 0]
 }
 
-fn written_numbers(w: Written) -> [u64; 2]
-    ensures { result ≡ written_numbers w }
+fn written_numbers(w: Result<usize, Refused>) -> [u64; 2]
+    ensures { result ≡ written_numbers (written w) }
 {
-    let refusal = w.refusal;
-    [refusal.number as u64, w.length as u64]
+    match w {
+        Ok(length) => [0, length as u64],
+        Err(refused) => [refused.number() as u64, 0],
+    }
 }
 
 // Writing one packet.
@@ -363,69 +353,57 @@ pub fn write(
     t: u64,
     profile: u64,
     header: &[u64; HEADER],
-    timestamp: &[u8],
-    zone: &[u8],
-    name: &[u8],
-    domain: &[u8],
-    lengths: &[u64],
-    authentication: &[u8],
+    texts: LentTexts,
     flags: u64,
     sequence_count: u64,
     counter: u64,
     body: &[u8],
     out: &mut [u8],
 ) -> [u64; 2]
-    ensures { let x = lent timestamp.now zone.now name.now domain.now lengths.now
-        authentication.now in let s = settings_of t profile in
+    ensures { let x = lent_of texts.entry in let s = settings_of t profile in
         (result ≡ write_numbers s header.now x flags sequence_count counter body.now (length out.old))
         × (out.new ≡ write_out s header.now x flags sequence_count counter body.now out.old) }
 {
-    let s = Settings {
-        t: t as usize,
-        profile: profile,
-    };
-    let ok = octets::both(
-        header_fits(header),
-        packet_fits(flags, sequence_count, counter),
-    );
-    if !ok {
+    let s = settings(t, profile);
+    let Ok(values) = header_of(header) else {
         return write_too_wide(s);
+    };
+    let Ok(own) = packet_of(flags, sequence_count, counter) else {
+        return write_too_wide(s);
+    };
+    written_numbers(write::write(s, values, own, texts, body, out))
+}
+
+// A sender's numbers after a step of it, or as they are if they are too wide.
+fn moved<F: FnOnce(Sender) -> Sender>(sender: &[u64; SENDER], step: F) -> [u64; AFTER]
+    requires { F.IsAlwaysCallable step }
+    ensures fits { sender_fits sender.now ≡ true → (d : Sender) × F.post step (sender_of sender.now) d × (result ≡ 0 ∷ sender_numbers d) }
+    ensures too_wide { sender_fits sender.now ≡ false → result ≡ 22 ∷ given sender.now }
+{
+    match sender_of(sender) {
+        Ok(d) => {
+            let [count, counter] = sender_numbers(step(d));
+            [0, count, counter]
+        }
+        Err(TooWide) => {
+            let [count, counter] = *sender;
+            [TOO_WIDE, count, counter]
+        }
     }
-    written_numbers(write::write(
-        s,
-        header_of(header),
-        packet_of(flags, sequence_count, counter),
-        timestamp,
-        zone,
-        name,
-        domain,
-        lengths,
-        authentication,
-        body,
-        out,
-    ))
 }
 
 // The sender's numbers after an unsegmented packet.
 pub fn after_packet(sender: &[u64; SENDER]) -> [u64; AFTER]
     ensures { result ≡ after_packet_numbers sender.now }
 {
-    if !sender_fits(sender) {
-        return [TOO_WIDE, sender[0], sender[1]];
-    }
-    let d = sender_numbers(sender_of(sender).after_packet());
-    [0, d[0], d[1]]
+    moved(sender, Sender::after_packet)
 }
 
 // The sender's numbers after a segment.
 pub fn after_segment(sender: &[u64; SENDER]) -> [u64; AFTER]
     ensures { result ≡ after_segment_numbers sender.now }
 {
-    if !sender_fits(sender) {
-        return [TOO_WIDE, sender[0], sender[1]];
-    }
-    let d = sender_numbers(sender_of(sender).after_segment());
-    [0, d[0], d[1]]
+    moved(sender, Sender::after_segment)
 }
 
 fn cut_too_wide(s: Settings, p: u64, sender: &[u64; SENDER]) -> [u64; CUT]
@@ -433,7 +411,8 @@ fn cut_too_wide(s: Settings, p: u64, sender: &[u64; SENDER]) -> [u64; CUT]
 {
     let none = Tested { number: 0 };
     let number = too_wide(cut::test_limit(s, p as usize, none));
-    [number, 0, sender[0], sender[1]]
+    let [count, counter] = *sender;
+    [number, 0, count, counter]
 }
 
 // The number of packets of a message, and the sender's numbers after it.
@@ -442,40 +421,21 @@ pub fn cut_count(
     profile: u64,
     p: u64,
     header: &[u64; HEADER],
-    timestamp: &[u8],
-    zone: &[u8],
-    name: &[u8],
-    domain: &[u8],
-    lengths: &[u64],
-    authentication: &[u8],
+    texts: LentTexts,
     body: u64,
     sender: &[u64; SENDER],
 ) -> [u64; CUT]
     ensures { result ≡ count_numbers (settings_of t profile) p header.now
-        (lent timestamp.now zone.now name.now domain.now lengths.now
-        authentication.now) body sender.now }
+        (lent_of texts.entry) body sender.now }
 {
-    let s = Settings {
-        t: t as usize,
-        profile: profile,
-    };
-    let ok = octets::both(header_fits(header), sender_fits(sender));
-    if !ok {
+    let s = settings(t, profile);
+    let Ok(values) = header_of(header) else {
         return cut_too_wide(s, p, sender);
-    }
-    counted_numbers(cut::count(
-        s,
-        p as usize,
-        header_of(header),
-        timestamp,
-        zone,
-        name,
-        domain,
-        lengths,
-        authentication,
-        body as usize,
-        sender_of(sender),
-    ))
+    };
+    let Ok(d) = sender_of(sender) else {
+        return cut_too_wide(s, p, sender);
+    };
+    counted_numbers(cut::count(s, p as usize, values, texts, body as usize, d))
 }
 
 // Packet number i of a message.
@@ -484,43 +444,22 @@ pub fn cut_packet(
     profile: u64,
     p: u64,
     header: &[u64; HEADER],
-    timestamp: &[u8],
-    zone: &[u8],
-    name: &[u8],
-    domain: &[u8],
-    lengths: &[u64],
-    authentication: &[u8],
+    texts: LentTexts,
     body: &[u8],
     sender: &[u64; SENDER],
     i: u64,
     out: &mut [u8],
 ) -> [u64; CUT]
-    ensures { let x = lent timestamp.now zone.now name.now domain.now lengths.now
-        authentication.now in let s = settings_of t profile in
+    ensures { let x = lent_of texts.entry in let s = settings_of t profile in
         (result ≡ packet_numbers s p header.now x body.now sender.now i (length out.old))
         × (out.new ≡ packet_out s p header.now x body.now sender.now i out.old) }
 {
-    let s = Settings {
-        t: t as usize,
-        profile: profile,
-    };
-    let ok = octets::both(header_fits(header), sender_fits(sender));
-    if !ok {
+    let s = settings(t, profile);
+    let Ok(values) = header_of(header) else {
         return cut_too_wide(s, p, sender);
-    }
-    cut_numbers(cut::packet(
-        s,
-        p as usize,
-        header_of(header),
-        timestamp,
-        zone,
-        name,
-        domain,
-        lengths,
-        authentication,
-        body,
-        sender_of(sender),
-        i as usize,
-        out,
-    ))
+    };
+    let Ok(d) = sender_of(sender) else {
+        return cut_too_wide(s, p, sender);
+    };
+    cut_numbers(cut::packet(s, p as usize, values, texts, body, d, i as usize, out))
 }

@@ -1,2 +1,3 @@
 mod Telling
 pub mod Viewing
+mod Checked

@@ -5,14 +5,14 @@
 use Rattle.std.specs.Prelude.{ℕ, List, [], ◌∷◌}
 use Rattle.walk.specs.declared.Settings.{Settings}
 use Rattle.cells.specs.Order.{count_in, gate, through}
-use Rattle.taking.specs.declared.Taken.{Taken}
+use Rattle.taking.specs.Answer.{Taken}
 use Rattle.arrival.specs.Arriving.{Arrived}
 use Rattle.taking.specs.Taking.{Took}
-use Rattle.arrival.specs.declared.Arrival.{Arrival}
+use Rattle.arrival.specs.Answer.{Arrival}
 use Rattle.arrival.specs.Told.{said, arrival_of}
 use Rattle.taking.specs.Told.{taken_of}
 use Rattle.join.specs.Joining.{Joining}
-use Rattle.join.specs.declared.Joined.{Joined}
+use Rattle.join.specs.Answer.{Joined}
 use Rattle.join.specs.Told.{buffer_number, joined_of}
 use Rattle.flat.specs.Told.{told_beside}
 

@@ -3,11 +3,11 @@
 -- SPEC A-2: beside a refusal's number all else is 0.
 -- Assumes nothing: these are definitions.
 use Rattle.std.specs.Prelude.{ℕ, List, [], ◌∷◌}
-use Rattle.recording.specs.declared.Why.{Why}
-use Rattle.recording.specs.declared.Why.TheVariants.{Unsaid, Ended, Unmarked, Torn}
-use Rattle.recording.specs.declared.Recorded.{Recorded}
+use Rattle.recording.specs.Answer.{Why}
+use Rattle.recording.specs.Answer.{Unsaid, Ended, Unmarked, Torn}
+use Rattle.recording.specs.Answer.{Recorded}
 use Rattle.octets.specs.Octets.{pick}
-use Rattle.salvage.specs.declared.Salvaged.{Salvaged}
+use Rattle.salvage.specs.Answer.{Salvaged}
 
 abbrev pub why_number : Why → ℕ
 why_number Unsaid = 0

@@ -11,18 +11,20 @@ ghost use Rattle.cells.specs.Order.{count_in, cell_size};
 ghost use Rattle.arrival.specs.Arriving.{arrived, store_with};
 ghost use Rattle.taking.specs.Taking.{took, out_with, store_less};
 ghost use Rattle.taking.specs.Forgetting.{forgot, store_forgotten};
+ghost use Rattle.arrival.specs.Answer.{arrival_answer};
 ghost use Rattle.arrival.specs.Told.{word_of};
+ghost use Rattle.taking.specs.Answer.{taken_answer};
+ghost use Rattle.join.specs.Answer.{joined_answer};
 ghost use Rattle.join.specs.Joining.{joining, store_joined, out_joined};
-ghost use Rattle.join.specs.Told.{buffer_number};
 ghost use Rattle.walk.specs.Walk.{settings_of};
 ghost use Rattle.flat_store.specs.Numbers.{arrival_numbers, arrive_numbers, taken_numbers, take_numbers, forget_numbers};
 ghost use Rattle.flat_store.specs.Numbers.{joined_numbers, join_numbers, order_numbers};
 ghost use Rattle.flat_store.specs.Views.{inside_numbers, view_numbers};
 
-use arrival::{Arrival, Kind};
-use join::{Joined, Which};
+use arrival::Kind;
+use join::Joined;
 use taking::Taken;
-use walk::Settings;
+use walk::{Refused, Settings};
 
 fn kind_number(k: Kind) -> u64
     ensures { result ≡ word_of k }
@@ -35,12 +37,12 @@ fn kind_number(k: Kind) -> u64
     }
 }
 
-fn arrival_numbers(a: Arrival) -> [u64; 4]
-    ensures { result ≡ arrival_numbers a }
+fn arrival_numbers(a: Result<Kind, Refused>) -> [u64; 4]
+    ensures { result ≡ arrival_numbers (arrival_answer a) }
 {
     match a {
-        Arrival::Answer(k) => [0, kind_number(k), 0, 0],
-        Arrival::Refused(r) => [r.number as u64, 0, r.octets as u64, r.place as u64],
+        Ok(k) => [0, kind_number(k), 0, 0],
+        Err(r) => [r.number() as u64, 0, r.octets() as u64, r.place() as u64],
     }
 }
 
@@ -57,17 +59,13 @@ pub fn arrive(t: u64, profile: u64, store: &mut [u8], packet: &[u8]) -> [u64; 4]
     arrival_numbers(store::arrive(s, store, packet))
 }
 
-fn taken_numbers(t: Taken) -> [u64; 4]
-    ensures { result ≡ taken_numbers t }
+fn taken_numbers(t: Result<Taken, Refused>) -> [u64; 4]
+    ensures { result ≡ taken_numbers (taken_answer t) }
 {
-    let refusal = t.refusal;
-    let counter = t.counter;
-    [
-        refusal.number as u64,
-        t.header as u64,
-        t.body as u64,
-        counter.0 as u64,
-    ]
+    match t {
+        Ok(t) => [0, t.header as u64, t.body as u64, t.counter.0 as u64],
+        Err(r) => [r.number() as u64, 0, 0, 0],
+    }
 }
 
 // A message is taken out: the refusal, H, B and c.
@@ -93,37 +91,40 @@ pub fn forget(t: u64, profile: u64, store: &mut [u8], number: u64) -> [u64; 1]
         t: t as usize,
         profile: profile,
     };
-    let refusal = store::forget(s, store, number as usize);
-    [refusal.number as u64]
-}
-
-fn which_number(w: Which) -> u64
-    ensures { result ≡ buffer_number w }
-{
-    match w {
-        Which::Nothing => 0,
-        Which::Packet => 1,
-        Which::Joined => 2,
+    match store::forget(s, store, number as usize) {
+        Ok(()) => [0],
+        Err(r) => [r.number() as u64],
     }
 }
 
-fn joined_numbers(j: Joined) -> [u64; 9]
-    ensures { result ≡ joined_numbers j }
+fn joined_numbers(j: Result<Joined, Refused>) -> [u64; 9]
+    ensures { result ≡ joined_numbers (joined_answer j) }
 {
-    let refusal = j.refusal;
-    let which = j.which;
-    let counter = j.counter;
-    [
-        refusal.number as u64,
-        which_number(which),
-        j.place as u64,
-        j.length as u64,
-        j.header as u64,
-        j.body as u64,
-        counter.0 as u64,
-        refusal.octets as u64,
-        refusal.place as u64,
-    ]
+    match j {
+        Ok(Joined::Packet { place, length }) => [0, 1, place as u64, length as u64, 0, 0, 0, 0, 0],
+        Ok(Joined::Message { place, taken }) => [
+            0,
+            2,
+            place as u64,
+            taken.body as u64,
+            taken.header as u64,
+            taken.body as u64,
+            taken.counter.0 as u64,
+            0,
+            0,
+        ],
+        Err(r) => [
+            r.number() as u64,
+            0,
+            0,
+            0,
+            0,
+            0,
+            0,
+            r.octets() as u64,
+            r.place() as u64,
+        ],
+    }
 }
 
 // A packet is joined: the refusal, 0 no buffer, 1 the packet or 2 the output, the body's place and length there, H, B and c,
@@ -178,8 +179,7 @@ pub fn in_order(t: u64, profile: u64, store: &[u8]) -> [u64; 2]
         t: t as usize,
         profile: profile,
     };
-    let w = walk::begin(s);
-    if w.refused != 0 {
+    if s.check().is_err() {
         return [15, 0];
     }
     let n = cells::order(s, store);

@@ -4,38 +4,39 @@
 // The answer is an array of numbers, the refusal first; if the call is refused the others are 0.
 ghost use Rattle.std.specs.Prelude.{◌≡◌, length};
 ghost use Rattle.walk.specs.Walk.{settings_of};
+ghost use Rattle.recording.specs.Answer.{why_said, answered as recorded};
 ghost use Rattle.recording.specs.Ending.{recorded_of, out_recorded};
-ghost use Rattle.walk.specs.Walk.{settings_of};
+ghost use Rattle.salvage.specs.Answer.{answered};
 ghost use Rattle.salvage.specs.Listing.{stop};
 ghost use Rattle.salvage.specs.Calling.{salvaged, list_after};
 ghost use Rattle.flat_store.specs.Recordings.{why_number, recorded_numbers, salvaged_numbers};
 
 use recording::{Recorded, Why};
-use salvage::Salvaged;
-use walk::Settings;
+use salvage::{Salvaged, Stop};
+use walk::{Refused, Settings};
 
 fn why_number(w: Why) -> u64
-    ensures { result ≡ why_number w }
+    ensures { result ≡ why_number (why_said w) }
 {
     match w {
-        Why::Unsaid => 0,
         Why::Ended => 1,
         Why::Unmarked => 2,
         Why::Torn => 3,
     }
 }
 
-fn recorded_numbers(r: Recorded) -> [u64; 4]
-    ensures { result ≡ recorded_numbers r }
+fn recorded_numbers(r: Result<Recorded, Refused>) -> [u64; 4]
+    ensures { result ≡ recorded_numbers (recorded r) }
 {
-    let refusal = r.refusal;
-    let why = r.why;
-    [
-        refusal.number as u64,
-        r.written as u64,
-        r.place as u64,
-        why_number(why),
-    ]
+    match r {
+        Ok(told) => [
+            0,
+            told.written as u64,
+            told.place as u64,
+            why_number(told.why),
+        ],
+        Err(refused) => [refused.number() as u64, 0, 0, 0],
+    }
 }
 
 // A whole recording is joined: the refusal, the octets written, and where and why it stopped: 1 ended, 2 no mark, 3 torn.
@@ -50,18 +51,20 @@ pub fn join_recording(t: u64, profile: u64, recording: &[u8], out: &mut [u8]) ->
     recorded_numbers(recording::join_all(s, recording, out))
 }
 
-fn salvaged_numbers(r: Salvaged) -> [u64; 6]
-    ensures { result ≡ salvaged_numbers r }
+fn salvaged_numbers(r: Result<Salvaged, Refused>) -> [u64; 6]
+    ensures { result ≡ salvaged_numbers (answered r) }
 {
-    let refusal = r.refusal;
-    [
-        refusal.number as u64,
-        r.tested as u64,
-        r.entries as u64,
-        r.begin as u64,
-        r.place as u64,
-        octets::bit_of(r.done),
-    ]
+    match r {
+        Ok(told) => [
+            0,
+            told.tested as u64,
+            told.entries as u64,
+            told.stop.begin as u64,
+            told.stop.place as u64,
+            octets::bit_of(told.done),
+        ],
+        Err(refused) => [refused.number() as u64, 0, 0, 0, 0, 0],
+    }
 }
 
 // A file is salvaged from a state on: the refusal, the places tested, the entries listed, where the open stretch begins, the next place,
@@ -82,12 +85,9 @@ pub fn salvage(
         t: t as usize,
         profile: profile,
     };
-    salvaged_numbers(salvage::salvage(
-        s,
-        file,
-        begin as usize,
-        place as usize,
-        grant as usize,
-        list,
-    ))
+    let stop = Stop {
+        begin: begin as usize,
+        place: place as usize,
+    };
+    salvaged_numbers(salvage::salvage(s, file, stop, grant as usize, list))
 }

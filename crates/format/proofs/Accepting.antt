@@ -13,7 +13,7 @@ use Rattle.octets.proofs.Numbers.{number_top}
 use Rattle.walk.specs.declared.Settings.{Settings}
 use Rattle.walk.specs.Walk.{Reading, going, header_bound}
 use Rattle.fields.specs.Fields.{nowhere, opt, block}
-use Rattle.packet.specs.declared.Header.{Header}
+use Rattle.packet.specs.Answer.{Header}
 use Rattle.packet.specs.Format.{Values, segment, identification, front_octets, counter_octets, header_octets, secondary_octets, data_octets, octets_of, InRange}
 use Rattle.packet.specs.Reading.{segmented, counter_size, has_at, texts_of, texts_at, ended, accepted_header, read_packet}
 use Rattle.packet.specs.Key.{counter_place}

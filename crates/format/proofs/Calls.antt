@@ -9,10 +9,12 @@ use lib.ListN.{length}
 use contract.Lifetimes as L
 use Rattle.octets.specs.Octets.{Octets}
 use Rattle.walk.specs.declared.Settings.{Settings}
-use Rattle.packet.specs.declared.Header.{Header}
+use Rattle.packet.specs.Answer.{Header}
 use Rattle.packet.specs.Format.{Values, secondary_octets, octets_of, InRange}
 use Rattle.packet.specs.Began.{secondary_fields, began, cut_off}
 use Rattle.packet.specs.Reading.{wanted, refused_header, read_packet}
+use Rattle.packet.specs.Decoded.{decoded}
+use Rattle.packet.proofs.Apart.{decoded_one}
 use Rattle.packet.proofs.read.Reads as reads
 use Rattle.packet.proofs.next_sequence_count.Reads as nexts
 use Rattle.packet.proofs.Arguments.{read_call}
@@ -44,46 +46,46 @@ accepted_plain s p r e o h = rw e (accepted s p o (rw e at h))
 
 -- what the call accepts is the octets of what it answers
 pub read_only :
-    (κs : L.Lfts 1) (a : _) (r : _) (t : _) → reads.Post κs a r t → r.refusal.number ≡ 0 →
-    InRange a.0 (values_of a.1.0.now r) × (octets_of a.0 (values_of a.1.0.now r) ≡ a.1.0.now)
-read_only κs a r t k h = only_plain a.0 a.1.0.now r k.0 k.1 h
+    (κs : L.Lfts 1) (a : _) (r : _) (t : _) → reads.Post κs a r t → (decoded r).refusal.number ≡ 0 →
+    InRange a.0 (values_of a.1.0.now (decoded r)) × (octets_of a.0 (values_of a.1.0.now (decoded r)) ≡ a.1.0.now)
+read_only κs a r t k h = only_plain a.0 a.1.0.now (decoded r) k.0 k.1 h
 
 -- it accepts the octets of any values in range, and answers those
 pub read_back :
     (κs : L.Lfts 1) (a : _) (r : _) (t : _) (v : Values) → reads.Post κs a r t → InRange a.0 v →
-    a.1.0.now ≡ octets_of a.0 v → (r.refusal.number ≡ 0) × (values_of a.1.0.now r ≡ v)
-read_back κs a r t v k i e = back_plain a.0 a.1.0.now r v k.0 i e
+    a.1.0.now ≡ octets_of a.0 v → ((decoded r).refusal.number ≡ 0) × (values_of a.1.0.now (decoded r) ≡ v)
+read_back κs a r t v k i e = back_plain a.0 a.1.0.now (decoded r) v k.0 i e
 
 -- two slices that are accepted with the same values are the same
 pub read_one :
-    (κs : L.Lfts 1) (a b : _) (r q : _) (t u : _) → reads.Post κs a r t → reads.Post κs b q u → a.0 ≡ b.0 → r.refusal.number ≡ 0 →
-    q.refusal.number ≡ 0 → values_of a.1.0.now r ≡ values_of b.1.0.now q → a.1.0.now ≡ b.1.0.now
+    (κs : L.Lfts 1) (a b : _) (r q : _) (t u : _) → reads.Post κs a r t → reads.Post κs b q u → a.0 ≡ b.0 → (decoded r).refusal.number ≡ 0 →
+    (decoded q).refusal.number ≡ 0 → values_of a.1.0.now (decoded r) ≡ values_of b.1.0.now (decoded q) → a.1.0.now ≡ b.1.0.now
 read_one κs a b r q t u k j s g h e =
     sym (read_only κs a r t k g).1
     ∙ ap (octets_of a.0) e
-    ∙ ap (λ (x : Settings). octets_of x (values_of b.1.0.now q)) s
+    ∙ ap (λ (x : Settings). octets_of x (values_of b.1.0.now (decoded q))) s
     ∙ (read_only κs b q u j h).1
 
 -- what the call accepts has what an accepted packet has
 pub read_accepted :
-    (κs : L.Lfts 1) (a : _) (r : _) (t : _) → reads.Post κs a r t → r.refusal.number ≡ 0 → Accepted a.0 a.1.0.now r
-read_accepted κs a r t k h = accepted_plain a.0 a.1.0.now r k.0 k.1 h
+    (κs : L.Lfts 1) (a : _) (r : _) (t : _) → reads.Post κs a r t → (decoded r).refusal.number ≡ 0 → Accepted a.0 a.1.0.now (decoded r)
+read_accepted κs a r t k h = accepted_plain a.0 a.1.0.now (decoded r) k.0 k.1 h
 
 -- the header is of the withdrawn kind exactly if the call accepts it and it has a zone
-pub read_withdrawn : (κs : L.Lfts 1) (a : _) (r : _) (t : _) → reads.Post κs a r t → Withdrawn r
+pub read_withdrawn : (κs : L.Lfts 1) (a : _) (r : _) (t : _) → reads.Post κs a r t → Withdrawn (decoded r)
 read_withdrawn κs a r t k = rw k.0 (withdrawn_exactly a.0 a.1.0.now)
 
 -- ---- what a refusal tells
 
 -- beside 5 the octets that are missing, beside 27 those that are left over
 pub read_short :
-    (κs : L.Lfts 1) (a : _) (r : _) (t : _) → reads.Post κs a r t → r.refusal.number ≡ 5 →
-    (0 < r.refusal.octets) × (length (read_call κs a).packet + r.refusal.octets ≡ wanted (read_call κs a).packet)
+    (κs : L.Lfts 1) (a : _) (r : _) (t : _) → reads.Post κs a r t → (decoded r).refusal.number ≡ 5 →
+    (0 < (decoded r).refusal.octets) × (length (read_call κs a).packet + (decoded r).refusal.octets ≡ wanted (read_call κs a).packet)
 read_short κs a r t k h = rw k.0 (short_told a.0 a.1.0.now (rw k.0 at h))
 
 pub read_long :
-    (κs : L.Lfts 1) (a : _) (r : _) (t : _) → reads.Post κs a r t → r.refusal.number ≡ 27 →
-    (0 < r.refusal.octets) × (length (read_call κs a).packet ≡ wanted (read_call κs a).packet + r.refusal.octets)
+    (κs : L.Lfts 1) (a : _) (r : _) (t : _) → reads.Post κs a r t → (decoded r).refusal.number ≡ 27 →
+    (0 < (decoded r).refusal.octets) × (length (read_call κs a).packet ≡ wanted (read_call κs a).packet + (decoded r).refusal.octets)
 read_long κs a r t k h = rw k.0 (long_told a.0 a.1.0.now (rw k.0 at h))
 
 -- an accepted packet that is cut off inside its secondary header, its length field set right: 6, with the place where the format begins
@@ -97,22 +99,22 @@ cut_plain s p q r g m e o h eg eq l i =
     eg ∙ ap (read_packet s) (eq ∙ ap (cut_off m) (sym w.1)) ∙ cut_off_lem s (values_of p r) w.0 m l i
 
 pub read_cut_off :
-    (κs : L.Lfts 1) (a b : _) (r g : _) (t u : _) (m : ℕ) → reads.Post κs a r t → reads.Post κs b g u → r.refusal.number ≡ 0 →
+    (κs : L.Lfts 1) (a b : _) (r g : _) (t u : _) (m : ℕ) → reads.Post κs a r t → reads.Post κs b g u → (decoded r).refusal.number ≡ 0 →
     (read_call κs b).settings ≡ (read_call κs a).settings → (read_call κs b).packet ≡ cut_off m (read_call κs a).packet → 1 ≤ m →
-    m < length (secondary_octets (read_call κs a).settings (values_of (read_call κs a).packet r)) →
-    g ≡ refused_header (record {
+    m < length (secondary_octets (read_call κs a).settings (values_of (read_call κs a).packet (decoded r))) →
+    decoded g ≡ refused_header (record {
       number = 6;
       octets = 0;
-      place = began (secondary_fields (read_call κs a).settings (values_of (read_call κs a).packet r)) m;
+      place = began (secondary_fields (read_call κs a).settings (values_of (read_call κs a).packet (decoded r))) m;
     })
 read_cut_off κs a b r g t u m k j h es ep l i =
-    cut_plain a.0 a.1.0.now b.1.0.now r g m k.0 k.1 h
+    cut_plain a.0 a.1.0.now b.1.0.now (decoded r) (decoded g) m k.0 k.1 h
     (j.0 ∙ ap (λ (x : Settings). read_packet x b.1.0.now) es) ep l i
 
 -- ---- the same arguments, the same answer
 
 pub read_same_answer : (κs : L.Lfts 1) (a : _) (r q : _) (s t : _) → reads.Post κs a r s → reads.Post κs a q t → r ≡ q
-read_same_answer κs a r q s t k j = k.0 ∙ sym j.0
+read_same_answer κs a r q s t k j = decoded_one r q (k.0 ∙ sym j.0)
 
 pub next_same_answer : (κs : L.Lfts 0) (a : _) (r q : _) (s t : _) → nexts.Post κs a r s → nexts.Post κs a q t → r ≡ q
 next_same_answer κs a r q s t k j = k ∙ sym j

@@ -13,7 +13,7 @@ use Rattle.utf8.proofs.Laws.{is_text_lem}
 use Rattle.varint.specs.Varint.{octets_of as varint_octets, write}
 use Rattle.walk.specs.declared.Settings.{Settings}
 use Rattle.walk.specs.Profile.{varint_profile}
-use Rattle.packet.specs.declared.Header.{Header}
+use Rattle.packet.specs.Answer.{Header}
 use Rattle.fields.specs.Form.{uinteger_octets, blob_octets, text_octets, part_octets, joined, domain_octets}
 use Rattle.packet.specs.Format.{Values, Each, presence, identification, fixed_octets, front_octets, counter_octets, back_octets, secondary_octets, data_octets, octets_of, InRange}
 use Rattle.packet.specs.Reading.{read_packet}

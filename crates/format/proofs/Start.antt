@@ -17,7 +17,7 @@ use Rattle.walk.specs.Profile.{fixed_profile}
 use Rattle.walk.specs.Walk.{Reading, goes, going, check, begun, timestamp_least, timestamp_most}
 use Rattle.packet.specs.Format.{SettingsInRange}
 use Rattle.walk.proofs.Steps.{check_held, check_ok}
-use Rattle.packet.specs.declared.Header.{Header}
+use Rattle.packet.specs.Answer.{Header}
 use Rattle.packet.specs.Reading.{wanted, primary_tests, segmented, body_test, start_at, ended, refusal_of, refused_header, accepted_header, read_packet}
 use Rattle.packet.proofs.Whole.{accepts}
 

@@ -11,7 +11,7 @@ use Rattle.octets.specs.Octets.{pick, part, wide}
 use Rattle.octets.proofs.Has.{Has, has_first, has_second, part_has}
 use Rattle.octets.proofs.Numbers.{wide_length}
 use Rattle.walk.specs.declared.Settings.{Settings}
-use Rattle.packet.specs.declared.Header.{Header}
+use Rattle.packet.specs.Answer.{Header}
 use Rattle.packet.specs.Format.{Head, Values, segment, when, identification, fixed_octets, front_octets, counter_octets, back_octets, header_octets, secondary_octets}
 use Rattle.packet.specs.Reading.{segmented, counter_size}
 use Rattle.packet.specs.Key.{counter_place, key_of}

@@ -7,7 +7,7 @@ use Rattle.walk.specs.declared.Settings.{Settings}
 use Rattle.walk.specs.Walk.{header_end}
 use Rattle.fields.specs.declared.Place.{Place}
 use Rattle.fields.specs.Fields.{nowhere, parts_most}
-use Rattle.packet.specs.declared.Header.{Header}
+use Rattle.packet.specs.Answer.{Header}
 use Rattle.packet.specs.Format.{Values, primary_size, counter_width, segment, identification, front_octets, header_octets, secondary_octets, header_most, packet_most}
 use Rattle.packet.specs.Reading.{segmented, counter_size}
 use Rattle.packet.specs.Key.{counter_place, key_of}

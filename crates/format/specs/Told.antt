@@ -3,7 +3,7 @@
 use Rattle.std.specs.Prelude.{ℕ, ◌+◌, ◌≤◌, Bool, List, [], ◌∷◌, ◌++◌, map, take}
 use Rattle.octets.specs.Octets.{pick, part}
 use Rattle.fields.specs.declared.Place.{Place}
-use Rattle.packet.specs.declared.Header.{Header}
+use Rattle.packet.specs.Answer.{Header}
 use Rattle.packet.specs.Format.{Head, Values}
 
 -- the octets of a packet at a place

@@ -17,7 +17,7 @@ use Rattle.walk.specs.declared.Settings.{Settings}
 use Rattle.packet.specs.Numbers.{next_counter, steps_most}
 use Rattle.walk.specs.declared.Refusal.{Refusal}
 use Rattle.walk.specs.Walk.{refusal}
-use Rattle.packet.specs.Reading.{read_packet, segmented, counter_size}
+use Rattle.packet.specs.Reading.{read_packet, segmented, counter_size, refused_header}
 use Rattle.format.proofs.Accepting.{accepted}
 use Rattle.cells.specs.Segments.{Seg, seg_of, same_rest}
 use Rattle.cells.specs.Order.{untaken_to, count_in, gate}
@@ -25,12 +25,20 @@ use Rattle.cells.proofs.Gate.{through_tells}
 use Rattle.cells.specs.Messages.{Run, body_of, cells_of, look, picked}
 use Rattle.arrival.specs.Arriving.{whole, stored, again, late, refused, placed, beside, lowest_free, segment_arrived, segment_came, arrived_in, arrived}
 use Rattle.taking.specs.Taking.{message, unable, writing, drawn, took_in}
-use Rattle.taking.specs.declared.Taken.{Taken}
+use Rattle.std.specs.Prelude.{Result, Ok, Err, IfOk}
+use Rattle.walk.specs.declared.Refused.{Refused}
+use Rattle.walk.proofs.Refuses.{has_number}
+use Rattle.packet.specs.Answer.{Header}
+use Rattle.packet.specs.declared.Header.{Header as Decoded}
+use Rattle.packet.specs.Decoded.{decoded}
+use Rattle.taking.specs.Answer.{Taken, taken_answer}
+use Rattle.taking.specs.declared.Taken.{Taken as Message}
+use Rattle.join.specs.Answer.{joined_answer}
 use Rattle.taking.specs.Told.{taken_of}
 use Rattle.join.specs.declared.Which.TheVariants.{Joined as InJoined}
 use Rattle.join.specs.Joining.{body_from, took_as, unjoined}
 use Rattle.join.specs.Told.{taken, joined_of}
-use Rattle.join.specs.Inner.{taken_as}
+use Rattle.join.specs.Inner.{body_in, body_read, output_taken, taken_as}
 
 -- ---- whole
 
@@ -100,14 +108,18 @@ module _ (t : Taken) where
   as_refused h =
       ap (λ (b : Bool). pick b (taken t) (joined_of (unjoined t.refusal))) (sym (ne_eqb t.refusal.number 0 h))
 
-  pub as_taken_lem :
-      {r : Refusal} → t.refusal.number ≡ 0 → r ≡ refusal 0 →
-      record { refusal = r; which = InJoined; place = 2 + t.header; length = t.body; header = t.header; body = t.body; counter = t.counter }
-      ≡ taken_as t
-  unfolding taken_as
-  as_taken_lem e q =
-      ap (λ (x : Refusal). record { refusal = x; which = InJoined; place = 2 + t.header; length = t.body; header = t.header; body = t.body; counter = t.counter }) q
-      ∙ ap (λ (b : Bool). pick b (taken t) (joined_of (unjoined t.refusal))) (sym (eq-eqb t.refusal.number 0 e))
+-- reading's answer and taking's as joining's
+pub read_answers :
+    (s : Settings) (p : List ℕ) (o : Result Decoded Refused) → decoded o ≡ read_packet s p → (read_packet s p).refusal.number ≡ 0 →
+    joined_answer (body_read o) ≡ body_in (read_packet s p)
+unfolding refused_header
+read_answers s p (Ok h) e z = ap body_in e
+read_answers s p (Err r) e z = absurd (has_number r (ap (λ (h : Header). h.refusal.number) e ∙ z))
+
+pub taken_answers : (t : Result Message Refused) → joined_answer (output_taken t) ≡ taken_as (taken_answer t)
+unfolding taken_as
+taken_answers (Ok t) = refl
+taken_answers (Err r) = as_refused (taken_answer (Err r)) (has_number r)
 
 module _ (long : ℕ) where
   drawn_as : (o : Option Run) → taken_as (taken_of (drawn o long)) ≡ joined_of (took_as (drawn o long))
@@ -143,3 +155,8 @@ pub place_fits :
     (s : Settings) (Z : ℕ) (x : List ℕ) (n long : ℕ) {t : Taken} → t ≡ taken_of (took_in s Z x n long) → long < 18446744073709551616 →
     t.header < 18446744073709551614
 place_fits s Z x n long e h = omega (arith, took_fits long s Z x n, ap (λ (t : Taken). t.header) e)
+
+pub place_fits_answer :
+    (t : Result Message Refused) → (taken_answer t).header < 18446744073709551614 → IfOk t (λ (x : Message). x.header < 18446744073709551614)
+place_fits_answer (Ok t) h = h
+place_fits_answer (Err r) h = tt

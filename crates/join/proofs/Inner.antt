@@ -15,6 +15,7 @@ use Rattle.taking.proofs.Checked.{took_open}
 use Rattle.arrival.proofs.Keeps.{arrive_long, arrive_keeps}
 use Rattle.join.specs.declared.Came.{Came}
 use Rattle.join.specs.Joining.{took_as, joined_by, store_by, out_by, joining, store_joined, out_joined}
+use Rattle.join.specs.Answer.{joined_answer}
 use Rattle.join.specs.Told.{joined_of}
 use Rattle.join.specs.Inner.{joined_in_by, store_in_by, out_in_by, joining_in, store_joined_in, out_joined_in}
 use Rattle.join.proofs.Joins.{Joins, JoinsIn}
@@ -74,8 +75,8 @@ module _ (s : Settings) (Z : ℕ) (st p : List ℕ) {n : ℕ} (g : gate s Z st �
   out_open out = ap (out_in_by s Z st n p out) arrives ∙ out_by_lem out (arrived s Z st p) refl
 
   -- what holds of the one holds of the other
-  pub joins_open : (out : List ℕ) {c : Came} {y l : List ℕ} → JoinsIn s Z st p out n c y l → Joins s Z st p out c.joined y l
-  joins_open out w = (
+  pub joins_open : (out : List ℕ) (c : Came) {y l : List ℕ} → JoinsIn s Z st p out n c y l → Joins s Z st p out (joined_answer c.joined) y l
+  joins_open out c w = (
     w.0 ∙ ap joined_of (joining_open (length out)),
     (w.1.1.0 ∙ store_open (length out), w.1.1.1 ∙ out_open out),
   )

@@ -16,9 +16,10 @@ use Rattle.walk.specs.Walk.{refusal}
 use Rattle.packet.specs.Reading.{read_packet}
 use Rattle.arrival.specs.declared.Kind.{Kind}
 use Rattle.arrival.specs.declared.Kind.TheVariants.{Whole, Stored, Held, Taken as Late}
-use Rattle.arrival.specs.declared.Arrival.{Arrival}
-use Rattle.arrival.specs.declared.Arrival.TheVariants.{Answer, Refused}
-use Rattle.taking.specs.declared.Taken.{Taken}
+use Rattle.std.specs.Prelude.{Result}
+use Rattle.walk.specs.declared.Refused.{Refused as Refusing}
+use Rattle.arrival.specs.Answer.{Arrival, Answer, Refused}
+use Rattle.taking.specs.Answer.{Taken}
 use Rattle.arrival.specs.contracts.Kind.{the_type}
 use Rattle.arrival.specs.Arriving.{Arrived, whole, stored, again, late, refused, arrived_in, store_with}
 use Rattle.taking.specs.Taking.{took_in, out_with}
@@ -26,21 +27,23 @@ use Rattle.arrival.specs.Told.{arrival_of}
 use Rattle.taking.specs.Told.{taken_of}
 use Rattle.cells.specs.Order.{gate}
 use Rattle.arrival.proofs.Checked.{arrived_shut}
-use Rattle.join.specs.declared.Joined.{Joined}
+use Rattle.join.specs.Answer.{Joined, joined_answer}
+use Rattle.join.specs.declared.Joined.{Joined as Body}
 use Rattle.join.specs.declared.Came.{Came}
 use Rattle.join.specs.Joining.{in_packet, unjoined, body_from, took_as, joined_by, store_by, out_by, joining, store_joined, out_joined}
 use Rattle.join.specs.Told.{joined_of}
-use Rattle.join.specs.Inner.{refusal_in, body_in, taken_as, is_late, late_as, joined_in_by, less_taken_in, store_in_by, out_in_by, joining_in, store_joined_in, out_joined_in}
+use Rattle.join.specs.Inner.{body_in, taken_as, is_late, late_as, joined_in_by, less_taken_in, store_in_by, out_in_by, joining_in, store_joined_in, out_joined_in}
 use Rattle.join.proofs.Coming.{whole_in, whole_place, took_as_lem}
 
--- the second kind, the third or the fourth
-pub not_whole : (k : Kind) → OneOf (1 ∷ 2 ∷ 3 ∷ []) (tag_of the_type k) → k ≡ Whole → ⊥
-not_whole Whole (inl e) h = omega arith
-not_whole Whole (inr (inl e)) h = omega arith
-not_whole Whole (inr (inr e)) h = omega arith
-not_whole Stored e h = let z : ◌≡◌ {A = ℕ} 0 1 = cc in omega arith
-not_whole Held e h = let z : ◌≡◌ {A = ℕ} 0 1 = cc in omega arith
-not_whole Late e h = let z : ◌≡◌ {A = ℕ} 0 1 = cc in omega arith
+-- one kind is no other
+pub late_not_whole : (k : Kind) → k ≡ Late → k ≡ Whole → ⊥
+late_not_whole k e h = let d : Whole ≡ Late = sym h ∙ e in let z : ◌≡◌ {A = ℕ} 0 1 = cc in omega arith
+
+pub other_not_late : (k : Kind) → (k ≡ Late → ⊥) → false ≡ late_as k
+other_not_late Whole h = refl
+other_not_late Stored h = refl
+other_not_late Held h = refl
+other_not_late Late h = absurd (h refl)
 
 -- the kind that was answered tells whether the message was taken
 kind_late : {g : Arrival} (a : Kind) {k : Kind} {l : Bool} → g ≡ Answer a → g ≡ Answer k → l ≡ late_as k → l ≡ late_as a
@@ -76,7 +79,7 @@ module _ (s : Settings) (Z : ℕ) (st p out : List ℕ) (n : ℕ) where
   -- and those of the joining
   abbrev pub JoinsIn : Came → List ℕ → List ℕ → Type 0
   JoinsIn c x y =
-      (c.joined ≡ joined_of (joining_in s Z st n p (length out)))
+      (joined_answer c.joined ≡ joined_of (joining_in s Z st n p (length out)))
       × ((c.late ≡ is_late (arrived_in s Z st n p)) × ((x ≡ store_joined_in s Z st n p (length out)) × (y ≡ out_joined_in s Z st n p out)))
 
   -- a taking from the store after the arrival
@@ -105,22 +108,25 @@ module _ (s : Settings) (Z : ℕ) (st p out : List ℕ) (n : ℕ) where
     -- ---- refused
 
     refused_by_lem :
-        (b : Arrived) {r f : Refusal} {j : Joined} → g ≡ arrival_of b → x ≡ store_with Z st p b → g ≡ Refused r → f ≡ refusal_in g →
-        j ≡ joined_of (unjoined f) → By b j false x out
-    refused_by_lem whole e ex h ef ej = let z : ◌≡◌ {A = ℕ} 0 1 = cc in absurd (omega arith)
-    refused_by_lem (stored i) e ex h ef ej = let z : ◌≡◌ {A = ℕ} 0 1 = cc in absurd (omega arith)
-    refused_by_lem again e ex h ef ej = let z : ◌≡◌ {A = ℕ} 0 1 = cc in absurd (omega arith)
-    refused_by_lem late e ex h ef ej = let z : ◌≡◌ {A = ℕ} 0 1 = cc in absurd (omega arith)
-    refused_by_lem (refused k) e ex h ef ej =
-        (ej ∙ ap (λ (f : Refusal). joined_of (unjoined f)) (ef ∙ ap refusal_in e), (refl, (ex, refl)))
+        (b : Arrived) {r : Refusal} {j : Joined} → g ≡ arrival_of b → x ≡ store_with Z st p b → g ≡ Refused r →
+        j ≡ joined_of (unjoined r) → By b j false x out
+    refused_by_lem whole e ex h ej = let z : ◌≡◌ {A = ℕ} 0 1 = cc in absurd (omega arith)
+    refused_by_lem (stored i) e ex h ej = let z : ◌≡◌ {A = ℕ} 0 1 = cc in absurd (omega arith)
+    refused_by_lem again e ex h ej = let z : ◌≡◌ {A = ℕ} 0 1 = cc in absurd (omega arith)
+    refused_by_lem late e ex h ej = let z : ◌≡◌ {A = ℕ} 0 1 = cc in absurd (omega arith)
+    refused_by_lem (refused k) {r} e ex h ej =
+        let q : Refused r ≡ Refused k = sym h ∙ e in
+        let same : r ≡ k = cc q in
+        (ej ∙ ap (λ (f : Refusal). joined_of (unjoined f)) same, (refl, (ex, refl)))
 
     -- ---- whole
 
     whole_by :
         (b : Arrived) {j : Joined} →
         (b ≡ whole → ((read_packet s p).body.at ≡ body_from s p) × ((read_packet s p).body.length ≡ length p - body_from s p)) →
-        g ≡ arrival_of b → x ≡ store_with Z st p b → g ≡ Answer Whole → j ≡ body_in (read_packet s p) → By b j false x out
-    whole_by whole pl e ex h ej = (ej ∙ ap₂ (λ (a b : ℕ). joined_of (in_packet a b)) (pl refl).0 (pl refl).1, (refl, (ex, refl)))
+        g ≡ arrival_of b → x ≡ store_with Z st p b → g ≡ Answer Whole → (b ≡ whole → j ≡ body_in (read_packet s p)) →
+        By b j false x out
+    whole_by whole pl e ex h ej = (ej refl ∙ ap₂ (λ (a b : ℕ). joined_of (in_packet a b)) (pl refl).0 (pl refl).1, (refl, (ex, refl)))
     whole_by (stored i) pl e ex h ej = let z : ◌≡◌ {A = ℕ} 0 1 = cc in absurd (omega arith)
     whole_by again pl e ex h ej = let z : ◌≡◌ {A = ℕ} 0 1 = cc in absurd (omega arith)
     whole_by late pl e ex h ej = let z : ◌≡◌ {A = ℕ} 0 1 = cc in absurd (omega arith)
@@ -140,20 +146,23 @@ module _ (s : Settings) (Z : ℕ) (st p out : List ℕ) (n : ℕ) where
     -- ---- the three of them for the arrival that there is
 
     module _ (e : g ≡ arrival_of (arrived_in s Z st n p)) (ex : x ≡ store_with Z st p (arrived_in s Z st n p)) where
-      pub join_refused : {r f : Refusal} {j : Joined} → g ≡ Refused r → f ≡ refusal_in g → j ≡ joined_of (unjoined f) → JoinsIn (record { joined = j; late = false }) x out
+      pub join_refused :
+          {r : Refusal} (j : Result Body Refusing) → g ≡ Refused r → joined_answer j ≡ joined_of (unjoined r) → JoinsIn (record { joined = j; late = false }) x out
       unfolding joining_in store_joined_in out_joined_in
-      join_refused h ef ej = refused_by_lem (arrived_in s Z st n p) e ex h ef ej
+      join_refused j h ej = refused_by_lem (arrived_in s Z st n p) e ex h ej
 
-      pub join_whole : {k : Kind} {j : Joined} → Octets p → g ≡ Answer k → k ≡ Whole → j ≡ body_in (read_packet s p) → JoinsIn (record { joined = j; late = false }) x out
+      pub join_whole :
+          (j : Result Body Refusing) → Octets p → g ≡ Answer Whole → ((read_packet s p).refusal.number ≡ 0 → joined_answer j ≡ body_in (read_packet s p)) →
+          JoinsIn (record { joined = j; late = false }) x out
       unfolding joining_in store_joined_in out_joined_in
-      join_whole {k} o h w ej =
+      join_whole j o h ej =
           whole_by (arrived_in s Z st n p)
           (λ a. let t = whole_in s Z st p n a in whole_place s p o t.0 t.1)
-          e ex
-          (h ∙ ap Answer w) ej
+          e ex h
+          (λ a. ej (whole_in s Z st p n a).0)
 
       pub join_taking :
-          {k : Kind} {j : Joined} {l : Bool} {after left : List ℕ} → g ≡ Answer k → (k ≡ Whole → ⊥) → l ≡ late_as k → Takes x j after left →
+          {k : Kind} (j : Result Body Refusing) {l : Bool} {after left : List ℕ} → g ≡ Answer k → (k ≡ Whole → ⊥) → l ≡ late_as k → Takes x (joined_answer j) after left →
           JoinsIn (record { joined = j; late = l }) after left
       unfolding joining_in store_joined_in out_joined_in
-      join_taking h w el t = taking_by (arrived_in s Z st n p) e ex h w el t
+      join_taking j h w el t = taking_by (arrived_in s Z st n p) e ex h w el t

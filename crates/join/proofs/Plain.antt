@@ -15,7 +15,7 @@ use Rattle.octets.specs.Octets.{pick, part, wide, Octets}
 use Rattle.octets.proofs.Has.{octets_nil, octets_one, octets_append, octets_part}
 use Rattle.octets.proofs.Numbers.{wide_octets}
 use Rattle.walk.specs.declared.Settings.{Settings}
-use Rattle.packet.specs.declared.Header.{Header}
+use Rattle.packet.specs.Answer.{Header}
 use Rattle.packet.specs.Format.{primary_size}
 use Rattle.packet.specs.Reading.{read_packet, counter_size}
 use Rattle.packet.specs.Key.{key_of, counter_place}

@@ -1,25 +1,23 @@
--- What the code hands about: the refusal of an arrival, and taking's answer as joining's; and joining where neither settings nor order are
+-- What the code hands about: reading's and taking's answers as joining's; and joining where neither settings nor order are
 -- tested.
 -- Assumes nothing: these are definitions.
-use Rattle.std.specs.Prelude.{ℕ, ◌-◌, Bool, true, false, List, length, eqb}
+use Rattle.std.specs.Prelude.{ℕ, ◌+◌, ◌-◌, Bool, true, false, List, length, eqb, Result, Ok, Err}
 use Rattle.octets.specs.Octets.{pick}
-use Rattle.walk.specs.declared.Refusal.{Refusal}
+use Rattle.walk.specs.declared.Refused.{Refused}
 use Rattle.walk.specs.declared.Settings.{Settings}
-use Rattle.packet.specs.declared.Header.{Header}
+use Rattle.packet.specs.Answer.{Header}
+use Rattle.packet.specs.declared.Header.{Header as Decoded}
 use Rattle.arrival.specs.declared.Kind.{Kind}
 use Rattle.arrival.specs.declared.Kind.TheVariants.{Whole, Stored, Held, Taken as Late}
-use Rattle.arrival.specs.declared.Arrival.{Arrival}
-use Rattle.arrival.specs.Told.{said as said_by}
-use Rattle.taking.specs.declared.Taken.{Taken}
+use Rattle.taking.specs.Answer.{Taken}
+use Rattle.taking.specs.declared.Taken.{Taken as Message}
 use Rattle.arrival.specs.Arriving.{Arrived, whole, stored, again, late, refused, arrived_in, store_with}
 use Rattle.taking.specs.Taking.{took_in, store_less, out_with}
-use Rattle.join.specs.declared.Joined.{Joined}
+use Rattle.join.specs.Answer.{Joined}
+use Rattle.join.specs.declared.Joined.{Joined as Body}
+use Rattle.join.specs.declared.Joined.TheVariants.{Packet, Message as InOutput}
 use Rattle.join.specs.Joining.{Joining, in_packet, unjoined, body_from, took_as}
 use Rattle.join.specs.Told.{taken, joined_of}
-
--- the refusal of an arrival; none if it is answered
-abbrev pub refusal_in : Arrival → Refusal
-refusal_in a = (said_by a).refusal
 
 -- the body that reading tells of
 abbrev pub body_in : Header → Joined
@@ -28,6 +26,15 @@ body_in h = joined_of (in_packet h.body.at h.body.length)
 -- a message that was taken, or taking's refusal
 unfoldable pub taken_as : Taken → Joined
 taken_as t = pick (eqb t.refusal.number 0) (taken t) (joined_of (unjoined t.refusal))
+
+-- as the code has them: the body that reading tells of, and the message that was taken
+abbrev pub body_read : Result Decoded Refused → Result Body Refused
+body_read (Ok h) = Ok (Packet h.body.at h.body.length)
+body_read (Err r) = Err r
+
+abbrev pub output_taken : Result Message Refused → Result Body Refused
+output_taken (Ok t) = Ok (InOutput (2 + t.header) t)
+output_taken (Err r) = Err r
 
 -- the arrival is one of a message that was taken
 abbrev pub is_late : Arrived → Bool

@@ -1,4 +1,5 @@
 pub mod Viewing
 pub mod Joining
+pub mod Answer
 pub mod Told
 pub mod Inner

@@ -3,13 +3,13 @@
 -- Assumes nothing: these are definitions.
 use Rattle.std.specs.Prelude.{ℕ, ◌+◌}
 use Rattle.packet.specs.declared.SegmentCounter.{SegmentCounter}
-use Rattle.taking.specs.declared.Taken.{Taken}
+use Rattle.taking.specs.Answer.{Taken}
 use Rattle.taking.specs.Taking.{message}
 use Rattle.walk.specs.Walk.{refusal}
 use Rattle.taking.specs.Told.{taken_of}
 use Rattle.join.specs.declared.Which.{Which}
 use Rattle.join.specs.declared.Which.TheVariants.{Packet, Joined as InJoined, Nothing}
-use Rattle.join.specs.declared.Joined.{Joined}
+use Rattle.join.specs.Answer.{Joined}
 use Rattle.join.specs.Joining.{Joining, in_packet, in_output, unjoined}
 
 -- SPEC's words for the buffer that holds a body, as numbers, and 0 if there is no body

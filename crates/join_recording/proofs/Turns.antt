@@ -16,7 +16,7 @@ use Rattle.walk.specs.Walk.{begun}
 use Rattle.cells.specs.Rows.{zero_row}
 use Rattle.cells.specs.Order.{cell_size, cells_most, count_in, gate}
 use Rattle.cells.proofs.Empty.{zeros, empty_order, empty_count}
-use Rattle.steps.specs.declared.Done.{Done}
+use Rattle.steps.specs.Answer.{Done}
 use Rattle.steps.specs.Stepping.{room, stepped, store_behind}
 use Rattle.steps.specs.Told.{done_of}
 use Rattle.steps.proofs.Kept.{step_gate, step_count}

@@ -2,7 +2,7 @@
 //
 // Places 1 to 63 count the packets refused with that number; from `BEGAN` on those refused with 6 are counted by where in the secondary
 // header the unfinished field began. A number that would pass 64 bits stays at the largest.
-use steps::What;
+use steps::{Became, Done};
 use walk::{REFUSED_HEADER_ENDS, Refusal};
 
 pub const COUNTS: usize = 333;
@@ -46,9 +46,6 @@ const PLACES: usize = 256;
 // The largest refusal number that has a place: more than there are.
 pub const NUMBERS: usize = 63;
 
-// The place of a step that is no packet.
-const NOWHERE: usize = 0;
-
 // The number at a place; 0 if there is none.
 pub fn at(counts: &[u64; COUNTS], k: usize) -> u64 {
     if k < COUNTS {
@@ -65,18 +62,14 @@ pub fn add(counts: &mut [u64; COUNTS], k: usize, n: u64) {
 }
 
 // Where a packet is counted, by what it came to.
-fn place(what: What, number: u8) -> usize {
-    match what {
-        What::Passed => PASSED,
-        What::Refused => number as usize,
-        What::Kept => KEPT,
-        What::Late => LATE,
-        What::Whole => WHOLE,
-        What::Joined => JOINED,
-        What::More => NOWHERE,
-        What::Ended => NOWHERE,
-        What::Unmarked => NOWHERE,
-        What::Torn => NOWHERE,
+fn place(became: Became) -> usize {
+    match became {
+        Became::Passed => PASSED,
+        Became::Refused(refusal) => refusal.number as usize,
+        Became::Kept => KEPT,
+        Became::Late => LATE,
+        Became::Whole { .. } => WHOLE,
+        Became::Joined { .. } => JOINED,
     }
 }
 
@@ -127,13 +120,14 @@ fn note_began(counts: &mut [u64; COUNTS], refusal: Refusal) {
 }
 
 // Counts a packet.
-pub fn note(counts: &mut [u64; COUNTS], what: What, refusal: Refusal, used: usize) {
-    let number = refusal.number;
-    add(counts, SEEN, 1);
-    add(counts, USED, used as u64);
-    add(counts, place(what, number), 1);
-    note_began(counts, refusal);
-    if number != 0 {
-        add(counts, REFUSED, 1);
+pub fn note(counts: &mut [u64; COUNTS], done: Done) {
+    if let Done::Packet { used, became } = done {
+        add(counts, SEEN, 1);
+        add(counts, USED, used as u64);
+        add(counts, place(became), 1);
+        if let Became::Refused(refusal) = became {
+            note_began(counts, refusal);
+            add(counts, REFUSED, 1);
+        }
     }
 }

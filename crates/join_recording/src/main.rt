@@ -28,7 +28,7 @@ ghost use Rattle.steps.specs.Stepping.{room};
 use cells::{CELL, CELLS_MOST};
 use counts::COUNTS;
 use files::{Sink, Source};
-use steps::{SPACE, What};
+use steps::{Done, SPACE};
 use walk::Settings;
 
 // The program's arguments: the recording, the file for its findings, T, the profile, and how many cells the store has.
@@ -123,14 +123,12 @@ fn refill(
 }
 
 // Why a step that used up nothing stops.
-fn why(what: What) -> u8 {
-    if let What::Ended = what {
-        return say::ENDED;
+fn why(done: Done) -> u8 {
+    match done {
+        Done::Ended => say::ENDED,
+        Done::Unmarked => say::UNMARKED,
+        _ => say::TORN,
     }
-    if let What::Unmarked = what {
-        return say::UNMARKED;
-    }
-    say::TORN
 }
 
 // What is gathered is written if the longest message would find no room after it.
@@ -209,16 +207,15 @@ fn turn(
     ensures room_in_bounds_2 { result.at + (6 + room) ≤ length out.old }
 {
     let d = steps::step_there(s, store, n, zero, &buf[from..till], ends, out, at);
-    let what = d.what;
-    let used = d.used;
-    let written = d.written;
-    if let What::More = what {
+    let used = d.used();
+    let written = d.written();
+    if let Done::More = d {
         return wait(file, to, buf, from, till, ends, &out[0..at], counts);
     }
     if used == 0 {
-        return in_hand(from, till, at, ends, why(what));
+        return in_hand(from, till, at, ends, why(d));
     }
-    counts::note(counts, what, d.refusal, used);
+    counts::note(counts, d);
     gather(to, from + used, till, at + written, ends, out, counts)
 }
 
@@ -387,9 +384,8 @@ fn start(rt: HostRuntime, s: Settings, n: u64)
 
 fn main(rt: HostRuntime) {
     let s = settings(rt);
-    let w = walk::begin(s);
-    if w.refused != 0 {
-        say::not_joined(w.refused);
+    if let Err(refused) = s.check() {
+        say::not_joined(refused.number());
         return;
     }
     start(rt, s, cells_named(rt));

@@ -166,11 +166,8 @@ fn began(to: &mut Sink, counts: &[u64; COUNTS]) {
     files::write(to, b"\n");
 }
 
-// The line of a cell that is held.
+// The line of a held cell.
 fn segment(to: &mut Sink, t: Told) {
-    if !t.held {
-        return;
-    }
     files::write(to, b"segment");
     next(to, t.key as u64);
     next(to, t.packet_type as u64);
@@ -185,7 +182,9 @@ fn segment(to: &mut Sink, t: Told) {
 fn segments(to: &mut Sink, s: Settings, store: &[u8], n: usize) {
     let mut i: usize = 0;
     while i < n {
-        segment(to, tally::cell(s, store, i));
+        if let Some(told) = tally::cell(s, store, i) {
+            segment(to, told);
+        }
         i += 1;
     }
 }

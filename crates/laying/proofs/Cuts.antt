@@ -21,7 +21,7 @@ use Rattle.cut.specs.Cutting.{limit_test, value_tests, count_answer, packet_answ
 use Rattle.cut.specs.Inner.{values_of}
 use Rattle.cut.proofs.Plans.{before}
 use Rattle.flat.specs.Given.{fits_to, sender_fits, header_of, sender_of}
-use Rattle.flat.specs.Answers.{cut_fits, given, count_numbers, packet_numbers, packet_out}
+use Rattle.flat.specs.Answers.{given, count_numbers, packet_numbers, packet_out}
 use Rattle.flat.proofs.Choosing.{count_told, packet_told, packet_laid}
 use Rattle.laying.specs.Short.{Own, CutReady}
 use Rattle.laying.proofs.Limits.{header_fits_lem}
@@ -56,9 +56,6 @@ module _ {s : Settings} {P : ℕ} {h : List ℕ} {t : Lent} {d : List ℕ} (c : 
   unfolding fits_to
   sender_fits_lem = simp (le-leb (number_at d 0) 65535 (omega (arith, c.count)), le-leb (number_at d 1) 4294967295 c.counter)
 
-  fits : cut_fits h d ≡ true
-  fits = rw (header_fits_lem c.ready.numbers.limited) sender_fits_lem
-
   none : none_failed ≡ before false s P (header_of h) t (sender_of d)
   unfolding value_tests limit_test
   none =
@@ -80,16 +77,16 @@ module _ {s : Settings} {P : ℕ} {h : List ℕ} {t : Lent} {d : List ℕ} (c : 
     pub counted :
         (B n : ℕ) {m : Sender} → record { refusal = refusal 0; count = n; sender = m } ≡ count_answer false s P (header_of h) t B a →
         0 ∷ n ∷ m.sequence_count.0 ∷ m.counter.0 ∷ [] ≡ count_numbers s P h t B d
-    counted B n {m} e = count_told s P h t d true (sym fits) refl (header_of h) a refl k B _ _ e refl
+    counted B n {m} e = count_told s P h t d (header_fits_lem c.ready.numbers.limited) sender_fits_lem (header_of h) a refl k B _ _ e refl
 
     pub told :
         (body : List ℕ) (i room size : ℕ) →
         record { refusal = refusal 0; length = size; sender = a } ≡ packet_answer false s P (header_of h) t body a i room →
         0 ∷ size ∷ given d ≡ packet_numbers s P h t body d i room
     told body i room size e =
-        packet_told s P h t d true (sym fits) refl (header_of h) a refl k body i room _ _ e
+        packet_told s P h t d (header_fits_lem c.ready.numbers.limited) sender_fits_lem (header_of h) a refl k body i room _ _ e
         (ap (λ (x : Sender). 0 ∷ size ∷ x.sequence_count.0 ∷ x.counter.0 ∷ []) (sym k))
 
     pub laid_out :
         (body : List ℕ) (i : ℕ) (out : List ℕ) {l : List ℕ} → l ≡ packet_output false s P (header_of h) t body a i out → l ≡ packet_out s P h t body d i out
-    laid_out body i out e = packet_laid s P h t d true (sym fits) refl (header_of h) a refl k body i out _ e
+    laid_out body i out e = packet_laid s P h t d (header_fits_lem c.ready.numbers.limited) sender_fits_lem (header_of h) a refl k body i out _ e

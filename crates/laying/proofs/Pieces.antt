@@ -8,8 +8,8 @@ use native.Mathlib.Omega.{arith}
 use native.Mathlib.Numerals.{add-one}
 use lib.Dec.{leb}
 use borrow.Author.Tests.{le-leb, lt-leb}
-use lib.ListN.{length, get_or, take, drop, set, length-set, length-take, length-append}
-use lib.Seq.{sets, take-suc, take_all}
+use lib.ListN.{length, get_or, take, drop, set, length-append}
+use lib.Seq.{sets}
 use Rattle.octets.specs.Octets.{wide, octet_at, room_of}
 use Rattle.octets.proofs.Has.{part_length}
 use Rattle.octets.specs.Laying.{Laid, laid, lay_all, together, Lays}
@@ -135,30 +135,6 @@ module _ {s : Settings} {l : List ℕ} {at : ℕ} {x ns m : List ℕ} {next from
   parts_turn ln b f =
       let i = parting_inside p.parting (get_or ns k 0) in
       record { parting = parting_turn p.parting h e ln b; room = omega (arith, part_long, e, p.room, p.parting.inside, f) }
-
--- ---- copying: the first i octets are laid
-
-pub record Filled (l : List ℕ) (at : ℕ) (x : List ℕ) (m : List ℕ) (i : ℕ) : Type 0 where
-  pub most : i ≤ length x
-  pub long : length m ≡ length l
-  pub same : m ≡ sets l at (take i x)
-
-pub filled_none : (l : List ℕ) (at : ℕ) (x : List ℕ) → Filled l at x l 0
-filled_none l at x = record { most = omega arith; long = refl; same = refl }
-
-module _ {l : List ℕ} {at : ℕ} {x m : List ℕ} {i : ℕ} (p : Filled l at x m i) where
-  pub filled_next : i < length x → Filled l at x (set m (at + i) (octet_at x i)) (i + 1)
-  filled_next h =
-      let n : length (take i x) ≡ i = omega (arith, length-take i x) in
-      let a : set m (at + i) (octet_at x i) ≡ sets (sets l at (take i x)) (at + length (take i x)) (octet_at x i ∷ []) = rw (n, p.same) refl in
-      record {
-        most = omega arith;
-        long = length-set m (at + i) (octet_at x i) ∙ p.long;
-        same = rw (add-one i) (a ∙ (sets_append l at (take i x) (octet_at x i ∷ []) ∙ ap (sets l at) (sym (take-suc x i 0 h))));
-      }
-
-  pub filled_all : length x ≤ i → m ≡ sets l at x
-  filled_all h = p.same ∙ ap (sets l at) (take_all i x h)
 
 -- ---- numbers
 

@@ -22,9 +22,10 @@ use Rattle.write.specs.Inner.{primary_pieces, present_octet, front_pieces, middl
 use Rattle.write.specs.Writing.{given_packet, size_tests, write_refusal, fine, write_answer, write_output}
 use Rattle.write.proofs.Tests.{unless_true}
 use Rattle.write.proofs.Answers.{secondary_length, packet_length, packet_least, packet_laid}
-use Rattle.flat.specs.Given.{fits_to, packet_fits, header_of, packet_of, present_of}
+use Rattle.flat.specs.Given.{fits_to, header_fits, packet_fits, header_of, packet_of, present_of}
 use Rattle.flat.specs.Answers.{write_numbers, write_out}
 use Rattle.flat.proofs.Choosing.{write_told, write_laid}
+use Rattle.flat.proofs.Fitting.{both_held}
 use Rattle.laying.specs.Short.{InLimits, Texts, Ready, fixed_pieces, plain_pieces, Owned, Writes}
 use Rattle.laying.proofs.Limits.{header_fits_lem}
 use Rattle.laying.proofs.Checks.{down, values_pass}
@@ -186,7 +187,7 @@ module _ {s : Settings} {h : List ℕ} {t : Lent} {flags count counter : ℕ} {b
       let o = packet_of flags count counter in
       let f = w.passes in
       let z : 0 ≡ (write_refusal false s v o t body room).number = sym (eqb-true (write_refusal false s v o t body room).number 0 f) in
-      write_told s h t flags count counter body true (sym w.fits) refl v o refl refl room (record { refusal = refusal 0; length = size }) _
+      write_told s h t flags count counter body (both_held (header_fits h) _ w.fits).0 (both_held (header_fits h) _ w.fits).1 v o refl refl room (record { refusal = refusal 0; length = size }) _
       (λ i.
       record {
         refusal = refusal (z i);
@@ -204,5 +205,5 @@ put {s} {h} {t} {flags} {count} {counter} {body} {out} {size} w {l} {e} a =
     let v = header_of h in
     let o = packet_of flags count counter in
     let k = w.size_room in
-    write_laid s h t flags count counter body true (sym w.fits) refl v o refl refl out l
+    write_laid s h t flags count counter body (both_held (header_fits h) _ w.fits).0 (both_held (header_fits h) _ w.fits).1 v o refl refl out l
     (rw w.passes (packet_laid s v o t body out w.size_is (omega (arith, w.size_is)) a))

@@ -2,10 +2,9 @@
 // a test of room for each octet. The long way is crate `flat`. It makes every refusal; here is only what is written.
 //
 // The short way is for Varints, and for texts whose octets are characters by themselves and whose lengths are of one octet.
-// As parameters, `time` is the timestamp, `zone` the network zone, `name` the session name and `id` the authentication id.
 #![tactic(auto)]
 
-ghost use Rattle.std.specs.Prelude.{◌≡◌, true, [], ◌∷◌, ◌+◌, ◌*◌, ◌≤◌, ◌<◌, length, leb};
+ghost use Rattle.std.specs.Prelude.{◌≡◌, IfSome, true, [], ◌∷◌, ◌+◌, ◌*◌, ◌≤◌, ◌<◌, length, leb};
 ghost use Rattle.std.proofs.lemmas.List.Edits.{sets};
 ghost use Rattle.octets.specs.Octets.{pick, wide, octet_at as number_at};
 ghost use Rattle.octets.specs.Laying.{laid, Lays, together};
@@ -13,16 +12,18 @@ ghost use Rattle.walk.specs.Walk.{settings_of};
 ghost use Rattle.fields.specs.Form.{uinteger_octets, split};
 ghost use Rattle.fields.specs.Inner.{blob_pieces, part_pieces, parts_pieces, domain_pieces};
 ghost use Rattle.packet.specs.Format.{when, header_octets, segment};
-ghost use Rattle.write.specs.Given.{lent, head_of};
+ghost use Rattle.write.specs.Given.{lent_of, head_of};
 ghost use Rattle.write.specs.Inner.{primary_pieces, name_pieces, routing_pieces, present_octet, packet_pieces};
-ghost use Rattle.flat.specs.Given.{header_of, packet_of, present_of};
+ghost use Rattle.flat.specs.Given.{header_of, packet_of, present_of, sender_of};
 ghost use Rattle.flat.specs.Answers.{write_numbers, write_out, given, count_numbers, packet_numbers, packet_out};
 ghost use Rattle.laying.specs.Short.{InLimits, Numbers, Brief, Texts, Ready, fixed_pieces, plain_pieces, Own, Owned, Writes, CutReady};
 
 use flat::{CUT, HEADER, SENDER};
 use packet::{COUNTER, UNSEGMENTED};
+use sender::Sender;
 use varint::{MOST_16, MOST_32};
 use walk::{REFUSED_NUMBER, REFUSED_OUTPUT, Settings, Tested};
+use write::LentTexts;
 
 // The longest text whose length is one octet.
 const SHORT: usize = 127;
@@ -61,134 +62,71 @@ const LIMITS: [u64; HEADER] = [
 fn only_if(flag: u64, x: u64) -> bool
     ensures { result ≡ true → flag ≡ 0 → x ≡ 0 }
 {
-    if flag == 0 {
-        return x == 0;
-    }
-    true
+    flag != 0 || x == 0
 }
 
 fn in_limits(h: &[u64; HEADER]) -> bool
     ensures { result ≡ true → InLimits h.now }
 {
-    let limits = LIMITS;
-    flat::fits(h, &limits)
+    flat::fits(h, &LIMITS)
 }
 
 fn numbers_ready(s: Settings, h: &[u64; HEADER]) -> bool
     ensures { result ≡ true → Numbers s h.now }
 {
-    if s.profile != 0 {
-        return false;
-    }
-    if s.t < 1 {
-        return false;
-    }
-    if 16 < s.t {
-        return false;
-    }
-    if !in_limits(h) {
-        return false;
-    }
-    if !only_if(h[13], h[21]) {
-        return false;
-    }
-    if !only_if(h[14], h[22]) {
-        return false;
-    }
-    only_if(h[15], h[23])
+    s.profile == 0
+        && 1 <= s.t
+        && s.t <= 16
+        && in_limits(h)
+        && only_if(h[13], h[21])
+        && only_if(h[14], h[22])
+        && only_if(h[15], h[23])
 }
 
 fn brief(flag: u64, n: usize) -> bool
     ensures { result ≡ true → Brief flag n }
 {
-    if flag == 0 {
-        return n == 0;
-    }
-    n <= SHORT
+    if flag == 0 { n == 0 } else { n <= SHORT }
 }
 
 // No text is lent.
-fn none_lent(time: &[u8], name: &[u8], domain: &[u8], lengths: &[u64], id: &[u8]) -> bool
-    ensures { result ≡ true → length time.now + (length name.now + (length domain.now
-        + (length lengths.now + length id.now))) ≡ 0 }
+fn none_lent(texts: LentTexts) -> bool
+    ensures { let t = lent_of texts.entry in
+        result ≡ true → length t.timestamp + (length t.session_name + (length t.domain
+        + (length t.lengths + length t.authentication))) ≡ 0 }
 {
-    if time.len() != 0 {
-        return false;
-    }
-    if name.len() != 0 {
-        return false;
-    }
-    if domain.len() != 0 {
-        return false;
-    }
-    if lengths.len() != 0 {
-        return false;
-    }
-    id.len() == 0
+    texts.timestamp.is_empty()
+        && texts.session_name.is_empty()
+        && texts.domain.is_empty()
+        && texts.lengths.is_empty()
+        && texts.authentication.is_empty()
 }
 
-fn texts_ready(
-    s: Settings,
-    h: &[u64; HEADER],
-    time: &[u8],
-    zone: &[u8],
-    name: &[u8],
-    domain: &[u8],
-    lengths: &[u64],
-    id: &[u8],
-) -> bool
+fn texts_ready(s: Settings, h: &[u64; HEADER], texts: LentTexts) -> bool
     requires { Numbers s h.now }
-    ensures { result ≡ true → Texts s h.now (lent time.now zone.now name.now
-        domain.now lengths.now id.now) }
+    ensures { result ≡ true → Texts s h.now (lent_of texts.entry) }
 {
-    if zone.len() != 0 {
+    if !texts.zone.is_empty() {
         return false;
     }
     if h[16] + h[18] + h[19] + h[20] == 0 {
-        return none_lent(time, name, domain, lengths, id);
+        return none_lent(texts);
     }
-    if !write::exact_fits(h[16] == 1, time.len(), s.t) {
-        return false;
-    }
-    if !brief(h[18], name.len()) {
-        return false;
-    }
-    if !brief(h[19], domain.len()) {
-        return false;
-    }
-    if !brief(h[20], id.len()) {
-        return false;
-    }
-    if fields::PARTS < lengths.len() {
-        return false;
-    }
-    if !write::lengths_fit(h[19] == 1, lengths, domain.len()) {
-        return false;
-    }
-    if !utf8::all_single(name) {
-        return false;
-    }
-    utf8::all_single(domain)
+    write::exact_fits(h[16] == 1, texts.timestamp.len(), s.t)
+        && brief(h[18], texts.session_name.len())
+        && brief(h[19], texts.domain.len())
+        && brief(h[20], texts.authentication.len())
+        && texts.lengths.len() <= fields::PARTS
+        && write::lengths_fit(h[19] == 1, texts.lengths, texts.domain.len())
+        && utf8::all_single(texts.session_name)
+        && utf8::all_single(texts.domain)
 }
 
 // Whether a header goes the short way.
-fn ready(
-    s: Settings,
-    h: &[u64; HEADER],
-    time: &[u8],
-    zone: &[u8],
-    name: &[u8],
-    domain: &[u8],
-    lengths: &[u64],
-    id: &[u8],
-) -> bool
-    ensures { result ≡ true → Ready s h.now (lent time.now zone.now name.now
-        domain.now lengths.now id.now) }
+fn ready(s: Settings, h: &[u64; HEADER], texts: LentTexts) -> bool
+    ensures { result ≡ true → Ready s h.now (lent_of texts.entry) }
 {
-    if !numbers_ready(s, h) {
-        return false;
-    }
-    texts_ready(s, h, time, zone, name, domain, lengths, id)
+    numbers_ready(s, h) && texts_ready(s, h, texts)
 }
 
 // ---- the size
@@ -200,25 +138,16 @@ fn priority_size(there: bool, s: Settings, x: u64) -> usize
     ensures small { result ≤ 5 }
 {
     if there {
-        return fields::uinteger_size(s, x);
+        fields::uinteger_size(s, x)
+    } else {
+        0
     }
-    0
 }
 
 // H of a header that is ready: a text and its length, a domain and two octets for each part, are counted as they are lent.
-fn header_size(
-    s: Settings,
-    h: &[u64; HEADER],
-    time: &[u8],
-    zone: &[u8],
-    name: &[u8],
-    domain: &[u8],
-    lengths: &[u64],
-    id: &[u8],
-) -> usize
-    requires { Ready s h.now (lent time.now zone.now name.now domain.now lengths.now id.now) }
-    ensures size { result ≡ length (header_octets s (head_of (header_of h.now) (lent time.now zone.now
-        name.now domain.now lengths.now id.now))) }
+fn header_size(s: Settings, h: &[u64; HEADER], texts: LentTexts) -> usize
+    requires { Ready s h.now (lent_of texts) }
+    ensures size { result ≡ length (header_octets s (head_of (header_of h.now) (lent_of texts.entry))) }
     ensures small { result ≤ 500 }
 {
     let flags = (h[13] + h[14] + h[18] + h[19] + h[20]) as usize;
@@ -226,27 +155,14 @@ fn header_size(
     packet::FIXED
         + flags
         + priority
-        + time.len()
-        + name.len()
-        + domain.len()
-        + 2 * lengths.len()
-        + id.len()
+        + texts.timestamp.len()
+        + texts.session_name.len()
+        + texts.domain.len()
+        + 2 * texts.lengths.len()
+        + texts.authentication.len()
 }
 
 // ---- the octets
-
-// Copies to where there is room.
-fn fill(out: &mut [u8], at: usize, from: &[u8])
-    requires { at + length from.now ≤ length out.old }
-    ensures { out.new ≡ sets out.old at from.now }
-{
-    let n = from.len();
-    let mut i: usize = 0;
-    while i < n {
-        out[at + i] = from[i];
-        i += 1;
-    }
-}
 
 // A number of two octets.
 fn two(out: &mut [u8], at: usize, v: u64)
@@ -377,7 +293,7 @@ fn block(out: &mut [u8], at: usize, x: &[u8]) -> usize
     ensures { Lays (laid out.old at) (x.now ∷ []) out.new result }
 {
     if has_room(out.len(), at, x.len()) {
-        fill(out, at, x);
+        flat::put(out, at, x);
         return at + x.len();
     }
     at
@@ -401,7 +317,7 @@ fn blob_if(there: bool, s: Settings, out: &mut [u8], at: usize, x: &[u8]) -> usi
     if there {
         if has_room(out.len(), at, x.len() + 1) {
             out[at] = x.len() as u8;
-            fill(out, at + 1, x);
+            flat::put(out, at + 1, x);
             return at + (x.len() + 1);
         }
         return fields::put_blob(s, out, at, x);
@@ -419,7 +335,7 @@ fn put_part(s: Settings, out: &mut [u8], at: usize, x: &[u8]) -> usize
 {
     out[at] = 1;
     out[at + 1] = x.len() as u8;
-    fill(out, at + 2, x);
+    flat::put(out, at + 2, x);
     at + (x.len() + 2)
 }
 
@@ -430,13 +346,11 @@ fn put_parts(s: Settings, out: &mut [u8], at: usize, x: &[u8], lengths: &[u64]) 
     ensures { Lays (laid out.old at) (parts_pieces s (split lengths.now x.now)) out.new result }
 {
     let mut next = at;
-    let mut from: usize = 0;
-    let mut k: usize = 0;
-    while k < lengths.len() {
-        let end = octets::within(x.len(), from, lengths[k] as usize);
+    let mut from = 0;
+    for &length in lengths {
+        let end = octets::within(x.len(), from, length as usize);
         next = put_part(s, out, next, &x[from..end]);
         from = end;
-        k += 1;
     }
     next
 }
@@ -497,20 +411,15 @@ fn put_full(
     counter: u64,
     n: u64,
     present: u64,
-    time: &[u8],
-    zone: &[u8],
-    name: &[u8],
-    domain: &[u8],
-    lengths: &[u64],
-    id: &[u8],
+    texts: LentTexts,
     body: &[u8],
 ) -> usize
     requires in_bounds { 27 ≤ length out.old }
-    requires ready { Ready s h.now (lent time.now zone.now name.now domain.now lengths.now id.now) }
+    requires ready { Ready s h.now (lent_of texts) }
     requires own { Own flags count }
     requires present_value { present ≡ present_octet (present_of h.now) }
     ensures { Lays (laid out.old 0) (packet_pieces s (header_of h.now) (packet_of flags count counter)
-        (lent time.now zone.now name.now domain.now lengths.now id.now) n
+        (lent_of texts.entry) n
         body.now) out.new result }
 {
     put_fixed(out, h, flags, count, n, present);
@@ -518,10 +427,10 @@ fn put_full(
     let b = octet_if(h[14] == 1, out, a, h[22]);
     let c = four_if(flags != 3, out, b, counter);
     let d = uinteger_if(h[15] == 1, s, out, c, h[23]);
-    let e = block_if(h[16] == 1, out, d, time);
-    let f = blob_if(h[18] == 1, s, out, e, name);
-    let g = domain_if(h[19] == 1, s, out, f, domain, lengths);
-    let i = blob_if(h[20] == 1, s, out, g, id);
+    let e = block_if(h[16] == 1, out, d, texts.timestamp);
+    let f = blob_if(h[18] == 1, s, out, e, texts.session_name);
+    let g = domain_if(h[19] == 1, s, out, f, texts.domain, texts.lengths);
+    let i = blob_if(h[20] == 1, s, out, g, texts.authentication);
     block(out, i, body)
 }
 
@@ -533,28 +442,21 @@ fn put_packet(
     count: u64,
     counter: u64,
     n: u64,
-    time: &[u8],
-    zone: &[u8],
-    name: &[u8],
-    domain: &[u8],
-    lengths: &[u64],
-    id: &[u8],
+    texts: LentTexts,
     body: &[u8],
 ) -> usize
     requires in_bounds { 27 ≤ length out.old }
-    requires ready { Ready s h.now (lent time.now zone.now name.now domain.now lengths.now id.now) }
+    requires ready { Ready s h.now (lent_of texts) }
     requires own { Own flags count }
     ensures { Lays (laid out.old 0) (packet_pieces s (header_of h.now) (packet_of flags count counter)
-        (lent time.now zone.now name.now domain.now lengths.now id.now) n
+        (lent_of texts.entry) n
         body.now) out.new result }
 {
     let present = present_octet(h);
     if present == 0 {
         return put_plain(out, h, flags, count, counter, n, body);
     }
-    put_full(
-        s, out, h, flags, count, counter, n, present, time, zone, name, domain, lengths, id, body,
-    )
+    put_full(s, out, h, flags, count, counter, n, present, texts, body)
 }
 
 // ---- writing
@@ -563,51 +465,36 @@ fn put_packet(
 fn own_ready(flags: u64, count: u64, counter: u64) -> bool
     ensures { result ≡ true → Owned flags count counter }
 {
-    if 3 < flags {
-        return false;
-    }
-    if 16383 < count {
-        return false;
-    }
-    write::number_fits(flags != 3, counter, MOST_32)
+    flags <= 3 && count <= 16383 && write::number_fits(flags != 3, counter, MOST_32)
 }
 
 fn counter_size(flags: u64) -> usize
     ensures size { result ≡ pick (segment flags) 4 0 }
     ensures small { result ≤ 4 }
 {
-    if flags == 3 {
-        return 0;
-    }
-    COUNTER
+    if flags == 3 { 0 } else { COUNTER }
 }
 
 // The size of a packet that is written the short way; 0 for the long way.
 fn packet_size(
     s: Settings,
     h: &[u64; HEADER],
-    time: &[u8],
-    zone: &[u8],
-    name: &[u8],
-    domain: &[u8],
-    lengths: &[u64],
-    id: &[u8],
+    texts: LentTexts,
     flags: u64,
     count: u64,
     counter: u64,
     body: &[u8],
     room: usize,
 ) -> usize
-    ensures { 0 < result → Writes s h.now (lent time.now zone.now name.now domain.now
-        lengths.now id.now) flags count counter body.now room result }
+    ensures { 0 < result → Writes s h.now (lent_of texts.entry) flags count counter body.now room result }
 {
     if !own_ready(flags, count, counter) {
         return 0;
     }
-    if !ready(s, h, time, zone, name, domain, lengths, id) {
+    if !ready(s, h, texts) {
         return 0;
     }
-    let second = header_size(s, h, time, zone, name, domain, lengths, id) + counter_size(flags);
+    let second = header_size(s, h, texts) + counter_size(flags);
     if write::HEADER_MOST < second {
         return 0;
     }
@@ -631,36 +518,22 @@ pub fn write(
     t: u64,
     profile: u64,
     header: &[u64; HEADER],
-    timestamp: &[u8],
-    zone: &[u8],
-    name: &[u8],
-    domain: &[u8],
-    lengths: &[u64],
-    authentication: &[u8],
+    texts: LentTexts,
     flags: u64,
     sequence_count: u64,
     counter: u64,
     body: &[u8],
     out: &mut [u8],
 ) -> [u64; 2]
-    ensures { let x = lent timestamp.now zone.now name.now domain.now lengths.now
-        authentication.now in let s = settings_of t profile in
+    ensures { let x = lent_of texts.entry in let s = settings_of t profile in
         (result ≡ write_numbers s header.now x flags sequence_count counter body.now (length out.old))
         × (out.new ≡ write_out s header.now x flags sequence_count counter body.now out.old) }
 {
-    let s = Settings {
-        t: t as usize,
-        profile: profile,
-    };
+    let s = flat::settings(t, profile);
     let size = packet_size(
         s,
         header,
-        timestamp,
-        zone,
-        name,
-        domain,
-        lengths,
-        authentication,
+        texts,
         flags,
         sequence_count,
         counter,
@@ -672,12 +545,7 @@ pub fn write(
             t,
             profile,
             header,
-            timestamp,
-            zone,
-            name,
-            domain,
-            lengths,
-            authentication,
+            texts,
             flags,
             sequence_count,
             counter,
@@ -694,12 +562,7 @@ pub fn write(
         sequence_count,
         counter,
         n,
-        timestamp,
-        zone,
-        name,
-        domain,
-        lengths,
-        authentication,
+        texts,
         body,
     );
     [0, size as u64]
@@ -707,35 +570,30 @@ pub fn write(
 
 // ---- cutting
 
-// Whether a message goes the short way.
+// The sender of a message that goes the short way.
 fn cut_ready(
     s: Settings,
     p: usize,
     h: &[u64; HEADER],
-    time: &[u8],
-    zone: &[u8],
-    name: &[u8],
-    domain: &[u8],
-    lengths: &[u64],
-    id: &[u8],
+    texts: LentTexts,
     sender: &[u64; SENDER],
-) -> bool
-    ensures { result ≡ true → CutReady s p h.now (lent time.now zone.now name.now
-        domain.now lengths.now id.now) sender.now }
+) -> Option<Sender>
+    ensures { IfSome result (λ d. CutReady s p h.now (lent_of texts.entry) sender.now × (d ≡ sender_of sender.now)) }
 {
     if p < cut::LIMIT_LEAST {
-        return false;
+        return None;
     }
     if write::PACKET_MOST < p {
-        return false;
+        return None;
     }
-    if 16383 < sender[0] {
-        return false;
+    if !ready(s, h, texts) {
+        return None;
     }
-    if MOST_32 < sender[1] {
-        return false;
+    let d = flat::sender_of(sender).ok()?;
+    if packet::COUNT_MOST < d.sequence_count.0 {
+        return None;
     }
-    ready(s, h, time, zone, name, domain, lengths, id)
+    Some(d)
 }
 
 // The number of packets of a message, and the sender's numbers after it.
@@ -744,47 +602,17 @@ pub fn cut_count(
     profile: u64,
     p: u64,
     header: &[u64; HEADER],
-    timestamp: &[u8],
-    zone: &[u8],
-    name: &[u8],
-    domain: &[u8],
-    lengths: &[u64],
-    authentication: &[u8],
+    texts: LentTexts,
     body: u64,
     sender: &[u64; SENDER],
 ) -> [u64; CUT]
     ensures { result ≡ count_numbers (settings_of t profile) p header.now
-        (lent timestamp.now zone.now name.now domain.now lengths.now
-        authentication.now) body sender.now }
+        (lent_of texts.entry) body sender.now }
 {
-    let s = Settings {
-        t: t as usize,
-        profile: profile,
-    };
+    let s = flat::settings(t, profile);
     let limit = p as usize;
-    if cut_ready(
-        s,
-        limit,
-        header,
-        timestamp,
-        zone,
-        name,
-        domain,
-        lengths,
-        authentication,
-        sender,
-    ) {
-        let h = header_size(
-            s,
-            header,
-            timestamp,
-            zone,
-            name,
-            domain,
-            lengths,
-            authentication,
-        );
-        let d = flat::sender_of(sender);
+    if let Some(d) = cut_ready(s, limit, header, texts, sender) {
+        let h = header_size(s, header, texts);
         let plan = cut::plan_of(limit, h, body as usize, Tested { number: 0 });
         let tested = plan.tested;
         if tested.number == 0 {
@@ -794,20 +622,7 @@ pub fn cut_count(
             return [0, plan.count as u64, next.0 as u64, counter.0 as u64];
         }
     }
-    flat::cut_count(
-        t,
-        profile,
-        p,
-        header,
-        timestamp,
-        zone,
-        name,
-        domain,
-        lengths,
-        authentication,
-        body,
-        sender,
-    )
+    flat::cut_count(t, profile, p, header, texts, body, sender)
 }
 
 // Packet number i and its size; 0 for the long way, and then nothing is written.
@@ -815,49 +630,22 @@ fn cut_short(
     s: Settings,
     p: usize,
     header: &[u64; HEADER],
-    timestamp: &[u8],
-    zone: &[u8],
-    name: &[u8],
-    domain: &[u8],
-    lengths: &[u64],
-    authentication: &[u8],
+    texts: LentTexts,
     body: &[u8],
     sender: &[u64; SENDER],
     i: usize,
     out: &mut [u8],
 ) -> usize
-    ensures done { 0 < result → (let x = lent timestamp.now zone.now name.now domain.now
-        lengths.now authentication.now in
+    ensures done { 0 < result → (let x = lent_of texts.entry in
         (0 ∷ result ∷ given sender.now ≡ packet_numbers s p header.now x body.now sender.now i
         (length out.old))
         × (out.new ≡ packet_out s p header.now x body.now sender.now i out.old)) }
     ensures kept { result ≡ 0 → out.new ≡ out.old }
 {
-    if !cut_ready(
-        s,
-        p,
-        header,
-        timestamp,
-        zone,
-        name,
-        domain,
-        lengths,
-        authentication,
-        sender,
-    ) {
+    let Some(d) = cut_ready(s, p, header, texts, sender) else {
         return 0;
-    }
-    let h = header_size(
-        s,
-        header,
-        timestamp,
-        zone,
-        name,
-        domain,
-        lengths,
-        authentication,
-    );
-    let d = flat::sender_of(sender);
+    };
+    let h = header_size(s, header, texts);
     let plan = cut::plan_of(p, h, body.len(), Tested { number: 0 });
     let o = cut::values_at(plan.single, plan.count, d, i);
     let from = cut::from_of(plan.single, plan.chunk, i, body.len());
@@ -895,12 +683,7 @@ fn cut_short(
         counter.0 as u64,
         n,
         present,
-        timestamp,
-        zone,
-        name,
-        domain,
-        lengths,
-        authentication,
+        texts,
         part,
     );
     size
@@ -912,58 +695,20 @@ pub fn cut_packet(
     profile: u64,
     p: u64,
     header: &[u64; HEADER],
-    timestamp: &[u8],
-    zone: &[u8],
-    name: &[u8],
-    domain: &[u8],
-    lengths: &[u64],
-    authentication: &[u8],
+    texts: LentTexts,
     body: &[u8],
     sender: &[u64; SENDER],
     i: u64,
     out: &mut [u8],
 ) -> [u64; CUT]
-    ensures { let x = lent timestamp.now zone.now name.now domain.now lengths.now
-        authentication.now in let s = settings_of t profile in
+    ensures { let x = lent_of texts.entry in let s = settings_of t profile in
         (result ≡ packet_numbers s p header.now x body.now sender.now i (length out.old))
         × (out.new ≡ packet_out s p header.now x body.now sender.now i out.old) }
 {
-    let s = Settings {
-        t: t as usize,
-        profile: profile,
-    };
-    let size = cut_short(
-        s,
-        p as usize,
-        header,
-        timestamp,
-        zone,
-        name,
-        domain,
-        lengths,
-        authentication,
-        body,
-        sender,
-        i as usize,
-        out,
-    );
+    let s = flat::settings(t, profile);
+    let size = cut_short(s, p as usize, header, texts, body, sender, i as usize, out);
     if size != 0 {
         return [0, size as u64, sender[0], sender[1]];
     }
-    flat::cut_packet(
-        t,
-        profile,
-        p,
-        header,
-        timestamp,
-        zone,
-        name,
-        domain,
-        lengths,
-        authentication,
-        body,
-        sender,
-        i,
-        out,
-    )
+    flat::cut_packet(t, profile, p, header, texts, body, sender, i, out)
 }

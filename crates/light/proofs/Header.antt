@@ -15,7 +15,7 @@ use Rattle.fields.specs.Fields.{place}
 use Rattle.packet.specs.declared.Present.{Present}
 use Rattle.packet.specs.declared.Ids.{Ids}
 use Rattle.packet.specs.declared.Texts.{Texts}
-use Rattle.packet.specs.declared.Header.{Header}
+use Rattle.packet.specs.Answer.{Header}
 use Rattle.packet.specs.FixedPart.{flags_of, fixed_end, fixed_of, present_of}
 use Rattle.packet.specs.Reading.{primary_of, ids_of, texts_of, body_test, segmented, counter_size, has_at, ids_at, texts_at, ended}
 use Rattle.packet.specs.Reading.{accepted_header, read_packet}

@@ -1,6 +1,6 @@
 -- What a light reading tells of a packet, and what holds if all of its fixed part is there and accepted.
 -- Assumes nothing: these are definitions.
-use Rattle.std.specs.Prelude.{ℕ, ◌+◌, ◌*◌, ◌/◌, ◌%◌, ◌≤◌, ◌≡◌, List, length, replicate}
+use Rattle.std.specs.Prelude.{ℕ, ◌+◌, ◌*◌, ◌/◌, ◌%◌, ◌≤◌, ◌≡◌, List, length, replicate, Result, Ok, Err}
 use Rattle.octets.specs.Octets.{octet_at, number}
 use Rattle.walk.specs.declared.Settings.{Settings}
 use Rattle.walk.specs.Walk.{goes, header_bound, timestamp_most}
@@ -8,9 +8,24 @@ use Rattle.fields.specs.Fields.{nowhere}
 use Rattle.packet.specs.FixedPart.{flags_of, fixed_end, fixed_of, present_of}
 use Rattle.packet.specs.declared.Fixed.{Fixed}
 use Rattle.packet.specs.declared.Texts.{Texts}
-use Rattle.packet.specs.declared.Header.{Header}
+use Rattle.packet.specs.Answer.{Header}
 use Rattle.packet.specs.Reading.{start_at}
-use Rattle.light.specs.declared.Light.{Light}
+use Rattle.walk.specs.declared.Refused.{Refused}
+use Rattle.walk.specs.Told.{told}
+use Rattle.packet.specs.declared.SegmentCounter.{SegmentCounter}
+use Rattle.light.specs.declared.Light.{Light as Seen}
+
+-- what a light reading tells; of a refused packet all but the refusal's number is 0
+pub record Light : Type 0 where
+  pub refusal : ℕ
+  pub flags : ℕ
+  pub counter : SegmentCounter
+  pub body : ℕ
+
+-- of what it answers
+abbrev pub seen : Result Seen Refused → Light
+seen (Ok x) = record { refusal = 0; flags = x.flags; counter = x.counter; body = x.body }
+seen (Err r) = record { refusal = (told r).number; flags = 0; counter = record { 0 = 0 }; body = 0 }
 
 -- of a whole reading's header: the refusal's number, the sequence flags, the counter, and where the body begins
 unfoldable pub light_of : Header → Light

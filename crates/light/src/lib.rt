@@ -7,15 +7,14 @@
 ghost use Rattle.std.specs.Prelude.{◌≡◌, true, ◌+◌, ◌/◌, ◌≤◌, ◌<◌, length};
 ghost use Rattle.octets.specs.Octets.{octet_at, number};
 ghost use Rattle.packet.specs.Reading.{segmented, read_packet};
-ghost use Rattle.light.specs.Light.{Ready, light_of};
+ghost use Rattle.light.specs.Light.{Ready, light_of, seen};
 
 use packet::{SegmentCounter, UNSEGMENTED};
-use walk::Settings;
+use walk::{Refused, Settings};
 
-// What a light reading answers; of a refused packet all but the refusal's number is 0.
+// What a light reading answers.
 #[derive(Clone, Copy)]
 pub struct Light {
-    pub refusal: u8,
     pub flags: u8,
     pub counter: SegmentCounter,
     pub body: usize,
@@ -96,32 +95,24 @@ pub fn is_segment(p: &[u8]) -> bool
 }
 
 // By a whole reading.
-fn from_whole(s: Settings, p: &[u8]) -> Light
-    ensures { result ≡ light_of (read_packet s p.now) }
+fn from_whole(s: Settings, p: &[u8]) -> Result<Light, Refused>
+    ensures { seen result ≡ light_of (read_packet s p.now) }
 {
-    let h = packet::read(s, p);
-    let refusal = h.refusal;
-    let primary = h.primary;
-    let ids = h.ids;
-    let body = h.body;
-    let counter = ids.counter;
-    Light {
-        refusal: refusal.number,
-        flags: primary.flags,
-        counter: counter,
-        body: body.at,
-    }
+    let h = packet::read(s, p)?;
+    Ok(Light {
+        flags: h.primary.flags,
+        counter: h.ids.counter,
+        body: h.body.at,
+    })
 }
 
 // A packet without optional fields that is no segment: its body begins after the fixed part.
 fn unsegmented() -> Light
-    ensures { result ≡ record { refusal = 0; flags = 3; counter = record { 0 = 0 }; body = 27 } }
+    ensures { result ≡ record { flags = 3; counter = record { 0 = 0 }; body = 27 } }
 {
-    let counter = SegmentCounter(0);
     Light {
-        refusal: 0,
         flags: UNSEGMENTED,
-        counter: counter,
+        counter: SegmentCounter(0),
         body: 27,
     }
 }
@@ -129,31 +120,25 @@ fn unsegmented() -> Light
 // A segment without optional fields: its body begins after the counter.
 fn segment(p: &[u8]) -> Light
     requires { 31 < length p.now }
-    ensures { result ≡ record { refusal = 0; flags = octet_at p.now 2 / 64; counter = record { 0 = number 4 p.now 27 }; body = 31 } }
+    ensures { result ≡ record { flags = octet_at p.now 2 / 64; counter = record { 0 = number 4 p.now 27 }; body = 31 } }
 {
-    let flags = octet(p, 2) / 64;
-    let counter = SegmentCounter(double(p, 27) as u32);
     Light {
-        refusal: 0,
-        flags: flags as u8,
-        counter: counter,
+        flags: (octet(p, 2) / 64) as u8,
+        counter: SegmentCounter(double(p, 27) as u32),
         body: 31,
     }
 }
 
 // Reading lightly.
-pub fn read(s: Settings, p: &[u8]) -> Light
-    ensures { result ≡ light_of (read_packet s p.now) }
+pub fn read(s: Settings, p: &[u8]) -> Result<Light, Refused>
+    ensures { seen result ≡ light_of (read_packet s p.now) }
 {
-    if ready(s, p) {
-        if octet(p, 26) == 0 {
-            if is_segment(p) {
-                if 31 < p.len() {
-                    return segment(p);
-                }
-            } else {
-                return unsegmented();
-            }
+    if ready(s, p) && octet(p, 26) == 0 {
+        if !is_segment(p) {
+            return Ok(unsegmented());
+        }
+        if 31 < p.len() {
+            return Ok(segment(p));
         }
     }
     from_whole(s, p)

@@ -1,6 +1,6 @@
 -- What a move answers and leaves, test by test: 15 and 16 of the store, 16 of the target's length, 32, and 0.
 -- Assumes nothing.
-use Prim.Native.Nat.{ℕ, ◌*◌, ◌/◌, ◌≤◌, ◌<◌}
+use Prim.Native.Nat.{ℕ, ◌*◌, ◌≤◌, ◌<◌}
 use mathlib.Core.Path.{◌≡◌, refl, ap, ap₂, sym, ◌∙◌}
 use mathlib.Core.Logic.{◌⊎◌, inl, inr}
 use mathlib.Core.Bool.{Bool, true, false}
@@ -15,12 +15,10 @@ use Rattle.octets.proofs.Lists.{bool}
 use Rattle.walk.specs.declared.Settings.{Settings}
 use Rattle.walk.specs.declared.Refusal.{Refusal}
 use Rattle.walk.specs.Walk.{begun, refusal}
-use Rattle.cells.specs.Order.{length_fits, count_in, in_order, gate}
-use Rattle.cells.specs.declared.opening.Opened.{Opened}
-use Rattle.cells.specs.Opening.{opened_of}
+use Rattle.cells.specs.Order.{count_in, in_order, gate}
+use Rattle.cells.specs.Opening.{Opened, opened_of}
 use Rattle.cells.proofs.Gate.{order_has, through_open, through_shut, opened_order, opened_refusal, opened_gate, opened_cells}
-use Rattle.cells.proofs.StoreOrder.{order_tells}
-use Rattle.moving.specs.declared.Moved.{Moved}
+use Rattle.moving.specs.Answer.{Moved}
 use Rattle.moving.specs.Moving.{rows_as, first_too_long, moved_in, moved_by, cell_by, target_by}
 use Rattle.moving.specs.Told.{moved_of}
 
@@ -171,15 +169,12 @@ module _ (s : Settings) (Y Z : ℕ) (st t : List ℕ) {r : Moved} (er : r ≡ mo
   pub refused_kept : (r.refusal.number ≡ 0 → ⊥) → t ≡ target_by s Y Z st t
   refused_kept h = sym (target_kept s Y Z st t (number_told s Y Z st (length t) er) h)
 
-  module _ (z : r.refusal.number ≡ 0) {n : ℕ} (en : n ≡ pick (length_fits Y (length st)) (length st / Y) 0) where
+  module _ (z : r.refusal.number ≡ 0) {n : ℕ} (count_is : n ≡ count_in Y st) where
     moves : moved_by s Y Z st (length t) ≡ 0
     moves = number_told s Y Z st (length t) er ∙ z
 
     pass : Passed s Y Z st (length t)
     pass = passed s Y Z st (length t) moves
-
-    count_is : n ≡ count_in Y st
-    count_is = en ∙ ap (λ (b : Bool). pick b (length st / Y) 0) (order_tells s Y st (opened_order s Y st pass.gated)).fits
 
     pub target_long : length t ≡ n * Z
     target_long = pass.long ∙ ap (λ (c : ℕ). c * Z) (sym count_is)

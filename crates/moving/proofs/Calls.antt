@@ -3,7 +3,7 @@
 -- given is octets is the contract's own last clause.
 -- Assumes nothing.
 use Prim.Native.Nat.{ℕ, ◌*◌, ◌≤◌}
-use mathlib.Core.Path.{◌≡◌, refl, ap, sym, ◌∙◌, subst}
+use mathlib.Core.Path.{◌≡◌, refl, ap, ap₂, sym, ◌∙◌, subst}
 use mathlib.Core.Logic.{⊎_elim}
 use mathlib.Core.List.{List, [], ◌∷◌, Memᴰ}
 use native.Mathlib.Omega.{arith}
@@ -15,7 +15,12 @@ use Rattle.walk.specs.declared.Settings.{Settings}
 use Rattle.walk.specs.Walk.{begun, no_refusal}
 use Rattle.format.proofs.Refusals.{picked}
 use Rattle.cells.specs.Order.{cell_size, wide_size, count_in, in_order, gate}
-use Rattle.moving.specs.declared.Moved.{Moved}
+use Rattle.moving.specs.declared.Unmoved.{Unmoved}
+use Rattle.std.specs.Prelude.{Result, Ok, Err}
+use Rattle.walk.specs.declared.Refused.{Refused}
+use Rattle.walk.specs.Told.{told}
+use Rattle.walk.proofs.Refuses.{has_number}
+use Rattle.moving.specs.Answer.{Moved, moved}
 use Rattle.moving.specs.Moving.{first_too_long, moved_in, moved_by, target_by}
 use Rattle.moving.specs.Told.{moved_of}
 use Rattle.moving.proofs.SameCells.{record_most}
@@ -43,22 +48,22 @@ plain_journey s Y Z y z st t o r x er ex n p u ep l q w eq ew =
 
 pub there_and_back :
     (κs : L.Lfts 2) (a : _) (r : _) (x : _) (λs : L.Lfts 2) (b : _) (q : _) (y : _) → theres.Post κs a r x → backs.Post λs b q y →
-    r.refusal.number ≡ 0 → b.0 ≡ a.0 → b.1.0.now ≡ x.1.1.0.now → length b.1.1.0.now ≡ length a.1.0.now →
-    (q ≡ record { refusal = no_refusal; cell = 0 }) × (y.1.1.0.now ≡ a.1.0.now)
+    (moved r).refusal.number ≡ 0 → b.0 ≡ a.0 → b.1.0.now ≡ x.1.1.0.now → length b.1.1.0.now ≡ length a.1.0.now →
+    (moved q ≡ record { refusal = no_refusal; cell = 0 }) × (y.1.1.0.now ≡ a.1.0.now)
 there_and_back κs a r x λs b q y k j n es ep l =
-    plain_journey a.0 cell_size wide_size (omega arith) (omega arith) a.1.0.now a.1.1.0.now k.1.1 r x.1.1.0.now k.0 k.1.0 n
-    b.1.0.now b.1.1.0.now ep l q y.1.1.0.now
+    plain_journey a.0 cell_size wide_size (omega arith) (omega arith) a.1.0.now a.1.1.0.now k.1.1 (moved r) x.1.1.0.now k.0 k.1.0 n
+    b.1.0.now b.1.1.0.now ep l (moved q) y.1.1.0.now
     (j.0 ∙ ap (λ (s : Settings). moved_of s wide_size cell_size b.1.0.now (length b.1.1.0.now)) es)
     (j.1.0 ∙ ap (λ (s : Settings). target_by s wide_size cell_size b.1.0.now b.1.1.0.now) es)
 
 -- and the other way, if the first move was not refused
 pub back_and_there :
     (κs : L.Lfts 2) (a : _) (r : _) (x : _) (λs : L.Lfts 2) (b : _) (q : _) (y : _) → backs.Post κs a r x → theres.Post λs b q y →
-    r.refusal.number ≡ 0 → b.0 ≡ a.0 → b.1.0.now ≡ x.1.1.0.now → length b.1.1.0.now ≡ length a.1.0.now →
-    (q ≡ record { refusal = no_refusal; cell = 0 }) × (y.1.1.0.now ≡ a.1.0.now)
+    (moved r).refusal.number ≡ 0 → b.0 ≡ a.0 → b.1.0.now ≡ x.1.1.0.now → length b.1.1.0.now ≡ length a.1.0.now →
+    (moved q ≡ record { refusal = no_refusal; cell = 0 }) × (y.1.1.0.now ≡ a.1.0.now)
 back_and_there κs a r x λs b q y k j n es ep l =
-    plain_journey a.0 wide_size cell_size (omega arith) (omega arith) a.1.0.now a.1.1.0.now k.1.1 r x.1.1.0.now k.0 k.1.0 n
-    b.1.0.now b.1.1.0.now ep l q y.1.1.0.now
+    plain_journey a.0 wide_size cell_size (omega arith) (omega arith) a.1.0.now a.1.1.0.now k.1.1 (moved r) x.1.1.0.now k.0 k.1.0 n
+    b.1.0.now b.1.1.0.now ep l (moved q) y.1.1.0.now
     (j.0 ∙ ap (λ (s : Settings). moved_of s cell_size wide_size b.1.0.now (length b.1.1.0.now)) es)
     (j.1.0 ∙ ap (λ (s : Settings). target_by s cell_size wide_size b.1.0.now b.1.1.0.now) es)
 
@@ -99,13 +104,13 @@ here k = Memᴰ.head refl
 later : {l : List ℕ} {x k : ℕ} → Memᴰ k l → Memᴰ k (x ∷ l)
 later m = Memᴰ.tail m
 
-pub there_numbered : (κs : L.Lfts 2) (a : _) (r : _) (x : _) → theres.Post κs a r x → OneOf of_there r.refusal.number
+pub there_numbered : (κs : L.Lfts 2) (a : _) (r : _) (x : _) → theres.Post κs a r x → OneOf of_there (moved r).refusal.number
 there_numbered κs a r x k =
     subst (OneOf of_there) (number_told a.0 cell_size wide_size a.1.0.now (length a.1.1.0.now) k.0)
     (wider_by (OneOf of_there) (here 0) (later (here 15)) (later (later (here 16))) a.0 cell_size wide_size (omega arith) a.1.0.now
     (length a.1.1.0.now))
 
-pub back_numbered : (κs : L.Lfts 2) (a : _) (r : _) (x : _) → backs.Post κs a r x → OneOf of_back r.refusal.number
+pub back_numbered : (κs : L.Lfts 2) (a : _) (r : _) (x : _) → backs.Post κs a r x → OneOf of_back (moved r).refusal.number
 back_numbered κs a r x k =
     subst (OneOf of_back) (number_told a.0 wide_size cell_size a.1.0.now (length a.1.1.0.now) k.0)
     (moved_by_lem (OneOf of_back) (here 0) (later (here 15)) (later (later (here 16))) (later (later (later (here 32)))) a.0 wide_size cell_size a.1.0.now
@@ -113,14 +118,24 @@ back_numbered κs a r x k =
 
 -- ---- the same arguments, the same answer and target
 
-pub there_same_answer : (κs : L.Lfts 2) (a : _) (r q : _) (s t : _) → theres.Post κs a r s → theres.Post κs a q t → r ≡ q
-there_same_answer κs a r q s t k j = k.0 ∙ sym j.0
+-- told apart by the record of the definitions, where its refusals are
+module _ (one : (r q : Refused) → told r ≡ told q → r ≡ q) where
+  moved_one : (x y : Result (Unit {0}) Unmoved) → moved x ≡ moved y → x ≡ y
+  moved_one (Ok u) (Ok v) e = refl
+  moved_one (Ok u) (Err v) e = absurd (has_number v.refused (sym (ap (λ (x : Moved). x.refusal.number) e)))
+  moved_one (Err u) (Ok v) e = absurd (has_number u.refused (ap (λ (x : Moved). x.refusal.number) e))
+  moved_one (Err u) (Err v) e =
+      ap₂ (λ (x : Refused) (n : ℕ). Err (record { refused = x; cell = n })) (one u.refused v.refused (ap (λ (x : Moved). x.refusal) e))
+      (ap (λ (x : Moved). x.cell) e)
+
+  pub there_same_answer : (κs : L.Lfts 2) (a : _) (r q : _) (s t : _) → theres.Post κs a r s → theres.Post κs a q t → r ≡ q
+  there_same_answer κs a r q s t k j = moved_one r q (k.0 ∙ sym j.0)
+
+  pub back_same_answer : (κs : L.Lfts 2) (a : _) (r q : _) (s t : _) → backs.Post κs a r s → backs.Post κs a q t → r ≡ q
+  back_same_answer κs a r q s t k j = moved_one r q (k.0 ∙ sym j.0)
 
 pub there_same_lent : (κs : L.Lfts 2) (a : _) (r q : _) (s t : _) → theres.Post κs a r s → theres.Post κs a q t → s.1.1.0.now ≡ t.1.1.0.now
 there_same_lent κs a r q s t k j = k.1.0 ∙ sym j.1.0
-
-pub back_same_answer : (κs : L.Lfts 2) (a : _) (r q : _) (s t : _) → backs.Post κs a r s → backs.Post κs a q t → r ≡ q
-back_same_answer κs a r q s t k j = k.0 ∙ sym j.0
 
 pub back_same_lent : (κs : L.Lfts 2) (a : _) (r q : _) (s t : _) → backs.Post κs a r s → backs.Post κs a q t → s.1.1.0.now ≡ t.1.1.0.now
 back_same_lent κs a r q s t k j = k.1.0 ∙ sym j.1.0

@@ -28,7 +28,7 @@ never : (o : Option Seg) → by_segment false (λ t. false) o ≡ false
 never none = refl
 never (some t) = refl
 
-told_by_lem : (at : ℕ) (x : Cell) → told_held (judged_of at x).content ≡ by_segment false (λ t. true) (segment_in x)
+told_by_lem : (at : ℕ) (x : Cell) → told_held (judged_of at x) ≡ by_segment false (λ t. true) (segment_in x)
 told_by_lem at free = refl
 told_by_lem at (held t) = refl
 told_by_lem at (taken g) = refl
@@ -47,10 +47,10 @@ module _ (s : Settings) (Y Z : ℕ) (r : List ℕ) where
     short_told h = sym (fits_not (omega (arith, ap length ep)))
 
     pub long_told :
-        {t : Judged} {b : Bool} → Z < 2 + length p → t ≡ judged_of (body_in s r) (cell_of s Y r) → b ≡ told_held t.content → b ≡ too_long s Y Z r
+        {t : Judged} {b : Bool} → Z < 2 + length p → t ≡ judged_of (body_in s r) (cell_of s Y r) → b ≡ told_held t → b ≡ too_long s Y Z r
     long_told h et eb =
         eb
-        ∙ ap (λ (x : Judged). told_held x.content) et
+        ∙ ap told_held et
         ∙ told_by_lem (body_in s r) (cell_of s Y r)
         ∙ sym (long_by (lt-leb (2 + length (packet_in r)) Z (omega (arith, ap length ep))))
 

@@ -3,7 +3,7 @@
 use Rattle.std.specs.Prelude.{ℕ, List}
 use Rattle.walk.specs.declared.Settings.{Settings}
 use Rattle.walk.specs.Walk.{refusal}
-use Rattle.moving.specs.declared.Moved.{Moved}
+use Rattle.moving.specs.Answer.{Moved}
 use Rattle.moving.specs.Moving.{moved_by, cell_by}
 
 unfoldable pub moved_of : Settings → ℕ → ℕ → List ℕ → ℕ → Moved

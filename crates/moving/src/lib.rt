@@ -5,24 +5,22 @@
 // writes nothing. The way back is refused by 32 if a packet is too long for the smaller cells, and names the lowest cell with such a one.
 #![tactic(auto)]
 
-ghost use Rattle.std.specs.Prelude.{◌≡◌, ◌*◌, ◌≤◌, length};
+ghost use Rattle.std.specs.Prelude.{◌≡◌, ◌*◌, ◌≤◌, length, IfOk};
 ghost use Rattle.std.proofs.lemmas.List.Edits.{sets};
 ghost use Rattle.octets.specs.Octets.{Octets};
 ghost use Rattle.cells.specs.Rows.{zero_row, row_at};
-ghost use Rattle.cells.specs.Order.{cell_size, wide_size};
+ghost use Rattle.cells.specs.Order.{cell_size, wide_size, count_in};
 ghost use Rattle.moving.specs.Moving.{row_as, rows_as, too_long, first_too_long, target_by};
 ghost use Rattle.moving.specs.Told.{moved_of};
+ghost use Rattle.moving.specs.Answer.{moved};
 
 use cells::{CELL, CELL_WIDE, MARK_SIZE};
-use walk::{REFUSED_ORDER, Refusal, Settings};
+use walk::{Refused, Settings};
 
-// A held packet is too long for the cells that it should move to.
-pub const REFUSED_PACKET_LONG: u8 = 32;
-
-// What a move answers: beside 32 the cell, and else 0.
-#[derive(Clone, Copy)]
-pub struct Moved {
-    pub refusal: Refusal,
+// Why a store is not moved, and beside a packet that is too long the lowest cell with one; 0 beside all else.
+#[derive(Clone, Copy, Debug, PartialEq, Eq)]
+pub struct Unmoved {
+    pub refused: Refused,
     pub cell: usize,
 }
 
@@ -35,7 +33,7 @@ fn is_too_long(s: Settings, row: &[u8], zero: &[u8], z: usize) -> bool
     if MARK_SIZE + p.len() <= z {
         return false;
     }
-    cells::is_held(cells::judge(s, row, zero))
+    cells::judge(s, row, zero).is_held()
 }
 
 // The lowest of the first n cells that holds such a packet; n if there is none.
@@ -43,15 +41,9 @@ fn first_too_long(s: Settings, store: &[u8], n: usize, zero: &[u8], z: usize) ->
     requires { zero.now ≡ zero_row (length zero.now) }
     ensures { result ≡ first_too_long s (length zero.now) z store.now n }
 {
-    let y = zero.len();
-    let mut i: usize = 0;
-    while i < n {
-        if is_too_long(s, cells::row(store, y, i), zero, z) {
-            return i;
-        }
-        i += 1;
-    }
-    n
+    (0..n)
+        .find(|i| is_too_long(s, cells::row(store, zero.len(), *i), zero, z))
+        .unwrap_or(n)
 }
 
 // A row goes over cell i of a store, as one of the size of the zero cell: zeros come after it.
@@ -75,68 +67,69 @@ fn put_rows(store: &[u8], y: usize, n: usize, target: &mut [u8], zero: &[u8])
     requires target_len { length target.old ≡ n * length zero.now }
     ensures { target.new ≡ rows_as y (length zero.now) store.now n }
 {
-    let mut at: usize = 0;
-    while at < n {
-        put_as(target, at, cells::row(store, y, at), zero);
-        at += 1;
+    for i in 0..n {
+        put_as(target, i, cells::row(store, y, i), zero);
     }
 }
 
-// What the move of a store into a target of so many octets, with cells of z octets, answers.
-fn answer(s: Settings, store: &[u8], zero: &[u8], len: usize, z: usize) -> Moved
+// Whether a store may move into a target of so many octets, with cells of z octets: how many cells it has.
+fn test(s: Settings, store: &[u8], zero: &[u8], len: usize, z: usize) -> Result<usize, Unmoved>
     requires zero_value { zero.now ≡ zero_row (length zero.now) }
     requires z_le_wide_size { z ≤ wide_size }
-    ensures { result ≡ moved_of s (length zero.now) z store.now len }
+    ensures value { moved result ≡ moved_of s (length zero.now) z store.now len }
+    ensures cells { IfOk result (λ n. n ≡ count_in (length zero.now) store.now) }
 {
-    let o = cells::opening::check(s, store, zero);
-    let first = o.refusal;
-    let n = o.cells;
-    if first.number != 0 {
-        return Moved {
-            refusal: first,
-            cell: 0,
-        };
-    }
+    let n = match cells::opening::check(s, store, zero) {
+        Ok(n) => n,
+        Err(r) => {
+            return Err(Unmoved {
+                refused: r,
+                cell: 0,
+            });
+        }
+    };
     if len != n * z {
-        return Moved {
-            refusal: walk::numbered(REFUSED_ORDER),
+        return Err(Unmoved {
+            refused: Refused::Order,
             cell: 0,
-        };
+        });
     }
     let i = first_too_long(s, store, n, zero, z);
     if i < n {
-        return Moved {
-            refusal: walk::numbered(REFUSED_PACKET_LONG),
+        return Err(Unmoved {
+            refused: Refused::PacketLong,
             cell: i,
-        };
+        });
     }
-    Moved {
-        refusal: walk::numbered(0),
-        cell: 0,
-    }
+    Ok(n)
 }
 
 // The move between cells of two sizes, those of the two zero cells. Only a move that is not refused writes.
-fn move_by(s: Settings, store: &[u8], from: &[u8], target: &mut [u8], to: &[u8]) -> Moved
+fn move_by(
+    s: Settings,
+    store: &[u8],
+    from: &[u8],
+    target: &mut [u8],
+    to: &[u8],
+) -> Result<(), Unmoved>
     requires from_value { from.now ≡ zero_row (length from.now) }
     requires to_value { to.now ≡ zero_row (length to.now) }
     requires to_len_bound { length to.now ≤ wide_size }
-    ensures value { result ≡ moved_of s (length from.now) (length to.now) store.now (length target.old) }
+    ensures value { moved result ≡ moved_of s (length from.now) (length to.now) store.now (length target.old) }
     ensures target_after { target.new ≡ target_by s (length from.now) (length to.now) store.now target.old }
 {
-    let r = answer(s, store, from, target.len(), to.len());
-    let refusal = r.refusal;
-    if refusal.number != 0 {
-        return r;
+    match test(s, store, from, target.len(), to.len()) {
+        Ok(n) => {
+            put_rows(store, from.len(), n, target, to);
+            Ok(())
+        }
+        Err(u) => Err(u),
     }
-    let n = cells::count(store.len(), from.len());
-    put_rows(store, from.len(), n, target, to);
-    r
 }
 
 // A store with cells of 1,024 octets moves to one with cells of 2,048.
-pub fn there(s: Settings, old: &[u8], new: &mut [u8]) -> Moved
-    ensures value { result ≡ moved_of s cell_size wide_size old.now (length new.old) }
+pub fn there(s: Settings, old: &[u8], new: &mut [u8]) -> Result<(), Unmoved>
+    ensures value { moved result ≡ moved_of s cell_size wide_size old.now (length new.old) }
     ensures after { new.new ≡ target_by s cell_size wide_size old.now new.old }
     ensures octets { Octets old.now }
 {
@@ -146,8 +139,8 @@ pub fn there(s: Settings, old: &[u8], new: &mut [u8]) -> Moved
 }
 
 // And back.
-pub fn back(s: Settings, new: &[u8], old: &mut [u8]) -> Moved
-    ensures value { result ≡ moved_of s wide_size cell_size new.now (length old.old) }
+pub fn back(s: Settings, new: &[u8], old: &mut [u8]) -> Result<(), Unmoved>
+    ensures value { moved result ≡ moved_of s wide_size cell_size new.now (length old.old) }
     ensures after { old.new ≡ target_by s wide_size cell_size new.now old.old }
     ensures octets { Octets new.now }
 {

@@ -9,7 +9,7 @@ use Rattle.walk.specs.declared.Settings.{Settings}
 use Rattle.walk.specs.Walk.{Reading, going, none_failed, settings_of, octets, field_from, uinteger}
 use Rattle.fields.specs.Fields.{block}
 use Rattle.packet.specs.declared.Present.{Present}
-use Rattle.packet.specs.declared.Header.{Header}
+use Rattle.packet.specs.Answer.{Header}
 use Rattle.packet.specs.Format.{Head}
 use Rattle.packet.specs.FixedPart.{octet_field, flags_of, after_sdu, after_area, after_service, after_operation, after_version, after_session, after_secondary}
 use Rattle.packet.specs.FixedPart.{after_qualifier, after_transaction, after_presence, names_end, fixed_end}

@@ -6,7 +6,7 @@ use mathlib.Core.Bool.{true}
 use mathlib.Core.List.{List, ◌∷◌}
 use Rattle.walk.specs.declared.Settings.{Settings}
 use Rattle.walk.specs.Walk.{going}
-use Rattle.packet.specs.declared.Header.{Header}
+use Rattle.packet.specs.Answer.{Header}
 use Rattle.packet.specs.Reading.{ended, refusal_of, refused_header, accepted_header, read_packet}
 use Rattle.format.proofs.Refusals.{picked, OfFields, OfStart, ended_has}
 use Rattle.numbers.specs.Lists.{Numbered, of_reading}

@@ -10,8 +10,8 @@ use Rattle.walk.specs.declared.Settings.{Settings}
 use Rattle.walk.specs.Profile.{fixed_profile}
 use Rattle.walk.specs.Walk.{Reading, goes, going, check, begun, timestamp_least, timestamp_most}
 use Rattle.format.proofs.Refusals.{picked}
-use Rattle.salvage.specs.declared.Salvaged.{Salvaged}
-use Rattle.salvage.specs.Listing.{Stop}
+use Rattle.salvage.specs.Answer.{Salvaged}
+use Rattle.salvage.specs.declared.Stop.{Stop}
 use Rattle.salvage.specs.Calling.{refusal_of, salvaged}
 use Rattle.salvage.specs.Parts.{holds, refusal_in, salvaged_in}
 use Rattle.numbers.specs.Lists.{Numbered, of_salvage}

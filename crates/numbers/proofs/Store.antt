@@ -22,7 +22,7 @@ use Rattle.arrival.specs.Told.{said, arrival_of}
 use Rattle.taking.specs.Told.{taken_of}
 use Rattle.join.specs.Joining.{took_as, joined_by, joining}
 use Rattle.join.specs.Told.{joined_of}
-use Rattle.recording.specs.declared.Recorded.{Recorded}
+use Rattle.recording.specs.Answer.{Recorded}
 use Rattle.recording.specs.Ending.{refused_by as by_recording, recorded_of}
 use Rattle.numbers.specs.Lists.{Numbered, of_reading, of_arrival, of_taking, of_forgetting, of_joining, of_order, of_recording}
 use Rattle.format.proofs.Refusals.{picked}

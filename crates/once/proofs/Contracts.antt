@@ -22,12 +22,14 @@ use Rattle.cells.specs.Messages.{Run, body_of, picked}
 use Rattle.cells.proofs.Picking.{pick_yes}
 use Rattle.arrival.specs.Arriving.{Arrived, arrived}
 use Rattle.taking.specs.Taking.{Took, message, unable, writing, drawn, took, out_with}
-use Rattle.taking.specs.declared.Taken.{Taken}
+use Rattle.taking.specs.Answer.{Taken}
 use Rattle.taking.specs.Told.{taken_of}
 use Rattle.taking.proofs.Tells.{taken_tells}
 use Rattle.store.proofs.Arguments.{take_call, take_output}
+use Rattle.taking.specs.Answer.{taken_answer}
+use Rattle.join.specs.Answer.{joined_answer}
 use Rattle.store.proofs.take.Reads as takes
-use Rattle.join.specs.declared.Joined.{Joined}
+use Rattle.join.specs.Answer.{Joined}
 use Rattle.join.specs.Joining.{Joining}
 use Rattle.join.specs.Told.{taken, joined_of}
 use Rattle.join.proofs.Arguments.{join_call, join_output}
@@ -105,7 +107,7 @@ module _ (s : Settings) (n : ℕ) (u : InUse s n) (ms : List Sending) (cs : List
 pub take_once : (κs : L.Lfts 2) (a : _) (r : _) (x : _) → takes.Post κs a r x → (n : ℕ) → InUse (take_call κs a).settings n →
     (ms : List Sending) (cs : List Call) → (take_call κs a).store ≡ store_behind (take_call κs a).settings cell_size n cs →
     Unforgotten (take_call κs a).settings cell_size n ms cs → (m : Sending) → Memᴰ m ms → HandedOut (take_call κs a).settings cell_size n m cs →
-    r ≡ its_answer (take_call κs a).settings m → take_output κs x ≡ its_output (take_call κs a).settings m (take_call κs a).output → ⊥
+    taken_answer r ≡ its_answer (take_call κs a).settings m → take_output κs x ≡ its_output (take_call κs a).settings m (take_call κs a).output → ⊥
 take_once κs a r x p n u ms cs e g m h o b w =
     not_again s n u ms cs m h (taking out) (with_takings s cell_size n ms cs (out ∷ []) g) o
     (subst (λ (z : List ℕ). TakesIt s cell_size m z (taking out)) e (go (took_by s cell_size st (taking out)) refl (take_answers κs a r x p)))
@@ -122,14 +124,14 @@ take_once κs a r x p n u ms cs e g m h o b w =
     k : IsCut s cell_size m
     k = g.given.traffic.cut m h
 
-    go : (t : Option Took) → took_by s cell_size st (taking out) ≡ t → some r ≡ map taken_of t → TakesIt s cell_size m st (taking out)
+    go : (t : Option Took) → took_by s cell_size st (taking out) ≡ t → some (taken_answer r) ≡ map taken_of t → TakesIt s cell_size m st (taking out)
     go none d f = let z : ◌≡◌ {A = ℕ} 0 1 = cc f in absurd (omega arith)
     go (some (message q)) d f =
-        let y : its_answer s m ≡ taken_of (message q) = sym b ∙ (let v : r ≡ taken_of (message q) = cc f in v) in
+        let y : its_answer s m ≡ taken_of (message q) = sym b ∙ (let v : taken_answer r ≡ taken_of (message q) = cc f in v) in
         told_takes s cell_size m k st (taking out) q d (ap (λ (v : Taken). v.header) (sym y)) (ap (λ (v : Taken). v.counter.0) (sym y))
         (sym (take_writes κs a r x p) ∙ w)
     go (some (unable i)) d f =
-        let y : its_answer s m ≡ taken_of (unable i) = sym b ∙ (let v : r ≡ taken_of (unable i) = cc f in v) in
+        let y : its_answer s m ≡ taken_of (unable i) = sym b ∙ (let v : taken_answer r ≡ taken_of (unable i) = cc f in v) in
         absurd (header_some s cell_size m k (ap (λ (v : Taken). v.header) y))
 
 -- a joining that takes nothing answers no H
@@ -142,7 +144,7 @@ pub join_once : (κs : L.Lfts 3) (a : _) (r : _) (x : _) → joins.Post κs a r 
     (ms : List Sending) (cs : List Call) → (join_call κs a).store ≡ store_behind (join_call κs a).settings cell_size n cs →
     Unforgotten (join_call κs a).settings cell_size n ms (cs ++ joining (join_call κs a).packet (join_call κs a).output ∷ []) →
     (m : Sending) → Memᴰ m ms → HandedOut (join_call κs a).settings cell_size n m cs →
-    r ≡ taken (its_answer (join_call κs a).settings m) → join_output κs x ≡ its_output (join_call κs a).settings m (join_call κs a).output → ⊥
+    joined_answer r ≡ taken (its_answer (join_call κs a).settings m) → join_output κs x ≡ its_output (join_call κs a).settings m (join_call κs a).output → ⊥
 join_once κs a r x p n u ms cs e g m h o b w =
     not_again s n u ms cs m h c g o (subst (λ (z : List ℕ). TakesIt s cell_size m z c) e (go (took_by s cell_size st c) refl))
   where
@@ -158,7 +160,7 @@ join_once κs a r x p n u ms cs e g m h o b w =
     k : IsCut s cell_size m
     k = g.given.traffic.cut m h
 
-    header_is : r.header ≡ header_size s m
+    header_is : (joined_answer r).header ≡ header_size s m
     header_is = ap (λ (v : Joined). v.header) b
 
     go : (t : Option Took) → took_by s cell_size st c ≡ t → TakesIt s cell_size m st c
@@ -190,7 +192,7 @@ drawn_20 (some r) long e = go (leb (length (writing r)) long) e
 -- if `store::take` answers 20, every message all of whose segments have arrived is out
 pub take_empty : (κs : L.Lfts 2) (a : _) (r : _) (x : _) → takes.Post κs a r x → (n : ℕ) → InUse (take_call κs a).settings n →
     (ms : List Sending) (cs : List Call) → (take_call κs a).store ≡ store_behind (take_call κs a).settings cell_size n cs →
-    Unforgotten (take_call κs a).settings cell_size n ms cs → r.refusal.number ≡ 20 →
+    Unforgotten (take_call κs a).settings cell_size n ms cs → (taken_answer r).refusal.number ≡ 20 →
     (m : Sending) → Memᴰ m ms → AllCame (take_call κs a).settings m cs → HandedOut (take_call κs a).settings cell_size n m cs
 unfolding taken_from
 take_empty κs a r x p n u ms cs e g z m h all = go ((each_once·whole s n u ms cs g m h).exactly.1 all)
@@ -207,7 +209,7 @@ take_empty κs a r x p n u ms cs e g z m h all = go ((each_once·whole s n u ms 
     kept : Kept s cell_size n now
     kept = behind_keeps s cell_size n (omega arith) u cs g.given.traffic.octets
 
-    answer : r ≡ taken_of (taken_from next_counter steps_most (cells_in s cell_size n now) (length out))
+    answer : taken_answer r ≡ taken_of (taken_from next_counter steps_most (cells_in s cell_size n now) (length out))
     answer =
         p.0 ∙ ap (λ (y : List ℕ). taken_of (took s cell_size y (length out))) e ∙ ap taken_of (took_is s cell_size n now kept (length out))
 

@@ -1,4 +1,9 @@
-pub mod Whole
 pub mod Counts
 pub mod Rounds
 pub mod Arguments
+pub mod Apart
+pub mod Chain
+pub mod Texting
+pub mod Keeping
+pub mod Judging
+pub mod Whole

@@ -5,7 +5,7 @@ use Rattle.std.specs.Prelude.{ℕ, List, [], ◌∷◌, false, replicate}
 use Rattle.walk.specs.declared.Settings.{Settings}
 use Rattle.walk.specs.Profile.{varint_profile}
 use Rattle.fields.specs.Fields.{nowhere, place}
-use Rattle.packet.specs.declared.Header.{Header}
+use Rattle.packet.specs.Answer.{Header}
 use Rattle.packet.specs.Format.{Values}
 
 abbrev pub settings : Settings

@@ -7,10 +7,7 @@ use Rattle.walk.specs.Walk.{Reading, Step, octets, check, field_from}
 use Rattle.packet.specs.declared.Fixed.{Fixed}
 use Rattle.packet.specs.declared.Present.{Present}
 -- a number of n octets, and an octet
-unfoldable pub use Rattle.walk.specs.Walk.{wide_field}
-
-unfoldable pub octet_field : Bound → List ℕ → Reading → Step ℕ
-octet_field b p w = record { walk = octets b p 1 w; value = octet_at p w.at }
+unfoldable pub use Rattle.walk.specs.Walk.{octet_field, wide_field}
 
 -- binding version and SDU type, an octet: 7, then 8
 unfoldable pub after_sdu : Bound → List ℕ → Reading → Reading

@@ -3,7 +3,7 @@
 -- Assumes nothing: these are definitions.
 use Rattle.std.specs.Prelude.{ℕ, ◌+◌, ◌-◌, Bool, List, ◌++◌}
 use Rattle.octets.specs.Octets.{pick, part, alike}
-use Rattle.packet.specs.declared.Header.{Header}
+use Rattle.packet.specs.Answer.{Header}
 use Rattle.packet.specs.Format.{primary_size, fixed_size}
 use Rattle.packet.specs.Reading.{counter_size}
 

@@ -1,3 +1,4 @@
+pub mod Answer
 pub mod Numbers
 pub mod Format
 pub mod Began
@@ -7,3 +8,4 @@ pub mod Key
 pub mod Inner
 pub mod Figure14
 pub mod Mark
+pub mod Decoded

@@ -13,7 +13,7 @@ use Rattle.packet.specs.declared.Fixed.{Fixed}
 use Rattle.packet.specs.declared.Present.{Present}
 use Rattle.packet.specs.declared.Ids.{Ids}
 use Rattle.packet.specs.declared.Texts.{Texts}
-use Rattle.packet.specs.declared.Header.{Header}
+use Rattle.packet.specs.Answer.{Header}
 use Rattle.packet.specs.Format.{primary_size, counter_width, flags_whole}
 use Rattle.packet.specs.FixedPart.{octet_field, wide_field, fixed_end, fixed_of, present_of}
 

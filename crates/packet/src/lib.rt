@@ -18,20 +18,18 @@
 
 ghost use Rattle.std.specs.Prelude.{◌≡◌, length};
 ghost use Rattle.octets.specs.Octets.{Octets};
-ghost use Rattle.walk.specs.Inner.{as_walk, of_walk};
-ghost use Rattle.fields.specs.Fields.{opt};
+ghost use Rattle.walk.specs.Walk.{goes as goes_at};
+ghost use Rattle.walk.specs.Read.{Reads, Tests, Answers};
+ghost use Rattle.fields.specs.Fields.{block};
 ghost use Rattle.packet.specs.Numbers.{next_sequence_count, sequence_count_at, next_segment_counter};
-ghost use Rattle.packet.specs.FixedPart.{flags_of, octet_field, wide_field, sdu_field};
-ghost use Rattle.packet.specs.Reading.{primary_tests, primary_of, ids_of, texts_of, body_test, segmented as segmented_of, counter_size};
-ghost use Rattle.packet.specs.Reading.{refusal_of, refused_header, no_fixed, read_packet};
-ghost use Rattle.packet.specs.Inner.{held_count, names_of, routing_of, fixed_step, as_octet, as_word, as_counter, as_ids, as_texts};
+ghost use Rattle.packet.specs.FixedPart.{flags_of, sdu_field};
+ghost use Rattle.packet.specs.Reading.{primary_of, ids_of, texts_of, body_test, segmented as segmented_of, counter_size};
+ghost use Rattle.packet.specs.Reading.{read_packet};
+ghost use Rattle.packet.specs.Decoded.{decoded};
+ghost use Rattle.packet.specs.Inner.{held_count, names_of, routing_of, fixed_part, secondary, Judges};
 
-use fields::Place;
-use walk::{
-    Bound, REFUSED_BINDING, REFUSED_EMPTY_SEGMENT, REFUSED_FEW_OCTETS, REFUSED_HEADER_ENDS,
-    REFUSED_IDLE, REFUSED_LONG, REFUSED_NO_SECONDARY, REFUSED_SDU_TYPE, REFUSED_SESSION,
-    REFUSED_SHORT, REFUSED_VERSION, Refusal, Settings, Walk,
-};
+use fields::{Domain, NO_DOMAIN, NOWHERE, Place};
+use walk::{Reader, Refused, Settings, ensure};
 
 // The largest sequence count, and how many there are.
 pub const COUNT_MOST: u16 = 16383;
@@ -132,10 +130,10 @@ pub struct Texts {
     pub authentication: Place,
 }
 
-// What reading answers. h is H, the octets of the secondary header without its counter. A header with a zone is of the withdrawn kind.
+// What reading answers if it does not refuse. h is H, the octets of the secondary header without its counter. A header with a zone is of
+// the withdrawn kind.
 #[derive(Clone, Copy)]
 pub struct Header {
-    pub refusal: Refusal,
     pub primary: Primary,
     pub fixed: Fixed,
     pub has: Present,
@@ -146,10 +144,9 @@ pub struct Header {
     pub withdrawn: bool,
 }
 
-// Steps of a reading with what they found.
+// The first half of the fixed part, and the second up to the qualifier.
 #[derive(Clone, Copy)]
 struct Names {
-    walk: Walk,
     sdu: u8,
     area: u16,
     service: u16,
@@ -159,49 +156,11 @@ struct Names {
 
 #[derive(Clone, Copy)]
 struct Routing {
-    walk: Walk,
     error: u8,
     qos: u8,
     session: u8,
     secondary_apid: SecondaryApid,
     qualifier: u16,
-}
-
-#[derive(Clone, Copy)]
-pub struct FixedStep {
-    pub walk: Walk,
-    pub fixed: Fixed,
-    pub has: Present,
-}
-
-#[derive(Clone, Copy)]
-struct Octet {
-    walk: Walk,
-    value: u8,
-}
-
-#[derive(Clone, Copy)]
-struct Word {
-    walk: Walk,
-    value: u16,
-}
-
-#[derive(Clone, Copy)]
-struct Counter {
-    walk: Walk,
-    value: SegmentCounter,
-}
-
-#[derive(Clone, Copy)]
-pub struct IdsStep {
-    pub walk: Walk,
-    pub ids: Ids,
-}
-
-#[derive(Clone, Copy)]
-pub struct TextsStep {
-    pub walk: Walk,
-    pub texts: Texts,
 }
 
 // A count above the largest stands for the largest: 0 follows either.
@@ -243,20 +202,26 @@ pub fn next_segment_counter(c: SegmentCounter) -> SegmentCounter
 }
 
 // 1 to 4, then 5 or 27.
-fn primary_walk(p: &[u8], w: Walk) -> Walk
-    ensures { result ≡ as_walk (primary_tests p.now (of_walk w)) }
+fn check_primary(p: &[u8]) -> Result<(), Refused>
+    ensures { Judges p.now result }
 {
+    ensure(PRIMARY <= p.len(), Refused::FewOctets)?;
     let first = octets::octet(p, 0);
-    let id = octets::be16(p, 0);
-    let want = octets::be16(p, 4) as usize + 7;
-    let a = w
-        .check(6 <= p.len(), REFUSED_FEW_OCTETS)
-        .check(first < 32, REFUSED_VERSION);
-    let b = a
-        .check(first / 8 % 2 == 1, REFUSED_NO_SECONDARY)
-        .check(id % 2048 != 2047, REFUSED_IDLE);
-    b.check(want <= p.len(), REFUSED_SHORT)
-        .check(p.len() <= want, REFUSED_LONG)
+    ensure(first < 32, Refused::Version)?;
+    ensure(first / 8 % 2 == 1, Refused::NoSecondary)?;
+    ensure(octets::read::<u16>(p, 0) % 2048 != 2047, Refused::Idle)?;
+    let want = octets::read::<u16>(p, 4) as usize + 7;
+    if p.len() < want {
+        return Err(Refused::Short {
+            missing: want - p.len(),
+        });
+    }
+    if want < p.len() {
+        return Err(Refused::Long {
+            over: p.len() - want,
+        });
+    }
+    Ok(())
 }
 
 fn read_primary(p: &[u8]) -> Primary
@@ -264,8 +229,8 @@ fn read_primary(p: &[u8]) -> Primary
 {
     let first = octets::octet(p, 0);
     let third = octets::octet(p, 2);
-    let apid = Apid(octets::be16(p, 0) % 2048);
-    let sequence_count = SequenceCount(octets::be16(p, 2) % 16384);
+    let apid = Apid(octets::read::<u16>(p, 0) % 2048);
+    let sequence_count = SequenceCount(octets::read::<u16>(p, 2) % 16384);
     Primary {
         packet_type: first / 16 % 2,
         apid: apid,
@@ -274,90 +239,48 @@ fn read_primary(p: &[u8]) -> Primary
     }
 }
 
-// An octet at the walk's place.
-fn read_octet(b: Bound, p: &[u8], w: Walk) -> Octet
-    ensures { result ≡ as_octet (octet_field b p.now (of_walk w)) }
-{
-    let x = octets::octet(p, w.at);
-    let end = w.octets(b, p, 1);
-    Octet {
-        walk: end,
-        value: x,
-    }
-}
-
-// A number of two octets at the walk's place.
-fn read_word(b: Bound, p: &[u8], w: Walk) -> Word
-    ensures { result ≡ as_word (wide_field 2 b p.now (of_walk w)) }
-{
-    let x = octets::be16(p, w.at);
-    let end = w.octets(b, p, 2);
-    Word {
-        walk: end,
-        value: x,
-    }
-}
-
 // Binding version (7) and SDU type (8).
-fn read_sdu(b: Bound, p: &[u8], w: Walk) -> Octet
-    ensures { result ≡ as_octet (sdu_field b p.now (of_walk w)) }
+fn read_sdu(reader: &mut Reader) -> Result<u8, Refused>
+    ensures { Reads (sdu_field reader.old.bound reader.old.octets.now) reader.old reader.new result }
 {
-    let a = read_octet(b, p, w);
-    let aw = a.walk;
-    let first = a.value;
-    let end = aw
-        .check(first < 32, REFUSED_BINDING)
-        .check(first % 32 < 22, REFUSED_SDU_TYPE);
-    Octet {
-        walk: end,
-        value: first % 32,
-    }
+    let first = reader.octet()?;
+    ensure(first < 32, Refused::Binding)?;
+    ensure(first % 32 < 22, Refused::SduType)?;
+    Ok(first % 32)
 }
 
 // SDU type, area, service, operation, area version.
-fn read_names(b: Bound, p: &[u8], w: Walk) -> Names
-    ensures { result ≡ names_of b p.now (of_walk w) }
+fn read_names(reader: &mut Reader) -> Result<Names, Refused>
+    ensures { Reads (names_of reader.old.bound reader.old.octets.now) reader.old reader.new result }
 {
-    let a = read_sdu(b, p, w);
-    let aw = a.walk;
-    let x = read_word(b, p, aw);
-    let xw = x.walk;
-    let c = read_word(b, p, xw);
-    let cw = c.walk;
-    let d = read_word(b, p, cw);
-    let dw = d.walk;
-    let e = read_octet(b, p, dw);
-    let ew = e.walk;
-    Names {
-        walk: ew,
-        sdu: a.value,
-        area: x.value,
-        service: c.value,
-        operation: d.value,
-        version: e.value,
-    }
+    Ok(Names {
+        sdu: read_sdu(reader)?,
+        area: reader.be16()?,
+        service: reader.be16()?,
+        operation: reader.be16()?,
+        version: reader.octet()?,
+    })
 }
 
-// Error, QoS level, session (9), secondary APID, qualifier.
-fn read_routing(b: Bound, p: &[u8], w: Walk) -> Routing
-    ensures { result ≡ routing_of b p.now (of_walk w) }
+// Error, QoS level, session (9), secondary APID, qualifier. The secondary APID began in the octet of the session.
+fn read_routing(reader: &mut Reader) -> Result<Routing, Refused>
+    ensures { Reads (routing_of reader.old.bound reader.old.octets.now) reader.old reader.new result }
 {
-    let a = read_octet(b, p, w);
-    let aw = a.walk;
-    let high = a.value;
-    let x = read_octet(b, p, aw.check(high / 8 % 4 < 3, REFUSED_SESSION));
-    let xw = x.walk.field_from(w);
-    let c = read_word(b, p, xw);
-    let cw = c.walk;
-    let secondary_apid = SecondaryApid((high % 8) as u16 * 256 + x.value as u16);
-    Routing {
-        walk: cw,
+    let start = reader.at;
+    let high = reader.octet()?;
+    ensure(high / 8 % 4 < 3, Refused::Session)?;
+    let low = match reader.octet() {
+        Ok(low) => low,
+        Err(refused) => return Err(refused.began(start)),
+    };
+    let secondary_apid = SecondaryApid((high % 8) as u16 * 256 + low as u16);
+    Ok(Routing {
         error: high / 128,
         qos: high / 32 % 4,
         session: high / 8 % 4,
-        secondary_apid: secondary_apid,
-        qualifier: c.value,
-    }
+        secondary_apid,
+        qualifier: reader.be16()?,
+    })
 }
 
 pub fn flags_of(f: u8) -> Present
@@ -375,61 +298,28 @@ pub fn flags_of(f: u8) -> Present
     }
 }
 
-// The whole fixed part.
-pub fn read_fixed(b: Bound, p: &[u8], w: Walk) -> FixedStep
-    ensures { result ≡ fixed_step b p.now (of_walk w) }
+// The whole fixed part, and its presence flags.
+pub fn read_fixed(reader: &mut Reader) -> Result<(Fixed, Present), Refused>
+    ensures { Reads (fixed_part reader.old.bound reader.old.octets.now) reader.old reader.new result }
 {
-    let n = read_names(b, p, w);
-    let nw = n.walk;
-    let r = read_routing(b, p, nw);
-    let rw = r.walk;
-    let transaction = octets::be64(p, rw.at);
-    let t = rw.octets(b, p, 8);
-    let has = flags_of(octets::octet(p, t.at));
-    let end = t.octets(b, p, 1);
-    let secondary_apid = r.secondary_apid;
+    let names = read_names(reader)?;
+    let routing = read_routing(reader)?;
+    let transaction = reader.be64()?;
+    let has = flags_of(reader.octet()?);
     let fixed = Fixed {
-        sdu: n.sdu,
-        area: n.area,
-        service: n.service,
-        operation: n.operation,
-        version: n.version,
-        error: r.error,
-        qos: r.qos,
-        session: r.session,
-        secondary_apid: secondary_apid,
-        qualifier: r.qualifier,
-        transaction: transaction,
+        sdu: names.sdu,
+        area: names.area,
+        service: names.service,
+        operation: names.operation,
+        version: names.version,
+        error: routing.error,
+        qos: routing.qos,
+        session: routing.session,
+        secondary_apid: routing.secondary_apid,
+        qualifier: routing.qualifier,
+        transaction,
     };
-    FixedStep {
-        walk: end,
-        fixed: fixed,
-        has: has,
-    }
-}
-
-// An octet if it is there, else 0.
-fn octet_if(there: bool, b: Bound, p: &[u8], w: Walk) -> Octet
-    ensures { result ≡ as_octet (opt there 0 (octet_field b p.now) (of_walk w)) }
-{
-    if there {
-        return read_octet(b, p, w);
-    }
-    Octet { walk: w, value: 0 }
-}
-
-// A segment counter if it is there, else 0.
-fn counter_if(there: bool, b: Bound, p: &[u8], w: Walk) -> Counter
-    ensures { result ≡ as_counter (opt there 0 (wide_field 4 b p.now) (of_walk w)) }
-{
-    if there {
-        let n = walk::read_four(b, p, w);
-        let v = n.walk;
-        let x = SegmentCounter(n.value);
-        return Counter { walk: v, value: x };
-    }
-    let x = SegmentCounter(0);
-    Counter { walk: w, value: x }
+    Ok((fixed, has))
 }
 
 // Whether the sequence flags aren't 11.
@@ -440,147 +330,52 @@ fn segmented(p: &[u8]) -> bool
 }
 
 // Source id, destination id, segment counter, priority.
-pub fn read_ids(s: Settings, b: Bound, segment: bool, has: Present, p: &[u8], w: Walk) -> IdsStep
-    ensures { result ≡ as_ids (ids_of s b segment has p.now (of_walk w)) }
+pub fn read_ids(reader: &mut Reader, segment: bool, has: Present) -> Result<Ids, Refused>
+    ensures { Reads (ids_of reader.old.settings reader.old.bound segment has reader.old.octets.now) reader.old reader.new result }
 {
-    let a = octet_if(has.source, b, p, w);
-    let aw = a.walk;
-    let x = octet_if(has.destination, b, p, aw);
-    let xw = x.walk;
-    let c = counter_if(segment, b, p, xw);
-    let cw = c.walk;
-    let d = fields::uinteger_if(has.priority, s, b, p, cw);
-    let dw = d.walk;
-    let counter = c.value;
-    let ids = Ids {
-        source: a.value,
-        destination: x.value,
-        counter: counter,
-        priority: d.value,
-    };
-    IdsStep { walk: dw, ids: ids }
+    Ok(Ids {
+        source: reader.optional(has.source, 0, Reader::octet)?,
+        destination: reader.optional(has.destination, 0, Reader::octet)?,
+        counter: SegmentCounter(reader.optional(segment, 0, Reader::be32)?),
+        priority: reader.optional(has.priority, 0, Reader::uinteger)?,
+    })
+}
+
+// A timestamp: T octets.
+fn read_timestamp(reader: &mut Reader) -> Result<Place, Refused>
+    ensures { Reads (block reader.old.settings.t reader.old.bound reader.old.octets.now) reader.old reader.new result }
+{
+    let t = reader.settings.t;
+    fields::read_block(reader, t)
 }
 
 // Timestamp, network zone, session name, domain, authentication id.
-pub fn read_texts(s: Settings, b: Bound, has: Present, p: &[u8], w: Walk) -> TextsStep
-    ensures { result ≡ as_texts (texts_of s b has p.now (of_walk w)) }
+pub fn read_texts(reader: &mut Reader, has: Present) -> Result<Texts, Refused>
+    ensures { Reads (texts_of reader.old.settings reader.old.bound has reader.old.octets.now) reader.old reader.new result }
 {
-    let a = fields::block_if(has.timestamp, s.t, b, p, w);
-    let aw = a.walk;
-    let x = fields::text_if(has.zone, s, b, p, aw);
-    let xw = x.walk;
-    let c = fields::text_if(has.session_name, s, b, p, xw);
-    let cw = c.walk;
-    let d = fields::domain_if(has.domain, s, b, p, cw);
-    let dw = d.walk;
-    let e = fields::blob_if(has.authentication, s, b, p, dw);
-    let ew = e.walk;
-    let timestamp = a.place;
-    let zone = x.place;
-    let session_name = c.place;
-    let parts = d.parts;
-    let authentication = e.place;
-    let texts = Texts {
-        timestamp: timestamp,
-        zone: zone,
-        session_name: session_name,
-        count: d.count,
-        parts: parts,
-        authentication: authentication,
-    };
-    TextsStep {
-        walk: ew,
-        texts: texts,
-    }
+    let timestamp = reader.optional(has.timestamp, NOWHERE, read_timestamp)?;
+    let zone = reader.optional(has.zone, NOWHERE, fields::read_text)?;
+    let session_name = reader.optional(has.session_name, NOWHERE, fields::read_text)?;
+    let Domain { count, parts } = reader.optional(has.domain, NO_DOMAIN, fields::read_domain)?;
+    let authentication = reader.optional(has.authentication, NOWHERE, fields::read_blob)?;
+    Ok(Texts {
+        timestamp,
+        zone,
+        session_name,
+        count,
+        parts,
+        authentication,
+    })
 }
 
 // 14: a segment has a body.
-fn body_walk(p: &[u8], w: Walk) -> Walk
-    ensures { result ≡ as_walk (body_test p.now (of_walk w)) }
+fn check_body(p: &[u8], end: usize) -> Result<(), Refused>
+    ensures { Tests (body_test p.now (goes_at end)) end result }
 {
     if segmented(p) {
-        return w.check(w.at < p.len(), REFUSED_EMPTY_SEGMENT);
+        return ensure(end < p.len(), Refused::EmptySegment);
     }
-    w
-}
-
-// The fixed part of a refusal.
-fn no_fixed() -> Fixed
-    ensures { result ≡ no_fixed }
-{
-    let secondary_apid = SecondaryApid(0);
-    Fixed {
-        sdu: 0,
-        area: 0,
-        service: 0,
-        operation: 0,
-        version: 0,
-        error: 0,
-        qos: 0,
-        session: 0,
-        secondary_apid: secondary_apid,
-        qualifier: 0,
-        transaction: 0,
-    }
-}
-
-// What a refused walk tells: beside 5 and 27 the octets missing or left over, beside 6 where in the secondary header the field began.
-fn refusal_of(p: &[u8], w: Walk) -> Refusal
-    ensures { result ≡ refusal_of p.now (of_walk w) }
-{
-    let n = w.refused;
-    let want = octets::be16(p, 4) as usize + 7;
-    if n == REFUSED_SHORT {
-        return walk::telling(n, octets::less(want, p.len()), 0);
-    }
-    if n == REFUSED_LONG {
-        return walk::telling(n, octets::less(p.len(), want), 0);
-    }
-    if n == REFUSED_HEADER_ENDS {
-        return walk::telling(n, 0, octets::less(w.at, 6));
-    }
-    walk::numbered(n)
-}
-
-// What a refusal answers beside it: zeros.
-pub fn refused_header(refusal: Refusal) -> Header
-    ensures { result ≡ refused_header refusal }
-{
-    let none = Place { at: 0, length: 0 };
-    let apid = Apid(0);
-    let sequence_count = SequenceCount(0);
-    let counter = SegmentCounter(0);
-    let primary = Primary {
-        packet_type: 0,
-        apid: apid,
-        flags: 0,
-        sequence_count: sequence_count,
-    };
-    let ids = Ids {
-        source: 0,
-        destination: 0,
-        counter: counter,
-        priority: 0,
-    };
-    let texts = Texts {
-        timestamp: none,
-        zone: none,
-        session_name: none,
-        count: 0,
-        parts: [none; 16],
-        authentication: none,
-    };
-    Header {
-        refusal: refusal,
-        primary: primary,
-        fixed: no_fixed(),
-        has: flags_of(0),
-        ids: ids,
-        texts: texts,
-        h: 0,
-        body: none,
-        withdrawn: false,
-    }
+    Ok(())
 }
 
 // The octets of a segment counter in the header.
@@ -593,44 +388,45 @@ fn counter_size(p: &[u8]) -> usize
     0
 }
 
-// The packet's header, or the number of its refusal and zeros.
-pub fn read(s: Settings, p: &[u8]) -> Header
-    ensures answer { result ≡ read_packet s p.now }
+// The secondary header, and where the body stands; 14: a segment has one. Places are counted from the packet's first octet.
+fn read_secondary(s: Settings, p: &[u8]) -> Result<Header, Refused>
+    ensures { Answers (secondary s p.now (goes_at 6)) result }
+{
+    let mut reader = Reader {
+        octets: p,
+        settings: s,
+        bound: walk::header_bound(),
+        at: PRIMARY,
+    };
+    let (fixed, has) = read_fixed(&mut reader)?;
+    let ids = read_ids(&mut reader, segmented(p), has)?;
+    let texts = read_texts(&mut reader, has)?;
+    let end = reader.at;
+    check_body(p, end)?;
+    Ok(Header {
+        primary: read_primary(p),
+        fixed,
+        has,
+        ids,
+        texts,
+        h: end.saturating_sub(PRIMARY).saturating_sub(counter_size(p)),
+        body: Place {
+            at: end,
+            length: p.len().saturating_sub(end),
+        },
+        withdrawn: has.zone,
+    })
+}
+
+// The packet's header, or its refusal.
+pub fn read(s: Settings, p: &[u8]) -> Result<Header, Refused>
+    ensures answer { decoded result ≡ read_packet s p.now }
     ensures octets { Octets p.now }
 {
-    let b = walk::header_bound();
-    let start = primary_walk(p, walk::begin(s));
-    let f = read_fixed(b, p, start);
-    let has = f.has;
-    let fw = f.walk;
-    let i = read_ids(s, b, segmented(p), has, p, fw);
-    let iw = i.walk;
-    let t = read_texts(s, b, has, p, iw);
-    let tw = t.walk;
-    let w = body_walk(p, tw);
-    if w.refused != 0 {
-        return refused_header(refusal_of(p, w));
-    }
-    let refusal = walk::numbered(0);
-    let end = w.at;
-    let primary = read_primary(p);
-    let fixed = f.fixed;
-    let ids = i.ids;
-    let texts = t.texts;
-    let h = octets::less(octets::less(end, PRIMARY), counter_size(p));
-    let body = Place {
-        at: end,
-        length: octets::less(p.len(), end),
-    };
-    Header {
-        refusal: refusal,
-        primary: primary,
-        fixed: fixed,
-        has: has,
-        ids: ids,
-        texts: texts,
-        h: h,
-        body: body,
-        withdrawn: has.zone,
+    s.check()?;
+    check_primary(p)?;
+    match read_secondary(s, p) {
+        Ok(header) => Ok(header),
+        Err(refused) => Err(refused.counted_from(PRIMARY)),
     }
 }

@@ -7,7 +7,7 @@ use denote.Triple.Clauses.{AtExit}
 use borrow.Fn.Kinds.{ended_of}
 use borrow.Fn.World.{ArgsD}
 use lib.ListN.{length}
-use Rattle.write.specs.Given.{Lent, lent}
+use Rattle.write.specs.Given.{Lent, lent_of}
 use Rattle.pdu.specs.declared.PduValues.{PduValues}
 use Rattle.pdu.specs.declared.Written.{Written}
 use Rattle.pdu.specs.Format.{Pdu}
@@ -25,22 +25,20 @@ pub record WriteCall : Type 0 where
   pub body : List ℕ
   pub output : List ℕ
 
-abbrev pub write_call : (κs : L.Lfts 10) → ArgsD writes.signature κs → WriteCall
+abbrev pub write_call : (κs : L.Lfts 5) → ArgsD writes.signature κs → WriteCall
 write_call κs a =
     record {
       values = a.0;
       source = a.1.0.now;
       destination = a.1.1.0.now;
-      texts =
-          lent a.1.1.1.0.now a.1.1.1.1.0.now a.1.1.1.1.1.0.now a.1.1.1.1.1.1.0.now
-          a.1.1.1.1.1.1.1.0.now a.1.1.1.1.1.1.1.1.0.now;
-      body = a.1.1.1.1.1.1.1.1.1.0.now;
-      output = a.1.1.1.1.1.1.1.1.1.1.0.now;
+      texts = lent_of a.1.1.1.0;
+      body = a.1.1.1.1.0.now;
+      output = a.1.1.1.1.1.0.now;
     }
 
 -- the output afterwards
-abbrev pub write_output_lem : (κs : L.Lfts 10) → AtExit (ended_of 10 kinds.ps kinds.r) κs → List ℕ
-write_output_lem κs x = x.1.1.1.1.1.1.1.1.1.1.0.now
+abbrev pub write_output_lem : (κs : L.Lfts 5) → AtExit (ended_of 5 kinds.ps kinds.r) κs → List ℕ
+write_output_lem κs x = x.1.1.1.1.1.0.now
 
 -- what a call has to write, what the types say of it, whether it can be written, and what it answers and leaves in the output
 module _ (w : WriteCall) where

@@ -101,12 +101,12 @@ plain_forth p h w r l c e f g s m =
 
 -- it refuses nothing exactly if what it was given can be written
 pub write_exactly :
-    (κs : L.Lfts 10) (a : _) (r : _) (x : _) → writes.Post κs a r x → r.refusal.number ≡ 0 ↔ CanWrite (write_call κs a)
+    (κs : L.Lfts 5) (a : _) (r : _) (x : _) → writes.Post κs a r x → r.refusal.number ≡ 0 ↔ CanWrite (write_call κs a)
 write_exactly κs a r x k = plain_exactly (write_call κs a) r (write_output_lem κs x) k.0 k.1 k.2
 
 -- what it wrote, `read` answers: no refusal, and every value that it was given
 pub write_back :
-    (κs : L.Lfts 10) (a : _) (r : _) (x : _) (λs : L.Lfts 1) (b : _) (h : _) (y : _) → writes.Post κs a r x → reads.Post λs b h y →
+    (κs : L.Lfts 5) (a : _) (r : _) (x : _) (λs : L.Lfts 1) (b : _) (h : _) (y : _) → writes.Post κs a r x → reads.Post λs b h y →
     b.0.now ≡ take r.length (write_output_lem κs x) → r.refusal.number ≡ 0 →
     (h.refusal.number ≡ 0) × (values_of b.0.now h ≡ given (write_call κs a))
 write_back κs a r x λs b h y k j e z =
@@ -116,7 +116,7 @@ write_back κs a r x λs b h y k j e z =
 
 -- what `read` accepted, `write` writes: given its values again, with lengths that make up the domain and with room, that very slice
 pub read_forth :
-    (κs : L.Lfts 1) (a : _) (h : _) (x : _) (λs : L.Lfts 10) (b : _) (r : _) (y : _) → reads.Post κs a h x → writes.Post λs b r y →
+    (κs : L.Lfts 1) (a : _) (h : _) (x : _) (λs : L.Lfts 5) (b : _) (r : _) (y : _) → reads.Post κs a h x → writes.Post λs b r y →
     h.refusal.number ≡ 0 → given (write_call λs b) ≡ values_of a.0.now h →
     sum (write_call λs b).texts.lengths ≡ length (write_call λs b).texts.domain → length a.0.now ≤ length (write_call λs b).output →
     (r.refusal.number ≡ 0) × ((r.length ≡ length a.0.now)
@@ -129,10 +129,10 @@ read_forth κs a h x λs b r y k j z e s m =
 pub read_same_answer : (κs : L.Lfts 1) (a : _) (r q : _) (s t : _) → reads.Post κs a r s → reads.Post κs a q t → r ≡ q
 read_same_answer κs a r q s t k j = k.0 ∙ sym j.0
 
-pub write_same_answer : (κs : L.Lfts 10) (a : _) (r q : _) (s t : _) → writes.Post κs a r s → writes.Post κs a q t → r ≡ q
+pub write_same_answer : (κs : L.Lfts 5) (a : _) (r q : _) (s t : _) → writes.Post κs a r s → writes.Post κs a q t → r ≡ q
 write_same_answer κs a r q s t k j = k.0 ∙ sym j.0
 
 pub write_same_lent :
-    (κs : L.Lfts 10) (a : _) (r q : _) (s t : _) → writes.Post κs a r s → writes.Post κs a q t →
+    (κs : L.Lfts 5) (a : _) (r q : _) (s t : _) → writes.Post κs a r s → writes.Post κs a q t →
     write_output_lem κs s ≡ write_output_lem κs t
 write_same_lent κs a r q s t k j = k.1 ∙ sym j.1

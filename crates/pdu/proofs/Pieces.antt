@@ -67,8 +67,8 @@ module _ (v : PduValues) (source destination : List ℕ) (t : Lent) (body : List
 
   variable_together :
       together (id_pieces v.has source destination)
-      ++ (together (middle_pieces pdu_settings v.has v.priority t.timestamp t.zone)
-      ++ together (end_pieces pdu_settings v.has t.session_name t.domain t.lengths t.authentication))
+      ++ (together (middle_pieces pdu_settings v.has v.priority t)
+      ++ together (end_pieces pdu_settings v.has t))
       ≡ variable_octets given
   unfolding id_pieces middle_pieces end_pieces variable_octets pdu_of
   variable_together = simp (together_append, if_together, one_together, text_together, domain_together, blob_together, append_assoc)
@@ -82,8 +82,8 @@ module _ (v : PduValues) (source destination : List ℕ) (t : Lent) (body : List
       (together (name_pieces v))
       (together (flag_pieces v n))
       (together (id_pieces v.has source destination))
-      (together (middle_pieces pdu_settings v.has v.priority t.timestamp t.zone))
-      (together (end_pieces pdu_settings v.has t.session_name t.domain t.lengths t.authentication))
+      (together (middle_pieces pdu_settings v.has v.priority t))
+      (together (end_pieces pdu_settings v.has t))
       body
       (fixed_octets given n)
       (variable_octets given)
@@ -120,12 +120,12 @@ module _ (v : PduValues) (source destination : List ℕ) (t : Lent) (body : List
   front_is =
       rw (cap_pick v.has.source (text_length source), cap_pick v.has.destination (text_length destination)) (cap_front _ _ _)
 
-  middle_is : middle_size v.has (length t.timestamp) (length t.zone) (length t.session_name) ≡ small middle_length
+  middle_is : middle_size v.has t ≡ small middle_length
   unfolding middle_size
   middle_is =
       rw (cap_pick v.has.zone (text_length t.zone), cap_pick v.has.session_name (text_length t.session_name)) (cap_middle _ _ _)
 
-  end_is : end_size v.has t.domain t.lengths (length t.authentication) ≡ small end_length
+  end_is : end_size v.has t ≡ small end_length
   unfolding end_size
   end_is =
       rw (

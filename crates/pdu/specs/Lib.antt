@@ -5,3 +5,4 @@ pub mod Writing
 pub mod Inner
 pub mod Told
 pub mod Lending
+pub mod Decoded

@@ -12,30 +12,30 @@
 // Its fields are those of a packet, read and written by the same steps: a timestamp has six octets, and every length, count and
 // priority is a Varint. Source id and destination id are texts here. `read` takes any slice, which is one PDU exactly; a PDU is bound by
 // its 32-bit length alone. `write` takes any values, texts, body and output; on a refusal the output is as it was.
-// As parameters, `time` is the timestamp, `zone` the network zone, `name` the session name and `id` the authentication id.
 #![tactic(auto)]
 
 ghost use Rattle.std.specs.Prelude.{◌≡◌, ◌+◌, length, leb};
 ghost use Rattle.octets.specs.Octets.{Octets, most32};
 ghost use Rattle.octets.specs.Laying.{laid, Lays};
-ghost use Rattle.walk.specs.Inner.{as_walk, of_walk};
 ghost use Rattle.walk.specs.Walk.{unless};
+ghost use Rattle.walk.specs.Read.{Reads};
 ghost use Rattle.fields.specs.Form.{split};
-ghost use Rattle.write.specs.Given.{lent, unless_all};
+ghost use Rattle.write.specs.Given.{lent_of, unless_all};
 ghost use Rattle.pdu.specs.Format.{pdu_settings as pdu_settings_of};
-ghost use Rattle.pdu.specs.Reading.{bound_of, fixed_tests, fixed_of, ids_of, refusal_of, refused_header, no_fixed, read_pdu};
+ghost use Rattle.pdu.specs.Reading.{bound_of, fixed_of, refused_header, no_fixed, read_pdu};
 ghost use Rattle.pdu.specs.Given.{empty_unless, name_checks, flag_checks, text_checks, word_checks};
 ghost use Rattle.pdu.specs.Lending.{Lends};
+ghost use Rattle.pdu.specs.Decoded.{decoded};
 ghost use Rattle.pdu.specs.Writing.{value_refusal, write_answer, write_output};
-ghost use Rattle.pdu.specs.Inner.{as_ids, name_pieces, flag_pieces, id_pieces, pdu_pieces, text_size, front_size, middle_size, end_size, variable_size};
+ghost use Rattle.pdu.specs.Inner.{ids_step, Judges, name_pieces, flag_pieces, id_pieces, pdu_pieces, text_size, front_size, middle_size, end_size, variable_size};
 
-use fields::Place;
+use fields::{NOWHERE, Place};
 use packet::{Present, Texts};
 use walk::{
-    Bound, REFUSED_BINDING, REFUSED_FEW_OCTETS, REFUSED_HEADER_ENDS, REFUSED_LARGE, REFUSED_LONG,
-    REFUSED_OUTPUT, REFUSED_SDU_TYPE, REFUSED_SHORT, REFUSED_TEXT, REFUSED_VALUE, Refusal,
-    Settings, Tested, Walk,
+    Bound, REFUSED_LARGE, REFUSED_OUTPUT, REFUSED_TEXT, REFUSED_VALUE, Reader, Refusal, Refused,
+    Settings, Tested, ensure,
 };
+use write::LentTexts;
 
 // Octets of the fixed part and of a timestamp, where the variable length stands, and its largest value.
 pub const FIXED: usize = 23;
@@ -108,10 +108,15 @@ pub struct Header {
     pub body: Place,
 }
 
+// What reading answers if it does not refuse.
 #[derive(Clone, Copy)]
-struct IdsStep {
-    walk: Walk,
-    ids: Ids,
+pub struct Decoded {
+    pub fixed: Fixed,
+    pub has: Present,
+    pub ids: Ids,
+    pub texts: Texts,
+    pub variable: u32,
+    pub body: Place,
 }
 
 // The values of a PDU to write, but for its texts. A number that a PDU limits is held in a type wide enough for a bad value.
@@ -161,20 +166,29 @@ fn bound_of(p: &[u8]) -> Bound
 }
 
 // 1, 7, 8, then 5 or 27.
-fn fixed_walk(p: &[u8]) -> Walk
-    ensures { result ≡ as_walk (fixed_tests p.now) }
+fn check_fixed(p: &[u8]) -> Result<(), Refused>
+    ensures { Judges p.now result }
 {
+    ensure(FIXED <= p.len(), Refused::FewOctets)?;
     let first = octets::octet(p, 0);
-    let want = FIXED + octets::be32(p, LENGTH_AT) as usize;
-    let a = walk::goes(FIXED).check(FIXED <= p.len(), REFUSED_FEW_OCTETS);
-    let b = a
-        .check(first / VERSION_UNIT == VERSION, REFUSED_BINDING)
-        .check(first % VERSION_UNIT < 22, REFUSED_SDU_TYPE);
-    b.check(want <= p.len(), REFUSED_SHORT)
-        .check(p.len() <= want, REFUSED_LONG)
+    ensure(first / VERSION_UNIT == VERSION, Refused::Binding)?;
+    ensure(first % VERSION_UNIT < 22, Refused::SduType)?;
+    let want = FIXED + octets::read::<u32>(p, LENGTH_AT) as usize;
+    if p.len() < want {
+        return Err(Refused::Short {
+            missing: want - p.len(),
+        });
+    }
+    if want < p.len() {
+        return Err(Refused::Long {
+            over: p.len() - want,
+        });
+    }
+    Ok(())
 }
 
 // The fixed part, at its own places.
+#[tactic(auto, unfolding(crate::specs::Reading::fixed_of))]
 fn read_fixed(p: &[u8]) -> Fixed
     ensures { result ≡ fixed_of p.now }
 {
@@ -182,56 +196,28 @@ fn read_fixed(p: &[u8]) -> Fixed
     let flags = octets::octet(p, 8);
     Fixed {
         sdu: first % 32,
-        area: octets::be16(p, 1),
-        service: octets::be16(p, 3),
-        operation: octets::be16(p, 5),
+        area: octets::read(p, 1),
+        service: octets::read(p, 3),
+        operation: octets::read(p, 5),
         version: octets::octet(p, 7),
         error: flags / 128,
         qos: flags / 16 % 8,
         session: flags % 16,
-        transaction: octets::be64(p, 9),
+        transaction: octets::read(p, 9),
         encoding: octets::octet(p, 18),
     }
 }
 
 // Source id, destination id, priority.
-fn read_ids(has: Present, p: &[u8], w: Walk) -> IdsStep
-    ensures { result ≡ as_ids (ids_of has p.now (of_walk w)) }
+#[tactic(auto, using(walk::proofs::Keeps::optional_keeps, walk::proofs::Keeps::uinteger_keeps, fields::proofs::Steps::text_keeps))]
+fn read_ids(reader: &mut Reader, has: Present) -> Result<Ids, Refused>
+    ensures { Reads (ids_step reader.old.settings reader.old.bound has reader.old.octets.now) reader.old reader.new result }
 {
-    let s = pdu_settings();
-    let b = bound_of(p);
-    let a = fields::text_if(has.source, s, b, p, w);
-    let aw = a.walk;
-    let x = fields::text_if(has.destination, s, b, p, aw);
-    let xw = x.walk;
-    let c = fields::uinteger_if(has.priority, s, b, p, xw);
-    let cw = c.walk;
-    let source = a.place;
-    let destination = x.place;
-    let ids = Ids {
-        source: source,
-        destination: destination,
-        priority: c.value,
-    };
-    IdsStep { walk: cw, ids: ids }
-}
-
-// What a refused walk tells: beside 5 and 27 the octets missing or left over, beside 6 where in the PDU the field began.
-fn refusal_of(p: &[u8], w: Walk) -> Refusal
-    ensures { result ≡ refusal_of p.now (of_walk w) }
-{
-    let n = w.refused;
-    let want = FIXED + octets::be32(p, LENGTH_AT) as usize;
-    if n == REFUSED_SHORT {
-        return walk::telling(n, octets::less(want, p.len()), 0);
-    }
-    if n == REFUSED_LONG {
-        return walk::telling(n, octets::less(p.len(), want), 0);
-    }
-    if n == REFUSED_HEADER_ENDS {
-        return walk::telling(n, 0, w.at);
-    }
-    walk::numbered(n)
+    Ok(Ids {
+        source: reader.optional(has.source, NOWHERE, fields::read_text)?,
+        destination: reader.optional(has.destination, NOWHERE, fields::read_text)?,
+        priority: reader.optional(has.priority, 0, Reader::uinteger)?,
+    })
 }
 
 // The fixed part of a refusal.
@@ -271,14 +257,43 @@ fn refused_header(refusal: Refusal) -> Header
         authentication: none,
     };
     Header {
-        refusal: refusal,
+        refusal,
         fixed: no_fixed(),
         has: packet::flags_of(0),
-        ids: ids,
-        texts: texts,
+        ids,
+        texts,
         variable: 0,
         body: none,
     }
+}
+
+// A PDU's header, or its refusal.
+pub fn decode(p: &[u8]) -> Result<Decoded, Refused>
+    ensures answer { decoded result ≡ read_pdu p.now }
+    ensures octets { Octets p.now }
+{
+    check_fixed(p)?;
+    let mut reader = Reader {
+        octets: p,
+        settings: pdu_settings(),
+        bound: bound_of(p),
+        at: FIXED,
+    };
+    let has = packet::flags_of(octets::octet(p, 17));
+    let ids = read_ids(&mut reader, has)?;
+    let texts = packet::read_texts(&mut reader, has)?;
+    let end = reader.at;
+    Ok(Decoded {
+        fixed: read_fixed(p),
+        has,
+        ids,
+        texts,
+        variable: octets::read(p, LENGTH_AT),
+        body: Place {
+            at: end,
+            length: p.len().saturating_sub(end),
+        },
+    })
 }
 
 // A PDU's header, or its refusal and zeros.
@@ -286,33 +301,21 @@ pub fn read(p: &[u8]) -> Header
     ensures answer { result ≡ read_pdu p.now }
     ensures octets { Octets p.now }
 {
-    let start = fixed_walk(p);
-    let has = packet::flags_of(octets::octet(p, 17));
-    let i = read_ids(has, p, start);
-    let iw = i.walk;
-    let t = packet::read_texts(pdu_settings(), bound_of(p), has, p, iw);
-    let w = t.walk;
-    if w.refused != 0 {
-        return refused_header(refusal_of(p, w));
-    }
-    let refusal = walk::numbered(0);
-    let end = w.at;
-    let fixed = read_fixed(p);
-    let ids = i.ids;
-    let texts = t.texts;
-    let variable = octets::be32(p, LENGTH_AT);
-    let body = Place {
-        at: end,
-        length: octets::less(p.len(), end),
-    };
-    Header {
-        refusal: refusal,
-        fixed: fixed,
-        has: has,
-        ids: ids,
-        texts: texts,
-        variable: variable,
-        body: body,
+    match decode(p) {
+        Ok(h) => Header {
+            refusal: walk::numbered(0),
+            fixed: h.fixed,
+            has: h.has,
+            ids: h.ids,
+            texts: h.texts,
+            variable: h.variable,
+            body: h.body,
+        },
+        Err(refused) => refused_header(walk::telling(
+            refused.number(),
+            refused.octets(),
+            refused.place(),
+        )),
     }
 }
 
@@ -321,12 +324,10 @@ pub fn read(p: &[u8]) -> Header
 fn empty_unless(there: bool, n: usize) -> bool
     ensures { result ≡ empty_unless there n }
 {
-    if there {
-        return true;
-    }
-    n == 0
+    if there { true } else { n == 0 }
 }
 
+#[tactic(auto, unfolding(crate::specs::Given::name_checks, write::specs::Given::unless_all))]
 fn test_names(v: PduValues, r: Tested) -> Tested
     ensures { result ≡ unless_all (name_checks v) 22 r }
 {
@@ -337,35 +338,30 @@ fn test_names(v: PduValues, r: Tested) -> Tested
     walk::unless(d, v.version <= MOST_8, REFUSED_VALUE)
 }
 
+#[tactic(auto, unfolding(crate::specs::Given::flag_checks, write::specs::Given::unless_all))]
 fn test_flags(v: PduValues, r: Tested) -> Tested
     ensures { result ≡ unless_all (flag_checks v) 22 r }
 {
-    let has = v.has;
     let a = walk::unless(r, v.error <= BIT_MOST, REFUSED_VALUE);
     let b = walk::unless(a, v.qos <= QOS_MOST, REFUSED_VALUE);
     let c = walk::unless(b, v.session <= SESSION_MOST, REFUSED_VALUE);
     let d = walk::unless(c, v.encoding <= MOST_8, REFUSED_VALUE);
     walk::unless(
         d,
-        write::number_fits(has.priority, v.priority, varint::MOST_32),
+        write::number_fits(v.has.priority, v.priority, varint::MOST_32),
         REFUSED_VALUE,
     )
 }
 
+#[tactic(auto, unfolding(crate::specs::Given::text_checks, write::specs::Given::unless_all))]
 fn test_texts(
     has: Present,
     source: &[u8],
     destination: &[u8],
-    time: &[u8],
-    zone: &[u8],
-    name: &[u8],
-    domain: &[u8],
-    lengths: &[u64],
-    id: &[u8],
+    texts: LentTexts,
     r: Tested,
 ) -> Tested
-    ensures { result ≡ unless_all (text_checks has source.now destination.now (lent time.now zone.now
-        name.now domain.now lengths.now id.now)) 22 r }
+    ensures { result ≡ unless_all (text_checks has source.now destination.now (lent_of texts.entry)) 22 r }
 {
     let a = walk::unless(r, empty_unless(has.source, source.len()), REFUSED_VALUE);
     let b = walk::unless(
@@ -375,74 +371,56 @@ fn test_texts(
     );
     let c = walk::unless(
         b,
-        write::exact_fits(has.timestamp, time.len(), TIMESTAMP),
+        write::exact_fits(has.timestamp, texts.timestamp.len(), TIMESTAMP),
         REFUSED_VALUE,
     );
-    let d = walk::unless(c, empty_unless(has.zone, zone.len()), REFUSED_VALUE);
-    let e = walk::unless(d, empty_unless(has.session_name, name.len()), REFUSED_VALUE);
-    let f = walk::unless(e, empty_unless(has.domain, domain.len()), REFUSED_VALUE);
+    let d = walk::unless(c, empty_unless(has.zone, texts.zone.len()), REFUSED_VALUE);
+    let e = walk::unless(
+        d,
+        empty_unless(has.session_name, texts.session_name.len()),
+        REFUSED_VALUE,
+    );
+    let f = walk::unless(
+        e,
+        empty_unless(has.domain, texts.domain.len()),
+        REFUSED_VALUE,
+    );
     let g = walk::unless(
         f,
-        write::lengths_fit(has.domain, lengths, domain.len()),
+        write::lengths_fit(has.domain, texts.lengths, texts.domain.len()),
         REFUSED_VALUE,
     );
-    walk::unless(g, empty_unless(has.authentication, id.len()), REFUSED_VALUE)
+    walk::unless(
+        g,
+        empty_unless(has.authentication, texts.authentication.len()),
+        REFUSED_VALUE,
+    )
 }
 
 // 28: source id, destination id, zone, session name and each domain part.
-fn test_words(
-    source: &[u8],
-    destination: &[u8],
-    zone: &[u8],
-    name: &[u8],
-    domain: &[u8],
-    lengths: &[u64],
-    r: Tested,
-) -> Tested
-    ensures { result ≡ unless_all (word_checks source.now destination.now zone.now name.now
-        (split lengths.now domain.now)) 28 r }
+fn test_words(source: &[u8], destination: &[u8], texts: LentTexts, r: Tested) -> Tested
+    ensures { let t = lent_of texts.entry in
+        result ≡ unless_all (word_checks source.now destination.now t.zone t.session_name (split t.lengths t.domain)) 28 r }
 {
     if r.number != 0 {
         return r;
     }
     let a = walk::unless(r, utf8::is_text(source), REFUSED_TEXT);
     let b = walk::unless(a, utf8::is_text(destination), REFUSED_TEXT);
-    write::test_utf8(zone, name, domain, lengths, b)
+    write::test_utf8(texts, b)
 }
 
 // 22, 13 and 28: the tests on the values alone.
-fn test_values(
-    v: PduValues,
-    source: &[u8],
-    destination: &[u8],
-    time: &[u8],
-    zone: &[u8],
-    name: &[u8],
-    domain: &[u8],
-    lengths: &[u64],
-    id: &[u8],
-) -> Tested
-    ensures { result ≡ value_refusal v source.now destination.now (lent time.now zone.now
-        name.now domain.now lengths.now id.now) }
+#[tactic(auto, using(write::proofs::Tests::unless_all_append), unfolding(crate::specs::Writing::value_refusal, crate::specs::Given::value_checks))]
+fn test_values(v: PduValues, source: &[u8], destination: &[u8], texts: LentTexts) -> Tested
+    ensures { result ≡ value_refusal v source.now destination.now (lent_of texts.entry) }
 {
     let none = Tested { number: 0 };
-    let has = v.has;
     let a = test_names(v, none);
     let b = test_flags(v, a);
-    let c = test_texts(
-        has,
-        source,
-        destination,
-        time,
-        zone,
-        name,
-        domain,
-        lengths,
-        id,
-        b,
-    );
-    let d = write::test_parts(lengths.len(), c);
-    test_words(source, destination, zone, name, domain, lengths, d)
+    let c = test_texts(v.has, source, destination, texts, b);
+    let d = write::test_parts(texts.lengths.len(), c);
+    test_words(source, destination, texts, d)
 }
 
 // ---- sizes, told up to one above the largest variable length
@@ -455,6 +433,7 @@ fn text_size_if(there: bool, n: usize) -> usize
 }
 
 // Source id, destination id, priority.
+#[tactic(auto, unfolding(crate::specs::Inner::front_size))]
 fn front_size(has: Present, source: usize, destination: usize, priority: u64) -> usize
     ensures { result ≡ front_size has source destination priority }
 {
@@ -468,46 +447,37 @@ fn front_size(has: Present, source: usize, destination: usize, priority: u64) ->
 }
 
 // Timestamp, zone, session name.
-fn middle_size(has: Present, time: usize, zone: usize, name: usize) -> usize
-    ensures { result ≡ middle_size has time zone name }
+#[tactic(auto, unfolding(crate::specs::Inner::middle_size))]
+fn middle_size(has: Present, texts: LentTexts) -> usize
+    ensures { result ≡ middle_size has (lent_of texts.entry) }
 {
-    let a = write::size_if(has.timestamp, time);
-    let b = text_size_if(has.zone, zone);
-    let c = text_size_if(has.session_name, name);
+    let a = write::size_if(has.timestamp, texts.timestamp.len());
+    let b = text_size_if(has.zone, texts.zone.len());
+    let c = text_size_if(has.session_name, texts.session_name.len());
     fields::plus_to(REST_MOST, a, fields::plus_to(REST_MOST, b, c))
 }
 
 // Domain, authentication id.
-fn end_size(has: Present, domain: &[u8], lengths: &[u64], id: usize) -> usize
-    ensures { result ≡ end_size has domain.now lengths.now id }
+#[tactic(auto, unfolding(crate::specs::Inner::end_size))]
+fn end_size(has: Present, texts: LentTexts) -> usize
+    ensures { result ≡ end_size has (lent_of texts.entry) }
 {
     let a = write::size_if(
         has.domain,
-        fields::domain_size_to(REST_MOST, pdu_settings(), domain, lengths),
+        fields::domain_size_to(REST_MOST, pdu_settings(), texts.domain, texts.lengths),
     );
-    let b = text_size_if(has.authentication, id);
+    let b = text_size_if(has.authentication, texts.authentication.len());
     fields::plus_to(REST_MOST, a, b)
 }
 
 // The optional fields.
-fn variable_size(
-    v: PduValues,
-    source: &[u8],
-    destination: &[u8],
-    time: &[u8],
-    zone: &[u8],
-    name: &[u8],
-    domain: &[u8],
-    lengths: &[u64],
-    id: &[u8],
-) -> usize
-    ensures { result ≡ variable_size v source.now destination.now (lent time.now zone.now
-        name.now domain.now lengths.now id.now) }
+#[tactic(auto, unfolding(crate::specs::Inner::variable_size))]
+fn variable_size(v: PduValues, source: &[u8], destination: &[u8], texts: LentTexts) -> usize
+    ensures { result ≡ variable_size v source.now destination.now (lent_of texts.entry) }
 {
-    let has = v.has;
-    let a = front_size(has, source.len(), destination.len(), v.priority);
-    let b = middle_size(has, time.len(), zone.len(), name.len());
-    let c = end_size(has, domain, lengths, id.len());
+    let a = front_size(v.has, source.len(), destination.len(), v.priority);
+    let b = middle_size(v.has, texts);
+    let c = end_size(v.has, texts);
     fields::plus_to(REST_MOST, a, fields::plus_to(REST_MOST, b, c))
 }
 
@@ -526,11 +496,10 @@ fn put_names(out: &mut [u8], v: PduValues) -> usize
 fn put_flags(out: &mut [u8], at: usize, v: PduValues, n: usize) -> usize
     ensures { Lays (laid out.old at) (flag_pieces v n) out.new result }
 {
-    let has = v.has;
     let first = v.error as u64 * ERROR_UNIT + v.qos as u64 * QOS_UNIT + v.session as u64;
     let a = octets::lay_number(out, at, 1, first);
     let b = octets::lay_number(out, a, 8, v.transaction);
-    let c = octets::lay_number(out, b, 1, write::present_octet(has));
+    let c = octets::lay_number(out, b, 1, write::present_octet(v.has));
     let d = octets::lay_number(out, c, 1, v.encoding as u64);
     octets::lay_number(out, d, 4, n as u64)
 }
@@ -551,25 +520,19 @@ fn put_pdu(
     n: usize,
     source: &[u8],
     destination: &[u8],
-    time: &[u8],
-    zone: &[u8],
-    name: &[u8],
-    domain: &[u8],
-    lengths: &[u64],
-    id: &[u8],
+    texts: LentTexts,
     body: &[u8],
 ) -> usize
     ensures { Lays (laid out.old 0) (pdu_pieces v source.now destination.now
-        (lent time.now zone.now name.now domain.now lengths.now id.now) n
+        (lent_of texts.entry) n
         body.now) out.new result }
 {
-    let has = v.has;
     let s = pdu_settings();
     let a = put_names(out, v);
     let b = put_flags(out, a, v, n);
-    let c = put_ids(out, b, has, source, destination);
-    let d = write::put_middle(s, out, c, has, v.priority, time, zone);
-    let e = write::put_end(s, out, d, has, name, domain, lengths, id);
+    let c = put_ids(out, b, v.has, source, destination);
+    let d = write::put_middle(s, out, c, v.has, v.priority, texts);
+    let e = write::put_end(s, out, d, v.has, texts);
     octets::lay(out, e, body)
 }
 
@@ -596,43 +559,18 @@ pub fn write(
     v: PduValues,
     source: &[u8],
     destination: &[u8],
-    time: &[u8],
-    zone: &[u8],
-    name: &[u8],
-    domain: &[u8],
-    lengths: &[u64],
-    id: &[u8],
+    texts: LentTexts,
     body: &[u8],
     out: &mut [u8],
 ) -> Written
-    ensures { let t = lent time.now zone.now name.now domain.now lengths.now
-        id.now in
+    ensures { let t = lent_of texts.entry in
         (result ≡ write_answer v source.now destination.now t body.now (length out.old))
         × (out.new ≡ write_output v source.now destination.now t body.now out.old)
         × Lends v source.now destination.now t body.now }
 {
-    let values = test_values(
-        v,
-        source,
-        destination,
-        time,
-        zone,
-        name,
-        domain,
-        lengths,
-        id,
-    );
-    let variable = variable_size(
-        v,
-        source,
-        destination,
-        time,
-        zone,
-        name,
-        domain,
-        lengths,
-        id,
-    );
+    write::lent_in_octets(texts, body);
+    let values = test_values(v, source, destination, texts);
+    let variable = variable_size(v, source, destination, texts);
     let rest = fields::plus_to(REST_MOST, variable, body.len());
     let r = test_sizes(rest, out.len(), values);
     if r.number != 0 {
@@ -642,20 +580,7 @@ pub fn write(
             header: 0,
         };
     }
-    put_pdu(
-        out,
-        v,
-        rest,
-        source,
-        destination,
-        time,
-        zone,
-        name,
-        domain,
-        lengths,
-        id,
-        body,
-    );
+    put_pdu(out, v, rest, source, destination, texts, body);
     Written {
         refusal: walk::numbered(0),
         length: FIXED + rest,

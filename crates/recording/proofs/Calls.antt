@@ -4,9 +4,10 @@
 use mathlib.Core.Path.{◌≡◌, sym, ◌∙◌}
 use contract.Lifetimes as L
 use Rattle.recording.proofs.join_all.Reads as alls
+use Rattle.recording.specs.Answer.{answered}
 use Rattle.recording.proofs.Arguments.{all_output}
 
-pub all_same_answer : (κs : L.Lfts 2) (a : _) (r q : _) (s t : _) → alls.Post κs a r s → alls.Post κs a q t → r ≡ q
+pub all_same_answer : (κs : L.Lfts 2) (a : _) (r q : _) (s t : _) → alls.Post κs a r s → alls.Post κs a q t → answered r ≡ answered q
 all_same_answer κs a r q s t k j = k.0 ∙ sym j.0
 
 -- the output

@@ -3,12 +3,12 @@
 use Prim.Native.Nat.{ℕ}
 use mathlib.Core.Path.{◌≡◌, refl}
 use native.Mathlib.Omega.{arith}
-use Rattle.recording.specs.declared.Why.TheVariants.{Unsaid, Ended, Unmarked, Torn}
+use Rattle.recording.specs.Answer.{Ended, Unmarked, Torn}
 use Rattle.steps.specs.declared.Stands.{Stands}
 use Rattle.steps.specs.declared.Stands.TheVariants.{Nothing, Other, Cut, Whole}
 use Rattle.steps.specs.Stepping.{Found, nothing, other, cut, whole}
 use Rattle.steps.specs.Told.{stands_of}
-use Rattle.recording.specs.Ending.{why_at}
+use Rattle.recording.specs.Ending.{past, why_at}
 
 pub why_nothing : (f : Found) {r : Stands} → r ≡ stands_of f → r ≡ Nothing → Ended ≡ why_at f
 why_nothing nothing e h = refl
@@ -28,8 +28,8 @@ why_cut other e h = let z : ◌≡◌ {A = ℕ} 0 1 = cc in absurd (omega arith)
 why_cut cut e h = refl
 why_cut (whole p) e h = let z : ◌≡◌ {A = ℕ} 0 1 = cc in absurd (omega arith)
 
-pub why_whole : (f : Found) {r : Stands} → r ≡ stands_of f → r ≡ Whole → Unsaid ≡ why_at f
-why_whole nothing e h = let z : ◌≡◌ {A = ℕ} 0 1 = cc in absurd (omega arith)
-why_whole other e h = let z : ◌≡◌ {A = ℕ} 0 1 = cc in absurd (omega arith)
-why_whole cut e h = let z : ◌≡◌ {A = ℕ} 0 1 = cc in absurd (omega arith)
-why_whole (whole p) e h = refl
+pub why_whole : (f : Found) {r : Stands} → r ≡ stands_of f → r ≡ Whole → past f ≡ 0 → Torn ≡ why_at f
+why_whole nothing e h k = let z : ◌≡◌ {A = ℕ} 0 1 = cc in absurd (omega arith)
+why_whole other e h k = let z : ◌≡◌ {A = ℕ} 0 1 = cc in absurd (omega arith)
+why_whole cut e h k = let z : ◌≡◌ {A = ℕ} 0 1 = cc in absurd (omega arith)
+why_whole (whole p) e h k = absurd (omega (arith, k))

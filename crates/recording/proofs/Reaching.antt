@@ -17,9 +17,9 @@ use Rattle.walk.specs.declared.Settings.{Settings}
 use Rattle.cells.specs.Rows.{zero_row}
 use Rattle.cells.specs.Order.{count_in, cell_size, gate}
 use Rattle.walk.specs.Walk.{refusal, begun}
-use Rattle.steps.specs.declared.Done.{Done}
-use Rattle.recording.specs.declared.Why.{Why}
-use Rattle.recording.specs.declared.Why.TheVariants.{Unsaid}
+use Rattle.steps.specs.Answer.{Done}
+use Rattle.recording.specs.Answer.{Why}
+use Rattle.recording.specs.Answer.{refuses}
 use Rattle.steps.specs.Stepping.{Found, nothing, other, cut, whole, found_in, Stepped, step_by, stepped, store_behind, used_by, written_by}
 use Rattle.recording.specs.Recording.{recorded_from, recorded, settings, cell_count, empty_store}
 use Rattle.steps.specs.Told.{done_of}
@@ -227,7 +227,9 @@ module _ {s : Settings} {x out₀ : List ℕ} {Z : ℕ} {st out : List ℕ} {pla
     going_more u = more_by inv.fuel inv.enough inv.rest inv.reached (omega arith)
 
     -- the last step
-    pub going_done : d.used ≡ 0 → (place ≡ reach x) × ((written ≡ length (recorded s x)) × (out' ≡ sets out₀ 0 (recorded s x)))
+    pub going_done :
+        d.used ≡ 0 →
+        (place ≡ reach x) × ((past (found_in y) ≡ 0) × ((written ≡ length (recorded s x)) × (out' ≡ sets out₀ 0 (recorded s x))))
     going_done u =
         let n : used_by h ≡ 0 = sym used_is ∙ u in
         let a = unused_stops s Z st y n in
@@ -236,8 +238,11 @@ module _ {s : Settings} {x out₀ : List ℕ} {Z : ℕ} {st out : List ℕ} {pla
         let r = reach_stops inv.fuel y (past_used s Z st y ∙ n) in (
           omega (arith, inv.reached),
           (
-            sym inv.long ∙ ap length b,
-            output_is ∙ ap (sets out written) (stop_silent s Z st y a) ∙ inv.output ∙ ap (sets out₀ 0) b,
+            past_used s Z st y ∙ n,
+            (
+              sym inv.long ∙ ap length b,
+              output_is ∙ ap (sets out written) (stop_silent s Z st y a) ∙ inv.output ∙ ap (sets out₀ 0) b,
+            ),
           ),
         )
 
@@ -251,7 +256,7 @@ store_begins e = let k : 32768 ≡ cell_count * cell_size = omega arith in e ∙
 module _ (s : Settings) (x out : List ℕ) {k : ℕ} (e : k ≡ refused_by s (length x) (length out)) where
   -- refused: the number, and the output as it was
   module _ (h : k ≡ 0 → ⊥) where
-    pub told_refused : record { refusal = refusal k; why = Unsaid; place = 0; written = 0 } ≡ recorded_of s (length out) x
+    pub told_refused : refuses (refusal k) ≡ recorded_of s (length out) x
     unfolding recorded_of
     told_refused = rw (sym e, ne_eqb k 0 h) refl
 

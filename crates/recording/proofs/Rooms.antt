@@ -12,7 +12,7 @@ use lib.ListN.{length, drop, length-append, length-take, length-drop}
 use borrow.Author.Tests.{le-leb}
 use Rattle.octets.specs.Octets.{part}
 use Rattle.walk.specs.declared.Settings.{Settings}
-use Rattle.packet.specs.declared.Header.{Header}
+use Rattle.packet.specs.Answer.{Header}
 use Rattle.packet.specs.Reading.{read_packet, counter_size}
 use Rattle.packet.specs.Key.{key_of, counter_place}
 use Rattle.packet.specs.Numbers.{next_counter, steps_most}

@@ -8,27 +8,29 @@ use lib.Dec.{leb, eqb}
 use borrow.Author.Tests.{leb-true, eqb-true, le-leb, lt-leb, eq-eqb, ne_eqb}
 use Rattle.octets.specs.Octets.{pick}
 use Rattle.walk.specs.declared.Settings.{Settings}
-use Rattle.walk.specs.declared.Walk.{Walk}
-use Rattle.walk.specs.Walk.{begun}
-use Rattle.walk.specs.Inner.{as_walk}
+use Rattle.walk.specs.declared.Refusal.{Refusal}
+use Rattle.walk.specs.Walk.{refusal, no_refusal, begun}
+use Rattle.walk.proofs.Begins.{begun_15}
 use Rattle.recording.specs.Ending.{refused_by}
 
 module _ (s : Settings) (n room : ℕ) where
-  module _ {w : Walk} (e : w ≡ as_walk (begun s)) where
-    by_number : w.refused ≡ (begun s).refused
-    by_number = ap (λ (x : Walk). x.refused) e
+  pub refused_15 : {q : Refusal} → q ≡ refusal (begun s).refused → (q.number ≡ 0 → ⊥) → q ≡ refusal (refused_by s n room)
+  unfolding refused_by
+  refused_15 {q} e h =
+      let z : (begun s).refused ≡ 0 → ⊥ = λ i. h (ap (λ (x : Refusal). x.number) e ∙ i) in
+      e ∙ ap refusal (begun_15 s z ∙ rw (ne_eqb (begun s).refused 0 z))
 
-    pub refused_15 : (w.refused ≡ 0 → ⊥) → 15 ≡ refused_by s n room
-    unfolding refused_by
-    refused_15 h = rw (ne_eqb (begun s).refused 0 (λ z. h (by_number ∙ z))) refl
+  module _ (e : no_refusal ≡ refusal (begun s).refused) where
+    none : (begun s).refused ≡ 0
+    none = sym (ap (λ (x : Refusal). x.number) e)
 
-    pub refused_21 : w.refused ≡ 0 → room < n → 21 ≡ refused_by s n room
+    pub refused_21 : room < n → refusal 21 ≡ refusal (refused_by s n room)
     unfolding refused_by
-    refused_21 h l = rw (eq-eqb (begun s).refused 0 (sym by_number ∙ h), lt-leb n room l) refl
+    refused_21 l = rw (eq-eqb (begun s).refused 0 none, lt-leb n room l) refl
 
-    pub refused_none : w.refused ≡ 0 → n ≤ room → 0 ≡ refused_by s n room
+    pub refused_none : n ≤ room → no_refusal ≡ refusal (refused_by s n room)
     unfolding refused_by
-    refused_none h l = rw (eq-eqb (begun s).refused 0 (sym by_number ∙ h), le-leb n room l) refl
+    refused_none l = rw (eq-eqb (begun s).refused 0 none, le-leb n room l) refl
 
   pub passed : refused_by s n room ≡ 0 → ((begun s).refused ≡ 0) × (n ≤ room)
   unfolding refused_by

@@ -8,9 +8,9 @@ use Rattle.octets.specs.Octets.{pick}
 use Rattle.walk.specs.declared.Settings.{Settings}
 use Rattle.walk.specs.Walk.{refusal, begun}
 use Rattle.cells.specs.Order.{through}
-use Rattle.recording.specs.declared.Why.{Why}
-use Rattle.recording.specs.declared.Why.TheVariants.{Unsaid, Ended, Unmarked, Torn}
-use Rattle.recording.specs.declared.Recorded.{Recorded}
+use Rattle.recording.specs.Answer.{Why}
+use Rattle.recording.specs.Answer.{Unsaid, Ended, Unmarked, Torn}
+use Rattle.recording.specs.Answer.{Recorded}
 use Rattle.steps.specs.Stepping.{Found, nothing, other, cut, whole, found_in}
 use Rattle.recording.specs.Recording.{recorded}
 

@@ -1,3 +1,4 @@
+pub mod Answer
 pub mod Recording
 pub mod Handing
 pub mod Ending

@@ -3,18 +3,20 @@
 // `steps` has the step. What comes out is never longer than the recording, so an output of its length is always enough.
 #![tactic(auto)]
 
-ghost use Rattle.std.specs.Prelude.{◌≡◌, ◌+◌, ◌≤◌, length};
+ghost use Rattle.std.specs.Prelude.{◌≡◌, ◌+◌, ◌≤◌, length, drop};
 ghost use Rattle.std.proofs.lemmas.List.Edits.{sets};
-ghost use Rattle.walk.specs.Walk.{begun};
+ghost use Rattle.walk.specs.Walk.{refusal, begun};
+ghost use Rattle.walk.specs.Told.{said};
 ghost use Rattle.cells.specs.Rows.{zero_row};
 ghost use Rattle.cells.specs.Order.{cell_size};
 ghost use Rattle.steps.specs.Stepping.{found_in, room};
 ghost use Rattle.recording.specs.Recording.{recorded, settings, empty_store};
-ghost use Rattle.recording.specs.Ending.{reach, why_at, refused_by, recorded_of, out_recorded};
+ghost use Rattle.recording.specs.Answer.{why_said, answered};
+ghost use Rattle.recording.specs.Ending.{past, reach, why_at, refused_by, recorded_of, out_recorded};
 
 use cells::CELL;
 use steps::Stands;
-use walk::{REFUSED_OUTPUT, REFUSED_SETTINGS, Refusal, Settings};
+use walk::{Refused, Settings};
 
 // The cells of the store that a recording in hand is joined with, and the octets of them all.
 pub const CELLS: usize = 32;
@@ -24,19 +26,17 @@ pub const STORE: usize = 32768;
 // T of a recording of which nothing else is said; it has Varints.
 pub const TIMESTAMP: usize = 8;
 
-// Why a recording in hand was left: not said if it is refused; it ends there; no mark follows; a torn mark or packet follows.
-#[derive(Clone, Copy)]
+// Why a recording in hand was left: it ends there; no mark follows; a torn mark or packet follows.
+#[derive(Clone, Copy, Debug, PartialEq, Eq)]
 pub enum Why {
-    Unsaid,
     Ended,
     Unmarked,
     Torn,
 }
 
-// What is told of a recording in hand: the refusal, why and at which place it stopped, and the octets of the output that are written.
-#[derive(Clone, Copy)]
+// What is told of a recording in hand: why and at which place it stopped, and the octets of the output that are written.
+#[derive(Clone, Copy, Debug, PartialEq, Eq)]
 pub struct Recorded {
-    pub refusal: Refusal,
     pub why: Why,
     pub place: usize,
     pub written: usize,
@@ -59,18 +59,15 @@ pub fn usual() -> Settings
     }
 }
 
-// 15 for the settings, 21 for an output that is shorter than the recording, else 0.
-fn refused_by(s: Settings, n: usize, long: usize) -> u8
-    ensures { result ≡ refused_by s n long }
+// 15 for the settings, 21 for an output that is shorter than the recording.
+fn check(s: Settings, n: usize, long: usize) -> Result<(), Refused>
+    ensures { said result ≡ refusal (refused_by s n long) }
 {
-    let w = walk::begin(s);
-    if w.refused != 0 {
-        return REFUSED_SETTINGS;
-    }
+    s.check()?;
     if long < n {
-        return REFUSED_OUTPUT;
+        return Err(Refused::Output);
     }
-    0
+    Ok(())
 }
 
 // All steps over a recording, from an empty store on, until one uses up no octet.
@@ -88,6 +85,7 @@ fn along(
     requires room_in_bounds { 6 + room ≤ length spare.old }
     requires x_in_bounds { length x.now ≤ length out.old }
     ensures place_value { result.place ≡ reach x.now }
+    ensures stop_value { past (found_in (drop result.place x.now)) ≡ 0 }
     ensures written_value { result.written ≡ length (recorded s x.now) }
     ensures out_after { out.new ≡ sets out.old 0 (recorded s x.now) }
 {
@@ -96,8 +94,8 @@ fn along(
     let mut written: usize = 0;
     loop {
         let d = steps::step_at(s, store, CELLS, zero, &x[place..n], spare, out, written);
-        let used = d.used;
-        let more = d.written;
+        let used = d.used();
+        let more = d.written();
         if used == 0 {
             return Reached {
                 place: place,
@@ -109,44 +107,36 @@ fn along(
     }
 }
 
-// Why the steps stopped, by what stands there.
+// Why the steps stopped, by what stands there; at a whole packet they do not.
 fn why_at(rest: &[u8]) -> Why
-    ensures { result ≡ why_at (found_in rest.now) }
+    requires { past (found_in rest.now) ≡ 0 }
+    ensures { why_said result ≡ why_at (found_in rest.now) }
 {
     match steps::look(rest) {
         Stands::Nothing => Why::Ended,
         Stands::Other => Why::Unmarked,
         Stands::Cut => Why::Torn,
-        Stands::Whole => Why::Unsaid,
+        Stands::Whole => Why::Torn,
     }
 }
 
 // Joins a whole recording in hand, with 32 cells, and writes its messages one after the other. The output may not be shorter than the
 // recording; what is written is never longer.
-pub fn join_all(s: Settings, recording: &[u8], out: &mut [u8]) -> Recorded
-    ensures value { result ≡ recorded_of s (length out.old) recording.now }
+pub fn join_all(s: Settings, recording: &[u8], out: &mut [u8]) -> Result<Recorded, Refused>
+    ensures value { answered result ≡ recorded_of s (length out.old) recording.now }
     ensures out_after { out.new ≡ out_recorded s out.old recording.now }
 {
     let n = recording.len();
-    let k = refused_by(s, n, out.len());
-    if k != 0 {
-        return Recorded {
-            refusal: walk::numbered(k),
-            why: Why::Unsaid,
-            place: 0,
-            written: 0,
-        };
-    }
+    check(s, n, out.len())?;
     let zero = [0u8; CELL];
     let mut store = [0u8; STORE];
     let mut spare = [0u8; steps::SPACE];
     let end = along(s, &mut store, &zero, recording, &mut spare, out);
     let place = end.place;
     let why = why_at(&recording[place..n]);
-    Recorded {
-        refusal: walk::numbered(0),
+    Ok(Recorded {
         why: why,
         place: place,
         written: end.written,
-    }
+    })
 }

@@ -27,15 +27,15 @@ salvage_call κs a =
     record {
       settings = a.0;
       file = a.1.0.now;
-      begin = a.1.1.0;
-      place = a.1.1.1.0;
-      grant = a.1.1.1.1.0;
-      list = a.1.1.1.1.1.0.now;
+      begin = a.1.1.0.begin;
+      place = a.1.1.0.place;
+      grant = a.1.1.1.0;
+      list = a.1.1.1.1.0.now;
     }
 
 -- the list afterwards
 abbrev pub salvage_list : (κs : L.Lfts 2) → AtExit (ended_of 2 kinds.ps kinds.r) κs → List ℕ
-salvage_list κs x = x.1.1.1.1.1.0.now
+salvage_list κs x = x.1.1.1.1.0.now
 
 -- a part of the file in hand
 
@@ -53,14 +53,14 @@ abbrev pub part_call : (κs : L.Lfts 2) → ArgsD parts.signature κs → PartCa
 part_call κs a =
     record {
       settings = a.0;
-      part = a.1.0.now;
-      off = a.1.1.0;
-      ends = a.1.1.1.0;
-      begin = a.1.1.1.1.0;
-      place = a.1.1.1.1.1.0;
-      grant = a.1.1.1.1.1.1.0;
-      list = a.1.1.1.1.1.1.1.0.now;
+      part = a.1.0.octets.now;
+      off = a.1.0.off;
+      ends = a.1.0.ends;
+      begin = a.1.1.0.begin;
+      place = a.1.1.0.place;
+      grant = a.1.1.1.0;
+      list = a.1.1.1.1.0.now;
     }
 
 abbrev pub part_list : (κs : L.Lfts 2) → AtExit (ended_of 2 part-kinds.ps part-kinds.r) κs → List ℕ
-part_list κs x = x.1.1.1.1.1.1.1.0.now
+part_list κs x = x.1.1.1.1.0.now

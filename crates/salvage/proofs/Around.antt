@@ -14,7 +14,8 @@ use Rattle.salvage.specs.Listing.{marked, kept, width_at, Stop}
 use Rattle.salvage.specs.Calling.{calling, call_of}
 use Rattle.salvage.specs.Inner.{Passed}
 use Rattle.salvage.specs.Parts.{longest, testable, till_in, around, length_in, call_in}
-use Rattle.salvage.proofs.Testing.{kept_has, is_kept}
+use Rattle.salvage.proofs.Testing.{kept_has, is_kept, wide_at, is_wide}
+use Rattle.std.specs.Prelude.{Option, Some, None}
 use Rattle.salvage.proofs.Windows.{Alike, alike}
 
 octets_zeros : (n : ℕ) → Octets (replicate n 0)
@@ -106,12 +107,12 @@ module _ (off : ℕ) (ends : Bool) (y : List ℕ) where
 
 module _ {s : Settings} {x y : List ℕ} {off till : ℕ} (a : Alike s x y off till) {at : ℕ} (l : off ≤ at) where
   pub found_wide :
-      {v : ℕ} → at < off + till → v ≡ pick (kept s y (at - off)) (width_at y (at - off)) 0 → v ≡ pick (kept s x at) (width_at x at) 0
+      {v : Option ℕ} → at < off + till → v ≡ wide_at s y (at - off) → v ≡ wide_at s x at
   found_wide {v} h e =
       let q : off + (at - off) ≡ at = omega arith in
       let k = a.tests (at - off) (omega arith) ∙ ap (kept s x) q in
       let w = a.widths (at - off) (omega arith) ∙ ap (width_at x) q in
-      e ∙ (λ i. pick (k i) (w i) 0)
+      e ∙ (λ i. pick (k i) (Some (w i)) None)
 
   pub found_passed :
       {end r : ℕ} → end ≤ off + till → Passed y (at + 1 - off) (end - off) r → at < end → Passed x (at + 1) end (off + r)
@@ -126,9 +127,8 @@ module _ {s : Settings} {x y : List ℕ} {off till : ℕ} (a : Alike s x y off t
       }
 
 pub found_inside :
-    (s : Settings) (y : List ℕ) (off at v : ℕ) → off ≤ at → v ≡ pick (kept s y (at - off)) (width_at y (at - off)) 0 → (v ≡ 0 → ⊥) →
-    at + v ≤ off + length y
-found_inside s y off at v l e f =
-    let k = is_kept s y (at - off) v e f in
-    let w : v ≡ width_at y (at - off) = e ∙ rw k in
+    (s : Settings) (y : List ℕ) (off at v : ℕ) → off ≤ at → Some v ≡ wide_at s y (at - off) → at + v ≤ off + length y
+found_inside s y off at v l e =
+    let k = is_kept s y (at - off) e in
+    let w = is_wide s y (at - off) e in
     omega (arith, (kept_has s y (at - off) k).inside)

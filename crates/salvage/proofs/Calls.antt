@@ -17,7 +17,7 @@ use Rattle.octets.proofs.Lists.{bool}
 use Rattle.walk.specs.declared.Settings.{Settings}
 use Rattle.walk.specs.Walk.{going, begun}
 use Rattle.format.proofs.Refusals.{picked}
-use Rattle.salvage.specs.declared.Salvaged.{Salvaged}
+use Rattle.salvage.specs.Answer.{Salvaged, answered}
 use Rattle.salvage.specs.Listing.{Stop, stop}
 use Rattle.salvage.specs.Calling.{entry_size, refusal_of, told_of, call_of, salvaged}
 use Rattle.salvage.specs.Parts.{till_in, around, refusal_in, salvaged_in}
@@ -27,7 +27,8 @@ use Rattle.salvage.proofs.Arguments.{salvage_call, salvage_list, part_call, part
 use Rattle.salvage.proofs.Bounds.{call_bounded, call_ends, call_left}
 use Rattle.salvage.proofs.Running.{State}
 
-pub salvage_same_answer : (κs : L.Lfts 2) (a : _) (r q : _) (s t : _) → reads.Post κs a r s → reads.Post κs a q t → r ≡ q
+pub salvage_same_answer :
+    (κs : L.Lfts 2) (a : _) (r q : _) (s t : _) → reads.Post κs a r s → reads.Post κs a q t → answered r ≡ answered q
 salvage_same_answer κs a r q s t k j = k.0 ∙ sym j.0
 
 -- the list
@@ -35,7 +36,8 @@ pub salvage_same_list :
     (κs : L.Lfts 2) (a : _) (r q : _) (s t : _) → reads.Post κs a r s → reads.Post κs a q t → salvage_list κs s ≡ salvage_list κs t
 salvage_same_list κs a r q s t k j = k.1 ∙ sym j.1
 
-pub part_same_answer : (κs : L.Lfts 2) (a : _) (r q : _) (s t : _) → part-reads.Post κs a r s → part-reads.Post κs a q t → r ≡ q
+pub part_same_answer :
+    (κs : L.Lfts 2) (a : _) (r q : _) (s t : _) → part-reads.Post κs a r s → part-reads.Post κs a q t → answered r ≡ answered q
 part_same_answer κs a r q s t k j = k.0 ∙ sym j.0
 
 pub part_same_list :
@@ -63,13 +65,13 @@ module _ (s : Settings) (y : List ℕ) (off : ℕ) (ends : Bool) (w : Stop) (gra
 
 pub salvage_within :
     (κs : L.Lfts 2) (a : _) (r : _) (x : _) → reads.Post κs a r x →
-    (r.tested ≤ (salvage_call κs a).grant) × (r.entries ≤ length (salvage_call κs a).list / 3)
+    ((answered r).tested ≤ (salvage_call κs a).grant) × ((answered r).entries ≤ length (salvage_call κs a).list / 3)
 salvage_within κs a r x k =
     subst (λ (q : Salvaged). (q.tested ≤ (salvage_call κs a).grant) × (q.entries ≤ length (salvage_call κs a).list / 3)) (sym k.0) (within _ _ _ _ _)
 
 pub part_within :
     (κs : L.Lfts 2) (a : _) (r : _) (x : _) → part-reads.Post κs a r x →
-    (r.tested ≤ (part_call κs a).grant) × (r.entries ≤ length (part_call κs a).list / 3)
+    ((answered r).tested ≤ (part_call κs a).grant) × ((answered r).entries ≤ length (part_call κs a).list / 3)
 part_within κs a r x k =
     subst (λ (q : Salvaged). (q.tested ≤ (part_call κs a).grant) × (q.entries ≤ length (part_call κs a).list / 3)) (sym k.0)
     (part_bounded _ _ _ _ _ _ _)
@@ -115,8 +117,8 @@ module _ (s : Settings) (x : List ℕ) (w : Stop) where
       (record { why = call_ends s x grant (long / entry_size) w i; left = call_left s x grant (long / entry_size) w i })
 
 pub salvage_ended :
-    (κs : L.Lfts 2) (a : _) (r : _) (x : _) → reads.Post κs a r x → r.refusal.number ≡ 0 →
+    (κs : L.Lfts 2) (a : _) (r : _) (x : _) → reads.Post κs a r x → (answered r).refusal.number ≡ 0 →
     Ended (salvage_call κs a).settings (salvage_call κs a).file (stop (salvage_call κs a).begin (salvage_call κs a).place)
-    (salvage_call κs a).grant (length (salvage_call κs a).list) r
+    (salvage_call κs a).grant (length (salvage_call κs a).list) (answered r)
 salvage_ended κs a r x k e =
     subst (Ended _ _ _ _ _) (sym k.0) (ended _ _ _ _ _ (subst (λ (q : Salvaged). q.refusal.number ≡ 0) k.0 e))

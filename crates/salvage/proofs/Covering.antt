@@ -12,7 +12,7 @@ use lib.Seq.{drop-drop, drop-length}
 use Rattle.octets.specs.Octets.{part}
 use Rattle.octets.proofs.Lists.{below_or, bool}
 use Rattle.walk.specs.declared.Settings.{Settings}
-use Rattle.salvage.specs.Listing.{kept, width_at, skips, kept_entry, skipped_entry, Entry, stop, stretch, listed, onward, list_from, list_of}
+use Rattle.salvage.specs.Listing.{kept, width_at, Skipped, kept_entry, skipped_entry, Entry, stop, stretch, listed, onward, list_from, list_of}
 use Rattle.salvage.specs.Covering.{Follow, Says, AllSay, begins, Apart, Covers, named}
 use Rattle.salvage.proofs.Numbering.{stretch_open, stretch_none}
 use Rattle.salvage.proofs.Testing.{kept_has, listed_kept, listed_none, onward_kept, onward_none}
@@ -33,7 +33,7 @@ module _ (s : Settings) (x : List ℕ) where
 
   -- the open stretch before a kept place, or before the end
   stretch_before :
-      (b at end : ℕ) (es : List Entry) → b < at → NoneKept b at → begins skips es ≡ true → Covers s x at end es →
+      (b at end : ℕ) (es : List Entry) → b < at → NoneKept b at → begins Skipped es ≡ true → Covers s x at end es →
       Covers s x b end (skipped_entry b at ∷ es)
   unfolding Follow AllSay Says Apart
   stretch_before b at end es h n g c =
@@ -45,7 +45,7 @@ module _ (s : Settings) (x : List ℕ) where
       }
 
   stretch_covers :
-      (b at end : ℕ) (es : List Entry) → b ≤ at → NoneKept b at → begins skips es ≡ true → Covers s x at end es →
+      (b at end : ℕ) (es : List Entry) → b ≤ at → NoneKept b at → begins Skipped es ≡ true → Covers s x at end es →
       Covers s x b end (stretch (stop b at) ++ es)
   stretch_covers b at end es o n g c =
       ⊎_elim

@@ -9,15 +9,15 @@ use mathlib.Core.List.{List, [], ◌∷◌, ◌++◌, append-nil}
 use native.Mathlib.Omega.{arith}
 use lib.ListN.{length, length-append}
 use lib.Seq.{sets, length-sets}
-use Rattle.octets.specs.Octets.{pick}
 use Rattle.octets.proofs.Lists.{below_or}
 use Rattle.walk.specs.declared.Settings.{Settings}
-use Rattle.salvage.specs.declared.Salvaged.{Salvaged}
-use Rattle.salvage.specs.Listing.{kept, width_at, kept_entry, Entry, Stop, stop, stretch, listed, onward}
+use Rattle.salvage.specs.Answer.{Salvaged}
+use Rattle.salvage.specs.Listing.{kept, kept_entry, Entry, Stop, stop, stretch, listed, onward}
 use Rattle.salvage.specs.Calling.{Called, ahead, ending, calling, flat, as_told, told_of}
 use Rattle.salvage.specs.Inner.{Passed, end_at, Puts, told_after}
 use Rattle.salvage.proofs.Numbering.{laid_first, stretch_most}
-use Rattle.salvage.proofs.Testing.{kept_has, kept_unmarked, not_kept, is_kept, listed_kept, onward_kept}
+use Rattle.std.specs.Prelude.{Some, None}
+use Rattle.salvage.proofs.Testing.{kept_has, kept_unmarked, wide_at, not_kept, is_kept, is_wide, listed_kept, onward_kept}
 use Rattle.salvage.proofs.Stepping.{ahead_none, ahead_ahead, calling_tests, calling_skips, calling_ends, Lasts, lasts}
 
 -- what holds between two turns
@@ -74,15 +74,15 @@ module _
 
     -- places that are not kept are passed over
     pub going_passed :
-        {v next : ℕ} → v ≡ pick (kept s x at) (width_at x at) 0 → v ≡ 0 → Passed x (at + 1) end next → till ≤ length x →
+        {next : ℕ} → None ≡ wide_at s x at → Passed x (at + 1) end next → till ≤ length x →
         Going s x till grant l₀ w l from next (tested + (next - at)) entries
-    going_passed {v} {next} y z p b =
+    going_passed {next} y p b =
         let c = going_lasts in
         let m = next - at in
         let none : (k : ℕ) → k < m → kept s x (at + k) ≡ false =
         λ (k : ℕ) (i : k < m).
         ⊎_elim
-        (λ j. let q : at + k ≡ at = omega arith in rw q (not_kept s x at (sym z ∙ y)))
+        (λ j. let q : at + k ≡ at = omega arith in rw q (not_kept s x at y))
         (λ j. kept_unmarked s x (at + k) (p.none (at + k) (omega arith) (omega arith)))
         (below_or k 1) in
         let d : left ≡ m + (left - m) = omega (arith, p.low, p.top, c.granted) in
@@ -110,13 +110,13 @@ module _
 
     -- a kept place is listed, with the stretch before it
     pub going_kept :
-        {v n : ℕ} {m : List ℕ} → v ≡ pick (kept s x at) (width_at x at) 0 → (v ≡ 0 → ⊥) →
+        {v n : ℕ} {m : List ℕ} → Some v ≡ wide_at s x at →
         Puts l entries (stretch (stop from at) ++ (kept_entry at v ∷ [])) m n →
         Going s x till grant l₀ w m (at + v) (at + v) (tested + 1) n
-    going_kept {v} {n} {m} y z p =
+    going_kept {v} {n} {m} y p =
         let c = going_lasts in
-        let k = is_kept s x at v y z in
-        let wide : v ≡ width_at x at = y ∙ rw k in
+        let k = is_kept s x at y in
+        let wide = is_wide s x at y in
         let es = listed s x (stop from at) in
         let is : stretch (stop from at) ++ (kept_entry at v ∷ []) ≡ es = rw wide (sym (listed_kept s x from at k)) in
         let long : length es ≤ 2 =

@@ -8,14 +8,16 @@ use mathlib.Core.List.{List, [], ◌∷◌, ◌++◌}
 use native.Mathlib.Omega.{arith}
 use lib.ListN.{length}
 use lib.Seq.{sets}
-use Rattle.octets.specs.Octets.{Octets, pick}
+use Rattle.octets.specs.Octets.{Octets}
 use Rattle.walk.specs.declared.Settings.{Settings}
-use Rattle.salvage.specs.declared.Salvaged.{Salvaged}
-use Rattle.salvage.specs.Listing.{kept, width_at, kept_entry, Stop, stop, stretch}
+use Rattle.salvage.specs.Answer.{Salvaged}
+use Rattle.salvage.specs.Listing.{kept_entry, Stop, stop, stretch}
 use Rattle.salvage.specs.Calling.{ending, calling, flat, told_of}
 use Rattle.salvage.specs.Inner.{Passed, end_at, Puts, told_after, Lies}
 use Rattle.salvage.specs.Parts.{off_most, testable, till_in, around, length_in, call_in}
 use Rattle.salvage.proofs.Going.{Going, going_first, going_lasts, going_passed, going_kept, going_done}
+use Rattle.std.specs.Prelude.{Option, Some, None}
+use Rattle.salvage.proofs.Testing.{wide_at}
 use Rattle.salvage.proofs.Windows.{Alike}
 use Rattle.salvage.proofs.Around.{testable_most, around_long, long_least, alike_around, found_wide, found_passed, found_inside}
 
@@ -57,19 +59,19 @@ module _
     pub held_end : end ≤ off + length y
     held_end = omega (arith, end_inside, testable_most ends (length y))
 
-    module _ {v : ℕ} (i : v ≡ pick (kept s y (at - off)) (width_at y (at - off)) 0) where
-      wide : v ≡ pick (kept s (around off ends y) at) (width_at (around off ends y) at) 0
+    module _ {v : Option ℕ} (i : v ≡ wide_at s y (at - off)) where
+      wide : v ≡ wide_at s (around off ends y) at
       wide = found_wide g.alike g.low (omega (arith, end_inside)) i
 
       -- places that are not kept are passed over
       pub held_passed :
-          {r : ℕ} → v ≡ 0 → Passed y (at + 1 - off) (end - off) r →
+          {r : ℕ} → None ≡ v → Passed y (at + 1 - off) (end - off) r →
           Held s y off ends n till grant l₀ w l from (off + r) (tested + (off + r - at)) entries
       held_passed {r} z p =
           let t : till ≤ length (around off ends y) =
           omega (arith, g.tills, testable_most ends (length y), around_long off ends y, long_least off ends (length y)) in
           record {
-            going = going_passed g.going e h wide z (found_passed g.alike g.low end_inside p h) t;
+            going = going_passed g.going e h (z ∙ wide) (found_passed g.alike g.low end_inside p h) t;
             low = omega arith;
             top = omega (arith, p.top, held_end);
             most = g.most;
@@ -80,13 +82,13 @@ module _
 
       -- a kept place is listed, with the stretch before it
       pub held_kept :
-          {k : ℕ} {m : List ℕ} → (v ≡ 0 → ⊥) → Puts l entries (stretch (stop from at) ++ (kept_entry at v ∷ [])) m k →
-          Held s y off ends n till grant l₀ w m (at + v) (at + v) (tested + 1) k
-      held_kept z p =
+          {m₁ k : ℕ} {m : List ℕ} → Some m₁ ≡ v → Puts l entries (stretch (stop from at) ++ (kept_entry at m₁ ∷ [])) m k →
+          Held s y off ends n till grant l₀ w m (at + m₁) (at + m₁) (tested + 1) k
+      held_kept {m₁} z p =
           record {
-            going = going_kept g.going e h wide z p;
+            going = going_kept g.going e h (z ∙ wide) p;
             low = omega (arith, g.low);
-            top = found_inside s y off at v g.low i z;
+            top = found_inside s y off at m₁ g.low (z ∙ i);
             most = g.most;
             long = g.long;
             tills = g.tills;

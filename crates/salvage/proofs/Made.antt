@@ -17,7 +17,10 @@ use Rattle.octets.specs.Octets.{Octets, part}
 use Rattle.octets.proofs.Has.{part_length}
 use Rattle.walk.specs.declared.Settings.{Settings}
 use Rattle.walk.specs.Walk.{going, begun}
-use Rattle.salvage.specs.declared.Salvaged.{Salvaged}
+use Rattle.std.specs.Prelude.{Result}
+use Rattle.walk.specs.declared.Refused.{Refused}
+use Rattle.salvage.specs.declared.Salvaged.{Salvaged as Tells}
+use Rattle.salvage.specs.Answer.{Salvaged, answered}
 use Rattle.salvage.specs.Listing.{Stop, stop}
 use Rattle.salvage.specs.Calling.{flat, told_of, refusal_of, call_of, salvaged, list_after}
 use Rattle.salvage.specs.Parts.{off_most, till_in, around, length_in, call_in, refusal_in, salvaged_in, list_in}
@@ -42,7 +45,7 @@ use Rattle.salvage.proofs.Turns.{Turn, numbers_are, Fairly}
 pub record Made : Type 0 where
   pub lifetimes : L.Lfts 2
   pub given : ArgsD salvages.signature lifetimes
-  pub answer : Salvaged
+  pub answer : Result Tells Refused
   pub after : AtExit (ended_of 2 kinds.ps kinds.r) lifetimes
   pub met : reads.Post lifetimes given answer after
 
@@ -53,7 +56,7 @@ abbrev turn_by : Salvaged → List ℕ → Turn
 turn_by r m = record { stop = stop r.begin r.place; tested = r.tested; numbers = take (r.entries * 3) m; done = r.done }
 
 abbrev pub turn_made : Made → Turn
-turn_made c = turn_by c.answer (salvage_list c.lifetimes c.after)
+turn_made c = turn_by (answered c.answer) (salvage_list c.lifetimes c.after)
 
 -- it was made over the file under the settings, from a stop on
 pub record Whole (s : Settings) (x : List ℕ) (w : Stop) (c : Made) : Type 0 where
@@ -67,7 +70,7 @@ pub record Whole (s : Settings) (x : List ℕ) (w : Stop) (c : Made) : Type 0 wh
 pub record PartMade : Type 0 where
   pub lifetimes : L.Lfts 2
   pub given : ArgsD parts.signature lifetimes
-  pub answer : Salvaged
+  pub answer : Result Tells Refused
   pub after : AtExit (ended_of 2 part-kinds.ps part-kinds.r) lifetimes
   pub met : part-reads.Post lifetimes given answer after
 
@@ -75,7 +78,7 @@ abbrev pub call_part : PartMade → PartCall
 call_part c = part_call c.lifetimes c.given
 
 abbrev pub turn_part : PartMade → Turn
-turn_part c = turn_by c.answer (part_list c.lifetimes c.after)
+turn_part c = turn_by (answered c.answer) (part_list c.lifetimes c.after)
 
 -- it was made over a part of the file that has the place in it; told that the file ends with the part only if it does
 pub record InPart (s : Settings) (x : List ℕ) (w : Stop) (c : PartMade) : Type 0 where

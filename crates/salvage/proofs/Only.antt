@@ -8,7 +8,7 @@ use mathlib.Core.List.{List, [], ◌∷◌, ◌++◌, append_assoc, append-nil}
 use native.Mathlib.Omega.{arith}
 use lib.ListN.{length}
 use Rattle.walk.specs.declared.Settings.{Settings}
-use Rattle.salvage.specs.Listing.{kept, width_at, Kind, skips, keeps, Entry, kept_entry, stop, stretch, listed, list_at, list_of}
+use Rattle.salvage.specs.Listing.{kept, width_at, Kind, Skipped, Kept, Entry, kept_entry, stop, stretch, listed, list_at, list_of}
 use Rattle.salvage.specs.Covering.{Follow, Says, AllSay, begins, Apart, Covers}
 use Rattle.salvage.proofs.Numbering.{stretch_open, stretch_none}
 use Rattle.salvage.proofs.Testing.{kept_has, listed_kept, listed_none, onward_kept, onward_none}
@@ -35,10 +35,10 @@ module _ (s : Settings) (x : List ℕ) where
   -- what is to be shown of the entries from a place on, after a stretch that is open up to it
   abbrev Alone : List Entry → Type 0
   Alone es =
-      (b at : ℕ) → b ≤ at → NoneKept s x b at → (b ≡ at) ⊎ (begins skips es ≡ true) → Covers s x at (length x) es →
+      (b at : ℕ) → b ≤ at → NoneKept s x b at → (b ≡ at) ⊎ (begins Skipped es ≡ true) → Covers s x at (length x) es →
       stretch (stop b at) ++ es ≡ list_at s x (stop b at)
 
-  alone_kept : (p l : ℕ) (es : List Entry) → Alone es → Alone (record { kind = keeps; place = p; long = l } ∷ es)
+  alone_kept : (p l : ℕ) (es : List Entry) → Alone es → Alone (record { kind = Kept; place = p; long = l } ∷ es)
   unfolding Follow AllSay Says Apart
   alone_kept p l es ih b at o n g c =
       let q = c.follow.0 in
@@ -50,13 +50,13 @@ module _ (s : Settings) (x : List ℕ) where
       let same : es ≡ list_at s x (stop m m) =
       ap (λ (y : List Entry). y ++ es) (sym (stretch_none m m (omega arith)))
       ∙ ih m m (omega arith) (λ i j h. absurd (omega arith)) (inl refl) rest in
-      (λ i. stretch (stop b at) ++ (record { kind = keeps; place = q i; long = w i } ∷ es))
+      (λ i. stretch (stop b at) ++ (record { kind = Kept; place = q i; long = w i } ∷ es))
       ∙ sym (append_assoc (stretch (stop b at)) (kept_entry at (width_at x at) ∷ []) es)
       ∙ ap (λ (y : List Entry). y ++ es) (sym (listed_kept s x b at k))
       ∙ ap (λ (y : List Entry). listed s x (stop b at) ++ y) (same ∙ ap (list_at s x) (sym (onward_kept s x b at k)))
       ∙ sym (list_next s x (stop b at) o (omega (arith, (kept_has s x at k).inside)))
 
-  alone_skipped : (p l : ℕ) (es : List Entry) → Alone es → Alone (record { kind = skips; place = p; long = l } ∷ es)
+  alone_skipped : (p l : ℕ) (es : List Entry) → Alone es → Alone (record { kind = Skipped; place = p; long = l } ∷ es)
   unfolding Follow AllSay Says Apart begins
   alone_skipped p l es ih b at o n g c =
       ⊎_elim
@@ -66,7 +66,7 @@ module _ (s : Settings) (x : List ℕ) where
       let h : at + l ≤ length x = follow_order es (at + l) (length x) c.follow.1 in
       let none : NoneKept s x b (at + l) = λ k i j. c.say.0.1 k (omega arith) (omega (arith, c.follow.0)) in
       rw (stretch_none b at (omega arith))
-      ((λ i. record { kind = skips; place = q i; long = w i } ∷ es)
+      ((λ i. record { kind = Skipped; place = q i; long = w i } ∷ es)
       ∙ ap (λ (y : List Entry). y ++ es) (sym (stretch_open b (at + l) (omega (arith, c.say.0.0))))
       ∙ ih b (at + l) (omega arith) none (inr c.apart.0) (record { follow = c.follow.1; say = c.say.1; apart = c.apart.1 })
       ∙ sym (list_skips l b at o h (λ k i j. none k (omega arith) j))))
@@ -74,8 +74,8 @@ module _ (s : Settings) (x : List ℕ) where
       g
 
   alone_entry : (k : Kind) (p l : ℕ) (es : List Entry) → Alone es → Alone (record { kind = k; place = p; long = l } ∷ es)
-  alone_entry keeps p l es = alone_kept p l es
-  alone_entry skips p l es = alone_skipped p l es
+  alone_entry Kept p l es = alone_kept p l es
+  alone_entry Skipped p l es = alone_skipped p l es
 
   alone : (es : List Entry) → Alone es
   unfolding Follow

@@ -26,7 +26,7 @@ ahead_ahead n m a b c =
     let f : a ++ (b ++ c.entries) ≡ a ++ b ++ c.entries = sym (append_assoc a b c.entries) in
     λ i. record { tested = e i; entries = f i; stop = c.stop }
 
-end_most : (at till g free : ℕ) → 2 ≤ free → end_at at till g free ≡ at + min g (till - at)
+pub end_most : (at till g free : ℕ) → 2 ≤ free → end_at at till g free ≡ at + min g (till - at)
 unfolding end_at
 end_most at till g free h = rw (le-leb _ _ h)
 
@@ -120,12 +120,3 @@ lasts at till g free h =
 module _ (at till g free : ℕ) where
   pub end_low : free < 2 → at ≡ end_at at till g free
   end_low h = sym (end_full at till g free h)
-
-  pub end_here : 2 ≤ free → till ≤ at → at ≡ end_at at till g free
-  end_here h k = omega (arith, end_most at till g free h)
-
-  pub end_grant : 2 ≤ free → g < till - at → at + g ≡ end_at at till g free
-  end_grant h k = omega (arith, end_most at till g free h)
-
-  pub end_till : 2 ≤ free → at < till → till - at ≤ g → till ≡ end_at at till g free
-  end_till h k j = omega (arith, end_most at till g free h)

@@ -4,6 +4,7 @@ use Prim.Native.Nat.{ℕ, ◌+◌, ◌-◌, ◌≤◌, ◌<◌}
 use mathlib.Core.Path.{◌≡◌, refl, ap, sym, ◌∙◌}
 use mathlib.Core.Logic.{⊎_elim}
 use mathlib.Core.Bool.{Bool, true, false}
+use Rattle.std.specs.Prelude.{Option, Some, None}
 use mathlib.Core.List.{List, [], ◌∷◌, ◌++◌}
 use native.Mathlib.Omega.{arith}
 use lib.ListN.{length, take, drop}
@@ -12,7 +13,7 @@ use borrow.Author.Tests.{le-leb, lt-leb, leb-true, eq-eqb, ne_eqb, eqb-true}
 use Rattle.octets.specs.Octets.{pick, octet_at, number, part}
 use Rattle.octets.proofs.Lists.{pick_false, bool}
 use Rattle.walk.specs.declared.Settings.{Settings}
-use Rattle.packet.specs.declared.Header.{Header}
+use Rattle.packet.specs.Answer.{Header}
 use Rattle.packet.specs.Reading.{read_packet}
 use Rattle.salvage.specs.Listing.{marked, size_at, width_at, kept, kept_entry, stop, stretch, listed, onward}
 
@@ -77,21 +78,24 @@ module _ (s : Settings) (x : List ℕ) (b at : ℕ) where
 
 -- ---- the test in the code, answer by answer
 
+-- the octets of mark and packet if the place is kept
+abbrev pub wide_at : Settings → List ℕ → ℕ → Option ℕ
+wide_at s x at = pick (kept s x at) (Some (width_at x at)) None
+
 module _ (s : Settings) (x : List ℕ) (at : ℕ) where
-  none : kept s x at ≡ false → 0 ≡ pick (kept s x at) (width_at x at) 0
+  none : kept s x at ≡ false → None ≡ wide_at s x at
   none e = rw e
 
-  pub width_short : length x - at < 9 → 0 ≡ pick (kept s x at) (width_at x at) 0
+  pub width_short : length x - at < 9 → None ≡ wide_at s x at
   width_short h = none (kept_outside s x at (omega arith))
 
   pub width_unmarked :
-      {r : Bool} → r ≡ pick (eqb (octet_at x at) 0x4d) (eqb (octet_at x (at + 1)) 0x50) false → r ≡ false →
-      0 ≡ pick (kept s x at) (width_at x at) 0
+      {r : Bool} → r ≡ pick (eqb (octet_at x at) 0x4d) (eqb (octet_at x (at + 1)) 0x50) false → r ≡ false → None ≡ wide_at s x at
   unfolding marked
   width_unmarked e h = none (kept_unmarked s x at (sym e ∙ h))
 
   module _ {m : ℕ} (e : m ≡ number 2 x (at + 6)) where
-    pub width_outside : length x - at < 2 + (m + 7) → 0 ≡ pick (kept s x at) (width_at x at) 0
+    pub width_outside : length x - at < 2 + (m + 7) → None ≡ wide_at s x at
     width_outside h = none (kept_outside s x at (omega arith))
 
     part_is : take (at + 2 + (m + 7) - (at + 2)) (drop (at + 2) x) ≡ part x (at + 2) (size_at x at)
@@ -103,20 +107,25 @@ module _ (s : Settings) (x : List ℕ) (at : ℕ) where
       number_is : h.refusal.number ≡ read_at s x at
       number_is = ap (λ (y : Header). y.refusal.number) (r ∙ ap (read_packet s) part_is)
 
-      pub width_refused : (h.refusal.number ≡ 0 → ⊥) → 0 ≡ pick (kept s x at) (width_at x at) 0
+      pub width_refused : (h.refusal.number ≡ 0 → ⊥) → None ≡ wide_at s x at
       width_refused f = none (kept_refused s x at (λ z. f (number_is ∙ z)))
 
       pub width_kept :
           {q : Bool} → q ≡ pick (eqb (octet_at x at) 0x4d) (eqb (octet_at x (at + 1)) 0x50) false → q ≡ true → 2 + (m + 7) ≤ length x - at →
-          h.refusal.number ≡ 0 → 2 + (m + 7) ≡ pick (kept s x at) (width_at x at) 0
+          h.refusal.number ≡ 0 → Some (2 + (m + 7)) ≡ wide_at s x at
       unfolding marked
       width_kept p q i z =
-          rw (kept_so s x at (record { mark = sym p ∙ q; inside = omega arith; reads = sym number_is ∙ z })) (omega arith)
+          let n : 2 + (m + 7) ≡ width_at x at = omega arith in
+          ap (λ (k : ℕ). Some k) n
+          ∙ rw (kept_so s x at (record { mark = sym p ∙ q; inside = omega arith; reads = sym number_is ∙ z }))
 
 -- what its answer tells
-pub not_kept : (s : Settings) (x : List ℕ) (at : ℕ) → 0 ≡ pick (kept s x at) (width_at x at) 0 → kept s x at ≡ false
-not_kept s x at e =
-    ⊎_elim (λ k. absurd (omega (arith, rw k at e))) (λ k. k) (bool (kept s x at))
+module _ (s : Settings) (x : List ℕ) (at : ℕ) where
+  pub not_kept : None ≡ wide_at s x at → kept s x at ≡ false
+  not_kept e = ⊎_elim (λ k. let q = rw k at e in cc) (λ k. k) (bool (kept s x at))
 
-pub is_kept : (s : Settings) (x : List ℕ) (at v : ℕ) → v ≡ pick (kept s x at) (width_at x at) 0 → (v ≡ 0 → ⊥) → kept s x at ≡ true
-is_kept s x at v e f = ⊎_elim (λ k. k) (λ k. absurd (f (rw k at e))) (bool (kept s x at))
+  pub is_kept : {v : ℕ} → Some v ≡ wide_at s x at → kept s x at ≡ true
+  is_kept e = ⊎_elim (λ k. k) (λ k. let q = rw k at e in cc) (bool (kept s x at))
+
+  pub is_wide : {v : ℕ} → Some v ≡ wide_at s x at → v ≡ width_at x at
+  is_wide e = let q = rw (is_kept e) at e in cc

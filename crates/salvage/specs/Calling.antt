@@ -7,8 +7,8 @@ use Rattle.std.proofs.lemmas.List.Edits.{sets}
 use Rattle.octets.specs.Octets.{pick}
 use Rattle.walk.specs.declared.Settings.{Settings}
 use Rattle.walk.specs.Walk.{refusal, no_refusal, going, begun}
-use Rattle.salvage.specs.declared.Salvaged.{Salvaged}
-use Rattle.salvage.specs.Listing.{Kind, skips, keeps, Entry, Stop, stop, stretch, listed, onward}
+use Rattle.salvage.specs.Answer.{Salvaged, refuses}
+use Rattle.salvage.specs.Listing.{Kind, Skipped, Kept, Entry, Stop, stop, stretch, listed, onward}
 
 -- ---- how far a call goes
 
@@ -44,9 +44,9 @@ calling s x till (suc grant) free w =
 abbrev pub entry_size : ℕ
 entry_size = 3
 
-unfoldable pub kind_number : Kind → ℕ
-kind_number skips = 0
-kind_number keeps = 1
+abbrev pub kind_number : Kind → ℕ
+kind_number Skipped = 0
+kind_number Kept = 1
 
 unfoldable pub flat : List Entry → List ℕ
 flat [] = []
@@ -71,7 +71,7 @@ abbrev pub told_of : ℕ → Called → Salvaged
 told_of n c = as_told n c.tested (length c.entries) c.stop
 
 abbrev pub refused_by : ℕ → Salvaged
-refused_by k = record { refusal = refusal k; tested = 0; entries = 0; begin = 0; place = 0; done = false }
+refused_by k = refuses (refusal k)
 
 -- 15 first; 40 for a state that can't be one, with the place after the file's end or the stretch's beginning after the place
 unfoldable pub refusal_of : Settings → List ℕ → Stop → ℕ

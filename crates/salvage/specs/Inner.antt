@@ -5,8 +5,8 @@ use Rattle.std.proofs.lemmas.List.Edits.{sets}
 use Rattle.octets.specs.Octets.{pick, octet_at}
 use Rattle.packet.specs.Mark.{mark_first, mark_second}
 use Rattle.walk.specs.declared.Settings.{Settings}
-use Rattle.salvage.specs.declared.Salvaged.{Salvaged}
-use Rattle.salvage.specs.Listing.{marked, Entry, Stop, stop}
+use Rattle.salvage.specs.Answer.{Salvaged}
+use Rattle.salvage.specs.Listing.{marked, Entry, Stop}
 use Rattle.salvage.specs.Calling.{Called, ending, entry_size, flat, as_told}
 use Rattle.salvage.specs.Parts.{off_most, call_in}
 
@@ -38,12 +38,12 @@ abbrev pub list_with : List ℕ → ℕ → Called → List ℕ
 list_with l n c = sets l (n * entry_size) (flat c.entries)
 
 -- the end of a call after so many entries in a list of numbers
-abbrev pub end_after : ℕ → List ℕ → ℕ → ℕ → ℕ → Called
-end_after n l entries b at = ending n (length l / entry_size - entries) (stop b at)
+abbrev pub end_after : ℕ → List ℕ → ℕ → Stop → Called
+end_after n l entries w = ending n (length l / entry_size - entries) w
 
 -- the call over a part in hand, with a list of numbers
-abbrev pub call_with : Settings → List ℕ → ℕ → Bool → ℕ → ℕ → ℕ → List ℕ → Called
-call_with s y off ends b at grant l = call_in s y off ends (stop b at) grant (length l / entry_size)
+abbrev pub call_with : Settings → List ℕ → ℕ → Bool → Stop → ℕ → List ℕ → Called
+call_with s y off ends w grant l = call_in s y off ends w grant (length l / entry_size)
 
 -- a state that can be one with n octets from `off` on in hand
 pub record Lies (off n : ℕ) (w : Stop) : Type 0 where

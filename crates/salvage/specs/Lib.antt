@@ -1,3 +1,4 @@
+pub mod Answer
 pub mod Listing
 pub mod Calling
 pub mod Running

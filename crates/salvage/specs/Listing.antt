@@ -7,6 +7,10 @@ use Rattle.octets.specs.Octets.{pick, octet_at, number, part}
 use Rattle.walk.specs.declared.Settings.{Settings}
 use Rattle.packet.specs.Mark.{mark_first, mark_second}
 use Rattle.packet.specs.Reading.{read_packet}
+pub use Rattle.salvage.specs.declared.Kind.{Kind}
+pub use Rattle.salvage.specs.declared.Kind.TheVariants.{Skipped, Kept}
+pub use Rattle.salvage.specs.declared.Entry.{Entry}
+pub use Rattle.salvage.specs.declared.Stop.{Stop}
 
 -- ---- what stands at a place
 
@@ -29,30 +33,17 @@ kept s x at =
 
 -- ---- entries
 
-pub data Kind : Type 0 where
-  skips : Kind
-  keeps : Kind
-
-pub record Entry : Type 0 where
-  pub kind : Kind
-  pub place : ℕ
-  pub long : ℕ
-
 -- mark and packet together are one entry
 abbrev pub kept_entry : ℕ → ℕ → Entry
-kept_entry at n = record { kind = keeps; place = at; long = n }
+kept_entry at n = record { kind = Kept; place = at; long = n }
 
 -- a stretch from a place up to another
 abbrev pub skipped_entry : ℕ → ℕ → Entry
-skipped_entry from at = record { kind = skips; place = from; long = at - from }
+skipped_entry from at = record { kind = Skipped; place = from; long = at - from }
 
 -- ---- from the left
 
 -- between two places tested: where the open stretch begins, and the next place. None is open if the two are the same.
-pub record Stop : Type 0 where
-  pub begin : ℕ
-  pub place : ℕ
-
 abbrev pub stop : ℕ → ℕ → Stop
 stop b at = record { begin = b; place = at }
 

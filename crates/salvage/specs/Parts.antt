@@ -6,7 +6,7 @@ use Rattle.std.specs.Prelude.{ℕ, ◌+◌, ◌-◌, ◌/◌, Bool, false, List,
 use Rattle.octets.specs.Octets.{pick}
 use Rattle.walk.specs.declared.Settings.{Settings}
 use Rattle.walk.specs.Walk.{going, begun}
-use Rattle.salvage.specs.declared.Salvaged.{Salvaged}
+use Rattle.salvage.specs.Answer.{Salvaged}
 use Rattle.salvage.specs.Listing.{Stop}
 use Rattle.salvage.specs.Calling.{Called, calling, entry_size, answer_by, list_by}
 

@@ -11,25 +11,21 @@
 // Few places have a mark: those without are passed over in blocks, and only at a mark is a packet read.
 #![tactic(auto)]
 
-ghost use Rattle.std.specs.Prelude.{◌≡◌, false, [], ◌∷◌, ◌++◌, ◌+◌, ◌*◌, ◌/◌, ◌≤◌, length, eqb};
+ghost use Rattle.std.specs.Prelude.{◌≡◌, false, Some, None, [], ◌∷◌, ◌++◌, ◌+◌, ◌*◌, ◌/◌, ◌≤◌, length, eqb, slice_index};
 ghost use Rattle.std.proofs.lemmas.List.Edits.{sets};
-ghost use Rattle.octets.specs.Octets.{pick};
+ghost use Rattle.octets.specs.Octets.{Octets, pick};
 ghost use Rattle.packet.specs.Mark.{mark_first, mark_second};
-ghost use Rattle.salvage.specs.Listing.{kept, width_at, stop, stretch, kept_entry};
-ghost use Rattle.salvage.specs.Calling.{entry_size, as_told, told_of, refused_by, salvaged, list_after};
+ghost use Rattle.salvage.specs.Answer.{told, answered};
+ghost use Rattle.salvage.specs.Listing.{kept, width_at, stretch, kept_entry};
+ghost use Rattle.salvage.specs.Calling.{kind_number, entry_size, as_told, told_of, salvaged, list_after};
 ghost use Rattle.salvage.specs.Parts.{off_most, length_in, till_in, holds, salvaged_in, list_in};
 ghost use Rattle.salvage.specs.Inner.{Unmarked, Passed, end_at, Puts, told_after, list_with, end_after, call_with, Lies};
 
 use packet::{MARK_FIRST, MARK_SECOND};
-use walk::{REFUSED_STATE, Refusal, Settings};
+use walk::{Refused, Settings};
 
-// The kinds of an entry.
-pub const SKIPPED: u64 = 0;
-
-pub const KEPT: u64 = 1;
-
-// The numbers of an entry: kind, place, length.
-pub const ENTRY: usize = 3;
+// The numbers of an entry in a list: kind (0 skipped, 1 kept), place, length.
+pub const NUMBERS: usize = 3;
 
 // A mark and the shortest packet that a length field tells of; a mark and the longest.
 const SHORTEST: usize = 9;
@@ -42,15 +38,41 @@ const OFF_MOST: usize = 0xffff_ffff_ffff_fffe;
 // The places that are passed over at once.
 const BLOCK: usize = 256;
 
-// What a call answers: the refusal, the places that it tested, the entries that it listed, where the open stretch begins and which
-// place is next, and whether the whole file is listed.
-#[derive(Clone, Copy)]
-pub struct Salvaged {
-    pub refusal: Refusal,
-    pub tested: usize,
-    pub entries: usize,
+// What an entry is: a stretch that is skipped, or a mark and a packet that are kept.
+#[derive(Clone, Copy, Debug, PartialEq, Eq)]
+pub enum Kind {
+    Skipped,
+    Kept,
+}
+
+#[derive(Clone, Copy, Debug, PartialEq, Eq)]
+pub struct Entry {
+    pub kind: Kind,
+    pub place: usize,
+    pub long: usize,
+}
+
+// Where a call begins or stops: where the open stretch begins, and which place is next; none is open if the two are the same.
+#[derive(Clone, Copy, Debug, PartialEq, Eq)]
+pub struct Stop {
     pub begin: usize,
     pub place: usize,
+}
+
+// A part of a file in hand: its octets from `off` on, and whether the file ends with it.
+#[derive(Clone, Copy)]
+pub struct Part<'a> {
+    pub octets: &'a [u8],
+    pub off: usize,
+    pub ends: bool,
+}
+
+// What a call tells: the places that it tested, the entries that it listed, where it stopped, and whether the whole file is listed.
+#[derive(Clone, Copy, Debug, PartialEq, Eq)]
+pub struct Salvaged {
+    pub tested: usize,
+    pub entries: usize,
+    pub stop: Stop,
     pub done: bool,
 }
 
@@ -67,15 +89,13 @@ fn any_mark(here: &[u8], next: &[u8]) -> bool
     ensures { Unmarked here.now next.now result (length here.now) }
 {
     let mut found = false;
-    let mut i: usize = 0;
-    while i < here.len() {
+    for i in 0..here.len() {
         found = octets::either(found, marked(here[i], next[i]));
-        i += 1;
     }
     found
 }
 
-// Passes over blocks with no mark, up to an end.
+// Passes over blocks with no mark, up to an end. It goes on by whole blocks while there is more than one left, so it is no loop over places.
 fn pass_blocks(file: &[u8], from: usize, end: usize) -> usize
     requires from_le_end { from ≤ end }
     requires end_in_bounds { end ≤ length file.now }
@@ -100,40 +120,36 @@ fn pass(file: &[u8], from: usize, end: usize) -> usize
     requires end_in_bounds { end ≤ length file.now }
     ensures { Passed file.now from end result }
 {
-    let mut at = pass_blocks(file, from, end);
-    while at < end {
+    for at in pass_blocks(file, from, end)..end {
         if marked(file[at], octets::octet_after(file, at, 1)) {
             return at;
         }
-        at += 1;
     }
-    at
+    end
 }
 
-// The octets of mark and packet if the place is kept, else 0.
-fn width(s: Settings, file: &[u8], at: usize) -> usize
+// The octets of mark and packet if the place is kept.
+fn width(s: Settings, file: &[u8], at: usize) -> Option<usize>
     requires { at ≤ length file.now }
-    ensures { result ≡ pick (kept s file.now at) (width_at file.now at) 0 }
+    ensures { result ≡ pick (kept s file.now at) (Some (width_at file.now at)) None }
 {
     let rest = file.len() - at;
     if rest < SHORTEST {
-        return 0;
+        return None;
     }
     if !marked(file[at], file[at + 1]) {
-        return 0;
+        return None;
     }
-    let size = octets::be16(file, at + 6) as usize + 7;
+    let size = octets::read::<u16>(file, at + 6) as usize + 7;
     if rest < 2 + size {
-        return 0;
+        return None;
     }
     let from = at + 2;
     let till = from + size;
-    let h = packet::read(s, &file[from..till]);
-    let refusal = h.refusal;
-    if refusal.number != 0 {
-        return 0;
+    match packet::read(s, &file[from..till]) {
+        Ok(_) => Some(2 + size),
+        Err(_) => None,
     }
-    2 + size
 }
 
 // The place before which a call ends if none on the way is kept.
@@ -143,232 +159,243 @@ fn end_at(at: usize, till: usize, grant: usize, free: usize) -> usize
     if free < 2 {
         return at;
     }
-    if till <= at {
-        return at;
-    }
-    if grant < till - at {
-        return at + grant;
-    }
-    till
+    at + grant.min(till.saturating_sub(at))
 }
 
-// An entry after n others.
-fn put_entry(list: &mut [u64], n: usize, kind: u64, place: usize, long: usize)
-    requires { n * entry_size + entry_size ≤ length list.old }
-    ensures { list.new ≡ sets list.old (n * entry_size) (kind ∷ place ∷ long ∷ []) }
-{
-    let at = n * ENTRY;
-    list[at] = kind;
-    list[at + 1] = place as u64;
-    list[at + 2] = long as u64;
+impl Kind {
+    // Its number in a list.
+    pub fn number(self) -> u64
+        ensures { result ≡ kind_number self }
+    {
+        match self {
+            Kind::Skipped => 0,
+            Kind::Kept => 1,
+        }
+    }
 }
 
-// The stretch before a place, if one is open, after n entries; how many entries there are then.
-fn put_stretch(list: &mut [u64], n: usize, begin: usize, place: usize) -> usize
+impl Entry {
+    // The entry of a list that stands after n others.
+    pub fn at(list: &[u64], n: usize) -> Entry
+        requires { n * entry_size + entry_size ≤ length list.now }
+        ensures kind { kind_number result.kind ≡ pick (eqb (slice_index list.now (n * entry_size)) 1) 1 0 }
+        ensures place { result.place ≡ slice_index list.now (n * entry_size + 1) }
+        ensures long { result.long ≡ slice_index list.now (n * entry_size + 2) }
+    {
+        let at = n * NUMBERS;
+        let kind = if list[at] == Kind::Kept.number() {
+            Kind::Kept
+        } else {
+            Kind::Skipped
+        };
+        Entry {
+            kind: kind,
+            place: list[at + 1] as usize,
+            long: list[at + 2] as usize,
+        }
+    }
+
+    // Lays it in a list, after n others.
+    fn put(self, list: &mut [u64], n: usize)
+        requires { n * entry_size + entry_size ≤ length list.old }
+        ensures { list.new ≡ sets list.old (n * entry_size) (kind_number self.kind ∷ self.place ∷ self.long ∷ []) }
+    {
+        let at = n * NUMBERS;
+        list[at] = self.kind.number();
+        list[at + 1] = self.place as u64;
+        list[at + 2] = self.long as u64;
+    }
+}
+
+// The stretch that is open at a stop, if one is, after n entries; how many entries there are then.
+fn put_stretch(list: &mut [u64], n: usize, stop: Stop) -> usize
     requires { n * entry_size + entry_size ≤ length list.old }
-    ensures { Puts list.old n (stretch (stop begin place)) list.new result }
+    ensures { Puts list.old n (stretch stop) list.new result }
 {
-    if begin < place {
-        put_entry(list, n, SKIPPED, begin, place - begin);
+    if stop.begin < stop.place {
+        let entry = Entry {
+            kind: Kind::Skipped,
+            place: stop.begin,
+            long: stop.place - stop.begin,
+        };
+        entry.put(list, n);
         return n + 1;
     }
     n
 }
 
 // The stretch before a kept place, if one is open, and the place; how many entries there are then.
-fn put_kept(list: &mut [u64], n: usize, begin: usize, place: usize, wide: usize) -> usize
+fn put_kept(list: &mut [u64], n: usize, stop: Stop, wide: usize) -> usize
     requires { n * entry_size + 2 * entry_size ≤ length list.old }
-    ensures { Puts list.old n (stretch (stop begin place) ++ (kept_entry place wide ∷ [])) list.new result }
+    ensures { Puts list.old n (stretch stop ++ (kept_entry stop.place wide ∷ [])) list.new result }
 {
-    let k = put_stretch(list, n, begin, place);
-    put_entry(list, k, KEPT, place, wide);
+    let k = put_stretch(list, n, stop);
+    let entry = Entry {
+        kind: Kind::Kept,
+        place: stop.place,
+        long: wide,
+    };
+    entry.put(list, k);
     k + 1
 }
 
-fn refused(k: u8) -> Salvaged
-    ensures { result ≡ refused_by k }
-{
-    Salvaged {
-        refusal: walk::numbered(k),
-        tested: 0,
-        entries: 0,
-        begin: 0,
-        place: 0,
-        done: false,
-    }
-}
-
 // What is told of a call over a file of n octets.
-fn told(n: usize, tested: usize, entries: usize, begin: usize, place: usize) -> Salvaged
-    ensures { result ≡ as_told n tested entries (stop begin place) }
+fn told(n: usize, tested: usize, entries: usize, stop: Stop) -> Salvaged
+    ensures { told result ≡ as_told n tested entries stop }
 {
+    let end = Stop { begin: n, place: n };
     Salvaged {
-        refusal: walk::numbered(0),
         tested: tested,
         entries: entries,
-        begin: begin,
-        place: place,
-        done: octets::both(begin == n, place == n),
+        stop: stop,
+        done: stop == end,
     }
 }
 
 // The end of a call: at the end of a file of n octets an open stretch is listed if an entry is free.
-fn finish(
-    n: usize,
-    list: &mut [u64],
-    tested: usize,
-    entries: usize,
-    begin: usize,
-    place: usize,
-) -> Salvaged
-    requires begin_le_place { begin ≤ place }
+fn finish(n: usize, list: &mut [u64], tested: usize, entries: usize, stop: Stop) -> Salvaged
+    requires begin_le_place { stop.begin ≤ stop.place }
     requires entries_in_bounds { entries ≤ length list.old / entry_size }
-    ensures value { result ≡ told_after n tested entries (end_after n list.old entries begin place) }
-    ensures list_after { list.new ≡ list_with list.old entries (end_after n list.old entries begin place) }
+    ensures value { told result ≡ told_after n tested entries (end_after n list.old entries stop) }
+    ensures list_after { list.new ≡ list_with list.old entries (end_after n list.old entries stop) }
 {
-    let free = list.len() / ENTRY;
-    if place != n {
-        return told(n, tested, entries, begin, place);
-    }
-    if place <= begin {
-        return told(n, tested, entries, begin, place);
+    let free = list.len() / NUMBERS;
+    if stop.place != n {
+        return told(n, tested, entries, stop);
     }
     if free <= entries {
-        return told(n, tested, entries, begin, place);
+        return told(n, tested, entries, stop);
     }
-    put_entry(list, entries, SKIPPED, begin, place - begin);
-    told(n, tested, entries + 1, place, place)
+    let all = put_stretch(list, entries, stop);
+    let end = Stop { begin: n, place: n };
+    told(n, tested, all, end)
 }
 
-// The octets of a file as far as they are known of by a part of n octets from a place on: one more if the file does not end with it.
-fn length_in(off: usize, ends: bool, n: usize) -> usize
-    requires { off + n ≤ off_most }
-    ensures { result ≡ length_in off ends n }
+// How many octets there are; each is one.
+fn count(octets: &[u8]) -> usize
+    ensures length { result ≡ length octets.now }
+    ensures are_octets { Octets octets.now }
 {
-    if ends {
-        return off + n;
-    }
-    off + n + 1
+    octets.len()
 }
 
-// The place from which on none is tested with such a part in hand.
-fn till_in(off: usize, ends: bool, n: usize) -> usize
-    requires { off + n ≤ off_most }
-    ensures { result ≡ till_in off ends n }
-{
-    if ends {
-        return off + n;
+impl Part<'_> {
+    // The octets of the file as far as they are known of: one more if the file does not end with the part.
+    fn length(self) -> usize
+        requires { self.off + length self.octets.now ≤ off_most }
+        ensures value { result ≡ length_in self.entry.off self.entry.ends (length self.entry.octets.now) }
+        ensures are_octets { Octets self.entry.octets.now }
+    {
+        let known = self.off + count(self.octets);
+        if self.ends {
+            return known;
+        }
+        known + 1
     }
-    if n < LONGEST {
-        return off;
+
+    // The place from which on none is tested with the part in hand.
+    fn till(self) -> usize
+        requires { self.off + length self.octets.now ≤ off_most }
+        ensures { result ≡ till_in self.entry.off self.entry.ends (length self.entry.octets.now) }
+    {
+        let n = self.octets.len();
+        if self.ends {
+            return self.off + n;
+        }
+        self.off + (n + 1).saturating_sub(LONGEST)
     }
-    off + (n + 1 - LONGEST)
+
+    // Whether a state can be one with the part in hand.
+    fn has(self, stop: Stop) -> bool
+        ensures { result ≡ holds self.entry.off (length self.entry.octets.now) stop }
+    {
+        let n = self.octets.len();
+        if OFF_MOST < self.off || OFF_MOST - self.off < n {
+            return false;
+        }
+        if stop.place < stop.begin || stop.place < self.off {
+            return false;
+        }
+        stop.place <= self.off + n
+    }
 }
 
 // The places from one on are tested, as far as the part in hand, the grant and the list go.
-fn along(
-    s: Settings,
-    part: &[u8],
-    off: usize,
-    ends: bool,
-    begin: usize,
-    place: usize,
-    grant: usize,
-    list: &mut [u64],
-) -> Salvaged
-    requires { Lies off (length part.now) (stop begin place) }
-    ensures value { result ≡ told_of (length_in off ends (length part.now))
-        (call_with s part.now off ends begin place grant list.old) }
-    ensures list_after { list.new ≡ list_with list.old 0 (call_with s part.now off ends begin place grant list.old) }
+fn along(s: Settings, part: Part, first: Stop, grant: usize, list: &mut [u64]) -> Salvaged
+    requires { Lies part.off (length part.octets.now) first }
+    ensures value { told result ≡ told_of (length_in part.entry.off part.entry.ends (length part.entry.octets.now))
+        (call_with s part.entry.octets.now part.entry.off part.entry.ends first grant list.old) }
+    ensures list_after { list.new
+        ≡ list_with list.old 0 (call_with s part.entry.octets.now part.entry.off part.entry.ends first grant list.old) }
 {
-    let n = length_in(off, ends, part.len());
-    let till = till_in(off, ends, part.len());
-    let free = list.len() / ENTRY;
-    let mut from = begin;
-    let mut at = place;
+    let n = part.length();
+    let till = part.till();
+    let free = list.len() / NUMBERS;
+    let mut from = first.begin;
+    let mut at = first.place;
     let mut tested: usize = 0;
     let mut entries: usize = 0;
     loop {
+        let stop = Stop {
+            begin: from,
+            place: at,
+        };
         let end = end_at(at, till, grant - tested, free - entries);
         if end <= at {
-            return finish(n, list, tested, entries, from, at);
+            return finish(n, list, tested, entries, stop);
         }
-        let wide = width(s, part, at - off);
-        if wide == 0 {
-            let next = off + pass(part, at + 1 - off, end - off);
-            tested += next - at;
-            at = next;
-        } else {
-            entries = put_kept(list, entries, from, at, wide);
-            tested += 1;
-            at += wide;
-            from = at;
+        match width(s, part.octets, at - part.off) {
+            None => {
+                let next = part.off + pass(part.octets, at + 1 - part.off, end - part.off);
+                tested += next - at;
+                at = next;
+            }
+            Some(wide) => {
+                entries = put_kept(list, entries, stop, wide);
+                tested += 1;
+                at += wide;
+                from = at;
+            }
         }
     }
 }
 
-// Whether a state can be one with n octets from a place of the file on in hand.
-fn part_has(off: usize, n: usize, begin: usize, place: usize) -> bool
-    ensures { result ≡ holds off n (stop begin place) }
-{
-    if OFF_MOST < off {
-        return false;
-    }
-    if OFF_MOST - off < n {
-        return false;
-    }
-    let ordered = octets::both(begin <= place, off <= place);
-    octets::both(ordered, place <= off + n)
-}
-
-// Salvages a file from a state on, 0 and 0 at first: tests at most `grant` places, and lists what it finds in three numbers an entry,
+// Salvages a file from a stop on, 0 and 0 at first: tests at most `grant` places, and lists what it finds in three numbers an entry,
 // kind, place and length, from the first number of the list on. Two entries must be free before each place that is tested.
 pub fn salvage(
     s: Settings,
     file: &[u8],
-    begin: usize,
-    place: usize,
+    stop: Stop,
     grant: usize,
     list: &mut [u64],
-) -> Salvaged
-    ensures answer { result ≡ salvaged s file.now (stop begin place) grant (length list.old) }
-    ensures list { list.new ≡ list_after s file.now (stop begin place) grant list.old }
+) -> Result<Salvaged, Refused>
+    ensures answer { answered result ≡ salvaged s file.now stop grant (length list.old) }
+    ensures list { list.new ≡ list_after s file.now stop grant list.old }
 {
-    let w = walk::begin(s);
-    if w.refused != 0 {
-        return refused(w.refused);
-    }
-    if place < begin {
-        return refused(REFUSED_STATE);
-    }
-    if file.len() < place {
-        return refused(REFUSED_STATE);
-    }
-    along(s, file, 0, true, begin, place, grant, list)
+    let part = Part {
+        octets: file,
+        off: 0,
+        ends: true,
+    };
+    salvage_part(s, part, stop, grant, list)
 }
 
-// The same with a part of the file in hand, its octets from `off` on; `ends` tells whether the file ends with it. Begin, place and
+// The same with a part of the file in hand; `ends` tells whether the file ends with it. Begin, place and
 // the places of the list are the file's. A place is tested only if the longest packet lies in the part after it, or if the file ends
 // with the part; before any other the call ends, and wants another part. A place that does not lie in the part is refused as a state.
 pub fn salvage_part(
     s: Settings,
-    part: &[u8],
-    off: usize,
-    ends: bool,
-    begin: usize,
-    place: usize,
+    part: Part,
+    stop: Stop,
     grant: usize,
     list: &mut [u64],
-) -> Salvaged
-    ensures answer { result ≡ salvaged_in s part.now off ends (stop begin place) grant (length list.old) }
-    ensures list { list.new ≡ list_in s part.now off ends (stop begin place) grant list.old }
+) -> Result<Salvaged, Refused>
+    ensures answer { answered result ≡ salvaged_in s part.entry.octets.now part.entry.off part.entry.ends stop grant (length list.old) }
+    ensures list { list.new ≡ list_in s part.entry.octets.now part.entry.off part.entry.ends stop grant list.old }
 {
-    let w = walk::begin(s);
-    if w.refused != 0 {
-        return refused(w.refused);
+    s.check()?;
+    if !part.has(stop) {
+        return Err(Refused::State);
     }
-    if !part_has(off, part.len(), begin, place) {
-        return refused(REFUSED_STATE);
-    }
-    along(s, part, off, ends, begin, place, grant, list)
+    Ok(along(s, part, stop, grant, list))
 }

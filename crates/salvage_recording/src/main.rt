@@ -22,7 +22,7 @@ ghost use Rattle.std.specs.Prelude.{◌≡◌, ◌*◌, ◌≤◌, length};
 use counts::COUNTS;
 use entries::LINE;
 use files::{Sink, Source};
-use salvage::{ENTRY, KEPT, Salvaged};
+use salvage::{Entry, Kind, Part, Salvaged, Stop};
 use walk::Settings;
 
 // The program's arguments: T and the profile; the descriptors of the list, of the kept packets and of a pipe that takes these too; the
@@ -183,17 +183,14 @@ fn add_line(
     to: &mut Sink,
     lines: &mut [u8],
     at: usize,
-    y: &[u8],
-    off: usize,
-    kind: u64,
-    place: usize,
-    long: usize,
+    part: Part,
+    entry: Entry,
     counts: &mut [u64; COUNTS],
 ) -> Gathered
     requires { at ≤ length lines.old }
     ensures { result.at ≤ length lines.old }
 {
-    let next = entries::put_line(lines, at, y, off, kind, place, long);
+    let next = entries::put_line(lines, at, part, entry);
     if lines.len() - next < LINE {
         let stop = flush_list(to, &lines[0..next], counts);
         return gathered_to(0, stop);
@@ -224,8 +221,7 @@ fn add_packet(
 fn write_lines(
     to: &mut Sink,
     lines: &mut [u8],
-    y: &[u8],
-    off: usize,
+    part: Part,
     list: &[u64],
     n: usize,
     counts: &mut [u64; COUNTS],
@@ -235,18 +231,7 @@ fn write_lines(
     let mut at: usize = 0;
     let mut i: usize = 0;
     while i < n {
-        let k = i * ENTRY;
-        let g = add_line(
-            to,
-            lines,
-            at,
-            y,
-            off,
-            list[k],
-            list[k + 1] as usize,
-            list[k + 2] as usize,
-            counts,
-        );
+        let g = add_line(to, lines, at, part, Entry::at(list, i), counts);
         at = g.at;
         if g.stop != 0 {
             return g.stop;
@@ -261,8 +246,7 @@ fn write_packets(
     output: &mut Sink,
     pipe: i32,
     packets: &mut [u8],
-    y: &[u8],
-    off: usize,
+    part: Part,
     list: &[u64],
     n: usize,
     counts: &mut [u64; COUNTS],
@@ -272,8 +256,7 @@ fn write_packets(
     let mut at: usize = 0;
     let mut i: usize = 0;
     while i < n {
-        let k = i * ENTRY;
-        let x = entries::kept_in(y, off, list[k], list[k + 1] as usize, list[k + 2] as usize);
+        let x = entries::kept_in(part, Entry::at(list, i));
         let g = add_packet(output, pipe, packets, at, x, counts);
         at = g.at;
         if g.stop != 0 {
@@ -285,13 +268,16 @@ fn write_packets(
 }
 
 // Counts an entry.
-fn note(kind: u64, long: u64, counts: &mut [u64; COUNTS]) {
-    if kind == KEPT {
-        counts::add(counts, counts::PACKETS, 1);
-        counts::add(counts, counts::KEPT, long);
-    } else {
-        counts::add(counts, counts::STRETCHES, 1);
-        counts::add(counts, counts::SKIPPED, long);
+fn note(entry: Entry, counts: &mut [u64; COUNTS]) {
+    match entry.kind {
+        Kind::Kept => {
+            counts::add(counts, counts::PACKETS, 1);
+            counts::add(counts, counts::KEPT, entry.long as u64);
+        }
+        Kind::Skipped => {
+            counts::add(counts, counts::STRETCHES, 1);
+            counts::add(counts, counts::SKIPPED, entry.long as u64);
+        }
     }
 }
 
@@ -300,34 +286,25 @@ fn note_all(list: &[u64], n: usize, counts: &mut [u64; COUNTS])
 {
     let mut i: usize = 0;
     while i < n {
-        let k = i * ENTRY;
-        note(list[k], list[k + 2], counts);
+        note(Entry::at(list, i), counts);
         i += 1;
     }
 }
 
-fn tell_list(
-    to: &mut Sink,
-    y: &[u8],
-    off: usize,
-    list: &[u64],
-    n: usize,
-    counts: &mut [u64; COUNTS],
-) -> u8
+fn tell_list(to: &mut Sink, part: Part, list: &[u64], n: usize, counts: &mut [u64; COUNTS]) -> u8
     requires { n * 3 ≤ length list.now }
 {
     if files::is_nowhere(to) {
         return 0;
     }
     let mut lines = [0u8; LINES];
-    write_lines(to, &mut lines, y, off, list, n, counts)
+    write_lines(to, &mut lines, part, list, n, counts)
 }
 
 fn tell_packets(
     output: &mut Sink,
     pipe: i32,
-    y: &[u8],
-    off: usize,
+    part: Part,
     list: &[u64],
     n: usize,
     counts: &mut [u64; COUNTS],
@@ -338,26 +315,19 @@ fn tell_packets(
         return 0;
     }
     let mut packets = [0u8; PACKETS];
-    write_packets(output, pipe, &mut packets, y, off, list, n, counts)
+    write_packets(output, pipe, &mut packets, part, list, n, counts)
 }
 
 // Counts and writes n entries that were listed of the octets in hand. 0, or why it stops.
-fn tell(
-    to: &mut Sinks,
-    y: &[u8],
-    off: usize,
-    list: &[u64],
-    n: usize,
-    counts: &mut [u64; COUNTS],
-) -> u8
+fn tell(to: &mut Sinks, part: Part, list: &[u64], n: usize, counts: &mut [u64; COUNTS]) -> u8
     requires { n * 3 ≤ length list.now }
 {
     note_all(list, n, counts);
-    let stop = tell_list(&mut to.list, y, off, list, n, counts);
+    let stop = tell_list(&mut to.list, part, list, n, counts);
     if stop != 0 {
         return stop;
     }
-    tell_packets(&mut to.output, to.pipe, y, off, list, n, counts)
+    tell_packets(&mut to.output, to.pipe, part, list, n, counts)
 }
 
 // The header of the list.
@@ -425,32 +395,15 @@ fn after(
     ensures from_le_till_2 { result.from ≤ result.till }
     ensures till_in_bounds_2 { result.till ≤ length buf.old }
 {
-    let next = from + least(octets::less(r.place, off), till - from);
+    let stop = r.stop;
+    let next = from + least(octets::less(stop.place, off), till - from);
     if r.done {
-        return in_hand(next, till, r.place, r.begin, ends, say::ENDED);
+        return in_hand(next, till, stop.place, stop.begin, ends, say::ENDED);
     }
     if r.entries == 0 {
-        return refill(file, buf, next, till, r.place, r.begin, counts);
+        return refill(file, buf, next, till, stop.place, stop.begin, counts);
     }
-    in_hand(next, till, r.place, r.begin, ends, 0)
-}
-
-// What a call answered: its refusal, or what it listed is written. 0, or why it stops.
-fn hear(
-    to: &mut Sinks,
-    y: &[u8],
-    off: usize,
-    list: &[u64],
-    r: Salvaged,
-    counts: &mut [u64; COUNTS],
-) -> u8
-    requires { 3072 ≤ length list.now }
-{
-    let refusal = r.refusal;
-    if refusal.number != 0 {
-        return refusal.number;
-    }
-    tell(to, y, off, list, least(r.entries, ENTRIES), counts)
+    in_hand(next, till, stop.place, stop.begin, ends, 0)
 }
 
 // One call over the octets in hand, and what follows from it.
@@ -472,13 +425,25 @@ fn turn(
     ensures till_in_bounds_2 { result.till ≤ length buf.old }
 {
     let mut list = [0u64; NUMBERS];
-    let y = &buf[from..till];
-    let r = salvage::salvage_part(s, y, off, ends, begin, off, usize::MAX, &mut list);
-    let stop = hear(to, y, off, &list, r, counts);
-    if stop != 0 {
-        return in_hand(from, till, off, begin, ends, stop);
+    let part = Part {
+        octets: &buf[from..till],
+        off: off,
+        ends: ends,
+    };
+    let first = Stop {
+        begin: begin,
+        place: off,
+    };
+    match salvage::salvage_part(s, part, first, usize::MAX, &mut list) {
+        Err(refused) => in_hand(from, till, off, begin, ends, refused.number()),
+        Ok(told) => {
+            let stop = tell(to, part, &list, least(told.entries, ENTRIES), counts);
+            if stop != 0 {
+                return in_hand(from, till, off, begin, ends, stop);
+            }
+            after(file, buf, from, till, off, ends, told, counts)
+        }
     }
-    after(file, buf, from, till, off, ends, r, counts)
 }
 
 // Calls until one stops, and why. A proved loop has to end, so it counts down from a number that no run uses up.

@@ -5,7 +5,7 @@
 use packet::{Apid, Present, SecondaryApid, SegmentCounter, SequenceCount};
 use sender::Sender;
 use walk::Settings;
-use write::HeaderValues;
+use write::{HeaderValues, LentTexts, Writer};
 
 const MESSAGES: usize = 8;
 
@@ -21,12 +21,7 @@ const LONG: u8 = 7;
 
 // How many octets the body of a message has.
 pub fn length(m: u8) -> usize {
-    let lengths = LENGTHS;
-    let k = m as usize;
-    if k < MESSAGES {
-        return lengths[k];
-    }
-    0
+    LENGTHS.get(m as usize).copied().unwrap_or(0)
 }
 
 // An octet of a body.
@@ -36,18 +31,13 @@ fn tone(i: usize, m: u8) -> u8 {
 
 // The body of a message, as far as the buffer goes.
 pub fn fill(body: &mut [u8], m: u8) {
-    let mut i: usize = 0;
-    while i < body.len() {
-        body[i] = tone(i, m);
-        i += 1;
+    for (i, x) in body.iter_mut().enumerate() {
+        *x = tone(i, m);
     }
 }
 
 fn limit(m: u8) -> usize {
-    if m == LONG {
-        return LONG_LIMIT;
-    }
-    LIMIT
+    if m == LONG { LONG_LIMIT } else { LIMIT }
 }
 
 // Whether a message carries the optional fields.
@@ -55,27 +45,27 @@ fn rich(m: u8) -> bool {
     m % 2 == 1
 }
 
-// A slice, or nothing of it.
-fn lent(x: &[u8], is_lent: bool) -> &[u8] {
-    if is_lent {
-        return x;
+// Every text, or none.
+fn texts(all: bool) -> LentTexts<'static> {
+    if all {
+        LentTexts {
+            timestamp: b"20261115",
+            zone: b"north",
+            session_name: b"LIVE",
+            domain: b"pipeline",
+            lengths: &[4, 4],
+            authentication: b"pilot",
+        }
+    } else {
+        LentTexts {
+            timestamp: &[],
+            zone: &[],
+            session_name: &[],
+            domain: &[],
+            lengths: &[],
+            authentication: &[],
+        }
     }
-    &x[0..0]
-}
-
-fn lengths(x: &[u64], is_lent: bool) -> &[u64] {
-    if is_lent {
-        return x;
-    }
-    &x[0..0]
-}
-
-// A number, or 0.
-fn given(x: u16, is_given: bool) -> u16 {
-    if is_given {
-        return x;
-    }
-    0
 }
 
 fn present(all: bool) -> Present {
@@ -93,7 +83,6 @@ fn present(all: bool) -> Present {
 
 fn header(m: u8) -> HeaderValues {
     let all = rich(m);
-    let has = present(all);
     HeaderValues {
         packet_type: 1,
         apid: Apid(m as u16 + 5),
@@ -108,10 +97,10 @@ fn header(m: u8) -> HeaderValues {
         secondary_apid: SecondaryApid(6),
         qualifier: 7,
         transaction: m as u64 + 9,
-        has: has,
-        source: given(1, all),
-        destination: given(2, all),
-        priority: given(300, all) as u64,
+        has: present(all),
+        source: if all { 1 } else { 0 },
+        destination: if all { 2 } else { 0 },
+        priority: if all { 300 } else { 0 },
     }
 }
 
@@ -125,26 +114,20 @@ fn sender(m: u8) -> Sender {
 
 // Packet i of a message with this body. How many octets it has.
 pub fn packet(m: u8, i: u8, body: &[u8], out: &mut [u8]) -> usize {
-    let all = rich(m);
     let s = Settings {
         t: 8,
         profile: walk::PROFILE_VARINT,
     };
-    let c = cut::packet_by(
-        true,
+    cut::packet_by(
+        Writer::Old,
         s,
         limit(m),
         header(m),
-        lent(b"20261115", all),
-        lent(b"north", all),
-        lent(b"LIVE", all),
-        lent(b"pipeline", all),
-        lengths(&[4, 4], all),
-        lent(b"pilot", all),
+        texts(rich(m)),
         body,
         sender(m),
         i as usize,
         out,
-    );
-    c.length
+    )
+    .length
 }

@@ -3,9 +3,10 @@
 -- Assumes nothing.
 use mathlib.Core.Path.{◌≡◌, sym, ◌∙◌}
 use contract.Lifetimes as L
+use Rattle.steps.specs.Answer.{answered}
 use Rattle.steps.proofs.step.Reads as steps
 
-pub step_same_answer : (κs : L.Lfts 4) (a : _) (r q : _) (s t : _) → steps.Post κs a r s → steps.Post κs a q t → r ≡ q
+pub step_same_answer : (κs : L.Lfts 4) (a : _) (r q : _) (s t : _) → steps.Post κs a r s → steps.Post κs a q t → answered r ≡ answered q
 step_same_answer κs a r q s t k j = k.0 ∙ sym j.0
 
 -- the store

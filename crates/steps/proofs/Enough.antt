@@ -15,7 +15,7 @@ use Rattle.octets.specs.Octets.{pick}
 use Rattle.octets.proofs.Lists.{bool}
 use Rattle.walk.specs.declared.Settings.{Settings}
 use Rattle.walk.specs.Walk.{going, begun, refusal}
-use Rattle.packet.specs.declared.Header.{Header}
+use Rattle.packet.specs.Answer.{Header}
 use Rattle.packet.specs.Reading.{ended, refusal_of, refused_header, accepted_header, read_packet, segmented}
 use Rattle.format.proofs.Refusals.{picked, OfFields, OfStart, ended_has}
 use Rattle.cells.specs.Segments.{Seg, seg_of, same_rest}

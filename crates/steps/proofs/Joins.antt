@@ -18,13 +18,17 @@ use Rattle.cells.specs.Messages.{Run, body_of}
 use Rattle.arrival.specs.Arriving.{Arrived, whole, stored, again, late, refused, arrived, store_with}
 use Rattle.taking.specs.Taking.{Took, message, unable, writing, took, out_with}
 use Rattle.taking.proofs.Tells.{taken_tells, segment_held}
-use Rattle.join.specs.declared.Joined.{Joined}
+use Rattle.join.specs.Answer.{Joined, joined_answer}
+use Rattle.walk.specs.declared.Refused.{Refused as Refusing}
+use Rattle.walk.specs.Told.{told}
+use Rattle.std.specs.Prelude.{Result, Ok}
+use Rattle.join.specs.declared.Joined.{Joined as Body}
 use Rattle.join.specs.declared.Which.TheVariants.{Packet, Joined as InJoined, Nothing}
 use Rattle.join.specs.Joining.{Joining, in_packet, in_output, unjoined, took_as, joined_by, out_by, joining, out_joined}
 use Rattle.join.specs.Told.{joined_of}
 use Rattle.join.proofs.Views.{held_two}
-use Rattle.steps.specs.declared.What.TheVariants.{Refused, Kept, Late, Whole, Joined as Made}
-use Rattle.steps.specs.declared.Done.{Done}
+use Rattle.steps.specs.Answer.{Refused, Kept, Late, Whole, Joined as Made}
+use Rattle.steps.specs.Answer.{Done}
 use Rattle.steps.specs.Stepping.{room, refused as passed, kept, late as come_late, came_by, without, wrote}
 use Rattle.steps.specs.Told.{done_came}
 use Rattle.steps.specs.Inner.{taken_in, left_as}
@@ -136,10 +140,9 @@ module _ (p out : List ℕ) (l : Bool) where
       pub joins_whole :
           (j : Joining) {y : List ℕ} → a ≡ joined_of j → x ≡ sets out 6 (taken_in j) → a.which ≡ Packet → long ≡ length (without p) →
           y ≡ sets x 6 (without p) → z ≡ sets y 0 (0x4d ∷ 0x4d ∷ wide 4 long) →
-          Joins j (record { what = Whole; refusal = a.refusal; used = 2 + length p; written = 6 + long }) z
+          Joins j (record { what = Whole; refusal = refusal 0; used = 2 + length p; written = 6 + long }) z
       joins_whole (in_packet place n) e ex w el ey ez = (
-        ap₂ (λ (r : Refusal) (m : ℕ). record { what = Whole; refusal = r; used = 2 + length p; written = m })
-            (ap (λ (b : Joined). b.refusal) e)
+        ap (λ (m : ℕ). record { what = Whole; refusal = refusal 0; used = 2 + length p; written = m })
             (ap (λ (m : ℕ). 6 + m) el ∙ sym (framed_long (without p))),
         frame_before out (without p) (ey ∙ ap (λ (l : List ℕ). sets l 6 (without p)) ex) el ez,
       )
@@ -162,12 +165,11 @@ module _ (s : Settings) (Z : ℕ) (st p : List ℕ) {a : Joined} where
   message_by :
       (out : List ℕ) (l : Bool) {x z : List ℕ} {long : ℕ} (j : Joining) → joining s Z st p room ≡ j → a ≡ joined_of j → x ≡ sets out 6 (taken_in j) →
       a.which ≡ InJoined → long ≡ a.place + a.length → z ≡ sets x 0 (0x4d ∷ 0x4d ∷ wide 4 long) →
-      Joins p out l j (record { what = Made; refusal = a.refusal; used = 2 + length p; written = 6 + long }) z
+      Joins p out l j (record { what = Made; refusal = refusal 0; used = 2 + length p; written = 6 + long }) z
   message_by out l (in_packet place n) d e ex w el ez = let z : ◌≡◌ {A = ℕ} 0 1 = cc in absurd (omega arith)
   message_by out l (in_output r) d e ex w el ez =
       let n = el ∙ (message_long (in_output r) d e w).0 in (
-        ap₂ (λ (r : Refusal) (m : ℕ). record { what = Made; refusal = r; used = 2 + length p; written = m })
-            (ap (λ (b : Joined). b.refusal) e)
+        ap (λ (m : ℕ). record { what = Made; refusal = refusal 0; used = 2 + length p; written = m })
             (ap (λ (m : ℕ). 6 + m) n ∙ sym (framed_long (writing r))),
         frame_before out (writing r) ex n ez,
       )
@@ -177,5 +179,16 @@ module _ (s : Settings) (Z : ℕ) (st p : List ℕ) {a : Joined} where
   pub joins_message :
       (out : List ℕ) (l : Bool) {x z : List ℕ} {long : ℕ} → a ≡ joined_of (joining s Z st p room) → x ≡ sets out 6 (taken_in (joining s Z st p room)) →
       a.which ≡ InJoined → long ≡ a.place + a.length → z ≡ sets x 0 (0x4d ∷ 0x4d ∷ wide 4 long) →
-      Joins p out l (joining s Z st p room) (record { what = Made; refusal = a.refusal; used = 2 + length p; written = 6 + long }) z
+      Joins p out l (joining s Z st p room) (record { what = Made; refusal = refusal 0; used = 2 + length p; written = 6 + long }) z
   joins_message out l e ex w el ez = message_by out l (joining s Z st p room) refl e ex w el ez
+
+-- a refusal by its three numbers
+pub telling_told : (r : Refusing) {q : Refusal} {n o i : ℕ} → q ≡ record { number = n; octets = o; place = i } → n ≡ (told r).number → o ≡ (told r).octets → i ≡ (told r).place → q ≡ told r
+telling_told r eq en eo ei = eq ∙ rw (en, eo, ei) refl
+
+-- a body that is told, by its two parts
+abbrev told_body : Body → Result Body Refusing
+told_body b = Ok b
+
+pub answered_ok : {j : Result Body Refusing} {x y : Body} → j ≡ Ok x → x ≡ y → joined_answer j ≡ joined_answer (told_body y)
+answered_ok e f = ap joined_answer (e ∙ ap told_body f)

@@ -13,6 +13,10 @@ use lib.Dec.{leb, eqb}
 use borrow.Author.Tests.{eq-eqb, ne_eqb}
 use Rattle.octets.specs.Octets.{pick}
 use Rattle.walk.specs.declared.Settings.{Settings}
+use Rattle.std.specs.Prelude.{Result, Ok, Err, is_err}
+use Rattle.walk.specs.declared.Refused.{Refused as Refusing}
+use Rattle.walk.specs.Told.{said}
+use Rattle.walk.proofs.Refuses.{has_number}
 use Rattle.walk.specs.Walk.{begun}
 use Rattle.packet.specs.Numbers.{next_counter, steps_most}
 use Rattle.cells.specs.Rows.{zero_row}
@@ -22,7 +26,7 @@ use Rattle.arrival.specs.Arriving.{Arrived, whole, stored, again, late, refused,
 use Rattle.taking.specs.Taking.{message, unable, writing, drawn, took_in, took}
 use Rattle.taking.specs.Forgetting.{lowest_record, forgot_in, forgot, store_unless}
 use Rattle.taking.proofs.Forgets.{forgot_open}
-use Rattle.join.specs.declared.Joined.{Joined}
+use Rattle.join.specs.Answer.{Joined, joined_answer}
 use Rattle.join.specs.declared.Came.{Came}
 use Rattle.join.specs.Joining.{Joining, in_packet, in_output, unjoined, took_as, joined_by, store_by, joining, store_joined}
 use Rattle.join.specs.Told.{joined_of}
@@ -72,6 +76,11 @@ full_writes (unjoined r) e = refl
 
 -- ---- the lowest record is forgotten
 
+-- an answer that is an error has a number
+pub said_err : {A : Type 0} (r : Result A Refusing) → is_err r ≡ true → (said r).number ≡ 0 → ⊥
+said_err (Ok x) e h = let z : ◌≡◌ {A = ℕ} 0 1 = cc in omega arith
+said_err (Err r) e h = has_number r h
+
 pub forgets :
     (s : Settings) (Z : ℕ) (st : List ℕ) {n i k : ℕ} {y : List ℕ} → gate s Z st ≡ 0 → n ≡ count_in Z st → i ≡ lowest_record s Z st n →
     k ≡ forgot_in s Z st n i → y ≡ store_unless (forgot_in s Z st n i) Z st i →
@@ -117,11 +126,11 @@ module _ (s : Settings) (Z : ℕ) (st p : List ℕ) where
   -- the answer, the store and the output are those of a joining to the store x
   abbrev pub Meets : List ℕ → List ℕ → Came → List ℕ → List ℕ → Type 0
   Meets x out c y z =
-      (c.joined ≡ joined_of (joining s Z x p room))
+      (joined_answer c.joined ≡ joined_of (joining s Z x p room))
       × ((c.late ≡ is_late (arrived s Z x p)) × ((y ≡ store_joined s Z x p room) × (z ≡ sets out 6 (taken_in (joining s Z x p room)))))
 
-  meets_at : {x w out l : List ℕ} {c : Came} {y z : List ℕ} → x ≡ w → out ≡ l → Meets x out c y z → Meets w l c y z
-  meets_at ex eo m = (
+  meets_at : {x w out l : List ℕ} (c : Came) {y z : List ℕ} → x ≡ w → out ≡ l → Meets x out c y z → Meets w l c y z
+  meets_at c ex eo m = (
     m.0 ∙ ap (λ (v : List ℕ). joined_of (joining s Z v p room)) ex,
     (
       m.1.0 ∙ ap (λ (v : List ℕ). is_late (arrived s Z v p)) ex,
@@ -132,12 +141,12 @@ module _ (s : Settings) (Z : ℕ) (st p : List ℕ) where
     ),
   )
 
-  module _ (out : List ℕ) {c : Came} {y z : List ℕ} (m : Meets st out c y z) where
+  module _ (out : List ℕ) (c : Came) {y z : List ℕ} (m : Meets st out c y z) where
     -- not refused by 19: once is enough
-    pub meets_once : (c.joined.refusal.number ≡ 19 → ⊥) → Meets (roomed s Z st p) out c y z
-    meets_once h = meets_at (sym (roomed_as (full_not (joining s Z st p room) m.0 h))) refl m
+    pub meets_once : ((joined_answer c.joined).refusal.number ≡ 19 → ⊥) → Meets (roomed s Z st p) out c y z
+    meets_once h = meets_at c (sym (roomed_as (full_not (joining s Z st p room) m.0 h))) refl m
 
-    module _ (h : c.joined.refusal.number ≡ 19) where
+    module _ (h : (joined_answer c.joined).refusal.number ≡ 19) where
       full : is_full (joining s Z st p room) ≡ true
       full = full_is (joining s Z st p room) m.0 h
 
@@ -173,8 +182,8 @@ module _ (s : Settings) (Z : ℕ) (st p : List ℕ) where
         meets_none {k} ek d =
             let b : v ≡ st = ev ∙ unrecorded_none s Z y (λ q. d (ek ∙ q)) ∙ store_left in
             let w : Meets st out c v z = (m.0, (m.1.0, (b ∙ sym store_left ∙ m.1.1.0, m.1.1.1))) in
-            meets_at (sym b ∙ roomed_is) refl w
+            meets_at c (sym b ∙ roomed_is) refl w
 
         -- there is one
-        pub meets_again : {d : Came} {u l : List ℕ} → Meets v z d u l → Meets (roomed s Z st p) out d u l
-        meets_again w = meets_at roomed_is out_left w
+        pub meets_again : (d : Came) {u l : List ℕ} → Meets v z d u l → Meets (roomed s Z st p) out d u l
+        meets_again d w = meets_at d roomed_is out_left w

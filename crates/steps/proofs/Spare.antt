@@ -8,7 +8,7 @@ use native.Mathlib.Omega.{arith}
 use lib.ListN.{length, take, drop}
 use lib.Seq.{sets, sets-eq, take_at}
 use Rattle.walk.specs.declared.Settings.{Settings}
-use Rattle.steps.specs.declared.Done.{Done}
+use Rattle.steps.specs.Answer.{Done}
 use Rattle.steps.specs.Stepping.{room, Stepped, stepped, written_by}
 use Rattle.steps.specs.Told.{done_of}
 use Rattle.steps.proofs.Frames.{sets_part}

@@ -1,7 +1,7 @@
 -- A step by what stands at the place reached, and a packet by its length.
 -- Assumes nothing.
 use Prim.Native.Nat.{ℕ, ◌+◌, ◌≤◌, ◌<◌}
-use mathlib.Core.Path.{◌≡◌, refl, ap, sym, ◌∙◌}
+use mathlib.Core.Path.{◌≡◌, refl, ap, ap₂, sym, ◌∙◌}
 use mathlib.Core.Logic.{◌⊎◌, inl, inr}
 use mathlib.Core.Bool.{Bool, true, false}
 use mathlib.Core.List.{List}
@@ -18,10 +18,10 @@ use Rattle.taking.specs.Taking.{writing}
 use Rattle.arrival.specs.Arriving.{arrived}
 use Rattle.join.specs.Joining.{Joining, in_packet, in_output, unjoined, joining, store_joined}
 use Rattle.join.specs.Inner.{is_late}
-use Rattle.steps.specs.declared.What.TheVariants.{More, Ended, Unmarked, Torn}
+use Rattle.steps.specs.Answer.{More, Ended, Unmarked, Torn}
 use Rattle.steps.specs.declared.Stands.{Stands}
 use Rattle.steps.specs.declared.Stands.TheVariants.{Nothing, Other, Cut, Whole}
-use Rattle.steps.specs.declared.Done.{Done}
+use Rattle.steps.specs.Answer.{Done}
 use Rattle.steps.specs.Stepping.{Found, nothing, other, cut, whole, found_in, longest, room, over, refused, kept, late, roomed, came_by, came_at, came_of, store_after}
 use Rattle.steps.specs.Stepping.{without, wrote, Stepped, wanting, ended, unmarked, torn, came, step_by, stepped, store_behind, used_by, written_by}
 use Rattle.steps.specs.Told.{stands_of, still, done_came, done_of}
@@ -29,6 +29,10 @@ use Rattle.steps.specs.Inner.{stop_as}
 use Rattle.steps.proofs.Frames.{framed_long, without_long}
 use Rattle.steps.proofs.Joins.{joined_fits}
 use Rattle.steps.proofs.Showing.{whole_tells}
+
+-- what is told of a step by parts
+pub as_seen : {d : Done} {u n : ℕ} → u ≡ d.used → n ≡ d.written → record d { used = u; written = n } ≡ d
+as_seen {d} eu en = ap₂ (λ (u n : ℕ). record d { used = u; written = n }) eu en
 
 -- ---- a packet by its length
 
@@ -76,7 +80,7 @@ module _ (s : Settings) (Z : ℕ) (st w : List ℕ) (e : Bool) (out : List ℕ) 
       (d ≡ done_of (stepped s Z st w e))
       × ((x ≡ store_behind s Z st (stepped s Z st w e)) × (y ≡ sets out 0 (written_by (stepped s Z st w e))))
 
-  nothing_by : (f : Found) {r : Stands} {d : Done} → r ≡ stands_of f → r ≡ Nothing → d ≡ stop_as e Ended → By f d st out
+  nothing_by : (f : Found) {r : Stands} {d : Done} → r ≡ stands_of f → r ≡ Nothing → d ≡ stop_as e (still Ended) → By f d st out
   unfolding stop_as
   nothing_by nothing {d = d} er h ed = (ed ∙ answer e, (store e, output e))
     where
@@ -101,7 +105,7 @@ module _ (s : Settings) (Z : ℕ) (st w : List ℕ) (e : Bool) (out : List ℕ) 
   other_by cut er h ed = let z : ◌≡◌ {A = ℕ} 0 1 = cc in absurd (omega arith)
   other_by (whole p) er h ed = let z : ◌≡◌ {A = ℕ} 0 1 = cc in absurd (omega arith)
 
-  cut_by : (f : Found) {r : Stands} {d : Done} → r ≡ stands_of f → r ≡ Cut → d ≡ stop_as e Torn → By f d st out
+  cut_by : (f : Found) {r : Stands} {d : Done} → r ≡ stands_of f → r ≡ Cut → d ≡ stop_as e (still Torn) → By f d st out
   unfolding stop_as
   cut_by nothing er h ed = let z : ◌≡◌ {A = ℕ} 0 1 = cc in absurd (omega arith)
   cut_by other er h ed = let z : ◌≡◌ {A = ℕ} 0 1 = cc in absurd (omega arith)
@@ -129,7 +133,7 @@ module _ (s : Settings) (Z : ℕ) (st w : List ℕ) (e : Bool) (out : List ℕ) 
   whole_by (whole p) {d = d} {x = x} {y = y} is er h a = rw (is p refl) a
 
   module _ {r : Stands} {d : Done} (er : r ≡ stands_of (found_in w)) where
-    pub step_nothing : r ≡ Nothing → d ≡ stop_as e Ended → Steps d st out
+    pub step_nothing : r ≡ Nothing → d ≡ stop_as e (still Ended) → Steps d st out
     unfolding stepped
     step_nothing h ed = nothing_by (found_in w) er h ed
 
@@ -137,7 +141,7 @@ module _ (s : Settings) (Z : ℕ) (st w : List ℕ) (e : Bool) (out : List ℕ) 
     unfolding stepped
     step_other h ed = other_by (found_in w) er h ed
 
-    pub step_cut : r ≡ Cut → d ≡ stop_as e Torn → Steps d st out
+    pub step_cut : r ≡ Cut → d ≡ stop_as e (still Torn) → Steps d st out
     unfolding stepped
     step_cut h ed = cut_by (found_in w) er h ed
 

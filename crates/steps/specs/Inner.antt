@@ -6,9 +6,9 @@ use Rattle.walk.specs.declared.Refusal.{Refusal}
 use Rattle.taking.specs.Taking.{writing}
 use Rattle.walk.specs.Walk.{no_refusal}
 use Rattle.join.specs.Joining.{Joining, in_packet, in_output, unjoined}
-use Rattle.steps.specs.declared.What.{What}
-use Rattle.steps.specs.declared.What.TheVariants.{More, Refused, Kept, Late}
-use Rattle.steps.specs.declared.Done.{Done}
+use Rattle.steps.specs.Answer.{What}
+use Rattle.steps.specs.Answer.{More, Refused, Kept, Late}
+use Rattle.steps.specs.Answer.{Done}
 use Rattle.steps.specs.Told.{still}
 
 -- the octets of the message that was taken
@@ -24,10 +24,6 @@ left_as r l n =
     (pick l (record { what = Late; refusal = no_refusal; used = n; written = 0 }) (record { what = Kept; refusal = no_refusal; used = n; written = 0 }))
     (record { what = Refused; refusal = r; used = n; written = 0 })
 
--- a step that writes a message of n octets after its mark and length
-abbrev pub framed_as : What → Refusal → ℕ → ℕ → Done
-framed_as w r used n = record { what = w; refusal = r; used = used; written = 6 + n }
-
 -- if the recording ends the stop is final
-unfoldable pub stop_as : Bool → What → Done
-stop_as e w = pick e (still w) (still More)
+unfoldable pub stop_as : Bool → Done → Done
+stop_as e d = pick e d (still More)

@@ -1,3 +1,4 @@
+pub mod Answer
 pub mod Stepping
 pub mod Told
 pub mod Inner

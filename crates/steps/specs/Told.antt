@@ -3,11 +3,11 @@
 use Rattle.std.specs.Prelude.{ℕ, ◌+◌, List, length}
 use Rattle.walk.specs.declared.Refusal.{Refusal}
 use Rattle.walk.specs.Walk.{no_refusal}
-use Rattle.steps.specs.declared.What.{What}
-use Rattle.steps.specs.declared.What.TheVariants.{More, Ended, Unmarked, Torn, Passed, Refused, Kept, Late, Whole, Joined}
+use Rattle.steps.specs.Answer.{What}
+use Rattle.steps.specs.Answer.{More, Ended, Unmarked, Torn, Passed, Refused, Kept, Late, Whole, Joined}
 use Rattle.steps.specs.declared.Stands.{Stands}
 use Rattle.steps.specs.declared.Stands.TheVariants.{Nothing, Other, Cut, Whole as InFull}
-use Rattle.steps.specs.declared.Done.{Done}
+use Rattle.steps.specs.Answer.{Done, stays}
 use Rattle.steps.specs.Stepping.{Found, nothing, other, cut, whole, Came, over, refused, kept, late, wholly, message, wrote, Stepped}
 use Rattle.steps.specs.Stepping.{wanting, ended, unmarked, torn, came}
 
@@ -36,7 +36,7 @@ refusal_came (message r) = no_refusal
 
 -- a step that uses up no octet and writes none
 abbrev pub still : What → Done
-still w = record { what = w; refusal = no_refusal; used = 0; written = 0 }
+still w = stays w
 
 -- a step over a packet
 abbrev pub done_came : List ℕ → Came → Done

@@ -6,25 +6,29 @@
 // longest packet that a length field tells of. Settings and the store's order are checked once, by whoever begins; a step keeps them.
 #![tactic(auto)]
 
-ghost use Rattle.std.specs.Prelude.{◌≡◌, true, ◌∷◌, ◌+◌, ◌-◌, ◌≤◌, length};
+ghost use Rattle.std.specs.Prelude.{ℕ, ◌≡◌, true, ◌∷◌, ◌+◌, ◌-◌, ◌≤◌, length, eqb};
 ghost use Rattle.std.proofs.lemmas.List.Edits.{sets};
 ghost use Rattle.octets.specs.Octets.{part, wide};
 ghost use Rattle.cells.specs.Rows.{zero_row};
 ghost use Rattle.cells.specs.Order.{count_in, gate};
 ghost use Rattle.join.specs.Joining.{joining, store_joined};
+ghost use Rattle.walk.specs.Walk.{refusal as refusal_of};
+ghost use Rattle.walk.specs.Told.{said};
+ghost use Rattle.join.specs.Answer.{joined_answer};
 ghost use Rattle.join.specs.Told.{joined_of};
 ghost use Rattle.join.specs.Inner.{is_late};
 ghost use Rattle.arrival.specs.Arriving.{arrived};
 ghost use Rattle.taking.specs.Forgetting.{lowest_record, forgot};
 ghost use Rattle.steps.specs.Stepping.{found_in, begins, room, longest, unrecorded, roomed, came_at, came_of, store_after};
 ghost use Rattle.steps.specs.Stepping.{without, wrote, stepped, store_behind, written_by};
-ghost use Rattle.steps.specs.Told.{stands_of, still as still_as, done_came, done_of};
-ghost use Rattle.steps.specs.Inner.{taken_in, left_as, framed_as, stop_as};
+ghost use Rattle.steps.specs.Answer.{told, answered};
+ghost use Rattle.steps.specs.Told.{stands_of, done_came, done_of};
+ghost use Rattle.steps.specs.Inner.{taken_in, left_as, stop_as};
 ghost use Rattle.packet.specs.Format.{packet_most};
 
-use join::{Came, Which};
+use join::{Came, Joined};
 use packet::{MARK_FIRST, MARK_SECOND};
-use walk::{REFUSED_FULL, REFUSED_INCOMPLETE, Refusal, Settings};
+use walk::{REFUSED_FULL, REFUSED_INCOMPLETE, Refusal, Refused, Settings};
 
 // The longest packet that is joined.
 pub const LONGEST: usize = 32768;
@@ -38,30 +42,27 @@ pub const FRAME: usize = 6;
 // The room for a message with its mark and length.
 pub const SPACE: usize = 65542;
 
-// What a step comes to: more octets are wanted; the recording ends; no mark follows; a torn mark or packet follows; the packet is
-// passed over as too long; it is refused; it is stored or held already, and nothing is complete; it is of a message that was taken, and
-// nothing is complete; it came whole; a message is joined.
+// What became of a packet: it is passed over as too long; it is refused; it is stored or held already, and nothing is complete; it is of a
+// message that was taken, and nothing is complete; it came whole, or a message is joined, and so many octets of the output are to be written.
 #[derive(Clone, Copy)]
-pub enum What {
+pub enum Became {
+    Passed,
+    Refused(Refusal),
+    Kept,
+    Late,
+    Whole { written: usize },
+    Joined { written: usize },
+}
+
+// What a step comes to: more octets are wanted; the recording ends; no mark follows; a torn mark or packet follows; a packet with its mark is
+// used up, and what became of it.
+#[derive(Clone, Copy)]
+pub enum Done {
     More,
     Ended,
     Unmarked,
     Torn,
-    Passed,
-    Refused,
-    Kept,
-    Late,
-    Whole,
-    Joined,
-}
-
-// What a step answers: what it comes to, the refusal of the packet, the octets used up, and those of the output to be written.
-#[derive(Clone, Copy)]
-pub struct Done {
-    pub what: What,
-    pub refusal: Refusal,
-    pub used: usize,
-    pub written: usize,
+    Packet { used: usize, became: Became },
 }
 
 // What stands at a place: no octet, no mark, a mark and packet that are not whole, or whole ones.
@@ -92,83 +93,86 @@ pub fn look(x: &[u8]) -> Stands
     if !marked(x) {
         return Stands::Other;
     }
-    if x.len() < 2 + (octets::be16(x, 6) as usize + 7) {
+    if x.len() < 2 + (octets::read::<u16>(x, 6) as usize + 7) {
         return Stands::Cut;
     }
     Stands::Whole
 }
 
-// A step that uses up no octet and writes none.
-fn still(what: What) -> Done
-    ensures { result ≡ still_as what }
-{
-    Done {
-        what: what,
-        refusal: walk::numbered(0),
-        used: 0,
-        written: 0,
+impl Became {
+    // The octets of the output to be written.
+    pub fn written(self) -> usize
+        ensures { result ≡ (told 0 self).written }
+    {
+        match self {
+            Became::Whole { written } => written,
+            Became::Joined { written } => written,
+            _ => 0,
+        }
+    }
+}
+
+impl Done {
+    // The octets used up.
+    pub fn used(self) -> usize
+        ensures { result ≡ (answered self).used }
+    {
+        match self {
+            Done::Packet { used, .. } => used,
+            _ => 0,
+        }
+    }
+
+    // The octets of the output to be written.
+    pub fn written(self) -> usize
+        ensures { result ≡ (answered self).written }
+    {
+        match self {
+            Done::Packet { became, .. } => became.written(),
+            _ => 0,
+        }
     }
 }
 
 // A stop if the recording ends; more octets are wanted if it does not.
-fn stop(ends: bool, what: What) -> Done
-    ensures { result ≡ stop_as ends what }
+fn stop(ends: bool, done: Done) -> Done
+    ensures { answered result ≡ stop_as ends (answered done) }
 {
     if ends {
-        return still(what);
+        return done;
     }
-    still(What::More)
+    Done::More
 }
 
 // A packet that neither came whole nor completed a message; 20 refuses no packet.
-fn left(refusal: Refusal, late: bool, used: usize) -> Done
-    ensures { result ≡ left_as refusal late used }
+fn left(refusal: Refusal, late: bool) -> Became
+    ensures { (n : ℕ) → told n result ≡ left_as refusal late n }
 {
     if refusal.number != REFUSED_INCOMPLETE {
-        return Done {
-            what: What::Refused,
-            refusal: refusal,
-            used: used,
-            written: 0,
-        };
+        return Became::Refused(refusal);
     }
     if late {
-        return Done {
-            what: What::Late,
-            refusal: walk::numbered(0),
-            used: used,
-            written: 0,
-        };
+        return Became::Late;
     }
-    Done {
-        what: What::Kept,
-        refusal: walk::numbered(0),
-        used: used,
-        written: 0,
-    }
+    Became::Kept
 }
 
 // The mark and the length before a message of n octets.
 fn put_frame(out: &mut [u8], n: usize)
     ensures { out.new ≡ sets out.old 0 (0x4d ∷ 0x4d ∷ wide 4 n) }
 {
-    octets::put16(out, 0, 0x4d4d);
+    octets::put_number(out, 0, 2, 0x4d4d);
     octets::put_number(out, 2, 4, n as u64);
 }
 
-// The mark and the length before a message of n octets, and what is told of the step that writes it.
-fn framed(out: &mut [u8], what: What, refusal: Refusal, used: usize, n: usize) -> Done
+// The mark and the length before a message of n octets; how many octets all are.
+fn framed(out: &mut [u8], n: usize) -> usize
     requires { n ≤ room }
-    ensures value { result ≡ framed_as what refusal used n }
+    ensures value { result ≡ 6 + n }
     ensures out_after { out.new ≡ sets out.old 0 (0x4d ∷ 0x4d ∷ wide 4 n) }
 {
     put_frame(out, n);
-    Done {
-        what: what,
-        refusal: refusal,
-        used: used,
-        written: FRAME + n,
-    }
+    FRAME + n
 }
 
 // A whole packet without its octets 2 to 5, after the room for mark and length. How many octets that are.
@@ -195,7 +199,7 @@ fn join_after(
     requires store_value { gate s (length zero.now) store.old ≡ 0 }
     requires n_value { n ≡ count_in (length zero.now) store.old }
     requires room_in_bounds { 6 + room ≤ length out.old }
-    ensures joined_value { result.joined ≡ joined_of (joining s (length zero.now) store.old p.now room) }
+    ensures joined_value { joined_answer result.joined ≡ joined_of (joining s (length zero.now) store.old p.now room) }
     ensures late_value { result.late ≡ is_late (arrived s (length zero.now) store.old p.now) }
     ensures store_after { store.new ≡ store_joined s (length zero.now) store.old p.now room }
     ensures out_after { out.new ≡ sets out.old 6
@@ -207,16 +211,26 @@ fn join_after(
 }
 
 // The record in the lowest cell that has one is forgotten; 31 if none has.
-fn forget_lowest(s: Settings, store: &mut [u8], n: usize, zero: &[u8]) -> u8
+fn forget_lowest(s: Settings, store: &mut [u8], n: usize, zero: &[u8]) -> Result<(), Refused>
     requires zero_value { zero.now ≡ zero_row (length zero.now) }
     requires store_value { gate s (length zero.now) store.old ≡ 0 }
     requires n_value { n ≡ count_in (length zero.now) store.old }
-    ensures value { result ≡ forgot s (length zero.now) store.old
-        (lowest_record s (length zero.now) store.old (count_in (length zero.now) store.old)) }
+    ensures value { said result ≡ refusal_of (forgot s (length zero.now) store.old
+        (lowest_record s (length zero.now) store.old (count_in (length zero.now) store.old))) }
     ensures store_after { store.new ≡ unrecorded s (length zero.now) store.old }
 {
     let i = taking::forgetting::lowest_record(s, store, n, zero);
     taking::forgetting::forget_in(s, store, n, zero, i)
+}
+
+// Whether a joining is refused because every cell is in use.
+fn is_full(joined: Result<Joined, Refused>) -> bool
+    ensures { result ≡ eqb (joined_answer joined).refusal.number 19 }
+{
+    match joined {
+        Ok(_) => false,
+        Err(r) => r.number() == REFUSED_FULL,
+    }
 }
 
 // Joining; and once more, if every cell is in use and there is a record that can be forgotten.
@@ -232,7 +246,7 @@ fn join_roomed(
     requires store_value { gate s (length zero.now) store.old ≡ 0 }
     requires n_value { n ≡ count_in (length zero.now) store.old }
     requires room_in_bounds { 6 + room ≤ length out.old }
-    ensures joined_value { result.joined ≡ joined_of (joining s (length zero.now)
+    ensures joined_value { joined_answer result.joined ≡ joined_of (joining s (length zero.now)
         (roomed s (length zero.now) store.old p.now) p.now room) }
     ensures late_value { result.late ≡ is_late (arrived s (length zero.now)
         (roomed s (length zero.now) store.old p.now) p.now) }
@@ -242,12 +256,10 @@ fn join_roomed(
         (roomed s (length zero.now) store.old p.now) p.now room)) }
 {
     let came = join_after(s, store, n, zero, p, out);
-    let joined = came.joined;
-    let refusal = joined.refusal;
-    if refusal.number != REFUSED_FULL {
+    if !is_full(came.joined) {
         return came;
     }
-    if forget_lowest(s, store, n, zero) != 0 {
+    if forget_lowest(s, store, n, zero).is_err() {
         return came;
     }
     join_after(s, store, n, zero, p, out)
@@ -267,7 +279,7 @@ fn join_packet(
     requires n_value { n ≡ count_in (length zero.now) store.old }
     requires room_in_bounds { 6 + room ≤ length out.old }
     requires p_len_bound { length p.now ≤ longest }
-    ensures value { result ≡ done_came p.now (came_at s (length zero.now)
+    ensures value { answered result ≡ done_came p.now (came_at s (length zero.now)
         (roomed s (length zero.now) store.old p.now) p.now) }
     ensures store_after { store.new ≡ store_joined s (length zero.now)
         (roomed s (length zero.now) store.old p.now) p.now room }
@@ -276,19 +288,26 @@ fn join_packet(
 {
     let used = 2 + p.len();
     let came = join_roomed(s, store, n, zero, p, out);
-    let late = came.late;
-    let j = came.joined;
-    let refusal = j.refusal;
-    let place = j.place;
-    let length = j.length;
-    let which = j.which;
-    match which {
-        Which::Nothing => left(refusal, late, used),
-        Which::Packet => {
-            let long = put_whole(p, out);
-            framed(out, What::Whole, refusal, used, long)
+    match came.joined {
+        Err(r) => {
+            let became = left(walk::telling(r.number(), r.octets(), r.place()), came.late);
+            Done::Packet { used, became }
         }
-        Which::Joined => framed(out, What::Joined, refusal, used, place + length),
+        Ok(Joined::Packet { .. }) => {
+            let long = put_whole(p, out);
+            let written = framed(out, long);
+            Done::Packet {
+                used,
+                became: Became::Whole { written },
+            }
+        }
+        Ok(Joined::Message { place, taken }) => {
+            let written = framed(out, place + taken.body);
+            Done::Packet {
+                used,
+                became: Became::Joined { written },
+            }
+        }
     }
 }
 
@@ -306,17 +325,15 @@ fn step_packet(
     requires n_value { n ≡ count_in (length zero.now) store.old }
     requires room_in_bounds { 6 + room ≤ length out.old }
     requires p_len_bound { length p.now ≤ packet_most }
-    ensures value { result ≡ done_came p.now (came_of s (length zero.now) store.old p.now) }
+    ensures value { answered result ≡ done_came p.now (came_of s (length zero.now) store.old p.now) }
     ensures store_after { store.new ≡ store_after s (length zero.now) store.old p.now }
     ensures out_after { out.new ≡ sets out.old 0
         (wrote p.now (came_of s (length zero.now) store.old p.now)) }
 {
     if LONGEST < p.len() {
-        return Done {
-            what: What::Passed,
-            refusal: walk::numbered(0),
+        return Done::Packet {
             used: 2 + p.len(),
-            written: 0,
+            became: Became::Passed,
         };
     }
     join_packet(s, store, n, zero, p, out)
@@ -336,16 +353,16 @@ pub fn step(
     requires store_value { gate s (length zero.now) store.old ≡ 0 }
     requires n_value { n ≡ count_in (length zero.now) store.old }
     requires room_in_bounds { 6 + room ≤ length out.old }
-    ensures value { result ≡ done_of (stepped s (length zero.now) store.old window.now ends) }
+    ensures value { answered result ≡ done_of (stepped s (length zero.now) store.old window.now ends) }
     ensures store_after { store.new ≡ store_behind s (length zero.now) store.old
         (stepped s (length zero.now) store.old window.now ends) }
     ensures out_after { out.new ≡ sets out.old 0
         (written_by (stepped s (length zero.now) store.old window.now ends)) }
 {
     match look(window) {
-        Stands::Nothing => stop(ends, What::Ended),
-        Stands::Other => still(What::Unmarked),
-        Stands::Cut => stop(ends, What::Torn),
+        Stands::Nothing => stop(ends, Done::Ended),
+        Stands::Other => Done::Unmarked,
+        Stands::Cut => stop(ends, Done::Torn),
         Stands::Whole => step_packet(s, store, n, zero, cells::packet_in(window), out),
     }
 }
@@ -365,14 +382,14 @@ fn step_spare(
     requires store_value { gate s (length zero.now) store.old ≡ 0 }
     requires n_value { n ≡ count_in (length zero.now) store.old }
     requires room_in_bounds { 6 + room ≤ length spare.old }
-    ensures value { result ≡ done_of (stepped s (length zero.now) store.old rest.now true) }
+    ensures value { answered result ≡ done_of (stepped s (length zero.now) store.old rest.now true) }
     ensures store_after { store.new ≡ store_behind s (length zero.now) store.old
         (stepped s (length zero.now) store.old rest.now true) }
     ensures out_after { out.new ≡ sets out.old at
         (written_by (stepped s (length zero.now) store.old rest.now true)) }
 {
     let d = step(s, store, n, zero, rest, true, spare);
-    let written = d.written;
+    let written = d.written();
     octets::copy(out, at, &spare[0..written]);
     d
 }
@@ -392,7 +409,7 @@ pub fn step_there(
     requires store_value { gate s (length zero.now) store.old ≡ 0 }
     requires n_value { n ≡ count_in (length zero.now) store.old }
     requires room_in_bounds { at + (6 + room) ≤ length out.old }
-    ensures value { result ≡ done_of (stepped s (length zero.now) store.old rest.now ends) }
+    ensures value { answered result ≡ done_of (stepped s (length zero.now) store.old rest.now ends) }
     ensures store_after { store.new ≡ store_behind s (length zero.now) store.old
         (stepped s (length zero.now) store.old rest.now ends) }
     ensures out_after { out.new ≡ sets out.old at
@@ -418,7 +435,7 @@ pub fn step_at(
     requires n_value { n ≡ count_in (length zero.now) store.old }
     requires room_in_bounds { 6 + room ≤ length spare.old }
     requires at_in_bounds { at ≤ length out.old }
-    ensures value { result ≡ done_of (stepped s (length zero.now) store.old rest.now true) }
+    ensures value { answered result ≡ done_of (stepped s (length zero.now) store.old rest.now true) }
     ensures store_after { store.new ≡ store_behind s (length zero.now) store.old
         (stepped s (length zero.now) store.old rest.now true) }
     ensures out_after { out.new ≡ sets out.old at

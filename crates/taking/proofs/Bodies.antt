@@ -1,6 +1,6 @@
 -- The bodies of a complete run laid one after another: what the loop has done, and one turn of it.
 -- Assumes nothing.
-use Prim.Native.Nat.{ℕ, suc, ◌+◌, ◌-◌, ◌≤◌, ◌<◌}
+use Prim.Native.Nat.{ℕ, suc, ◌+◌, ◌≤◌, ◌<◌}
 use mathlib.Core.Path.{◌≡◌, refl, ap, ap₂, sym, ◌∙◌}
 use mathlib.Core.Logic.{⊎_elim}
 use mathlib.Core.Bool.{Bool, true, false}
@@ -105,21 +105,20 @@ bodies_last s Z st j ks {x} e ex = bodies_first s Z st j [] ks e ex ∙ append-n
 -- ---- the loop
 
 module _ (next : ℕ → ℕ) (span : ℕ) (s : Settings) (Z : ℕ) (st : List ℕ) (n : ℕ) (k js : List ℕ) (place : ℕ) (o : List ℕ) where
-  -- what is done, over what is left to do: the run after the counter c, its bodies from `at` on
+  -- what is done, over what is left to do: the run after the counter c, its bodies from `at` on; its next segment is that of this step
   pub record Copying (out : List ℕ) (c left steps at : ℕ) : Type 0 where
     pub rest : List ℕ
     pub ahead : follow next span s Z st n k left (next c) ≡ some rest
     pub octets : sets out at (bodies_at s Z st rest) ≡ sets o place (bodies_at s Z st js)
     pub room : at + length (bodies_at s Z st rest) ≤ length out
     pub long : length out ≡ length o
-    pub told : steps + length rest ≡ length js
-    pub count : steps + left ≤ 4294967295
+    pub told : steps + length rest ≡ length js + 1
 
 pub copying_first :
     (next : ℕ → ℕ) (span : ℕ) (s : Settings) (Z : ℕ) (st : List ℕ) (n : ℕ) (k : List ℕ) (c place : ℕ) (o : List ℕ) {left : ℕ} →
-    left ≡ span → left ≤ 4294967295 → Ready next span s Z st n k (next c) place o →
-    Copying next span s Z st n k (places_from next span s Z st n k (next c)) place o o c left 0 place
-copying_first next span s Z st n k c place o e h r =
+    left ≡ span → Ready next span s Z st n k (next c) place o →
+    Copying next span s Z st n k (places_from next span s Z st n k (next c)) place o o c left 1 place
+copying_first next span s Z st n k c place o e r =
     record {
       rest = places_from next span s Z st n k (next c);
       ahead = ap (λ (f : ℕ). follow next span s Z st n k f (next c)) e ∙ r.complete;
@@ -127,7 +126,6 @@ copying_first next span s Z st n k c place o e h r =
       room = r.room;
       long = refl;
       told = omega arith;
-      count = omega arith;
     }
 
 module _ {next : ℕ → ℕ} {span : ℕ} {s : Settings} {Z : ℕ} {st : List ℕ} {n : ℕ} {k js : List ℕ} {place : ℕ} {o : List ℕ}
@@ -141,14 +139,12 @@ module _ {next : ℕ → ℕ} {span : ℕ} {s : Settings} {Z : ℕ} {st : List �
       let y : ◌≡◌ {A = ℕ} 0 1 = cc in
       omega arith
 
-  module _ (h : 0 < left) {d : ℕ} (ed : d ≡ next c) {j : ℕ} (ej : j ≡ found_in s Z st n k d) where
-    ahead_at : follow next span s Z st n k (suc (left - 1)) d ≡ some w.rest
-    ahead_at =
-        let e : suc (left - 1) ≡ left = omega arith in
-        ap₂ (λ (f x : ℕ). follow next span s Z st n k f x) e ed ∙ w.ahead
+  module _ {less : ℕ} (h : left ≡ suc less) {d : ℕ} (ed : d ≡ next c) {j : ℕ} (ej : j ≡ found_in s Z st n k d) where
+    ahead_at : follow next span s Z st n k (suc less) d ≡ some w.rest
+    ahead_at = ap₂ (λ (f x : ℕ). follow next span s Z st n k f x) (sym h) ed ∙ w.ahead
 
     pub copying_inside : j < n
-    copying_inside = next_inside next span s Z st n k (left - 1) d w.rest ahead_at ej
+    copying_inside = next_inside next span s Z st n k less d w.rest ahead_at ej
 
     module _ {r : List ℕ} {t : Piece} (er : r ≡ row_at Z st j) (et : t ≡ piece_of (read_packet s (packet_in r))) where
       abbrev x : List ℕ
@@ -159,7 +155,7 @@ module _ {next : ℕ → ℕ} {span : ℕ} {s : Settings} {Z : ℕ} {st : List �
 
       pub copying_room : at + length x ≤ length out
       copying_room =
-          let y = next_some next span s Z st n k (left - 1) d w.rest ahead_at ej in
+          let y = next_some next span s Z st n k less d w.rest ahead_at ej in
           let e = ap length (bodies_first s Z st j y.0 w.rest y.1 body_is) ∙ length-append x (bodies_at s Z st y.0) in
           omega (arith, w.room)
 
@@ -167,16 +163,16 @@ module _ {next : ℕ → ℕ} {span : ℕ} {s : Settings} {Z : ℕ} {st : List �
         pub copying_long : length out' ≡ length o
         copying_long = ap length eo ∙ length-sets out at x ∙ w.long
 
-        pub copying_last : t.flags ≡ 2 → (steps + 1 ≡ length js) × (out' ≡ sets o place (bodies_at s Z st js))
+        pub copying_last : t.flags ≡ 2 → (steps ≡ length js) × (out' ≡ sets o place (bodies_at s Z st js))
         copying_last f =
-            let e = next_last next span s Z st n k (left - 1) d w.rest ahead_at ej (sym (flags_there s Z st j er et) ∙ f) in (
+            let e = next_last next span s Z st n k less d w.rest ahead_at ej (sym (flags_there s Z st j er et) ∙ f) in (
               omega (arith, w.told, ap length e),
               eo ∙ ap (sets out at) (sym (bodies_last s Z st j w.rest e body_is)) ∙ w.octets,
             )
 
-        pub copying_turn : (t.flags ≡ 2 → ⊥) → Copying next span s Z st n k js place o out' d (left - 1) (steps + 1) place'
+        pub copying_turn : (t.flags ≡ 2 → ⊥) → Copying next span s Z st n k js place o out' d less (steps + 1) place'
         copying_turn f =
-            let y = next_on next span s Z st n k (left - 1) d w.rest ahead_at ej (λ g. f (flags_there s Z st j er et ∙ g)) in
+            let y = next_on next span s Z st n k less d w.rest ahead_at ej (λ g. f (flags_there s Z st j er et ∙ g)) in
             let b = bodies_first s Z st j y.0 w.rest y.1 body_is in
             let l = ap length b ∙ length-append x (bodies_at s Z st y.0) in
             record {
@@ -190,5 +186,4 @@ module _ {next : ℕ → ℕ} {span : ℕ} {s : Settings} {Z : ℕ} {st : List �
               room = omega (arith, w.room, ap length eo, length-sets out at x);
               long = copying_long;
               told = omega (arith, w.told, ap length y.1);
-              count = omega (arith, w.count);
             }

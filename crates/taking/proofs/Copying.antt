@@ -11,7 +11,7 @@ use Rattle.octets.specs.Octets.{pick, part}
 use Rattle.octets.specs.Laying.{laid, together, Lays}
 use Rattle.octets.proofs.Laying.{lays_as, lays_both, lays_all, one_together}
 use Rattle.walk.specs.declared.Settings.{Settings}
-use Rattle.packet.specs.declared.Header.{Header}
+use Rattle.packet.specs.Answer.{Header}
 use Rattle.packet.specs.Reading.{read_packet, counter_size}
 use Rattle.packet.specs.Key.{counter_place, key_of}
 use Rattle.format.proofs.Accepting.{accepted}

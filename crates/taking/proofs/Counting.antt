@@ -1,6 +1,6 @@
 -- The octets of a run, counted as its segments are found one after the other.
 -- Assumes nothing.
-use Prim.Native.Nat.{ℕ, suc, ◌+◌, ◌-◌, ◌*◌, ◌≤◌, ◌<◌}
+use Prim.Native.Nat.{ℕ, suc, ◌+◌, ◌*◌, ◌≤◌, ◌<◌}
 use mathlib.Core.Path.{◌≡◌, ap, ap₂, sym, ◌∙◌}
 use mathlib.Core.List.{List}
 use mathlib.Core.Option.{Option}
@@ -16,8 +16,8 @@ use Rattle.cells.specs.Order.{found_in}
 use Rattle.cells.specs.declared.messages.Piece.{Piece}
 use Rattle.cells.specs.Messages.{Role, role_of, link_by}
 use Rattle.cells.specs.Pieces.{piece_of}
-use Rattle.taking.specs.declared.Measured.{Measured}
-use Rattle.taking.specs.declared.Measured.TheVariants.{Long, Incomplete}
+use Rattle.std.specs.Prelude.{Option as CodeOption}
+use Rattle.std.specs.Prelude.{Some, None}
 use Rattle.taking.specs.Follow.{seg_at, follow, total}
 use Rattle.cells.proofs.Found.{found_held, body_long, part_most}
 use Rattle.taking.proofs.Following.{role_first, role_last, role_middle, follow_none, follow_by, total_on, total_last}
@@ -49,7 +49,7 @@ module _ (s : Settings) (Z : ℕ) (st : List ℕ) (n : ℕ) (k : List ℕ) (c : 
 
 module _ (next : ℕ → ℕ) (span : ℕ) (s : Settings) (Z : ℕ) (st : List ℕ) (n : ℕ) (k : List ℕ) (b from : ℕ) where
   -- what the whole run comes to
-  abbrev whole : Measured
+  abbrev whole : CodeOption ℕ
   whole = total s Z st b (follow next span s Z st n k span (next from))
 
   -- what is left after the counter c, and sum octets, come to what the whole run does; so many steps are left
@@ -62,49 +62,46 @@ module _ (next : ℕ → ℕ) (span : ℕ) (s : Settings) (Z : ℕ) (st : List �
       record { same = ap (λ (f : ℕ). total s Z st b (follow next span s Z st n k f (next from))) e; most = omega arith }
 
   module _ {c left sum : ℕ} (inv : Counted c left sum) where
-    module _ (more : 0 < left) {d : ℕ} (ed : d ≡ next c) {j : ℕ} (ej : j ≡ found_in s Z st n k d) where
-      one_less : left ≡ suc (left - 1)
-      one_less = omega arith
-
-      whole_is : {o : Option (List ℕ)} → follow next span s Z st n k (suc (left - 1)) d ≡ o → total s Z st sum o ≡ whole
+    module _ {rest : ℕ} (more : left ≡ suc rest) {d : ℕ} (ed : d ≡ next c) {j : ℕ} (ej : j ≡ found_in s Z st n k d) where
+      whole_is : {o : Option (List ℕ)} → follow next span s Z st n k (suc rest) d ≡ o → total s Z st sum o ≡ whole
       whole_is e =
-          ap (total s Z st sum) (sym e ∙ ap₂ (λ (f x : ℕ). follow next span s Z st n k f x) (sym one_less) ed) ∙ inv.same
+          ap (total s Z st sum) (sym e ∙ ap₂ (λ (f x : ℕ). follow next span s Z st n k f x) (sym more) ed) ∙ inv.same
 
-      pub counted_none : n ≤ j → Incomplete ≡ whole
-      counted_none h = whole_is (follow_none next span s Z st n k (left - 1) d ej h)
+      pub counted_none : n ≤ j → None ≡ whole
+      counted_none h = whole_is (follow_none next span s Z st n k rest d ej h)
 
       module _ (h : j < n) {r : List ℕ} {u : Piece} (er : r ≡ row_at Z st j) (eu : u ≡ piece_of (read_packet s (packet_in r))) where
         role_is : {x : Role} → role_of u.flags ≡ x → role_of (seg_at s Z st j).flags ≡ x
         role_is e = ap role_of (sym (piece_flags s Z st n k d ej h er eu)) ∙ e
 
-        by : {x : Role} → role_of u.flags ≡ x → total s Z st sum (link_by x j (follow next span s Z st n k (left - 1) (next d))) ≡ whole
-        by e = whole_is (follow_by next span s Z st n k (left - 1) d ej h (role_is e))
+        by : {x : Role} → role_of u.flags ≡ x → total s Z st sum (link_by x j (follow next span s Z st n k rest (next d))) ≡ whole
+        by e = whole_is (follow_by next span s Z st n k rest d ej h (role_is e))
 
         pub counted_room : Octets st → b ≤ 65542 → sum + u.length < 18446744073709551616
-        counted_room o l = omega (arith, piece_most s Z st n k d ej h er eu o, inv.most)
+        counted_room o l = omega (arith, piece_most s Z st n k d ej h er eu o, inv.most, more)
 
-        pub counted_broken : u.flags ≡ 1 → Incomplete ≡ whole
+        pub counted_broken : u.flags ≡ 1 → None ≡ whole
         counted_broken e = by (role_first e)
 
-        pub counted_last : u.flags ≡ 2 → Long (sum + u.length) ≡ whole
+        pub counted_last : u.flags ≡ 2 → Some (sum + u.length) ≡ whole
         counted_last e =
-            ap (λ (x : ℕ). Long (sum + x)) (piece_long s Z st n k d ej h er eu)
-            ∙ sym (total_last next span s Z st n k sum j (follow next span s Z st n k (left - 1) (next d)))
+            ap (λ (x : ℕ). Some (sum + x)) (piece_long s Z st n k d ej h er eu)
+            ∙ sym (total_last next span s Z st n k sum j (follow next span s Z st n k rest (next d)))
             ∙ by (role_last e)
 
-        pub counted_on : Octets st → (u.flags ≡ 1 → ⊥) → (u.flags ≡ 2 → ⊥) → Counted d (left - 1) (sum + u.length)
+        pub counted_on : Octets st → (u.flags ≡ 1 → ⊥) → (u.flags ≡ 2 → ⊥) → Counted d rest (sum + u.length)
         counted_on o x y =
             record {
               same =
-                  ap (λ (a : ℕ). total s Z st (sum + a) (follow next span s Z st n k (left - 1) (next d)))
+                  ap (λ (a : ℕ). total s Z st (sum + a) (follow next span s Z st n k rest (next d)))
                   (piece_long s Z st n k d ej h er eu)
-                  ∙ sym (total_on next span s Z st n k sum j (follow next span s Z st n k (left - 1) (next d)))
+                  ∙ sym (total_on next span s Z st n k sum j (follow next span s Z st n k rest (next d)))
                   ∙ by (role_middle x y);
-              most = omega (arith, inv.most, piece_most s Z st n k d ej h er eu o);
+              most = omega (arith, inv.most, piece_most s Z st n k d ej h er eu o, more);
             }
 
     -- no step is left
-    pub counted_out : left ≤ 0 → Incomplete ≡ whole
+    pub counted_out : left ≤ 0 → None ≡ whole
     unfolding follow
     counted_out h =
         let z : 0 ≡ left = omega arith in

@@ -22,7 +22,7 @@ use Rattle.cells.proofs.CellSegments.{segment_or}
 use Rattle.cells.specs.Messages.{Role, first, middle, last, role_of, Run, body_of, listed, or_else, cells_of, rest_from, opens_by, run_from, run_in, pick_in, picked}
 use Rattle.taking.specs.Taking.{message, unable, writing, drawn}
 use Rattle.taking.specs.declared.Copied.{Copied}
-use Rattle.taking.specs.declared.Measured.TheVariants.{Long}
+use Rattle.std.specs.Prelude.{Some}
 use Rattle.taking.specs.Told.{taken_of}
 use Rattle.taking.specs.Follow.{seg_at, follow, places_from, places_of, bodies_at, answer, is_some, opens_at, copied_of, Opens}
 use Rattle.cells.proofs.Looks.{lowest_holds}
@@ -176,10 +176,10 @@ module _ (next : ℕ → ℕ) (span : ℕ) (s : Settings) (Z : ℕ) (st : List �
     unfolding places_from
     places_are = ap places_of m.complete
 
-    module _ {b : ℕ} (eb : Long b ≡ answer (picked next span cs)) where
+    module _ {b : ℕ} (eb : Some b ≡ answer (picked next span cs)) where
       pub body_long : b ≡ length (bodies_at s Z st (i ∷ m.places))
       body_long =
-          let e : Long b ≡ Long (length (body_of run_of)) = eb ∙ ap answer m.run in
+          let e : Some b ≡ Some (length (body_of run_of)) = eb ∙ ap answer m.run in
           let d : b ≡ length (body_of run_of) = cc in
           d ∙ ap length body_is
 

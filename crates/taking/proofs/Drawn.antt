@@ -15,7 +15,7 @@ use Rattle.cells.specs.Segments.{seg_of}
 use Rattle.cells.specs.Rows.{held, row_at, packet_in}
 use Rattle.cells.specs.Order.{cell_at, lowest}
 use Rattle.taking.specs.declared.Copied.{Copied}
-use Rattle.taking.specs.declared.Measured.TheVariants.{Long}
+use Rattle.std.specs.Prelude.{Some}
 use Rattle.cells.specs.Messages.{cells_of, picked}
 use Rattle.taking.specs.Taking.{message, took_in, out_with, left_in, store_less}
 use Rattle.taking.specs.Cleared.{cleared_to, left_within}
@@ -31,7 +31,7 @@ abbrev pub cells_from : Settings → ℕ → List ℕ → ℕ → ℕ → List �
 cells_from s Z st n i = i ∷ places_from next_counter steps_most s Z st n (seg_at s Z st i).key (next_counter (seg_at s Z st i).counter)
 
 module _ (s : Settings) (Z : ℕ) (st out : List ℕ) (n i b : ℕ) (ei : i ≡ lowest (opens_at next_counter steps_most s Z st n) n 0) (below : i < n)
-    (eb : Long b ≡ answer (picked next_counter steps_most (cells_of s Z st n))) (room : length (seg_at s Z st i).key + b ≤ length out) where
+    (eb : Some b ≡ answer (picked next_counter steps_most (cells_of s Z st n))) (room : length (seg_at s Z st i).key + b ≤ length out) where
   m : Message next_counter steps_most s Z st n i
   m = the_message next_counter steps_most s Z st n ei below
 

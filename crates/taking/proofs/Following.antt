@@ -17,7 +17,7 @@ use Rattle.cells.specs.Segments.{Seg}
 use Rattle.cells.specs.Rows.{held}
 use Rattle.cells.specs.Order.{cell_at, found_in}
 use Rattle.cells.specs.Messages.{Role, first, middle, last, role_of, bodies, cells_of, look, link, link_by, rest_from}
-use Rattle.taking.specs.declared.Measured.TheVariants.{Long}
+use Rattle.std.specs.Prelude.{Some}
 use Rattle.taking.specs.Follow.{seg_at, on_at, follow, bodies_at, total}
 use Rattle.cells.proofs.Looks.{look_found, look_none}
 use Rattle.cells.proofs.Found.{found_held}
@@ -123,10 +123,10 @@ module _ (next : ℕ → ℕ) (span : ℕ) (s : Settings) (Z : ℕ) (st : List �
   total_on b j (some js) =
       let e : b + length ((at j).body ++ bodies_at s Z st js) ≡ b + length (at j).body + length (bodies_at s Z st js) =
       omega (arith, length-append (at j).body (bodies_at s Z st js)) in
-      ap Long e
+      ap (λ (x : ℕ). Some x) e
 
-  pub total_last : (b j : ℕ) (r : Option (List ℕ)) → total s Z st b (link_by last j r) ≡ Long (b + length (at j).body)
+  pub total_last : (b j : ℕ) (r : Option (List ℕ)) → total s Z st b (link_by last j r) ≡ Some (b + length (at j).body)
   unfolding bodies_at
   total_last b j r =
       let e : b + length ((at j).body ++ []) ≡ b + length (at j).body = omega (arith, length-append (at j).body []) in
-      ap Long e
+      ap (λ (x : ℕ). Some x) e

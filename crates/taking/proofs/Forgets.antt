@@ -30,16 +30,16 @@ use Rattle.taking.specs.Forgetting.{is_record, forgot_in, forgot, store_unless, 
 
 -- ---- as the code tests it
 
-record_told : (at : ℕ) (x : Cell) → told_taken (judged_of at x).content ≡ is_record x
+record_told : (at : ℕ) (x : Cell) → told_taken (judged_of at x) ≡ is_record x
 record_told at free = refl
 record_told at (held t) = refl
 record_told at (taken g) = refl
 record_told at broken = refl
 
 pub record_judged :
-    (s : Settings) (Z : ℕ) (r : List ℕ) {t : Judged} {b : Bool} → t ≡ judged_of (body_in s r) (cell_of s Z r) → b ≡ told_taken t.content →
+    (s : Settings) (Z : ℕ) (r : List ℕ) {t : Judged} {b : Bool} → t ≡ judged_of (body_in s r) (cell_of s Z r) → b ≡ told_taken t →
     b ≡ is_record (cell_of s Z r)
-record_judged s Z r et eb = eb ∙ ap (λ (x : Judged). told_taken x.content) et ∙ record_told (body_in s r) (cell_of s Z r)
+record_judged s Z r et eb = eb ∙ ap told_taken et ∙ record_told (body_in s r) (cell_of s Z r)
 
 -- a test of the row is one of the cell
 pub record_here :

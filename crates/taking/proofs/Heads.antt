@@ -12,7 +12,7 @@ use Rattle.octets.specs.Octets.{Octets, part, number}
 use Rattle.octets.proofs.Has.{octets_part}
 use Rattle.octets.proofs.Lists.{sets_append}
 use Rattle.walk.specs.declared.Settings.{Settings}
-use Rattle.packet.specs.declared.Header.{Header}
+use Rattle.packet.specs.Answer.{Header}
 use Rattle.packet.specs.Format.{identification, header_octets}
 use Rattle.packet.specs.Reading.{read_packet, segmented}
 use Rattle.packet.specs.Key.{key_of}

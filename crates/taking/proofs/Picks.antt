@@ -13,24 +13,23 @@ use Rattle.cells.specs.Rows.{Cell}
 use Rattle.cells.specs.Order.{cell_at}
 use Rattle.cells.proofs.Scans.{Seeking, seeking_first, seeking_turn, seeking_found, seeking_none}
 use Rattle.cells.specs.Messages.{Run, body_of, listed, or_else, cells_of, run_in, pick_in, picked}
-use Rattle.taking.specs.declared.Measured.{Measured}
-use Rattle.taking.specs.declared.Measured.TheVariants.{Long, Incomplete}
-use Rattle.taking.specs.declared.Picked.TheVariants.{Message, Nothing}
-use Rattle.taking.specs.Follow.{answer, chosen, is_some, opens_at, picked_of}
+use Rattle.std.specs.Prelude.{Option as CodeOption}
+use Rattle.std.specs.Prelude.{Some, None}
+use Rattle.taking.specs.Follow.{answer, message_at, chosen, is_some, opens_at, picked_of}
 
 -- ---- an answer that is not complete is no run
 
-answer_none : (o : Option Run) → answer o ≡ Incomplete → o ≡ none
+answer_none : (o : Option Run) → answer o ≡ None → o ≡ none
 answer_none none e = refl
 answer_none (some r) e = let z : ◌≡◌ {A = ℕ} 0 1 = cc in absurd (omega arith)
 
-answer_some : (o : Option Run) {b : ℕ} → answer o ≡ Long b → is_some o ≡ true
+answer_some : (o : Option Run) {b : ℕ} → answer o ≡ Some b → is_some o ≡ true
 answer_some none e = let z : ◌≡◌ {A = ℕ} 0 1 = cc in absurd (omega arith)
 answer_some (some r) e = refl
 
-answer_chosen : (i : ℕ) (o : Option Run) {b : ℕ} → answer o ≡ Long b → Message i b ≡ chosen i o
+answer_chosen : (i : ℕ) (o : Option Run) {b : ℕ} → answer o ≡ Some b → message_at i b ≡ chosen i o
 answer_chosen i none e = let z : ◌≡◌ {A = ℕ} 0 1 = cc in absurd (omega arith)
-answer_chosen i (some r) {b} e = let d : b ≡ length (body_of r) = cc in ap (Message i) d
+answer_chosen i (some r) {b} e = let d : b ≡ length (body_of r) = cc in ap (message_at i) d
 
 some_first : (o p : Option Run) → is_some o ≡ true → or_else o p ≡ o
 some_first none p e = let z : ◌≡◌ {A = ℕ} 0 1 = cc in absurd (omega arith)
@@ -58,8 +57,8 @@ module _ (next : ℕ → ℕ) (span : ℕ) (s : Settings) (Z : ℕ) (st : List �
   unfolding pick_in listed
   one_more i h = let e : n - i ≡ suc (n - suc i) = omega arith in ap (λ (k : ℕ). pick_in next span cs (listed (cell_at s Z st) k i)) e
 
-  module _ {i : ℕ} (p : Picking i) (h : i < n) {b : Measured} (eb : b ≡ answer (at i)) where
-    pub picking_turn : b ≡ Incomplete → Picking (i + 1)
+  module _ {i : ℕ} (p : Picking i) (h : i < n) {b : CodeOption ℕ} (eb : b ≡ answer (at i)) where
+    pub picking_turn : b ≡ None → Picking (i + 1)
     picking_turn z =
         let o : at i ≡ none = answer_none (at i) (sym eb ∙ z) in
         record {
@@ -69,7 +68,7 @@ module _ (next : ℕ → ℕ) (span : ℕ) (s : Settings) (Z : ℕ) (st : List �
               (sym (one_more i h ∙ ap (λ (x : Option Run). or_else x (pick_in next span cs (listed (cell_at s Z st) (n - suc i) (suc i)))) o) ∙ p.run);
         }
 
-    pub picking_found : {long : ℕ} → b ≡ Long long → Message i long ≡ picked_of next span s Z st n
+    pub picking_found : {long : ℕ} → b ≡ Some long → message_at i long ≡ picked_of next span s Z st n
     unfolding picked_of
     picking_found z =
         let e = sym eb ∙ z in
@@ -77,7 +76,7 @@ module _ (next : ℕ → ℕ) (span : ℕ) (s : Settings) (Z : ℕ) (st : List �
         answer_chosen i (at i) e
         ∙ ap₂ chosen (seeking_found p.cell h o) (sym (sym p.run ∙ one_more i h ∙ some_first (at i) _ o))
 
-  pub picking_none : {i : ℕ} → Picking i → n ≤ i → Nothing ≡ picked_of next span s Z st n
+  pub picking_none : {i : ℕ} → Picking i → n ≤ i → None ≡ picked_of next span s Z st n
   unfolding picked_of pick_in listed
   picking_none {i} p h =
       let z : n - i ≡ 0 = omega arith in

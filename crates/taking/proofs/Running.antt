@@ -21,11 +21,11 @@ use Rattle.cells.specs.Segments.{Seg, seg_of}
 use Rattle.cells.specs.Rows.{Cell, row_at, packet_in, cell_of, by_segment}
 use Rattle.cells.specs.Order.{cell_at}
 use Rattle.cells.specs.declared.Judged.{Judged}
-use Rattle.cells.specs.Inner.{body_in, judged_of, told_held, Asked}
+use Rattle.cells.specs.Inner.{body_in, judged_of, told_held, Asked, told_body, told_counter}
 use Rattle.cells.proofs.Carries.{Holding, not_held, kinds, judged_one, judged_at}
 use Rattle.cells.specs.Messages.{Role, first, middle, last, role_of, bodies, cells_of, rest_from, opens_by, run_from, run_in}
-use Rattle.taking.specs.declared.Measured.{Measured}
-use Rattle.taking.specs.declared.Measured.TheVariants.{Long, Incomplete}
+use Rattle.std.specs.Prelude.{Option as CodeOption}
+use Rattle.std.specs.Prelude.{Some, None}
 use Rattle.taking.specs.Follow.{seg_at, follow, bodies_at, total, answer}
 use Rattle.cells.proofs.Found.{body_long, part_most}
 use Rattle.taking.proofs.Ends.{flags_told}
@@ -61,7 +61,7 @@ module _ (next : ℕ → ℕ) (span : ℕ) (s : Settings) (Z : ℕ) (st : List �
   runs h = ap (run_in next span cs) h.cell
 
   -- a cell opens nothing unless it holds a segment
-  unless_held : (Holding s Z (row_at Z st i) → Incomplete ≡ answer (run_in next span cs (cell_at s Z st i))) → Incomplete ≡ answer (run_in next span cs (cell_at s Z st i))
+  unless_held : (Holding s Z (row_at Z st i) → None ≡ answer (run_in next span cs (cell_at s Z st i))) → None ≡ answer (run_in next span cs (cell_at s Z st i))
   unless_held f =
       ⊎_elim f (λ e. sym (ap (λ (o : Option Seg). answer (by_segment none (run_from next span cs) o)) e)) (kinds s Z (row_at Z st i))
 
@@ -70,7 +70,7 @@ module _ (next : ℕ → ℕ) (span : ℕ) (s : Settings) (Z : ℕ) (st : List �
     flags_row = ef ∙ ap (λ (y : List ℕ). octet_at y 4 / 64) er
 
     -- one whose flags are not those of a first opens nothing
-    pub run_none : (f ≡ 1 → ⊥) → Incomplete ≡ answer (run_in next span cs (cell_at s Z st i))
+    pub run_none : (f ≡ 1 → ⊥) → None ≡ answer (run_in next span cs (cell_at s Z st i))
     run_none ne =
         unless_held
         (λ h.
@@ -85,10 +85,10 @@ module _ (next : ℕ → ℕ) (span : ℕ) (s : Settings) (Z : ℕ) (st : List �
     judged_there : u ≡ judged_of (body_in s (row_at Z st i)) (cell_of s Z (row_at Z st i))
     judged_there = eu ∙ ap (λ (y : List ℕ). judged_of (body_in s y) (cell_of s Z y)) er
 
-    pub run_other : told_held u.content ≡ false → Incomplete ≡ answer (run_in next span cs (cell_at s Z st i))
+    pub run_other : told_held u ≡ false → None ≡ answer (run_in next span cs (cell_at s Z st i))
     run_other ne = unless_held (λ h. absurd (not_held (judged_at s Z (row_at Z st i) judged_there h).0 ne))
 
-    module _ {q : List ℕ} (eq : q ≡ packet_in r) (o : Octets st) (one : told_held u.content ≡ true) where
+    module _ {q : List ℕ} (eq : q ≡ packet_in r) (o : Octets st) (one : told_held u ≡ true) where
       there : Holding s Z (row_at Z st i)
       there = judged_one s Z (row_at Z st i) judged_there one
 
@@ -98,10 +98,10 @@ module _ (next : ℕ → ℕ) (span : ℕ) (s : Settings) (Z : ℕ) (st : List �
       plain : Octets p
       plain = octets_part (row_at Z st i) 2 (number 2 (row_at Z st i) 6 + 7) (octets_part st (i * Z) Z o)
 
-      at_is : u.at ≡ (read_packet s p).body.at
+      at_is : (told_body u) ≡ (read_packet s p).body.at
       at_is = (judged_at s Z (row_at Z st i) judged_there there).1.0
 
-      counter_is : u.counter.0 ≡ t.counter
+      counter_is : (told_counter u) ≡ t.counter
       unfolding seg_of
       counter_is = (judged_at s Z (row_at Z st i) judged_there there).1.1
 
@@ -109,22 +109,22 @@ module _ (next : ℕ → ℕ) (span : ℕ) (s : Settings) (Z : ℕ) (st : List �
       unfolding seg_of
       key_is = ap (λ (y : List ℕ). key_of y (read_packet s y)) packet_is
 
-      ends : u.at + (read_packet s p).body.length ≡ length q
+      ends : (told_body u) + (read_packet s p).body.length ≡ length q
       ends =
           ap (λ (x : ℕ). x + (read_packet s p).body.length) at_is
           ∙ (accepted s p plain there.accepted).body_end
           ∙ ap length (sym packet_is)
 
-      pub run_inside : u.at ≤ length q
+      pub run_inside : (told_body u) ≤ length q
       run_inside = omega (arith, ends)
 
-      long_is : length q - u.at ≡ length t.body
+      long_is : length q - (told_body u) ≡ length t.body
       unfolding seg_of
       long_is =
-          let e : length q - u.at ≡ (read_packet s p).body.length = omega (arith, ends) in
+          let e : length q - (told_body u) ≡ (read_packet s p).body.length = omega (arith, ends) in
           e ∙ sym (body_long s p there.accepted)
 
-      pub run_asked : Asked s q u.at
+      pub run_asked : Asked s q (told_body u)
       run_asked =
           record {
             octets = rw packet_is plain;
@@ -133,27 +133,27 @@ module _ (next : ℕ → ℕ) (span : ℕ) (s : Settings) (Z : ℕ) (st : List �
             body = at_is ∙ ap (λ (y : List ℕ). (read_packet s y).body.at) (sym packet_is);
           }
 
-      pub run_most : length q - u.at ≤ 65542
+      pub run_most : length q - (told_body u) ≤ 65542
       unfolding seg_of
       run_most =
           let m = part_most (row_at Z st i) (read_packet s p).body.at (read_packet s p).body.length (octets_part st (i * Z) Z o) in
           omega (arith, long_is)
 
-      opened : (js : List ℕ) → Long (length t.body + length (bodies_at s Z st js)) ≡ Long (length (bodies (t ∷ map (seg_at s Z st) js)))
+      opened : (js : List ℕ) → Some (length t.body + length (bodies_at s Z st js)) ≡ Some (length (bodies (t ∷ map (seg_at s Z st) js)))
       unfolding bodies
       opened js =
-          ap Long
+          ap (λ (x : ℕ). Some x)
           (sym
           (length-append t.body (bodies (map (seg_at s Z st) js))
           ∙ ap (λ (y : List ℕ). length t.body + length y) (bodies_places next span s Z st n t.key js)))
 
       pub run_first :
-          {f : ℕ} {b : Measured} → f ≡ octet_at r 4 / 64 → f ≡ 1 →
-          b ≡ total s Z st (length q - u.at) (follow next span s Z st n (key_of q (read_packet s q)) span (next u.counter.0)) →
+          {f : ℕ} {b : CodeOption ℕ} → f ≡ octet_at r 4 / 64 → f ≡ 1 →
+          b ≡ total s Z st (length q - (told_body u)) (follow next span s Z st n (key_of q (read_packet s q)) span (next (told_counter u))) →
           b ≡ answer (run_in next span cs (cell_at s Z st i))
       run_first ef is_first eb =
           eb
-          ∙ ap₂ (λ (l : ℕ) (k : List ℕ). total s Z st l (follow next span s Z st n k span (next u.counter.0))) long_is key_is
+          ∙ ap₂ (λ (l : ℕ) (k : List ℕ). total s Z st l (follow next span s Z st n k span (next (told_counter u)))) long_is key_is
           ∙ ap (λ (c : ℕ). total s Z st (length t.body) (follow next span s Z st n t.key span (next c))) counter_is
           ∙ told (follow next span s Z st n t.key span (next t.counter))
           ∙ ap (λ (o : Option (List Seg)). answer (opens_by first t o)) (sym (rest_places next span s Z st n t.key span (next t.counter)))

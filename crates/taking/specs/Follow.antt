@@ -1,17 +1,15 @@
 -- A message in the store by the places of its segments: what the loops of taking follow. The public promise is over `picked`.
 -- Assumes nothing: these are definitions.
-use Rattle.std.specs.Prelude.{ℕ, zero, suc, ◌+◌, ◌-◌, ◌/◌, ◌≤◌, ◌≡◌, Bool, true, false, List, [], ◌∷◌, ◌++◌, length, ltb, eqb}
+use Rattle.std.specs.Prelude.{ℕ, zero, suc, ◌+◌, ◌-◌, ◌/◌, ◌≤◌, ◌≡◌, Bool, true, false, List, [], ◌∷◌, ◌++◌, length, ltb, eqb, Some, None}
+use Rattle.std.specs.Prelude.{Option as CodeOption}
 use Rattle.std.proofs.Math.Option.{Option, none, some}
 use Rattle.octets.specs.Octets.{pick, octet_at}
 use Rattle.walk.specs.declared.Settings.{Settings}
 use Rattle.cells.specs.Segments.{Seg}
 use Rattle.cells.specs.Rows.{row_at, zero_row}
 use Rattle.cells.specs.Order.{cell_at, found_in, lowest}
-use Rattle.cells.specs.Chains.{Chained, bucket_at}
-use Rattle.taking.specs.declared.Measured.{Measured}
-use Rattle.taking.specs.declared.Measured.TheVariants.{Long, Incomplete}
-use Rattle.taking.specs.declared.Picked.{Picked}
-use Rattle.taking.specs.declared.Picked.TheVariants.{Message, Nothing}
+use Rattle.cells.specs.Chains.{bucket_at, LentChains, ChainedIf}
+use Rattle.taking.specs.declared.Message.{Message}
 use Rattle.taking.specs.declared.Copied.{Copied}
 use Rattle.cells.specs.Messages.{role_of, link_by, Run, body_of, cells_of, run_in, picked}
 use Rattle.cells.specs.Pieces.{seg_in}
@@ -38,19 +36,23 @@ bodies_at s Z st (j ∷ js) = (seg_at s Z st j).body ++ bodies_at s Z st js
 -- ---- as the code tells it
 
 -- b and the octets of the bodies, if the run is complete
-abbrev pub total : Settings → ℕ → List ℕ → ℕ → Option (List ℕ) → Measured
-total s Z st b none = Incomplete
-total s Z st b (some js) = Long (b + length (bodies_at s Z st js))
+abbrev pub total : Settings → ℕ → List ℕ → ℕ → Option (List ℕ) → CodeOption ℕ
+total s Z st b none = None
+total s Z st b (some js) = Some (b + length (bodies_at s Z st js))
 
 -- the octets of the message's body
-abbrev pub answer : Option Run → Measured
-answer none = Incomplete
-answer (some r) = Long (length (body_of r))
+abbrev pub answer : Option Run → CodeOption ℕ
+answer none = None
+answer (some r) = Some (length (body_of r))
+
+-- a message with its first in cell i, of so many octets of body
+abbrev pub message_at : ℕ → ℕ → CodeOption Message
+message_at i b = Some (record { cell = i; body = b })
 
 -- the message and the cell of its first
-abbrev pub chosen : ℕ → Option Run → Picked
-chosen i none = Nothing
-chosen i (some r) = Message i (length (body_of r))
+abbrev pub chosen : ℕ → Option Run → CodeOption Message
+chosen i none = None
+chosen i (some r) = message_at i (length (body_of r))
 
 abbrev pub is_some : {A : Type 0} → Option A → Bool
 is_some none = false
@@ -64,10 +66,9 @@ ends_at Z st i = eqb (octet_at (row_at Z st i) 4 / 64) 2
 unfoldable pub copied_of : Seg → ℕ → Copied
 copied_of t m = record { header = length t.key - 2; counter = record { 0 = t.counter }; steps = m }
 
--- what a search is lent: tables that chain the first n cells if it goes by chains, and a zero cell
-abbrev pub Lent : Settings → List ℕ → List ℕ → ℕ → Bool → List ℕ → List ℕ → Type 0
-Lent s z st n chained heads links =
-    (chained ≡ true → Chained (bucket_at s (length z) st) heads links n) × (z ≡ zero_row (length z))
+-- what a search is lent: the chains of the first n cells if it goes by chains, and a zero cell
+abbrev pub Lent : Settings → List ℕ → List ℕ → ℕ → LentChains → Type 0
+Lent s z st n chains = ChainedIf (bucket_at s (length z) st) chains n × (z ≡ zero_row (length z))
 
 -- ---- over the counter that follows one and the most steps from a first to its last, as `Messages` has them
 
@@ -85,7 +86,7 @@ module _ (next : ℕ → ℕ) (span : ℕ) where
   abbrev pub opens_at : Settings → ℕ → List ℕ → ℕ → ℕ → Bool
   opens_at s Z st n i = is_some (run_in next span (cells_of s Z st n) (cell_at s Z st i))
 
-  unfoldable pub picked_of : Settings → ℕ → List ℕ → ℕ → Picked
+  unfoldable pub picked_of : Settings → ℕ → List ℕ → ℕ → CodeOption Message
   picked_of s Z st n = chosen (lowest (opens_at s Z st n) n 0) (picked next span (cells_of s Z st n))
 
   -- a run is complete, and there is room for its bodies from a place on

@@ -1,4 +1,5 @@
 pub mod Taking
+pub mod Answer
 pub mod Told
 pub mod Inner
 pub mod Follow

@@ -4,7 +4,7 @@
 use Rattle.std.specs.Prelude.{◌-◌, length}
 use Rattle.cells.specs.Messages.{body_of}
 use Rattle.walk.specs.Walk.{refusal}
-use Rattle.taking.specs.declared.Taken.{Taken}
+use Rattle.taking.specs.Answer.{Taken}
 use Rattle.taking.specs.Taking.{Took, message, unable}
 
 -- H, B and c of a message; the key is the two octets of identification and H octets of header

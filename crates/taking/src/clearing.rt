@@ -93,9 +93,7 @@ pub fn clear(
         (cell_at s (length zero.now) store.old i)) (length zero.now) n store.old }
 {
     let last = sender::counter_after(first, steps as usize);
-    let mut i: usize = 0;
-    while i < n {
+    for i in 0..n {
         leave(s, store, i, zero, key, first, steps, last);
-        i += 1;
     }
 }

@@ -12,23 +12,26 @@ ghost use Rattle.std.specs.Prelude.{◌≡◌, ◌∷◌, ◌++◌, ◌+◌, ◌
 ghost use Rattle.std.proofs.lemmas.List.Edits.{sets};
 ghost use Rattle.octets.specs.Octets.{octet_at, part};
 ghost use Rattle.packet.specs.Reading.{read_packet};
+ghost use Rattle.packet.specs.Decoded.{whole};
 ghost use Rattle.packet.specs.Key.{key_of};
 ghost use Rattle.packet.specs.Numbers.{next_counter, steps_most};
 ghost use Rattle.packet.specs.Format.{packet_most};
-ghost use Rattle.cells.specs.Rows.{zero_row, packet_in, held};
+ghost use Rattle.cells.specs.Rows.{zero_row, row_at, packet_in, held};
 ghost use Rattle.cells.specs.Order.{cells_most, lowest, cell_at};
 ghost use Rattle.cells.specs.Inner.{Asked};
 ghost use Rattle.cells.specs.Chains.{bucket_at, Chained};
 ghost use Rattle.cells.specs.Messages.{cells_of, run_in, picked};
-ghost use Rattle.taking.specs.Taking.{unable, took_in, out_with, store_less};
+ghost use Rattle.taking.specs.Taking.{took_in, out_with, store_less};
+ghost use Rattle.taking.specs.Answer.{taken_answer};
 ghost use Rattle.taking.specs.Told.{taken_of};
 ghost use Rattle.taking.specs.Inner.{piece_in};
 ghost use Rattle.taking.specs.Follow.{seg_at, follow as followed, places_from, bodies_at, total, answer, opens_at, ends_at, picked_of};
 ghost use Rattle.taking.specs.Follow.{copied_of, Lent, Ready, Opens};
 
 use cells::messages::Piece;
-use packet::{FIRST, LAST, SegmentCounter};
-use walk::{REFUSED_INCOMPLETE, REFUSED_OUTPUT, Refusal, Settings};
+use cells::{Chains, Judged};
+use packet::{FIRST, Header, LAST, SegmentCounter};
+use walk::{Refused, Settings};
 
 // The most cells that a taking searches without chains: making them for so few does not pay for a message of few segments.
 const SEARCH_MOST: usize = 64;
@@ -36,27 +39,19 @@ const SEARCH_MOST: usize = 64;
 // The most steps from a message's first segment to its last.
 const STEPS_MOST: u32 = packet::SEGMENTS_MOST as u32 - 1;
 
-// What taking answers: H, the octets of the body, and the first segment's counter.
+// What taking tells of a message: H, the octets of the body, and the first segment's counter.
 #[derive(Clone, Copy)]
 pub struct Taken {
-    pub refusal: Refusal,
     pub header: usize,
     pub body: usize,
     pub counter: SegmentCounter,
 }
 
-// How long the body of a run is, if the run is complete.
+// A complete message: the cell of its first, and the octets of its body.
 #[derive(Clone, Copy)]
-enum Measured {
-    Long(usize),
-    Incomplete,
-}
-
-// The complete message with its first in the lowest cell: that cell, and the octets of its body.
-#[derive(Clone, Copy)]
-enum Picked {
-    Message { cell: usize, body: usize },
-    Nothing,
+struct Message {
+    cell: usize,
+    body: usize,
 }
 
 // A message that was copied: H, the counter of its first segment, and how many segments follow it.
@@ -65,18 +60,6 @@ struct Copied {
     header: usize,
     counter: SegmentCounter,
     steps: u32,
-}
-
-// The one place where a taking is refused.
-pub fn not_taken(k: u8) -> Taken
-    ensures { result ≡ taken_of (unable k) }
-{
-    Taken {
-        refusal: walk::numbered(k),
-        header: 0,
-        body: 0,
-        counter: SegmentCounter(0),
-    }
 }
 
 // The segment in a cell that was found by the key of another, told where the other's body begins: so does this one's, and the header is
@@ -93,7 +76,7 @@ fn piece_with(row: &[u8], body_at: usize) -> Piece
     }
 }
 
-// The segments with the key of q whose counters follow the first, up to a last: the octets of their bodies and b.
+// The segments with the key of q whose counters follow the first, up to a last: the octets of their bodies and b, if the run is complete.
 fn follow(
     s: Settings,
     store: &[u8],
@@ -103,11 +86,9 @@ fn follow(
     body_at: usize,
     first: SegmentCounter,
     b: usize,
-    chained: bool,
-    heads: &[u16; cells::CHAINS],
-    links: &[u16; cells::CELLS_MOST],
-) -> Measured
-    requires lent { Lent s zero.now store.now n chained heads.now links.now }
+    chains: Option<&Chains>,
+) -> Option<usize>
+    requires lent { Lent s zero.now store.now n chains }
     requires asked { Asked s q.now body_at × (b ≤ packet_most) }
     ensures { result ≡ total s (length zero.now) store.now b
         (followed next_counter steps_most s (length zero.now) store.now n (key_of q.now (read_packet s q.now))
@@ -115,25 +96,23 @@ fn follow(
 {
     let z = zero.len();
     let mut c = first;
-    let mut left = STEPS_MOST;
     let mut sum = b;
-    while 0 < left {
+    for _ in 0..STEPS_MOST {
         c = packet::next_segment_counter(c);
-        let j = cells::find_by(s, store, n, zero, q, body_at, c, chained, heads, links);
+        let j = cells::find_by(s, store, n, zero, q, body_at, c, chains);
         if n <= j {
-            return Measured::Incomplete;
+            return None;
         }
         let t = piece_with(cells::row(store, z, j), body_at);
         sum += t.length;
         if t.flags == FIRST {
-            return Measured::Incomplete;
+            return None;
         }
         if t.flags == LAST {
-            return Measured::Long(sum);
+            return Some(sum);
         }
-        left -= 1;
     }
-    Measured::Incomplete
+    None
 }
 
 // The sequence flags of the packet in a row.
@@ -147,53 +126,33 @@ fn flags_in(row: &[u8]) -> u8
 fn lowest_last(store: &[u8], n: usize, z: usize) -> usize
     ensures { result ≡ lowest (ends_at z store.now) n 0 }
 {
-    let mut i: usize = 0;
-    while i < n {
-        if flags_in(cells::row(store, z, i)) == LAST {
-            return i;
-        }
-        i += 1;
-    }
-    n
+    (0..n)
+        .find(|i| flags_in(cells::row(store, z, *i)) == LAST)
+        .unwrap_or(n)
 }
 
-// How long the body of the message is that opens in cell i.
+// How long the body of the message is that opens in cell i, if a complete one does.
 fn run_at(
     s: Settings,
     store: &[u8],
     n: usize,
     zero: &[u8],
     i: usize,
-    chained: bool,
-    heads: &[u16; cells::CHAINS],
-    links: &[u16; cells::CELLS_MOST],
-) -> Measured
-    requires { Lent s zero.now store.now n chained heads.now links.now }
+    chains: Option<&Chains>,
+) -> Option<usize>
+    requires { Lent s zero.now store.now n chains }
     ensures { result ≡ answer (run_in next_counter steps_most (cells_of s (length zero.now) store.now n)
         (cell_at s (length zero.now) store.now i)) }
 {
     let r = cells::row(store, zero.len(), i);
     if flags_in(r) != FIRST {
-        return Measured::Incomplete;
+        return None;
     }
-    let t = cells::judge(s, r, zero);
-    if !cells::is_held(t) {
-        return Measured::Incomplete;
-    }
+    let Judged::Held { at, counter: first } = cells::judge(s, r, zero) else {
+        return None;
+    };
     let q = cells::packet_in(r);
-    follow(
-        s,
-        store,
-        n,
-        zero,
-        q,
-        t.at,
-        t.counter,
-        q.len() - t.at,
-        chained,
-        heads,
-        links,
-    )
+    follow(s, store, n, zero, q, at, first, q.len() - at, chains)
 }
 
 // The complete message with its first in the lowest cell.
@@ -202,25 +161,17 @@ fn pick_message(
     store: &[u8],
     n: usize,
     zero: &[u8],
-    chained: bool,
-    heads: &[u16; cells::CHAINS],
-    links: &[u16; cells::CELLS_MOST],
-) -> Picked
-    requires { Lent s zero.now store.now n chained heads.now links.now }
+    chains: Option<&Chains>,
+) -> Option<Message>
+    requires { Lent s zero.now store.now n chains }
     ensures { result ≡ picked_of next_counter steps_most s (length zero.now) store.now n }
 {
-    let mut i: usize = 0;
-    while i < n {
-        let b = run_at(s, store, n, zero, i, chained, heads, links);
-        if let Measured::Long(body) = b {
-            return Picked::Message {
-                cell: i,
-                body: body,
-            };
+    for cell in 0..n {
+        if let Some(body) = run_at(s, store, n, zero, cell, chains) {
+            return Some(Message { cell, body });
         }
-        i += 1;
     }
-    Picked::Nothing
+    None
 }
 
 // The key of a segment, told where its body begins, to the front of the output. The place after it.
@@ -257,11 +208,9 @@ fn copy_rest(
     first: SegmentCounter,
     out: &mut [u8],
     place: usize,
-    chained: bool,
-    heads: &[u16; cells::CHAINS],
-    links: &[u16; cells::CELLS_MOST],
+    chains: Option<&Chains>,
 ) -> u32
-    requires lent { Lent s zero.now store.now n chained heads.now links.now }
+    requires lent { Lent s zero.now store.now n chains }
     requires asked { Asked s q.now body_at }
     requires ready { Ready next_counter steps_most s (length zero.now) store.now n (key_of q.now (read_packet s q.now)) (next_counter first.0) place
         out.old }
@@ -274,37 +223,33 @@ fn copy_rest(
 {
     let z = zero.len();
     let mut c = first;
-    let mut left = STEPS_MOST;
-    let mut steps: u32 = 0;
     let mut at = place;
-    while 0 < left {
+    for steps in 1..=STEPS_MOST {
         c = packet::next_segment_counter(c);
-        steps += 1;
-        let j = cells::find_by(s, store, n, zero, q, body_at, c, chained, heads, links);
+        let j = cells::find_by(s, store, n, zero, q, body_at, c, chains);
         let r = cells::row(store, z, j);
         let t = piece_with(r, body_at);
         at = put_body(out, at, r, t);
         if t.flags == LAST {
             return steps;
         }
-        left -= 1;
     }
-    steps
+    STEPS_MOST
 }
 
-// The message that opens in cell i to the output.
+// The message that opens in cell i, with what reading answered of its first, to the output.
 fn copy_message(
     s: Settings,
     store: &[u8],
     n: usize,
     zero: &[u8],
     i: usize,
+    h: Header,
     out: &mut [u8],
-    chained: bool,
-    heads: &[u16; cells::CHAINS],
-    links: &[u16; cells::CELLS_MOST],
+    chains: Option<&Chains>,
 ) -> Copied
-    requires lent { Lent s zero.now store.now n chained heads.now links.now }
+    requires lent { Lent s zero.now store.now n chains }
+    requires h_value { whole h ≡ read_packet s (packet_in (row_at (length zero.now) store.now i)) }
     requires i_value { cell_at s (length zero.now) store.now i ≡ held (seg_at s (length zero.now) store.now i) }
     requires opens { Opens next_counter steps_most s (length zero.now) store.now n i out.old }
     ensures value { result ≡ copied_of (seg_at s (length zero.now) store.now i)
@@ -319,54 +264,48 @@ fn copy_message(
 {
     let r = cells::row(store, zero.len(), i);
     let q = cells::packet_in(r);
-    let h = packet::read(s, q);
-    let ids = h.ids;
-    let counter = ids.counter;
-    let body = h.body;
+    let counter = h.ids.counter;
     let t = cells::messages::piece_in(s, r);
-    let key = put_key(s, out, q, body.at);
+    let key = put_key(s, out, q, h.body.at);
     let at = put_body(out, key, r, t);
-    let steps = copy_rest(
-        s, store, n, zero, q, body.at, counter, out, at, chained, heads, links,
-    );
+    let steps = copy_rest(s, store, n, zero, q, h.body.at, counter, out, at, chains);
     Copied {
         header: h.h,
-        counter: counter,
-        steps: steps,
+        counter,
+        steps,
     }
 }
 
-// The message that opens in cell i, with b octets of body, to the output; just its cells are cleared.
+// The message that opens in cell i, with what reading answered of its first and b octets of body, to the output; just its cells are cleared.
 fn draw(
     s: Settings,
     store: &mut [u8],
     n: usize,
     zero: &[u8],
     i: usize,
+    h: Header,
     b: usize,
     out: &mut [u8],
-    chained: bool,
-    heads: &[u16; cells::CHAINS],
-    links: &[u16; cells::CELLS_MOST],
+    chains: Option<&Chains>,
 ) -> Taken
-    requires lent { Lent s zero.now store.old n chained heads.now links.now }
+    requires lent { Lent s zero.now store.old n chains }
+    requires h_value { whole h ≡ read_packet s (packet_in (row_at (length zero.now) store.old i)) }
     requires i_value { i ≡ lowest (opens_at next_counter steps_most s (length zero.now) store.old n) n 0 }
-    requires i_lt_n { (i < n) × (Measured.Long b ≡ answer (picked next_counter steps_most (cells_of s (length zero.now) store.old n))) }
+    requires i_lt_n { (i < n) × (Some b ≡ answer (picked next_counter steps_most (cells_of s (length zero.now) store.old n))) }
     requires b_in_bounds { length (seg_at s (length zero.now) store.old i).key + b ≤ length out.old }
-    ensures value { result ≡ taken_of (took_in s (length zero.now) store.old n (length out.old)) }
+    ensures value { taken_answer (Ok result) ≡ taken_of (took_in s (length zero.now) store.old n (length out.old)) }
     ensures out_after { out.new ≡ out_with out.old (took_in s (length zero.now) store.old n (length out.old)) }
     ensures store_after { store.new ≡ store_less s (length zero.now) store.old n
         (took_in s (length zero.now) store.old n (length out.old)) }
 {
-    let t = copy_message(s, store, n, zero, i, out, chained, heads, links);
+    let t = copy_message(s, store, n, zero, i, h, out, chains);
     let counter = t.counter;
     let key = cells::span(out, 0, 2 + t.header);
     crate::clearing::clear(s, store, n, zero, key, counter, t.steps);
     Taken {
-        refusal: walk::numbered(0),
         header: t.header,
         body: b,
-        counter: counter,
+        counter,
     }
 }
 
@@ -377,72 +316,84 @@ fn take_lowest(
     n: usize,
     zero: &[u8],
     out: &mut [u8],
-    chained: bool,
-    heads: &[u16; cells::CHAINS],
-    links: &[u16; cells::CELLS_MOST],
-) -> Taken
-    requires { Lent s zero.now store.old n chained heads.now links.now }
-    ensures value { result ≡ taken_of (took_in s (length zero.now) store.old n (length out.old)) }
+    chains: Option<&Chains>,
+) -> Result<Taken, Refused>
+    requires { Lent s zero.now store.old n chains }
+    ensures value { taken_answer result ≡ taken_of (took_in s (length zero.now) store.old n (length out.old)) }
     ensures out_after { out.new ≡ out_with out.old (took_in s (length zero.now) store.old n (length out.old)) }
     ensures store_after { store.new ≡ store_less s (length zero.now) store.old n
         (took_in s (length zero.now) store.old n (length out.old)) }
 {
-    let m = pick_message(s, store, n, zero, chained, heads, links);
-    let Picked::Message { cell, body } = m else {
-        return not_taken(REFUSED_INCOMPLETE);
+    let Some(Message { cell, body }) = pick_message(s, store, n, zero, chains) else {
+        return Err(Refused::Incomplete);
     };
-    let h = packet::read(s, cells::packet_in(cells::row(store, zero.len(), cell)));
+    let h = packet::read(s, cells::packet_in(cells::row(store, zero.len(), cell)))?;
     let long = out.len();
     if long < 2 {
-        return not_taken(REFUSED_OUTPUT);
+        return Err(Refused::Output);
     }
     if long - 2 < h.h {
-        return not_taken(REFUSED_OUTPUT);
+        return Err(Refused::Output);
     }
     if long - 2 - h.h < body {
-        return not_taken(REFUSED_OUTPUT);
+        return Err(Refused::Output);
     }
-    draw(s, store, n, zero, cell, body, out, chained, heads, links)
+    Ok(draw(s, store, n, zero, cell, h, body, out, chains))
 }
 
 // The same by plain searches, without chains.
-fn take_plain(s: Settings, store: &mut [u8], n: usize, zero: &[u8], out: &mut [u8]) -> Taken
+fn take_plain(
+    s: Settings,
+    store: &mut [u8],
+    n: usize,
+    zero: &[u8],
+    out: &mut [u8],
+) -> Result<Taken, Refused>
     requires { zero.now ≡ zero_row (length zero.now) }
-    ensures value { result ≡ taken_of (took_in s (length zero.now) store.old n (length out.old)) }
+    ensures value { taken_answer result ≡ taken_of (took_in s (length zero.now) store.old n (length out.old)) }
     ensures out_after { out.new ≡ out_with out.old (took_in s (length zero.now) store.old n (length out.old)) }
     ensures store_after { store.new ≡ store_less s (length zero.now) store.old n
         (took_in s (length zero.now) store.old n (length out.old)) }
 {
-    let heads = [0u16; cells::CHAINS];
-    let links = [0u16; cells::CELLS_MOST];
-    take_lowest(s, store, n, zero, out, false, &heads, &links)
+    take_lowest(s, store, n, zero, out, None)
 }
 
 // The same by chains, which are made first.
-fn take_chained(s: Settings, store: &mut [u8], n: usize, zero: &[u8], out: &mut [u8]) -> Taken
+fn take_chained(
+    s: Settings,
+    store: &mut [u8],
+    n: usize,
+    zero: &[u8],
+    out: &mut [u8],
+) -> Result<Taken, Refused>
     requires zero_value { zero.now ≡ zero_row (length zero.now) }
     requires n_le_cells_most { n ≤ cells_most }
-    ensures value { result ≡ taken_of (took_in s (length zero.now) store.old n (length out.old)) }
+    ensures value { taken_answer result ≡ taken_of (took_in s (length zero.now) store.old n (length out.old)) }
     ensures out_after { out.new ≡ out_with out.old (took_in s (length zero.now) store.old n (length out.old)) }
     ensures store_after { store.new ≡ store_less s (length zero.now) store.old n
         (took_in s (length zero.now) store.old n (length out.old)) }
 {
-    let mut heads = [0u16; cells::CHAINS];
-    let mut links = [0u16; cells::CELLS_MOST];
-    cells::order_by(s, store, n, zero, &mut heads, &mut links);
-    take_lowest(s, store, n, zero, out, true, &heads, &links)
+    let mut chains = Chains::new();
+    cells::order_by(s, store, n, zero, &mut chains);
+    take_lowest(s, store, n, zero, out, Some(&chains))
 }
 
 // The same: without a last segment nothing is searched, and chains are made only for many cells.
-pub fn take_in(s: Settings, store: &mut [u8], n: usize, zero: &[u8], out: &mut [u8]) -> Taken
+pub fn take_in(
+    s: Settings,
+    store: &mut [u8],
+    n: usize,
+    zero: &[u8],
+    out: &mut [u8],
+) -> Result<Taken, Refused>
     requires { zero.now ≡ zero_row (length zero.now) }
-    ensures value { result ≡ taken_of (took_in s (length zero.now) store.old n (length out.old)) }
+    ensures value { taken_answer result ≡ taken_of (took_in s (length zero.now) store.old n (length out.old)) }
     ensures out_after { out.new ≡ out_with out.old (took_in s (length zero.now) store.old n (length out.old)) }
     ensures store_after { store.new ≡ store_less s (length zero.now) store.old n
         (took_in s (length zero.now) store.old n (length out.old)) }
 {
     if n <= lowest_last(store, n, zero.len()) {
-        return not_taken(REFUSED_INCOMPLETE);
+        return Err(Refused::Incomplete);
     }
     if n <= SEARCH_MOST {
         return take_plain(s, store, n, zero, out);
@@ -460,18 +411,17 @@ pub fn take_by(
     n: usize,
     zero: &[u8],
     out: &mut [u8],
-    heads: &[u16; cells::CHAINS],
-    links: &[u16; cells::CELLS_MOST],
-) -> Taken
+    chains: &Chains,
+) -> Result<Taken, Refused>
     requires zero_value { zero.now ≡ zero_row (length zero.now) }
-    requires chained { Chained (bucket_at s (length zero.now) store.old) heads.now links.now n }
-    ensures value { result ≡ taken_of (took_in s (length zero.now) store.old n (length out.old)) }
+    requires chained { Chained (bucket_at s (length zero.now) store.old) chains.now n }
+    ensures value { taken_answer result ≡ taken_of (took_in s (length zero.now) store.old n (length out.old)) }
     ensures out_after { out.new ≡ out_with out.old (took_in s (length zero.now) store.old n (length out.old)) }
     ensures store_after { store.new ≡ store_less s (length zero.now) store.old n
         (took_in s (length zero.now) store.old n (length out.old)) }
 {
     if n <= lowest_last(store, n, zero.len()) {
-        return not_taken(REFUSED_INCOMPLETE);
+        return Err(Refused::Incomplete);
     }
-    take_lowest(s, store, n, zero, out, true, heads, links)
+    take_lowest(s, store, n, zero, out, Some(chains))
 }

@@ -7,18 +7,18 @@
 #![tactic(auto)]
 
 ghost use Rattle.std.specs.Prelude.{◌≡◌, ◌+◌, ◌≤◌, ◌<◌, length};
-ghost use Rattle.octets.specs.Octets.{pick};
 ghost use Rattle.packet.specs.Reading.{read_packet};
 ghost use Rattle.packet.specs.Key.{key_of};
 ghost use Rattle.cells.specs.Segments.{both};
 ghost use Rattle.cells.specs.Rows.{zero_row, cell_of};
-ghost use Rattle.cells.specs.Order.{cell_at, cells_most, cell_size};
+ghost use Rattle.cells.specs.Order.{cell_at, cell_size};
 ghost use Rattle.cells.specs.Inner.{Asked};
 ghost use Rattle.taking.specs.Forgetting.{is_record};
 ghost use Rattle.tally.specs.Counting.{is_held, keyed as keyed_as, new_key_to, new_key_in, segments_in, keys_in, left_in, records_to, records_in};
 ghost use Rattle.cells.specs.Segments.{seg_of};
 ghost use Rattle.tally.specs.Telling.{key_at, told_by, told_at};
 
+use cells::Judged;
 use walk::Settings;
 
 // The segments held, and the different keys among them.
@@ -28,24 +28,12 @@ pub struct Tallied {
     pub keys: usize,
 }
 
-// One more if a test holds.
-fn more(n: usize, one: bool) -> usize
-    requires { n < cells_most }
-    ensures { result ≡ n + pick one 1 0 }
-{
-    if one {
-        return n + 1;
-    }
-    n
-}
-
 // Whether a row is that of a held cell.
 fn held(s: Settings, row: &[u8], zero: &[u8]) -> bool
     requires { zero.now ≡ zero_row (length zero.now) }
     ensures { result ≡ is_held (cell_of s (length zero.now) row.now) }
 {
-    let t = cells::judge(s, row, zero);
-    cells::is_held(t)
+    cells::judge(s, row, zero).is_held()
 }
 
 // Whether a row holds a segment with the key of q, told where its body begins.
@@ -54,11 +42,10 @@ fn keyed(s: Settings, row: &[u8], zero: &[u8], q: &[u8], body_at: usize) -> bool
     requires asked { Asked s q.now body_at }
     ensures { result ≡ keyed_as (key_of q.now (read_packet s q.now)) (cell_of s (length zero.now) row.now) }
 {
-    let t = cells::judge(s, row, zero);
-    if !cells::is_held(t) {
-        return false;
+    match cells::judge(s, row, zero) {
+        Judged::Held { at, .. } => cells::same_key(q, body_at, cells::packet_in(row), at),
+        _ => false,
     }
-    cells::same_key(q, body_at, cells::packet_in(row), t.at)
 }
 
 // Whether none of the first n cells holds a segment with the key of q.
@@ -68,13 +55,7 @@ fn new_key(s: Settings, store: &[u8], n: usize, zero: &[u8], q: &[u8], body_at: 
     ensures { result ≡ new_key_to s (length zero.now) store.now n (key_of q.now (read_packet s q.now)) }
 {
     let z = zero.len();
-    let mut is_new = true;
-    let mut j: usize = 0;
-    while j < n {
-        is_new = octets::both(is_new, !keyed(s, cells::row(store, z, j), zero, q, body_at));
-        j += 1;
-    }
-    is_new
+    (0..n).all(|j| !keyed(s, cells::row(store, z, j), zero, q, body_at))
 }
 
 // Whether cell i is held, and no cell below it has its key.
@@ -83,42 +64,29 @@ fn first(s: Settings, store: &[u8], i: usize, zero: &[u8]) -> bool
     ensures { result ≡ new_key_in s (length zero.now) store.now i (cell_at s (length zero.now) store.now i) }
 {
     let r = cells::row(store, zero.len(), i);
-    let t = cells::judge(s, r, zero);
-    if !cells::is_held(t) {
-        return false;
+    match cells::judge(s, r, zero) {
+        Judged::Held { at, .. } => new_key(s, store, i, zero, cells::packet_in(r), at),
+        _ => false,
     }
-    new_key(s, store, i, zero, cells::packet_in(r), t.at)
 }
 
 // How many of the first n cells are held.
 fn segments(s: Settings, store: &[u8], n: usize, zero: &[u8]) -> usize
-    requires zero_value { zero.now ≡ zero_row (length zero.now) }
-    requires n_le_cells_most { n ≤ cells_most }
+    requires { zero.now ≡ zero_row (length zero.now) }
     ensures { result ≡ segments_in s (length zero.now) store.now n }
 {
     let z = zero.len();
-    let mut count: usize = 0;
-    let mut i: usize = 0;
-    while i < n {
-        count = more(count, held(s, cells::row(store, z, i), zero));
-        i += 1;
-    }
-    count
+    (0..n)
+        .filter(|i| held(s, cells::row(store, z, *i), zero))
+        .count()
 }
 
 // How many different keys the first n cells have.
 fn keys(s: Settings, store: &[u8], n: usize, zero: &[u8]) -> usize
-    requires zero_value { zero.now ≡ zero_row (length zero.now) }
-    requires n_le_cells_most { n ≤ cells_most }
+    requires { zero.now ≡ zero_row (length zero.now) }
     ensures { result ≡ keys_in s (length zero.now) store.now n }
 {
-    let mut count: usize = 0;
-    let mut i: usize = 0;
-    while i < n {
-        count = more(count, first(s, store, i, zero));
-        i += 1;
-    }
-    count
+    (0..n).filter(|i| first(s, store, *i, zero)).count()
 }
 
 // The segments left in a store, and their keys.
@@ -140,24 +108,18 @@ fn taken(s: Settings, row: &[u8], zero: &[u8]) -> bool
     requires { zero.now ≡ zero_row (length zero.now) }
     ensures { result ≡ is_record (cell_of s (length zero.now) row.now) }
 {
-    let t = cells::judge(s, row, zero);
-    cells::is_taken(t)
+    cells::judge(s, row, zero).is_taken()
 }
 
 // How many of the first n cells have a taken record.
 fn records_to(s: Settings, store: &[u8], n: usize, zero: &[u8]) -> usize
-    requires zero_value { zero.now ≡ zero_row (length zero.now) }
-    requires n_le_cells_most { n ≤ cells_most }
+    requires { zero.now ≡ zero_row (length zero.now) }
     ensures { result ≡ records_to s (length zero.now) store.now n }
 {
     let z = zero.len();
-    let mut count: usize = 0;
-    let mut i: usize = 0;
-    while i < n {
-        count = more(count, taken(s, cells::row(store, z, i), zero));
-        i += 1;
-    }
-    count
+    (0..n)
+        .filter(|i| taken(s, cells::row(store, z, *i), zero))
+        .count()
 }
 
 // The taken records in a store.
@@ -169,11 +131,10 @@ pub fn records(s: Settings, store: &[u8]) -> usize
     records_to(s, store, n, &zero)
 }
 
-// What a cell tells, if it is held: the lowest cell of its key, which may be its own; packet type, APID, SDU type and transaction id; and
+// What a held cell tells: the lowest cell of its key, which may be its own; packet type, APID, SDU type and transaction id; and
 // which segment it is, by sequence flags (1 first, 0 continuation, 2 last) and counter.
 #[derive(Clone, Copy)]
 pub struct Told {
-    pub held: bool,
     pub key: usize,
     pub packet_type: u8,
     pub apid: u16,
@@ -190,66 +151,53 @@ fn key_at(s: Settings, store: &[u8], n: usize, zero: &[u8], q: &[u8], body_at: u
     ensures { result ≡ key_at s (length zero.now) store.now n (key_of q.now (read_packet s q.now)) }
 {
     let z = zero.len();
-    let mut j: usize = 0;
-    while j < n {
-        if keyed(s, cells::row(store, z, j), zero, q, body_at) {
-            return j;
-        }
-        j += 1;
-    }
-    n
+    (0..n)
+        .find(|j| keyed(s, cells::row(store, z, *j), zero, q, body_at))
+        .unwrap_or(n)
 }
 
 // What a segment in cell i tells.
-fn told_of(s: Settings, store: &[u8], i: usize, zero: &[u8], q: &[u8], body_at: usize) -> Told
+fn told_of(
+    s: Settings,
+    store: &[u8],
+    i: usize,
+    zero: &[u8],
+    q: &[u8],
+    body_at: usize,
+) -> Option<Told>
     requires zero_value { zero.now ≡ zero_row (length zero.now) }
     requires asked { Asked s q.now body_at }
     ensures { result ≡ told_by s (length zero.now) store.now i (read_packet s q.now)
         (seg_of q.now (read_packet s q.now)) }
 {
-    let h = packet::read(s, q);
-    let primary = h.primary;
-    let fixed = h.fixed;
-    let ids = h.ids;
-    let apid = primary.apid;
-    let counter = ids.counter;
-    let key = key_at(s, store, i, zero, q, body_at);
-    Told {
-        held: true,
-        key: key,
-        packet_type: primary.packet_type,
-        apid: apid.0,
-        sdu: fixed.sdu,
-        transaction: fixed.transaction,
-        flags: primary.flags,
-        counter: counter.0,
+    match packet::read(s, q) {
+        Ok(h) => Some(Told {
+            key: key_at(s, store, i, zero, q, body_at),
+            packet_type: h.primary.packet_type,
+            apid: h.primary.apid.0,
+            sdu: h.fixed.sdu,
+            transaction: h.fixed.transaction,
+            flags: h.primary.flags,
+            counter: h.ids.counter.0,
+        }),
+        Err(_) => None,
     }
 }
 
-// What cell i tells.
-fn told_at(s: Settings, store: &[u8], i: usize, zero: &[u8]) -> Told
+// What cell i tells, if it is held.
+fn told_at(s: Settings, store: &[u8], i: usize, zero: &[u8]) -> Option<Told>
     requires { zero.now ≡ zero_row (length zero.now) }
     ensures { result ≡ told_at s (length zero.now) store.now i }
 {
     let r = cells::row(store, zero.len(), i);
-    let t = cells::judge(s, r, zero);
-    if !cells::is_held(t) {
-        return Told {
-            held: false,
-            key: 0,
-            packet_type: 0,
-            apid: 0,
-            sdu: 0,
-            transaction: 0,
-            flags: 0,
-            counter: 0,
-        };
-    }
-    told_of(s, store, i, zero, cells::packet_in(r), t.at)
+    let Judged::Held { at, .. } = cells::judge(s, r, zero) else {
+        return None;
+    };
+    told_of(s, store, i, zero, cells::packet_in(r), at)
 }
 
-// What cell i of a store tells, for any octets.
-pub fn cell(s: Settings, store: &[u8], i: usize) -> Told
+// What cell i of a store tells, if it is held, for any octets.
+pub fn cell(s: Settings, store: &[u8], i: usize) -> Option<Told>
     ensures { result ≡ told_at s cell_size store.now i }
 {
     let zero = [0u8; cells::CELL];

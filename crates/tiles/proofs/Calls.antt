@@ -21,7 +21,7 @@ use Rattle.packet.specs.Format.{SettingsInRange}
 use Rattle.format.proofs.Start.{begun_only}
 use Rattle.demand3.specs.Sendings.{Sending, identification_of, header_of, whole_body}
 use Rattle.steps.specs.Stepping.{framed}
-use Rattle.recording.specs.declared.Recorded.{Recorded}
+use Rattle.recording.specs.Answer.{Recorded, answered}
 use Rattle.recording.specs.Recording.{recorded}
 use Rattle.recording.specs.Ending.{refused_by, recorded_of, out_recorded}
 use Rattle.recording.proofs.Shorter.{recorded_most}
@@ -69,8 +69,8 @@ module _ (s : Settings) (x out : List ℕ) (o : Octets x) where
 
 -- what it tells as written
 pub all_writes :
-    (κs : L.Lfts 2) (a : _) (r : _) (s : _) → alls.Post κs a r s → Octets (all_call κs a).recording → r.refusal.number ≡ 0 →
-    take r.written (all_output κs s) ≡ recorded (all_call κs a).settings (all_call κs a).recording
+    (κs : L.Lfts 2) (a : _) (r : _) (s : _) → alls.Post κs a r s → Octets (all_call κs a).recording → (answered r).refusal.number ≡ 0 →
+    take (answered r).written (all_output κs s) ≡ recorded (all_call κs a).settings (all_call κs a).recording
 all_writes κs a r s k o e =
     let c = all_call κs a in
     ap (λ (v : Recorded). take v.written (all_output κs s)) k.0
@@ -79,10 +79,10 @@ all_writes κs a r s k o e =
 
 -- has every message all of whose segments are in the recording
 pub all_delivers :
-    (κs : L.Lfts 2) (a : _) (r : _) (s : _) → alls.Post κs a r s → r.refusal.number ≡ 0 → (ms : List Sending) →
+    (κs : L.Lfts 2) (a : _) (r : _) (s : _) → alls.Post κs a r s → (answered r).refusal.number ≡ 0 → (ms : List Sending) →
     RecordingOf (all_call κs a).settings ms (all_call κs a).recording → RoomAlong (all_call κs a).settings (all_call κs a).recording →
     (m : Sending) → Memᴰ m ms → AllIn (all_call κs a).settings m (all_call κs a).recording →
-    Stands (framed (identification_of (all_call κs a).settings m ++ header_of (all_call κs a).settings m ++ whole_body m)) (take r.written (all_output κs s))
+    Stands (framed (identification_of (all_call κs a).settings m ++ header_of (all_call κs a).settings m ++ whole_body m)) (take (answered r).written (all_output κs s))
 all_delivers κs a r s k e ms g room m h all =
     let c = all_call κs a in
     let d = ap (λ (v : Recorded). v.refusal.number) (sym k.0) ∙ e in
@@ -91,10 +91,10 @@ all_delivers κs a r s k e ms g room m h all =
 
 -- if no packet is refused by 19, just the frames of the recording stand there, and each such message's is among them exactly once
 pub all_once :
-    (κs : L.Lfts 2) (a : _) (r : _) (s : _) → alls.Post κs a r s → r.refusal.number ≡ 0 → (ms : List Sending) →
+    (κs : L.Lfts 2) (a : _) (r : _) (s : _) → alls.Post κs a r s → (answered r).refusal.number ≡ 0 → (ms : List Sending) →
     RecordingOf (all_call κs a).settings ms (all_call κs a).recording → NoneFull (all_call κs a).settings (all_call κs a).recording →
     (m : Sending) → Memᴰ m ms → AllIn (all_call κs a).settings m (all_call κs a).recording →
-    (take r.written (all_output κs s) ≡ together (map frame_octets (frames_of (all_call κs a).settings (all_call κs a).recording))) ×
+    (take (answered r).written (all_output κs s) ≡ together (map frame_octets (frames_of (all_call κs a).settings (all_call κs a).recording))) ×
     WrittenOnce (all_call κs a).settings m (all_call κs a).recording
 all_once κs a r s k e ms g never m h all =
     let c = all_call κs a in

@@ -14,7 +14,7 @@ use Rattle.octets.specs.Laying.{together}
 use Rattle.octets.proofs.Has.{octets_nil, octets_one, octets_append}
 use Rattle.fields.specs.Form.{split}
 use Rattle.packet.specs.Format.{presence, identification, fixed_octets, front_octets, back_octets, header_octets, SettingsInRange}
-use Rattle.packet.specs.declared.Header.{Header}
+use Rattle.packet.specs.Answer.{Header}
 use Rattle.packet.specs.Reading.{read_packet}
 use Rattle.format.proofs.Figure14.{reads}
 use Rattle.write.specs.Given.{head_of}

@@ -7,7 +7,7 @@ use mathlib.Core.List.{List, ◌++◌, append_cancel_left}
 use native.Mathlib.Omega.{arith}
 use lib.ListN.{length, take, drop, length-append}
 use lib.Seq.{sets-eq, take-append_seam}
-use Rattle.taking.specs.declared.Taken.{Taken}
+use Rattle.taking.specs.Answer.{Taken}
 use Rattle.cells.specs.Messages.{Run, body_of}
 use Rattle.cells.proofs.Picking.{pick_yes}
 use Rattle.taking.specs.Taking.{message, writing, took, out_with}

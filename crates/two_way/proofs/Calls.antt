@@ -14,13 +14,14 @@ use lib.ListN.{length, take, drop}
 use Rattle.octets.specs.Octets.{Octets}
 use Rattle.walk.specs.declared.Settings.{Settings}
 use Rattle.walk.specs.Walk.{no_refusal}
-use Rattle.packet.specs.declared.Header.{Header}
+use Rattle.packet.specs.Answer.{Header}
 use Rattle.packet.specs.Reading.{read_packet}
+use Rattle.packet.specs.Decoded.{decoded}
 use Rattle.packet.proofs.read.Reads as reads
 use Rattle.packet.proofs.Arguments.{read_call}
 use Rattle.write.specs.declared.HeaderValues.{HeaderValues}
 use Rattle.write.specs.declared.PacketValues.{PacketValues}
-use Rattle.write.specs.declared.Written.{Written}
+use Rattle.write.specs.Answer.{Written, written as answered}
 use Rattle.write.specs.Given.{Lent}
 use Rattle.write.specs.Writing.{zone_fits, write_refusal, write_answer, write_output}
 use Rattle.write.proofs.write.Reads as writes
@@ -113,61 +114,61 @@ forth_given old s p h e o z f w g =
 
 -- what `write` wrote, `read` answers: no refusal, every number, every text's octets at its told place, the body
 pub write_back :
-    (κs : L.Lfts 8) (a : _) (r : _) (x : _) (λs : L.Lfts 1) (b : _) (h : _) (y : _) → writes.Post κs a r x → reads.Post λs b h y →
-    (read_call λs b).settings ≡ (write_call κs a).settings → (read_call λs b).packet ≡ take r.length (write_output_lem κs x) →
-    r.refusal.number ≡ 0 →
-    SameRead (read_call λs b).packet h (write_call κs a).header (write_call κs a).own (write_call κs a).texts (write_call κs a).body
+    (κs : L.Lfts 3) (a : _) (r : _) (x : _) (λs : L.Lfts 1) (b : _) (h : _) (y : _) → writes.Post κs a r x → reads.Post λs b h y →
+    (read_call λs b).settings ≡ (write_call κs a).settings → (read_call λs b).packet ≡ take (answered r).length (write_output_lem κs x) →
+    (answered r).refusal.number ≡ 0 →
+    SameRead (read_call λs b).packet (decoded h) (write_call κs a).header (write_call κs a).own (write_call κs a).texts (write_call κs a).body
 write_back κs a r x λs b h y k j n m z =
     let w = write_call κs a in
-    plain_back false w.settings w.header w.own w.texts w.body w.output (write_output_lem κs x) r k.0 k.1
-    (read_call λs b).settings (read_call λs b).packet h j.0 j.1 n m z k.2.transaction
+    plain_back false w.settings w.header w.own w.texts w.body w.output (write_output_lem κs x) (answered r) k.0 k.1
+    (read_call λs b).settings (read_call λs b).packet (decoded h) j.0 j.1 n m z k.2.transaction
 
 -- and so of the old writer, with a zone too
 pub write_by_back :
-    (κs : L.Lfts 8) (a : _) (r : _) (x : _) (λs : L.Lfts 1) (b : _) (h : _) (y : _) → bys.Post κs a r x → reads.Post λs b h y →
-    (read_call λs b).settings ≡ (by_call κs a).settings → (read_call λs b).packet ≡ take r.length (by_output κs x) →
-    r.refusal.number ≡ 0 →
-    SameRead (read_call λs b).packet h (by_call κs a).header (by_call κs a).own (by_call κs a).texts (by_call κs a).body
+    (κs : L.Lfts 3) (a : _) (r : _) (x : _) (λs : L.Lfts 1) (b : _) (h : _) (y : _) → bys.Post κs a r x → reads.Post λs b h y →
+    (read_call λs b).settings ≡ (by_call κs a).settings → (read_call λs b).packet ≡ take (answered r).length (by_output κs x) →
+    (answered r).refusal.number ≡ 0 →
+    SameRead (read_call λs b).packet (decoded h) (by_call κs a).header (by_call κs a).own (by_call κs a).texts (by_call κs a).body
 write_by_back κs a r x λs b h y k j n m z =
     let w = by_call κs a in
-    plain_back (by_old κs a) w.settings w.header w.own w.texts w.body w.output (by_output κs x) r k.0 k.1
-    (read_call λs b).settings (read_call λs b).packet h j.0 j.1 n m z k.2.transaction
+    plain_back (by_old κs a) w.settings w.header w.own w.texts w.body w.output (by_output κs x) (answered r) k.0 k.1
+    (read_call λs b).settings (read_call λs b).packet (decoded h) j.0 j.1 n m z k.2.transaction
 
 -- what `read` accepted, `write` writes: given that again, that very slice, if it has no zone
 pub read_forth :
-    (κs : L.Lfts 1) (a : _) (h : _) (x : _) (λs : L.Lfts 8) (b : _) (r : _) (y : _) → reads.Post κs a h x → writes.Post λs b r y →
-    h.refusal.number ≡ 0 → h.withdrawn ≡ false → GivenAgain (read_call κs a).settings (read_call κs a).packet h (write_call λs b) →
-    (r ≡ record { refusal = no_refusal; length = length (read_call κs a).packet })
+    (κs : L.Lfts 1) (a : _) (h : _) (x : _) (λs : L.Lfts 3) (b : _) (r : _) (y : _) → reads.Post κs a h x → writes.Post λs b r y →
+    (decoded h).refusal.number ≡ 0 → (decoded h).withdrawn ≡ false → GivenAgain (read_call κs a).settings (read_call κs a).packet (decoded h) (write_call λs b) →
+    (answered r ≡ record { refusal = no_refusal; length = length (read_call κs a).packet })
     × (write_output_lem λs y ≡ (read_call κs a).packet ++ drop (length (read_call κs a).packet) (write_call λs b).output)
 read_forth κs a h x λs b r y k j z f g =
-    let e : h.has.zone ≡ false = sym (read_accepted κs a h x k z).withdrawn ∙ f in
-    let u = forth_given false (read_call κs a).settings (read_call κs a).packet h k.0 k.1 z (ap not e) (write_call λs b) g in
+    let e : (decoded h).has.zone ≡ false = sym (read_accepted κs a h x k z).withdrawn ∙ f in
+    let u = forth_given false (read_call κs a).settings (read_call κs a).packet (decoded h) k.0 k.1 z (ap not e) (write_call λs b) g in
     (j.0 ∙ u.0, j.1 ∙ u.1)
 
 -- and the old writer writes it with a zone or without
 pub read_by_forth :
-    (κs : L.Lfts 1) (a : _) (h : _) (x : _) (λs : L.Lfts 8) (b : _) (r : _) (y : _) → reads.Post κs a h x → bys.Post λs b r y →
-    h.refusal.number ≡ 0 → by_old λs b ≡ true → GivenAgain (read_call κs a).settings (read_call κs a).packet h (by_call λs b) →
-    (r ≡ record { refusal = no_refusal; length = length (read_call κs a).packet })
+    (κs : L.Lfts 1) (a : _) (h : _) (x : _) (λs : L.Lfts 3) (b : _) (r : _) (y : _) → reads.Post κs a h x → bys.Post λs b r y →
+    (decoded h).refusal.number ≡ 0 → by_old λs b ≡ true → GivenAgain (read_call κs a).settings (read_call κs a).packet (decoded h) (by_call λs b) →
+    (answered r ≡ record { refusal = no_refusal; length = length (read_call κs a).packet })
     × (by_output λs y ≡ (read_call κs a).packet ++ drop (length (read_call κs a).packet) (by_call λs b).output)
 read_by_forth κs a h x λs b r y k j z f g =
-    let e : zone_fits (by_old λs b) h.has ≡ true = ap (λ (o : Bool). zone_fits o h.has) f in
-    let u = forth_given (by_old λs b) (read_call κs a).settings (read_call κs a).packet h k.0 k.1 z e (by_call λs b) g in
+    let e : zone_fits (by_old λs b) (decoded h).has ≡ true = ap (λ (o : Bool). zone_fits o (decoded h).has) f in
+    let u = forth_given (by_old λs b) (read_call κs a).settings (read_call κs a).packet (decoded h) k.0 k.1 z e (by_call λs b) g in
     (j.0 ∙ u.0, j.1 ∙ u.1)
 
 -- `read` accepts a slice exactly if the writer could have written it
 pub read_exactly :
     (κs : L.Lfts 1) (a : _) (h : _) (x : _) → reads.Post κs a h x →
-    h.refusal.number ≡ 0 ↔ CouldWrite (read_call κs a).settings (read_call κs a).packet
+    (decoded h).refusal.number ≡ 0 ↔ CouldWrite (read_call κs a).settings (read_call κs a).packet
 read_exactly κs a h x k =
     subst (λ (g : Header). g.refusal.number ≡ 0 ↔ CouldWrite (read_call κs a).settings (read_call κs a).packet) (sym k.0)
     (reads_exactly (read_call κs a).settings (read_call κs a).packet k.1)
 
 -- ---- the same arguments, the same answer and the same output
 
-pub write_same_answer : (κs : L.Lfts 8) (a : _) (r q : _) (s t : _) → writes.Post κs a r s → writes.Post κs a q t → r ≡ q
+pub write_same_answer : (κs : L.Lfts 3) (a : _) (r q : _) (s t : _) → writes.Post κs a r s → writes.Post κs a q t → answered r ≡ answered q
 write_same_answer κs a r q s t k j = k.0 ∙ sym j.0
 
 pub write_same_lent :
-    (κs : L.Lfts 8) (a : _) (r q : _) (s t : _) → writes.Post κs a r s → writes.Post κs a q t → write_output_lem κs s ≡ write_output_lem κs t
+    (κs : L.Lfts 3) (a : _) (r q : _) (s t : _) → writes.Post κs a r s → writes.Post κs a q t → write_output_lem κs s ≡ write_output_lem κs t
 write_same_lent κs a r q s t k j = k.1 ∙ sym j.1

@@ -11,10 +11,10 @@ use lib.Seq.{take_at}
 use Rattle.octets.specs.Octets.{Octets}
 use Rattle.octets.proofs.Has.{octets_part}
 use Rattle.walk.specs.declared.Settings.{Settings}
-use Rattle.packet.specs.declared.Header.{Header}
+use Rattle.packet.specs.Answer.{Header}
 use Rattle.packet.specs.Format.{Values, octets_of, InRange}
 use Rattle.packet.specs.Reading.{read_packet}
-use Rattle.write.specs.declared.Written.{Written}
+use Rattle.write.specs.Answer.{Written}
 use Rattle.write.specs.Writing.{write_refusal, write_answer}
 use Rattle.format.specs.Told.{head_of, values_of}
 use Rattle.format.proofs.TwoWay.{writes_octets, reads_back, only_writing}

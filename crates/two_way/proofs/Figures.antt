@@ -12,13 +12,13 @@ use Rattle.octets.specs.Octets.{octet_at, wide}
 use Rattle.utf8.specs.Test.{ended, accepts as accepts_from, is_text}
 use Rattle.walk.specs.Walk.{unless, no_refusal, refusal}
 use Rattle.fields.specs.Form.{split, all_text}
-use Rattle.packet.specs.declared.Header.{Header}
+use Rattle.packet.specs.Answer.{Header}
 use Rattle.packet.specs.Figure14.{settings, packet, zeros}
 use Rattle.packet.specs.Format.{presence, identification, fixed_octets, front_octets, counter_octets, back_octets, secondary_octets, data_octets, octets_of}
 use Rattle.packet.specs.Reading.{primary_of, accepted_header, read_packet}
 use Rattle.write.specs.declared.HeaderValues.{HeaderValues}
 use Rattle.write.specs.declared.PacketValues.{PacketValues}
-use Rattle.write.specs.declared.Written.{Written}
+use Rattle.write.specs.Answer.{Written}
 use Rattle.write.specs.Figure14.{header, own, texts}
 use Rattle.write.specs.Given.{Lent, lent, head_of, packet_of, sum, name_checks, routing_checks, id_checks, text_checks, utf8_checks, header_checks, packet_checks, unless_all}
 use Rattle.write.specs.Writing.{settings_test, zone_test, parts_test, text_test, given_packet, size_tests, value_refusal, write_refusal, write_answer, write_output}

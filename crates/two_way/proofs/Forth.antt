@@ -12,7 +12,7 @@ use Rattle.octets.specs.Octets.{pick, Octets}
 use Rattle.walk.specs.declared.Settings.{Settings}
 use Rattle.walk.specs.Walk.{no_refusal}
 use Rattle.fields.specs.Fields.{nowhere}
-use Rattle.packet.specs.declared.Header.{Header}
+use Rattle.packet.specs.Answer.{Header}
 use Rattle.packet.specs.declared.Present.{Present}
 use Rattle.packet.specs.Format.{Values, octets_of, InRange}
 use Rattle.packet.specs.Reading.{read_packet}

@@ -13,7 +13,7 @@ use Rattle.walk.specs.Walk.{refusal, no_refusal}
 use Rattle.packet.specs.Format.{octets_of}
 use Rattle.write.specs.declared.HeaderValues.{HeaderValues}
 use Rattle.write.specs.declared.PacketValues.{PacketValues}
-use Rattle.write.specs.declared.Written.{Written}
+use Rattle.write.specs.Answer.{Written}
 use Rattle.write.specs.Given.{Lent}
 use Rattle.write.specs.Writing.{given_packet, write_refusal, fine, write_answer, write_output}
 use Rattle.two_way.specs.Same.{written}

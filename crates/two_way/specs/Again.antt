@@ -4,7 +4,7 @@
 use Rattle.std.specs.Prelude.{ℕ, List, map, take}
 use Rattle.fields.specs.declared.Place.{Place}
 use Rattle.fields.specs.Form.{joined}
-use Rattle.packet.specs.declared.Header.{Header}
+use Rattle.packet.specs.Answer.{Header}
 use Rattle.write.specs.declared.HeaderValues.{HeaderValues}
 use Rattle.write.specs.declared.PacketValues.{PacketValues}
 use Rattle.write.specs.Given.{Lent, lent}

@@ -25,18 +25,11 @@ before_none : (o : List ℕ) (at k : ℕ) → at < k → octet_before o at k ≡
 unfolding octet_before
 before_none o at k h = rw (lt-leb k at h)
 
--- from the third octet after a place on, three are before it
-pub follows_later : (o : List ℕ) (at i : ℕ) →
-    follows (octet_at o (at + i)) (octet_at o (at + i + 1)) (octet_at o (at + i + 2)) (octet_at o (at + i + 3)) ≡ follows_at o (at + 3 + i)
+-- three places on, three octets are before it
+pub follows_later : (o : List ℕ) (i : ℕ) → follows (octet_at o i) (octet_at o (i + 1)) (octet_at o (i + 2)) (octet_at o (i + 3)) ≡ follows_at o (i + 3)
 unfolding follows_at
-follows_later o at i =
-    let e : at + i + 3 ≡ at + 3 + i = omega arith in
-    rw (
-      before_is o (at + 3 + i) 3 (at + i) (omega arith),
-      before_is o (at + 3 + i) 2 (at + i + 1) (omega arith),
-      before_is o (at + 3 + i) 1 (at + i + 2) (omega arith),
-      e,
-    )
+follows_later o i =
+    rw (before_is o (i + 3) 3 i (omega arith), before_is o (i + 3) 2 (i + 1) (omega arith), before_is o (i + 3) 1 (i + 2) (omega arith))
 
 -- ---- the next place
 

@@ -1,30 +1,25 @@
--- A test of each of n places: place after place, and in two parts. The loops' invariant, on plain values.
+-- A test of each of n places: place after place, and in two parts. A turn of the loops, on plain values.
 -- Assumes nothing.
-use Prim.Native.Nat.{ℕ, zero, suc, ◌+◌, ◌-◌, ◌≤◌, ◌<◌}
+use Prim.Native.Nat.{ℕ, zero, suc, ◌+◌, ◌-◌, ◌≤◌}
 use mathlib.Core.Path.{◌≡◌, refl, ap, ap₂, sym, ◌∙◌}
-use mathlib.Core.Bool.{Bool, true, false}
-use native.Mathlib.Numerals.{add-one}
+use mathlib.Core.Bool.{Bool, true, false, ◌&&◌}
 use native.Mathlib.Omega.{arith}
 use native.Mathlib.Nat.{add-zero}
 use Rattle.utf8.specs.Test.{both}
 use Rattle.utf8.specs.Places.{all}
 
--- the flag tells whether the first i of n places pass
-pub record Passing (f : ℕ → Bool) (at n : ℕ) (flag : Bool) (i : ℕ) : Type 0 where
-  pub most : i ≤ n
-  pub told : flag ≡ all f at i
-
-pub passing_first : (f : ℕ → Bool) (at n : ℕ) → Passing f at n true 0
+-- k places, and the one after them
+pub all_turn : (f : ℕ → Bool) (at k n p : ℕ) (flag t : Bool) → n ≡ suc k → p ≡ at + k → flag ≡ all f at k → t ≡ f p → flag && t ≡ all f at n
 unfolding all
-passing_first f at n = record { most = omega arith; told = refl }
+all_turn f at k n p flag t h l e d = rw (h, ← l, ← e, ← d) (same flag t)
+  where
+    same : (p q : Bool) → p && q ≡ both p q
+    same true q = refl
+    same false q = refl
 
-module _ {f : ℕ → Bool} {at n : ℕ} {flag : Bool} {i : ℕ} (p : Passing f at n flag i) where
-  pub passing_turn : i < n → Passing f at n (both flag (f (at + i))) (i + 1)
-  unfolding all
-  passing_turn h = record { most = omega arith; told = rw (add-one i, p.told) }
-
-  pub passing_done : n ≤ i → flag ≡ all f at n
-  passing_done h = let e : i ≡ n = omega (arith, p.most) in p.told ∙ ap (all f at) e
+pub all_none : (f : ℕ → Bool) (at n : ℕ) → n ≡ 0 → true ≡ all f at n
+unfolding all
+all_none f at n e = rw e
 
 pub both_assoc : (p q r : Bool) → both (both p q) r ≡ both p (both q r)
 both_assoc true q r = refl

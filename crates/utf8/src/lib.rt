@@ -117,10 +117,8 @@ fn singles(x: &[u8], at: usize, n: usize) -> bool
     ensures { result ≡ all (single_at x.now) at n }
 {
     let mut so_far = true;
-    let mut i: usize = 0;
-    while i < n {
-        so_far = both(so_far, x[at + i] < 0x80);
-        i += 1;
+    for i in 0..n {
+        so_far &= x[at + i] < 0x80;
     }
     so_far
 }
@@ -131,10 +129,8 @@ fn first_follow(x: &[u8], at: usize, n: usize) -> bool
     ensures { result ≡ all (follows_at x.now) at n }
 {
     let mut so_far = true;
-    let mut i: usize = 0;
-    while i < n {
-        so_far = both(so_far, follows_at(x, at + i));
-        i += 1;
+    for i in 0..n {
+        so_far &= follows_at(x, at + i);
     }
     so_far
 }
@@ -145,11 +141,9 @@ fn later_follow(x: &[u8], at: usize, n: usize) -> bool
     ensures { result ≡ all (follows_at x.now) (at + 3) n }
 {
     let mut so_far = true;
-    let mut i: usize = 0;
-    while i < n {
+    for i in 0..n {
         let k = at + i;
-        so_far = both(so_far, follows(x[k], x[k + 1], x[k + 2], x[k + 3]));
-        i += 1;
+        so_far &= follows(x[k], x[k + 1], x[k + 2], x[k + 3]);
     }
     so_far
 }

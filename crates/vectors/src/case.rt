@@ -1,6 +1,8 @@
 // A case: its octets out of standard input, and what stands in them. Every call takes any octets and any place.
 ghost use Rattle.std.specs.Prelude.{◌≤◌, length};
 
+use write::LentTexts;
+
 // The octets of the next case to the front of a buffer. At the input's end, and if they are too many, the buffer stays as it is.
 pub fn next(buf: &mut [u8]) {
     let mut long = [0u8; 4];
@@ -102,4 +104,16 @@ pub fn pdu_values(s: &[u8]) -> [u64; flat_pdu::VALUES] {
 // Number k.
 pub fn number(s: &[u8], k: u8) -> u64 {
     octets::be64(part(s, 0), 8 * (k as usize))
+}
+
+// The texts of parts 3 to 6 and 8, with the lengths of the domain's parts.
+pub fn texts<'a>(s: &'a [u8], lengths: &'a [u64]) -> LentTexts<'a> {
+    LentTexts {
+        timestamp: part(s, 3),
+        zone: part(s, 4),
+        session_name: part(s, 5),
+        domain: part(s, 6),
+        lengths,
+        authentication: part(s, 8),
+    }
 }

@@ -17,12 +17,7 @@ pub fn write(c: &[u8], lengths: &[u64], out: &mut [u8]) {
         &values,
         case::part(c, 2),
         case::part(c, 10),
-        case::part(c, 3),
-        case::part(c, 4),
-        case::part(c, 5),
-        case::part(c, 6),
-        lengths,
-        case::part(c, 8),
+        case::texts(c, lengths),
         case::part(c, 9),
         out,
     );

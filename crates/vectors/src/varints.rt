@@ -1,6 +1,6 @@
 // The calls that read and write a Varint of 32 bits.
 use crate::{case, print};
-use varint::{Found, Wrote};
+use varint::ReadError;
 
 // The refusals.
 const ENDS_INSIDE: u64 = 6;
@@ -11,11 +11,11 @@ const TOO_SHORT: u64 = 21;
 
 const TOO_WIDE: u64 = 22;
 
-fn found_numbers(found: Found) -> [u64; 3] {
+fn found_numbers(found: Result<(u64, usize), ReadError>) -> [u64; 3] {
     match found {
-        Found::Value(v, next) => [0, v, next as u64],
-        Found::Ends => [ENDS_INSIDE, 0, 0],
-        Found::Bad => [NO_VARINT, 0, 0],
+        Ok((v, next)) => [0, v, next as u64],
+        Err(ReadError::Ends) => [ENDS_INSIDE, 0, 0],
+        Err(ReadError::Bad) => [NO_VARINT, 0, 0],
     }
 }
 
@@ -26,10 +26,10 @@ pub fn read(c: &[u8]) {
     print::numbers(&answer);
 }
 
-fn wrote_numbers(wrote: Wrote) -> [u64; 2] {
+fn wrote_numbers(wrote: Option<usize>) -> [u64; 2] {
     match wrote {
-        Wrote::Done(n) => [0, n as u64],
-        Wrote::Full => [TOO_SHORT, 0],
+        Some(n) => [0, n as u64],
+        None => [TOO_SHORT, 0],
     }
 }
 

@@ -14,7 +14,8 @@ use Rattle.octets.specs.Octets.{pick, Octets}
 use Rattle.octets.proofs.Has.{has_inside, octets_take}
 use Rattle.varint.specs.Varint.{Got, value, read_at, write}
 use Rattle.octets.proofs.Lists.{below_or}
-use Rattle.varint.specs.declared.Found.{Found}
+use Rattle.std.specs.Prelude.{Result}
+use Rattle.varint.specs.declared.ReadError.{ReadError}
 use Rattle.varint.specs.Answer.{found}
 use Rattle.varint.proofs.Told.{got, told}
 use Rattle.varint.proofs.Laws.{within, only_written}
@@ -166,8 +167,26 @@ limited top p n e = ⊎_elim short long (below_or (length p) top)
     long : top ≤ length p → take (n - 0) (drop 0 p) ≡ take top p
     long h = let k : n - 0 ≡ top = omega arith in ap (λ (j : ℕ). take j p) k
 
+-- from the answer of the Varint's reader, over the octets up to the bound, to the reader's step
+module _ (b : Bound) (p : List ℕ) (at : ℕ) {end : ℕ} {r q : Result (ℕ × ℕ) ReadError}
+    (e : end ≡ min (length p) b.end) (h : r ≡ found (read_at 32 (take end p) at)) (d : r ≡ q) where
+  upto : take end p ≡ take b.end p
+  upto = ⊎_elim short long (below_or (length p) b.end)
+    where
+      short : length p < b.end → take end p ≡ take b.end p
+      short l = take_all end p (omega arith) ∙ sym (take_all b.end p (omega arith))
+
+      long : b.end ≤ length p → take end p ≡ take b.end p
+      long l = let k : end ≡ b.end = omega arith in ap (λ (j : ℕ). take j p) k
+
+  pub varint_got : read_at 32 (take b.end p) at ≡ got q
+  varint_got = rw upto at (told (read_at 32 (take end p) at) h d)
+
+  pub varint_told : varint_field b p (goes at) ≡ varint_step b p at (got q)
+  varint_told = number_found b p (goes at) refl varint_got
+
 -- from the answer of the Varint's reader, over the octets up to the bound, to the definition
-module _ (b : Bound) (p : List ℕ) (w : Reading) {end : ℕ} {r q : Found}
+module _ (b : Bound) (p : List ℕ) (w : Reading) {end : ℕ} {r q : Result (ℕ × ℕ) ReadError}
     (e : end ≡ min b.end (length p)) (h : r ≡ found (read_at 32 (take (end - 0) (drop 0 p)) w.at)) (d : r ≡ q) where
   pub number_got : read_at 32 (take b.end p) w.at ≡ got q
   number_got = rw (limited b.end p end e) at (told (read_at 32 (take (end - 0) (drop 0 p)) w.at) h d)

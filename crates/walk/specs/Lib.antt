@@ -1,3 +1,5 @@
 pub mod Profile
 pub mod Walk
 pub mod Inner
+pub mod Told
+pub mod Read

@@ -3,7 +3,7 @@
 -- is known is tested as a whole.
 -- Assumes nothing: these are definitions.
 use Rattle.std.specs.Prelude.{ℕ, ◌+◌, List, Bool, true, length, take, leb, eqb}
-use Rattle.octets.specs.Octets.{pick, number}
+use Rattle.octets.specs.Octets.{pick, octet_at, number}
 use Rattle.varint.specs.Varint.{Got, value, ends, bad, read_at}
 use Rattle.walk.specs.declared.Settings.{Settings}
 use Rattle.walk.specs.declared.Refusal.{Refusal}
@@ -102,6 +102,10 @@ varint_step b p at bad = record { walk = refused at 10; value = 0 }
 -- a Varint of at most 32 bits, among the octets up to the bound
 unfoldable pub varint_field : Bound → List ℕ → Reading → Step ℕ
 varint_field b p w = pick (going w) (varint_step b p w.at (read_at 32 (take b.end p) w.at)) (record { walk = w; value = 0 })
+
+-- an octet
+unfoldable pub octet_field : Bound → List ℕ → Reading → Step ℕ
+octet_field b p w = record { walk = octets b p 1 w; value = octet_at p w.at }
 
 -- a number of n octets, tested as a whole
 unfoldable pub wide_field : ℕ → Bound → List ℕ → Reading → Step ℕ

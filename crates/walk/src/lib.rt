@@ -7,14 +7,20 @@
 // first pods' profile four octets.
 #![tactic(auto)]
 
-ghost use Rattle.std.specs.Prelude.{◌≡◌, min, length};
+ghost use Rattle.std.specs.Prelude.{◌≡◌, ◌-◌, min, length, true, false, eqb};
+ghost use Rattle.std.specs.Fn.{FnOnceReturnsAtMut};
+ghost use Rattle.octets.specs.Octets.{pick};
+ghost use Rattle.varint.specs.Varint.{read_at};
+ghost use Rattle.varint.specs.Answer.{found};
 ghost use Rattle.walk.specs.Walk.{goes as goes_at, refused as refused_by, octets as octets_of, check as check_of, uinteger, begun};
-ghost use Rattle.walk.specs.Walk.{varint_field, wide_field};
+ghost use Rattle.walk.specs.Walk.{varint_field, octet_field, wide_field};
+ghost use Rattle.walk.specs.Read.{Reads, skipped};
 ghost use Rattle.walk.specs.Profile.{uinteger_size};
 ghost use Rattle.walk.specs.Walk.{unless as unless_of, refusal as refusal_of, header_bound, past as past_of, ended_by, field_from};
+ghost use Rattle.walk.specs.Told.{told, said, Holds};
 ghost use Rattle.walk.specs.Inner.{as_walk, of_walk, as_uinteger};
 
-use varint::Found;
+use varint::ReadError;
 
 // Where the secondary header ends at the latest: six octets of primary header and 256.
 pub const HEADER_END: usize = 262;
@@ -133,6 +139,82 @@ pub const REFUSED_RANGE: u8 = 35;
 // A state of salvaging that can not be one.
 pub const REFUSED_STATE: u8 = 40;
 
+// Why a call was refused; docs/SPEC.md has the rule of each. Three tell more: how many octets are missing or left over, and where in the
+// secondary header the unfinished field began.
+#[derive(Clone, Copy, Debug, PartialEq, Eq)]
+pub enum Refused {
+    // Fewer than six octets.
+    FewOctets,
+    // Packet version not 000.
+    Version,
+    // Secondary header flag 0.
+    NoSecondary,
+    // APID 2047.
+    Idle,
+    // The slice is shorter than its length field says.
+    Short { missing: usize },
+    // The data field ends inside the secondary header.
+    HeaderEnds { place: usize },
+    // Binding version not 000.
+    Binding,
+    // SDU type 22 to 31.
+    SduType,
+    // Session 3.
+    Session,
+    // A Varint not shortest, or above 32 bits.
+    Varint,
+    // A domain part that is not there.
+    DomainPart,
+    // Secondary header above 256 octets.
+    HeaderLong,
+    // More than sixteen domain parts.
+    ManyParts,
+    // A segment without a body.
+    EmptySegment,
+    // T, the profile or P out of range.
+    Settings,
+    // Store not in order.
+    Order,
+    // A segment that fits no cell.
+    Cell,
+    // Contradicts a held segment.
+    Contradicts,
+    // No free cell.
+    Full,
+    // Nothing complete.
+    Incomplete,
+    // Output too short.
+    Output,
+    // A value to write that its field can not have.
+    Value,
+    // Packet or message too large.
+    Large,
+    // No room for body octets in a packet.
+    NoRoom,
+    // No packet of that number.
+    Number,
+    // The slice is longer than its length field says.
+    Long { over: usize },
+    // A text that is not well-formed UTF-8.
+    Text,
+    // A message of too many segments.
+    ManySegments,
+    // A network zone to write: it is withdrawn.
+    Withdrawn,
+    // The number names no cell with a taken record.
+    NoRecord,
+    // A packet that the other cells are too short for.
+    PacketLong,
+    // An id of a PDU that is not the decimal digits, without leading zeros, of 0 to 255.
+    Id,
+    // A timestamp that a PDU has no room for: T is not 6.
+    Timestamp,
+    // A QoS level or a session of a PDU that a packet has not.
+    Range,
+    // A state of salvaging that can not be one.
+    State,
+}
+
 // What both sides agreed on: T, the octets of a timestamp, and the profile.
 #[derive(Clone, Copy)]
 pub struct Settings {
@@ -176,6 +258,91 @@ pub struct UInteger {
     pub value: u32,
 }
 
+impl Refused {
+    // Its number in docs/SPEC.md.
+    pub fn number(self) -> u8
+        ensures { result ≡ (told self).number }
+    {
+        match self {
+            Refused::FewOctets => 1,
+            Refused::Version => 2,
+            Refused::NoSecondary => 3,
+            Refused::Idle => 4,
+            Refused::Short { .. } => 5,
+            Refused::HeaderEnds { .. } => 6,
+            Refused::Binding => 7,
+            Refused::SduType => 8,
+            Refused::Session => 9,
+            Refused::Varint => 10,
+            Refused::DomainPart => 11,
+            Refused::HeaderLong => 12,
+            Refused::ManyParts => 13,
+            Refused::EmptySegment => 14,
+            Refused::Settings => 15,
+            Refused::Order => 16,
+            Refused::Cell => 17,
+            Refused::Contradicts => 18,
+            Refused::Full => 19,
+            Refused::Incomplete => 20,
+            Refused::Output => 21,
+            Refused::Value => 22,
+            Refused::Large => 23,
+            Refused::NoRoom => 24,
+            Refused::Number => 26,
+            Refused::Long { .. } => 27,
+            Refused::Text => 28,
+            Refused::ManySegments => 29,
+            Refused::Withdrawn => 30,
+            Refused::NoRecord => 31,
+            Refused::PacketLong => 32,
+            Refused::Id => 33,
+            Refused::Timestamp => 34,
+            Refused::Range => 35,
+            Refused::State => 40,
+        }
+    }
+
+    // Beside 5 and 27 the octets that are missing or left over, else 0.
+    pub fn octets(self) -> usize
+        ensures { result ≡ (told self).octets }
+    {
+        match self {
+            Refused::Short { missing } => missing,
+            Refused::Long { over } => over,
+            _ => 0,
+        }
+    }
+
+    // Beside 6 the place in the secondary header where the unfinished field began, else 0.
+    pub fn place(self) -> usize
+        ensures { result ≡ (told self).place }
+    {
+        match self {
+            Refused::HeaderEnds { place } => place,
+            _ => 0,
+        }
+    }
+}
+
+impl Settings {
+    // 15 if T or the profile is out of range.
+    pub fn check(self) -> Result<(), Refused>
+        ensures { said result ≡ refusal_of (begun self).refused }
+    {
+        if self.t < TIMESTAMP_LEAST || TIMESTAMP_MOST < self.t || PROFILE_FIXED < self.profile {
+            return Err(Refused::Settings);
+        }
+        Ok(())
+    }
+}
+
+// A test, and its refusal.
+pub fn ensure(ok: bool, refused: Refused) -> Result<(), Refused>
+    ensures { Holds ok refused result }
+{
+    if ok { Ok(()) } else { Err(refused) }
+}
+
 // The one place where a refusal is made.
 pub fn telling(k: u8, octets: usize, place: usize) -> Refusal
     ensures { result ≡ record { number = k; octets = octets; place = place } }
@@ -214,7 +381,7 @@ pub fn goes(at: usize) -> Walk
 }
 
 // The one place where a reading is refused.
-pub fn refused(at: usize, k: u8) -> Walk
+pub fn stopped(at: usize, k: u8) -> Walk
     ensures { result ≡ as_walk (refused_by at k) }
 {
     Walk { at: at, refused: k }
@@ -253,13 +420,13 @@ impl Walk {
             return self;
         }
         if b.end < at {
-            return refused(at, past);
+            return stopped(at, past);
         }
         if b.end - at < n {
-            return refused(at, past);
+            return stopped(at, past);
         }
         if p.len() < at + n {
-            return refused(at, REFUSED_HEADER_ENDS);
+            return stopped(at, REFUSED_HEADER_ENDS);
         }
         goes(at + n)
     }
@@ -274,7 +441,7 @@ impl Walk {
         if ok {
             return self;
         }
-        refused(self.at, k)
+        stopped(self.at, k)
     }
 
     // The walk after a field of several steps that began at `start`: refused in any of them, it stands there.
@@ -282,7 +449,7 @@ impl Walk {
         ensures { result ≡ as_walk (field_from (of_walk start) (of_walk self)) }
     {
         if self.refused != 0 {
-            return refused(start.at, self.refused);
+            return stopped(start.at, self.refused);
         }
         self
     }
@@ -320,22 +487,22 @@ fn read_varint(b: Bound, p: &[u8], w: Walk) -> UInteger
     let ended = end_refusal(b, p);
     let head = &p[0..end];
     match varint::read32(head, at) {
-        Found::Value(v, next) => {
+        Ok((v, next)) => {
             let walk = goes(next);
             UInteger {
                 walk: walk,
                 value: v as u32,
             }
         }
-        Found::Ends => {
-            let walk = refused(w.at, ended);
+        Err(ReadError::Ends) => {
+            let walk = stopped(w.at, ended);
             UInteger {
                 walk: walk,
                 value: 0,
             }
         }
-        Found::Bad => {
-            let walk = refused(w.at, REFUSED_VARINT);
+        Err(ReadError::Bad) => {
+            let walk = stopped(w.at, REFUSED_VARINT);
             UInteger {
                 walk: walk,
                 value: 0,
@@ -349,7 +516,7 @@ pub fn read_four(b: Bound, p: &[u8], w: Walk) -> UInteger
     ensures { result ≡ as_uinteger (wide_field uinteger_size b p.now (of_walk w)) }
 {
     let walk = w.octets(b, p, UINTEGER);
-    let value = octets::be32(p, w.at);
+    let value = octets::read::<u32>(p, w.at);
     UInteger {
         walk: walk,
         value: value,
@@ -374,4 +541,164 @@ pub fn begin(s: Settings) -> Walk
     w.check(TIMESTAMP_LEAST <= s.t, REFUSED_SETTINGS)
         .check(s.t <= TIMESTAMP_MOST, REFUSED_SETTINGS)
         .check(s.profile <= PROFILE_FIXED, REFUSED_SETTINGS)
+}
+
+// ---- the reader
+
+// What is read: octets, what both sides agreed on, where the fields end at the latest, and the place where the next one begins.
+#[derive(Clone, Copy)]
+pub struct Reader<'a> {
+    pub octets: &'a [u8],
+    pub settings: Settings,
+    pub bound: Bound,
+    pub at: usize,
+}
+
+impl Bound {
+    // The refusal of a field that goes past it.
+    fn passed(self, at: usize) -> Refused
+        ensures { told result ≡ record { number = past_of self; octets = 0; place = pick (eqb (past_of self) 6) at 0 } }
+    {
+        if self.limit {
+            return Refused::HeaderLong;
+        }
+        Refused::HeaderEnds { place: at }
+    }
+}
+
+impl Refused {
+    // The refusal of a field of several steps, which began here.
+    pub fn began(self, place: usize) -> Refused
+        ensures { told result ≡ record (told self) { place = pick (eqb (told self).number 6) place 0 } }
+    {
+        match self {
+            Refused::HeaderEnds { .. } => Refused::HeaderEnds { place },
+            _ => self,
+        }
+    }
+
+    // The refusal with its place counted from another one.
+    pub fn counted_from(self, start: usize) -> Refused
+        ensures { told result ≡ record (told self) { place = (told self).place - start } }
+    {
+        match self {
+            Refused::HeaderEnds { place } => Refused::HeaderEnds {
+                place: place.saturating_sub(start),
+            },
+            _ => self,
+        }
+    }
+}
+
+// A Varint of at most 32 bits at a place, and the place after it.
+fn varint_at(octets: &[u8], at: usize) -> Result<(u32, usize), ReadError>
+    ensures { result ≡ found (read_at 32 octets.now at) }
+{
+    let (value, next) = varint::read32(octets, at)?;
+    Ok((value as u32, next))
+}
+
+impl<'a> Reader<'a> {
+    // Goes past n octets, refused past the bound, or by 6.
+    pub fn skip(&mut self, n: usize) -> Result<(), Refused>
+        ensures { Reads (skipped self.old.bound self.old.octets.now n) self.old self.new result }
+    {
+        let at = self.at;
+        if self.bound.end < at || self.bound.end - at < n {
+            return Err(self.bound.passed(at));
+        }
+        if self.octets.len() < at + n {
+            return Err(Refused::HeaderEnds { place: at });
+        }
+        self.at = at + n;
+        Ok(())
+    }
+
+    // An octet.
+    #[tactic(auto, unfolding(crate::specs::Walk::octet_field))]
+    pub fn octet(&mut self) -> Result<u8, Refused>
+        ensures { Reads (octet_field self.old.bound self.old.octets.now) self.old self.new result }
+    {
+        let value = octets::octet(self.octets, self.at);
+        self.skip(1)?;
+        Ok(value)
+    }
+
+    // A number of two octets.
+    #[tactic(auto, unfolding(crate::specs::Walk::wide_field))]
+    pub fn be16(&mut self) -> Result<u16, Refused>
+        ensures { Reads (wide_field 2 self.old.bound self.old.octets.now) self.old self.new result }
+    {
+        let value = octets::read::<u16>(self.octets, self.at);
+        self.skip(2)?;
+        Ok(value)
+    }
+
+    // A number of four.
+    #[tactic(auto, unfolding(crate::specs::Walk::wide_field))]
+    pub fn be32(&mut self) -> Result<u32, Refused>
+        ensures { Reads (wide_field 4 self.old.bound self.old.octets.now) self.old self.new result }
+    {
+        let value = octets::read::<u32>(self.octets, self.at);
+        self.skip(4)?;
+        Ok(value)
+    }
+
+    // A number of eight.
+    #[tactic(auto, unfolding(crate::specs::Walk::wide_field))]
+    pub fn be64(&mut self) -> Result<u64, Refused>
+        ensures { Reads (wide_field 8 self.old.bound self.old.octets.now) self.old self.new result }
+    {
+        let value = octets::read::<u64>(self.octets, self.at);
+        self.skip(8)?;
+        Ok(value)
+    }
+
+    // A Varint of at most 32 bits, refused past the bound, by 6 or 10.
+    fn varint(&mut self) -> Result<u32, Refused>
+        ensures { Reads (varint_field self.old.bound self.old.octets.now) self.old self.new result }
+    {
+        let at = self.at;
+        let end = self.octets.len().min(self.bound.end);
+        match varint_at(&self.octets[..end], at) {
+            Ok((value, next)) => {
+                self.at = next;
+                Ok(value)
+            }
+            Err(ReadError::Ends) => {
+                if end < self.bound.end {
+                    return Err(Refused::HeaderEnds { place: at });
+                }
+                Err(self.bound.passed(at))
+            }
+            Err(ReadError::Bad) => Err(Refused::Varint),
+        }
+    }
+
+    // An unsigned number of at most 32 bits, as the profile has it.
+    pub fn uinteger(&mut self) -> Result<u32, Refused>
+        ensures { Reads (uinteger self.old.settings self.old.bound self.old.octets.now) self.old self.new result }
+    {
+        if self.settings.profile == PROFILE_FIXED {
+            return self.be32();
+        }
+        self.varint()
+    }
+
+    // What a step finds if its field is there, else this.
+    pub fn optional<T: Drop, F: FnOnce(&mut Reader<'a>) -> Result<T, Refused>>(
+        &mut self,
+        there: bool,
+        absent: T,
+        step: F,
+    ) -> Result<T, Refused>
+        requires { F.IsAlwaysCallable step }
+        ensures present { there ≡ true → FnOnceReturnsAtMut F.FnOnce step self.old result self.new }
+        ensures absent { there ≡ false → (result ≡ Ok absent) × (self.new ≡ self.old) }
+    {
+        if there {
+            return step(self);
+        }
+        Ok(absent)
+    }
 }

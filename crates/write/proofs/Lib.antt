@@ -1,6 +1,7 @@
-pub mod Sums
 pub mod Tests
 pub mod Sizes
 pub mod Pieces
 pub mod Answers
 pub mod Arguments
+pub mod Sums
+pub mod Steps

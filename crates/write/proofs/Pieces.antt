@@ -76,8 +76,8 @@ module _ (s : Settings) (v : HeaderValues) (o : PacketValues) (t : Lent) where
   front_together body = simp (together_append, if_together, one_together, append_assoc)
 
   back_together :
-      together (middle_pieces s v.has v.priority t.timestamp t.zone)
-      ++ together (end_pieces s v.has t.session_name t.domain t.lengths t.authentication)
+      together (middle_pieces s v.has v.priority t)
+      ++ together (end_pieces s v.has t)
       ≡ back_octets s (head_of v t)
   unfolding middle_pieces end_pieces back_octets head_of
   back_together = simp (together_append, if_together, one_together, text_together, domain_together, blob_together, append_assoc)
@@ -100,8 +100,8 @@ module _ (s : Settings) (v : HeaderValues) (o : PacketValues) (t : Lent) where
       (fixed_octets (head_of v t))
       (front_octets (head_of v t))
       (counter_octets (packet_of (head_of v t) o body))
-      (together (middle_pieces s v.has v.priority t.timestamp t.zone))
-      (together (end_pieces s v.has t.session_name t.domain t.lengths t.authentication))
+      (together (middle_pieces s v.has v.priority t))
+      (together (end_pieces s v.has t))
       (back_octets s (head_of v t))
       body
       (primary_together n)

@@ -69,7 +69,7 @@ header_length_lem s h =
 
 middle_size_lem :
     (s : Settings) (v : HeaderValues) (t : Lent) →
-    middle_size s v (length t.timestamp) (length t.zone) ≡ capped (middle_length s (head_of v t))
+    middle_size s v t ≡ capped (middle_length s (head_of v t))
 unfolding middle_size head_of
 middle_size_lem s v t =
     ap (λ (n : ℕ). capped (pick v.has.priority (length (uinteger_octets s v.priority)) 0 + capped (pick v.has.timestamp (length t.timestamp) 0 + n)))
@@ -79,7 +79,7 @@ middle_size_lem s v t =
 
 end_size_lem :
     (s : Settings) (v : HeaderValues) (t : Lent) →
-    end_size s v.has (length t.session_name) t.domain t.lengths (length t.authentication) ≡ capped (end_length s (head_of v t))
+    end_size s v.has t ≡ capped (end_length s (head_of v t))
 unfolding end_size head_of
 end_size_lem s v t =
     let a = cap_pick v.has.session_name (length (uinteger_octets s (length t.session_name)) + length t.session_name) in
@@ -90,8 +90,8 @@ end_size_lem s v t =
 -- H, as the code adds it up
 pub header_size_lem :
     (s : Settings) (v : HeaderValues) (t : Lent) {f m e x r : ℕ} → f ≡ pick v.has.source 1 0 + pick v.has.destination 1 0 →
-    m ≡ middle_size s v (length t.timestamp) (length t.zone) →
-    e ≡ end_size s v.has (length t.session_name) t.domain t.lengths (length t.authentication) → x ≡ capped (m + e) →
+    m ≡ middle_size s v t →
+    e ≡ end_size s v.has t → x ≡ capped (m + e) →
     r ≡ capped (21 + f + x) → r ≡ capped (length (header_octets s (head_of v t)))
 unfolding head_of
 header_size_lem s v t {f} {m} {e} {x} {r} ef em ee ex er =

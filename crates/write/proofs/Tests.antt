@@ -1,15 +1,17 @@
 -- Tests one after another, and what it means that none of them refused.
 -- Assumes nothing.
 use Prim.Native.Nat.{ℕ, suc}
-use mathlib.Core.Path.{◌≡◌, refl, ap, ◌∙◌}
+use mathlib.Core.Path.{◌≡◌, refl, ap, sym, ◌∙◌}
 use mathlib.Core.Bool.{Bool, true, false}
 use mathlib.Core.List.{List, [], ◌∷◌, ◌++◌}
 use native.Mathlib.Omega.{arith}
 use borrow.Author.Tests.{eqb-true}
+use Rattle.std.specs.Prelude.{◌&&◌}
+use Rattle.std.proofs.lemmas.List.Folds.{list_all-append}
 use Rattle.octets.specs.Octets.{pick}
 use Rattle.walk.specs.declared.Tested.{Tested}
 use Rattle.walk.specs.Walk.{unless, failed}
-use Rattle.write.specs.Given.{unless_all}
+use Rattle.write.specs.Given.{unless_all, all_hold}
 use Rattle.write.specs.Writing.{fine}
 
 pub unless_all_append : (cs bs : List Bool) (k : ℕ) (r : Tested) → unless_all (cs ++ bs) k r ≡ unless_all bs k (unless_all cs k r)
@@ -72,3 +74,6 @@ pub hold_second : (cs bs : List Bool) → AllHold (cs ++ bs) → AllHold bs
 unfolding AllHold
 hold_second [] bs h = h
 hold_second (a ∷ cs) bs h = hold_second cs bs h.1
+
+pub all_append : (cs bs : List Bool) → all_hold (cs ++ bs) ≡ (all_hold cs && all_hold bs)
+all_append cs bs = list_all-append (λ b. b) cs bs

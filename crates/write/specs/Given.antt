@@ -3,6 +3,7 @@
 -- long, lengths that do not make up the domain. SPEC W-3: a zone, session name or domain part that is not text.
 -- Assumes nothing: these are definitions.
 use Rattle.std.specs.Prelude.{ℕ, ◌+◌, List, [], ◌∷◌, ◌++◌, Bool, length, ltb, leb, eqb}
+use Rattle.std.specs.List.{list_all}
 use Rattle.octets.specs.Octets.{pick, most8, most16, most32}
 use Rattle.utf8.specs.Test.{is_text}
 use Rattle.walk.specs.declared.Settings.{Settings}
@@ -12,6 +13,7 @@ use Rattle.fields.specs.Form.{split, all_text}
 use Rattle.packet.specs.Format.{Head, Values, flags_whole, segment, text_most}
 use Rattle.packet.specs.Numbers.{count_most}
 use Rattle.write.specs.declared.HeaderValues.{HeaderValues}
+use Rattle.write.specs.declared.LentTexts.{LentTexts}
 use Rattle.write.specs.declared.PacketValues.{PacketValues}
 
 -- the lent texts: the domain is one text and the lengths of its parts
@@ -26,6 +28,10 @@ pub record Lent : Type 0 where
 abbrev pub lent : List ℕ → List ℕ → List ℕ → List ℕ → List ℕ → List ℕ → Lent
 lent timestamp zone name domain lengths authentication =
     record { timestamp = timestamp; zone = zone; session_name = name; domain = domain; lengths = lengths; authentication = authentication }
+
+-- those of a call
+abbrev pub lent_of : LentTexts → Lent
+lent_of t = lent t.timestamp.now t.zone.now t.session_name.now t.domain.now t.lengths.now t.authentication.now
 
 -- the format's values for those that are given
 unfoldable pub head_of : HeaderValues → Lent → Head
@@ -101,6 +107,7 @@ text_fits there n = pick there (leb n text_most) (eqb n 0)
 abbrev pub exact_fits : Bool → ℕ → ℕ → Bool
 exact_fits there n want = pick there (eqb n want) (eqb n 0)
 
+-- in its two cases, by which the laws go
 unfoldable pub sum : List ℕ → ℕ
 sum [] = 0
 sum (x ∷ xs) = x + sum xs
@@ -154,6 +161,10 @@ packet_checks o =
 
 unfoldable pub utf8_checks : List ℕ → List ℕ → List (List ℕ) → List Bool
 utf8_checks zone name parts = is_text zone ∷ is_text name ∷ all_text parts ∷ []
+
+-- whether all of them hold
+abbrev pub all_hold : List Bool → Bool
+all_hold bs = list_all (λ b. b) bs
 
 -- the refusal k unless all of them hold
 unfoldable pub unless_all : List Bool → ℕ → Tested → Tested

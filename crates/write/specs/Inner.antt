@@ -59,15 +59,15 @@ front_pieces v o =
     when v.has.source (wide 1 v.source ∷ [])
     ++ (when v.has.destination (wide 1 v.destination ∷ []) ++ when (segment o.flags) (wide counter_width o.counter.0 ∷ []))
 
-unfoldable pub middle_pieces : Settings → Present → ℕ → List ℕ → List ℕ → List (List ℕ)
-middle_pieces s has priority timestamp zone =
+unfoldable pub middle_pieces : Settings → Present → ℕ → Lent → List (List ℕ)
+middle_pieces s has priority t =
     when has.priority (uinteger_octets s priority ∷ [])
-    ++ (when has.timestamp (timestamp ∷ []) ++ when has.zone (text_pieces s zone))
+    ++ (when has.timestamp (t.timestamp ∷ []) ++ when has.zone (text_pieces s t.zone))
 
-unfoldable pub end_pieces : Settings → Present → List ℕ → List ℕ → List ℕ → List ℕ → List (List ℕ)
-end_pieces s has name domain lengths authentication =
-    when has.session_name (text_pieces s name)
-    ++ (when has.domain (domain_pieces s (split lengths domain)) ++ when has.authentication (blob_pieces s authentication))
+unfoldable pub end_pieces : Settings → Present → Lent → List (List ℕ)
+end_pieces s has t =
+    when has.session_name (text_pieces s t.session_name)
+    ++ (when has.domain (domain_pieces s (split t.lengths t.domain)) ++ when has.authentication (blob_pieces s t.authentication))
 
 -- the packet; n is its length field
 unfoldable pub packet_pieces : Settings → HeaderValues → PacketValues → Lent → ℕ → List ℕ → List (List ℕ)
@@ -76,22 +76,23 @@ packet_pieces s v o t n body =
     ++ (name_pieces v
     ++ (routing_pieces v
     ++ (front_pieces v o
-    ++ (middle_pieces s v.has v.priority t.timestamp t.zone
-    ++ (end_pieces s v.has t.session_name t.domain t.lengths t.authentication ++ (body ∷ []))))))
+    ++ (middle_pieces s v.has v.priority t
+    ++ (end_pieces s v.has t ++ (body ∷ []))))))
 
 -- ---- sizes, told up to the limit
 
-unfoldable pub middle_size : Settings → HeaderValues → ℕ → ℕ → ℕ
-middle_size s v timestamp zone =
+unfoldable pub middle_size : Settings → HeaderValues → Lent → ℕ
+middle_size s v t =
     capped
     (pick v.has.priority (length (uinteger_octets s v.priority)) 0
     + capped
-    (pick v.has.timestamp timestamp 0 + pick v.has.zone (capped (length (uinteger_octets s zone) + zone)) 0))
+    (pick v.has.timestamp (length t.timestamp) 0
+    + pick v.has.zone (capped (length (uinteger_octets s (length t.zone)) + length t.zone)) 0))
 
-unfoldable pub end_size : Settings → Present → ℕ → List ℕ → List ℕ → ℕ → ℕ
-end_size s has name domain lengths authentication =
+unfoldable pub end_size : Settings → Present → Lent → ℕ
+end_size s has t =
     capped
-    (pick has.session_name (capped (length (uinteger_octets s name) + name)) 0
+    (pick has.session_name (capped (length (uinteger_octets s (length t.session_name)) + length t.session_name)) 0
     + capped
-    (pick has.domain (capped (length (domain_octets s (split lengths domain)))) 0
-    + pick has.authentication (capped (length (uinteger_octets s authentication) + authentication)) 0))
+    (pick has.domain (capped (length (domain_octets s (split t.lengths t.domain)))) 0
+    + pick has.authentication (capped (length (uinteger_octets s (length t.authentication)) + length t.authentication)) 0))

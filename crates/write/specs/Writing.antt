@@ -2,7 +2,7 @@
 -- SPEC W-2, W-3: first 15, then 22, 30, 13, 28, 23, 12, 14, 21.
 -- A zone is withdrawn (30). `old` is true for the old writer, which writes it and is for laws and tests alone, and false for the writer.
 -- Assumes nothing: these are definitions.
-use Rattle.std.specs.Prelude.{ℕ, List, ◌++◌, Bool, true, not, length, drop, leb, eqb}
+use Rattle.std.specs.Prelude.{ℕ, List, ◌++◌, Bool, true, false, not, length, drop, leb, eqb}
 use Rattle.octets.specs.Octets.{pick}
 use Rattle.walk.specs.declared.Settings.{Settings}
 use Rattle.walk.specs.declared.Tested.{Tested}
@@ -14,8 +14,15 @@ use Rattle.packet.specs.declared.Present.{Present}
 use Rattle.packet.specs.Format.{Values, segment, octets_of, secondary_octets, packet_most, header_most}
 use Rattle.write.specs.declared.HeaderValues.{HeaderValues}
 use Rattle.write.specs.declared.PacketValues.{PacketValues}
-use Rattle.write.specs.declared.Written.{Written}
+use Rattle.write.specs.declared.Writer.{Writer}
+use Rattle.write.specs.declared.Writer.TheVariants.{Today, Old}
+use Rattle.write.specs.Answer.{Written}
 use Rattle.write.specs.Given.{Lent, head_of, packet_of, header_checks, packet_checks, utf8_checks, unless_all}
+
+-- whether it is the old writer
+abbrev pub is_old : Writer → Bool
+is_old Today = false
+is_old Old = true
 
 -- 15: T outside its range, or a profile that there is not
 unfoldable pub settings_test : Settings → Tested → Tested

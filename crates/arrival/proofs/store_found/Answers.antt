@@ -28,4 +28,4 @@ pub returns : goal.returns
 unfolding store_with
 returns c =
     let e = segment_other _ _ _ _ _ _ _ _ _ c.requires.zero_value c.requires.j_value c.if-n-j.false c.row.ensures c.is_same.ensures
-    c.if-is_same.false in record { value = c.refused.ensures ∙ ap arrival_of (sym e); store_after = ap (store_with (length c.args.zero.now) c.args.store.now c.args.p.now) (sym e) }
+    c.if-is_same.false in record { value = ap arrival_of (sym e); store_after = ap (store_with (length c.args.zero.now) c.args.store.now c.args.p.now) (sym e) }

@@ -15,7 +15,7 @@ unfolding store_with
 returns-then-n-i c =
     let g = c.args in
     let e = new_full g.store.now g.zero.now g.p.now _ c.lowest_free-i.ensures c.if-n-i.true in
-    record { value = c.refused.ensures ∙ ap arrival_of (sym e); store_after = sym (ap (store_with (length g.zero.now) _ g.p.now) e) }
+    record { value = ap arrival_of (sym e); store_after = sym (ap (store_with (length g.zero.now) _ g.p.now) e) }
 
 pub put_cell-requires : goal.put_cell-requires
 put_cell-requires c =

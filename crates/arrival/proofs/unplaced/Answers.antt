@@ -7,7 +7,7 @@ use Rattle.arrival.proofs.unplaced.Goals as goal
 
 pub returns-then-untaken : goal.returns-then-untaken
 returns-then-untaken c =
-    c.refused.ensures ∙ ap (λ (b : Bool). arrival_of (unplaced_of b)) (sym c.if-untaken.true)
+    ap (λ (b : Bool). arrival_of (unplaced_of b)) (sym c.if-untaken.true)
 
 pub returns : goal.returns
 returns c =

@@ -5,4 +5,4 @@ use Rattle.carry.proofs.read_primary.Goals as goal
 pub returns : goal.returns
 unfolding primary_of
 returns c =
-    simp (c.be16.ensures, c.octet-first.ensures)
+    simp (c.read.ensures, c.octet-first.ensures)

@@ -1,25 +1,18 @@
 -- `carry::to_pdu` meets its contract: the refusal of the reading, or what is written.
-use Rattle.carry.proofs.Sent.{refused_there, ready, written_there}
+use mathlib.Core.Path.{refl, ◌∙◌}
+use Rattle.walk.proofs.Refuses.{has_number}
+use Rattle.packet.specs.Decoded.{whole}
+use Rattle.carry.proofs.Sent.{refused_there, ready, written_there, all_told}
 use Rattle.carry.proofs.to_pdu.Goals as goal
-
--- a pair with the names of the clauses
-named : {A B : Type 0} → A × B → record { answer : A; octets : B }
-named p = record { answer = p.0; octets = p.1 }
-
-pub returns-then-refusal-ne0 : goal.returns-then-refusal-ne0
-returns-then-refusal-ne0 c =
-    named ((
-      refused_there _ _ _ _ c.read_message-h.ensures c.if-refusal-ne0.true,
-      λ i. (c.type_inv.m i).fits,
-    ))
 
 pub write_pdu-requires : goal.write_pdu-requires
 write_pdu-requires c =
-    ready _ _ _ c.read_message-h.ensures (λ i. (c.type_inv.m i).fits) c.if-refusal-ne0.false
+    ready _ _ _ c.in-Ok.ensures (λ i. (c.type_inv.m i).fits) refl
 
-pub returns : goal.returns
-returns c =
-    named ((
-      written_there _ _ _ _ c.read_message-h.ensures c.if-refusal-ne0.false c.write_pdu.ensures,
-      λ i. (c.type_inv.m i).fits,
-    ))
+pub returns-in-Ok-clause-answer : goal.returns-in-Ok-clause-answer
+returns-in-Ok-clause-answer c =
+    written_there _ _ _ _ c.in-Ok.ensures refl c.write_pdu.ensures
+
+pub returns-in-Err-clause-answer : goal.returns-in-Err-clause-answer
+returns-in-Err-clause-answer c =
+    all_told _ _ _ _ _ c.in-Err.ensures (has_number _) c.number.ensures c.octets.ensures c.place.ensures c.telling.ensures

@@ -2,6 +2,7 @@
 use Prim.Native.Nat.{ℕ}
 use lib.ListN.{length-replicate}
 use Rattle.carry.proofs.Joined.{cut, total_fits, count_fits, text_is, lengths_are}
+use Rattle.packet.specs.Decoded.{whole}
 use Rattle.carry.proofs.Sent.{office}
 use Rattle.carry.proofs.write_pdu.Goals as goal
 
@@ -27,7 +28,7 @@ slice_bounds-write-end-4 c =
 
 pub returns : goal.returns
 returns c =
-    let x = c.args.h.texts in office c.args.encoding _ c.args.h _ c.pdu_values.ensures
+    let x = c.args.h.texts in office c.args.encoding _ (whole c.args.h) _ c.pdu_values.ensures
     (cut c.digits_if-source.result.length c.digits_if-source.result.octets c.digits_if-source.ensures.digits)
     (cut c.digits_if-destination.result.length c.digits_if-destination.result.octets c.digits_if-destination.ensures.digits)
     c.content.ensures c.content-2.ensures c.content-3.ensures

@@ -1,6 +1,6 @@
 -- `cells::carries_at` meets its contract, case by case.
-use mathlib.Core.Path.{sym, ◌∙◌}
-use Rattle.cells.proofs.Carries.{carries_free, carries_other, carries_apart, carries_not, carries_same}
+use mathlib.Core.Path.{refl}
+use Rattle.cells.proofs.Carries.{carries_free, carries_other, carries_apart, carries_same}
 use Rattle.cells.proofs.carries_at.Goals as goal
 
 pub returns-then-octet-eq0 : goal.returns-then-octet-eq0
@@ -13,22 +13,13 @@ returns-then-d-c c =
     carries_other _ _ c.args.zero.now _ _ _ (λ i. (c.type_inv.row i).fits) c.requires.asked
     c.packet_in-p.ensures c.counter_in-d.ensures c.if-d-c.true
 
-pub returns-then-be64 : goal.returns-then-be64
-returns-then-be64 c =
+pub returns-then-read : goal.returns-then-read
+returns-then-read c =
     carries_apart _ _ c.args.zero.now _ _ c.args.c.0 (λ i. (c.type_inv.row i).fits) c.requires.asked
-    c.packet_in-p.ensures c.be64.ensures c.be64-2.ensures c.if-be64.true
+    c.packet_in-p.ensures c.read.ensures c.read-2.ensures c.if-read.true
 
-pub judge-t-requires : goal.judge-t-requires
-judge-t-requires c =
-    c.requires.zero_value
-
-pub returns-then-not-is_held : goal.returns-then-not-is_held
-returns-then-not-is_held c =
-    carries_not _ c.args.row.now c.args.zero.now _ _ c.args.c.0 (λ i. (c.type_inv.row i).fits)
-    c.requires.asked c.judge-t.ensures (sym c.is_held.ensures ∙ c.if-not-is_held.true)
-
-pub returns : goal.returns
-returns c =
+pub returns-in-Held : goal.returns-in-Held
+returns-in-Held c =
     carries_same _ _ c.args.zero.now _ _ _ (λ i. (c.type_inv.row i).fits) c.requires.asked
-    c.judge-t.ensures (sym c.is_held.ensures ∙ c.if-not-is_held.false) c.packet_in-p.ensures c.counter_in-d.ensures
+    c.in-Held.ensures refl c.packet_in-p.ensures c.counter_in-d.ensures
     c.if-d-c.false c.same_key.ensures

@@ -5,4 +5,4 @@ use Rattle.cells.proofs.counter_in.Goals as goal
 pub returns : goal.returns
 unfolding counter_in
 returns c =
-    simp (c.be32.ensures, c.counter_place.ensures)
+    simp (c.read.ensures, c.counter_place.ensures)

@@ -48,5 +48,5 @@ returns c =
           c.is_new-new.ensures,
       some_on _ _ _ _ (λ j. (c.type_inv.store j).fits) c.requires.body_at_value
           c.if-body_at-eq0.false c.row.ensures c.packet_in-q.ensures c.counter_in-c.ensures
-          c.requires.chained c.requires.i_lt_cells_most k (rw k (bucket_low _ _)) c.push.ensures.heads_after c.push.ensures.links_after,
+          c.requires.chained c.requires.i_lt_cells_most k (rw k (bucket_low _ _)) c.push.ensures,
     ))

@@ -6,9 +6,9 @@ use Rattle.cells.proofs.Transactions.{key_apart}
 use Rattle.cells.proofs.Within.{key_tested}
 use Rattle.cells.proofs.is_key.Goals as goal
 
-pub returns-then-be64 : goal.returns-then-be64
-returns-then-be64 c =
-    key_apart _ _ _ c.be64.ensures c.be64-2.ensures c.if-be64.true
+pub returns-then-read : goal.returns-then-read
+returns-then-read c =
+    key_apart _ _ _ c.read.ensures c.read-2.ensures c.if-read.true
 
 pub overflow_sub-c : goal.overflow_sub-c
 overflow_sub-c c =

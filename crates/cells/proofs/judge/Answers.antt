@@ -1,25 +1,27 @@
 -- `cells::judge` meets its contract, case by case.
 use Prim.Native.Nat.{◌+◌}
 use lib.ListN.{length}
-use mathlib.Core.Path.{ap}
+use mathlib.Core.Path.{ap, refl}
 use native.Mathlib.Omega.{arith}
-use Rattle.cells.proofs.Held.{part_room, told_free, told_held_lem, told_broken}
-use Rattle.cells.proofs.Records.{told_record, told_none}
 use Rattle.octets.specs.Octets.{number}
+use Rattle.cells.proofs.Held.{part_room, told_free, told_held_lem, told_broken, told_refused}
+use Rattle.cells.proofs.Records.{told_record, told_none, refused_number}
 use Rattle.cells.proofs.judge.Goals as goal
 
 pub returns-then-is_free : goal.returns-then-is_free
 returns-then-is_free c =
     told_free _ _ _ c.requires c.is_free.ensures c.if-is_free.true
 
-pub judge_record-requires : goal.judge_record-requires
-judge_record-requires c =
-    c.requires
-
 pub returns-then-octet-eq-MARK_TAKEN : goal.returns-then-octet-eq-MARK_TAKEN
 returns-then-octet-eq-MARK_TAKEN c =
     told_record _ _ _ c.requires c.is_free.ensures c.if-is_free.false
     c.octet.ensures c.if-octet-eq-MARK_TAKEN.true c.judge_record.ensures
+
+pub returns-in_default : goal.returns-in_default
+returns-in_default c =
+    told_refused _ _ _ c.requires c.is_free.ensures c.if-is_free.false c.packet_in-p.ensures c.in_default.ensures.answer refl refl
+    (refused_number _)
+    (told_none _ _ _ c.requires c.is_free.ensures c.if-is_free.false c.octet.ensures c.if-octet-eq-MARK_TAKEN.false)
 
 pub overflow_add-p : goal.overflow_add-p
 overflow_add-p c =
@@ -32,13 +34,11 @@ overflow_add-p c =
 pub returns-then-both : goal.returns-then-both
 returns-then-both c =
     told_held_lem _ _ _ c.requires c.is_free.ensures c.if-is_free.false
-    c.packet_in-p.ensures c.read-h.ensures.answer c.is_marked-marked.ensures
-    (rw c.both.ensures at c.both-2.ensures) c.if-both.true
+    c.packet_in-p.ensures c.in-Ok.ensures.answer c.is_marked-marked.ensures c.both.ensures c.if-both.true
 
-pub returns : goal.returns
-returns c =
+pub returns-else-both : goal.returns-else-both
+returns-else-both c =
     told_broken _ _ _ c.requires c.is_free.ensures c.if-is_free.false
-    c.packet_in-p.ensures c.read-h.ensures.answer c.is_marked-marked.ensures
-    (rw c.both.ensures at c.both-2.ensures) c.if-both.false
+    c.packet_in-p.ensures c.in-Ok.ensures.answer c.is_marked-marked.ensures c.both.ensures c.if-both.false
     (told_none _ _ _ c.requires c.is_free.ensures c.if-is_free.false c.octet.ensures
     c.if-octet-eq-MARK_TAKEN.false)

@@ -3,4 +3,4 @@ use Rattle.cells.proofs.packet_in.Goals as goal
 
 pub returns : goal.returns
 returns c =
-    simp (c.span.ensures, c.be16.ensures)
+    simp (c.span.ensures, c.read.ensures)

@@ -5,4 +5,4 @@ use Rattle.cells.proofs.run_at.Goals as goal
 
 pub returns : goal.returns
 returns c =
-    record { first_value = c.be32.ensures; steps_value = c.steps_between.ensures ∙ ap₂ steps_between c.be32.ensures c.be32-2.ensures }
+    record { first_value = c.read.ensures; steps_value = c.steps_between.ensures ∙ ap₂ steps_between c.read.ensures c.read-2.ensures }

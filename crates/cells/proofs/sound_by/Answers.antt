@@ -13,7 +13,7 @@ judge-t-requires c =
 
 pub overflow_cast-bodies : goal.overflow_cast-bodies
 overflow_cast-bodies c =
-    record { fits = place_small c.loop-i.invariant c.row.ensures c.judge-t.ensures (λ j. (c.type_inv.store j).fits) }
+    record { fits = rw c.body_at.ensures (place_small c.loop-i.invariant c.row.ensures c.judge-t.ensures (λ j. (c.type_inv.store j).fits)) }
 
 pub offset_bounds-bodies-i : goal.offset_bounds-bodies-i
 offset_bounds-bodies-i c =
@@ -25,7 +25,7 @@ bounds-bodies-i c =
 
 pub loop-i-preserved : goal.loop-i-preserved
 loop-i-preserved c =
-    sounding_turn c.loop-i.invariant c.row.ensures c.judge-t.ensures c.loop-i-test.true c.is_sound.ensures c.both-all.ensures
+    rw c.body_at.ensures (sounding_turn c.loop-i.invariant c.row.ensures c.judge-t.ensures c.loop-i-test.true c.is_sound.ensures c.both-all.ensures)
 
 pub returns : goal.returns
 returns c =

@@ -2,6 +2,7 @@
 use borrow.Author.Rules.{rules}
 use lib.ListN.{length}
 use native.Mathlib.Omega.{arith}
+use Rattle.write.specs.Writing.{is_old}
 use Rattle.cut.proofs.Packets.{part_inside, refused_packet_lem, refused_output, made_packet, made_output_lem, done}
 use Rattle.cut.proofs.packet_by.Goals as goal
 
@@ -25,32 +26,21 @@ slice_bounds-part-end c =
 pub returns-then-r-ne0 : goal.returns-then-r-ne0
 returns-then-r-ne0 c =
     let g = c.args in (
-      rw c.told.ensures (refused_packet_lem g.old g.s g.p g.v _ _ _ g.i c.test_message-values.ensures c.header_size-h.ensures
+      rw c.told.ensures (refused_packet_lem (is_old g.writer) g.s g.p g.v _ _ _ g.i c.test_message-values.ensures c.header_size-h.ensures
           c.plan_of-plan.ensures c.values_at-o.ensures c.from_of-from.ensures c.to_of-to.ensures
           c.secondary_size.ensures c.packet_size-size.ensures _ c.unless-a.ensures
           c.unless-r.ensures c.if-r-ne0.true),
-      refused_output g.old g.s g.p g.v _ _ _ g.i c.test_message-values.ensures c.header_size-h.ensures c.plan_of-plan.ensures
+      refused_output (is_old g.writer) g.s g.p g.v _ _ _ g.i c.test_message-values.ensures c.header_size-h.ensures c.plan_of-plan.ensures
           c.values_at-o.ensures c.from_of-from.ensures c.to_of-to.ensures c.secondary_size.ensures
           c.packet_size-size.ensures _ c.unless-a.ensures c.unless-r.ensures c.if-r-ne0.true,
-      record {
-        octets =
-            record {
-              timestamp = λ j. (c.type_inv.time j).fits;
-              zone = λ j. (c.type_inv.zone j).fits;
-              session_name = λ j. (c.type_inv.name j).fits;
-              domain = λ j. (c.type_inv.domain j).fits;
-              authentication = λ j. (c.type_inv.id j).fits;
-              body = λ j. (c.type_inv.body j).fits;
-            };
-        transaction = c.well_formed.1.1.1.0.1.1.1.1.1.1.1.1.1.1.1.1.1.1.0.1;
-      },
+      record { octets = c.lent_in_octets.ensures; transaction = search rules },
     )
 
 pub overflow_sub-n : goal.overflow_sub-n
 overflow_sub-n c =
     let g = c.args in omega (
       arith,
-      (done g.old g.s g.p g.v _ _ _ g.i c.test_message-values.ensures
+      (done (is_old g.writer) g.s g.p g.v _ _ _ g.i c.test_message-values.ensures
           c.header_size-h.ensures c.plan_of-plan.ensures c.values_at-o.ensures
           c.from_of-from.ensures c.to_of-to.ensures c.secondary_size.ensures
           c.packet_size-size.ensures _ c.unless-a.ensures c.unless-r.ensures
@@ -60,24 +50,13 @@ overflow_sub-n c =
 pub returns : goal.returns
 returns c =
     let g = c.args in (
-      rw c.told-2.ensures (made_packet g.old g.s g.p g.v _ _ _ g.i c.test_message-values.ensures c.header_size-h.ensures
+      rw c.told-2.ensures (made_packet (is_old g.writer) g.s g.p g.v _ _ _ g.i c.test_message-values.ensures c.header_size-h.ensures
           c.plan_of-plan.ensures c.values_at-o.ensures c.from_of-from.ensures c.to_of-to.ensures
           c.secondary_size.ensures c.packet_size-size.ensures _ c.unless-a.ensures c.unless-r.ensures
           c.if-r-ne0.false),
-      made_output_lem g.old g.s g.p g.v _ _ _ g.i c.test_message-values.ensures
+      made_output_lem (is_old g.writer) g.s g.p g.v _ _ _ g.i c.test_message-values.ensures
           c.header_size-h.ensures c.plan_of-plan.ensures c.values_at-o.ensures c.from_of-from.ensures
           c.to_of-to.ensures c.secondary_size.ensures c.packet_size-size.ensures _
           c.unless-a.ensures c.unless-r.ensures c.if-r-ne0.false c.put_packet.ensures,
-      record {
-        octets =
-            record {
-              timestamp = λ j. (c.type_inv.time j).fits;
-              zone = λ j. (c.type_inv.zone j).fits;
-              session_name = λ j. (c.type_inv.name j).fits;
-              domain = λ j. (c.type_inv.domain j).fits;
-              authentication = λ j. (c.type_inv.id j).fits;
-              body = λ j. (c.type_inv.body j).fits;
-            };
-        transaction = c.well_formed.1.1.1.0.1.1.1.1.1.1.1.1.1.1.1.1.1.1.0.1;
-      },
+      record { octets = c.lent_in_octets.ensures; transaction = search rules },
     )

@@ -5,4 +5,4 @@ use Rattle.entries.proofs.whose.Goals as goal
 pub returns : goal.returns
 unfolding identity_in
 returns c =
-    simp (c.counter-number.ensures, c.be64-transaction.ensures, c.octet-flags.ensures, c.be16-apid.ensures)
+    simp (c.counter-number.ensures, c.read-transaction.ensures, c.octet-flags.ensures, c.read-apid.ensures)

@@ -1,8 +1,19 @@
--- `fields::read_blob` meets its contract: its steps are the definition's.
+-- `fields::read_blob` meets its contract: its steps are the definition's, and what was refused in any of them began at its length.
+use Rattle.std.proofs.Common.{arith}
+use Rattle.walk.proofs.Steps.{field_goes}
 use Rattle.fields.specs.Fields.{blob}
+use Rattle.fields.proofs.Steps.{blob_length, blob_content, blob_inside}
 use Rattle.fields.proofs.read_blob.Goals as goal
 
-pub returns : goal.returns
+pub returns-in_err-length-clause-reads : goal.returns-in_err-length-clause-reads
+returns-in_err-length-clause-reads c = grind (arith, blob_length)
+
+pub returns-in-Ok-clause-reads : goal.returns-in-Ok-clause-reads
 unfolding blob
-returns c =
-    simp (c.field_from-end.ensures, c.octets.ensures, c.read_uinteger-n.ensures)
+returns-in-Ok-clause-reads c = grind (arith, field_goes)
+
+pub returns-in-Ok-clause-inside : goal.returns-in-Ok-clause-inside
+returns-in-Ok-clause-inside c = blob_inside c.in_ok-length.ensures c.in-Ok.ensures
+
+pub returns-in-Err-clause-reads : goal.returns-in-Err-clause-reads
+returns-in-Err-clause-reads c = blob_content c.in_ok-length.ensures c.in-Err.ensures c.began.ensures

@@ -1,14 +1,14 @@
--- `fields::read_part` meets its contract: its steps are the definition's.
-use Rattle.fields.specs.Fields.{marked_text, part}
+-- `fields::read_part` meets its contract: what was refused in any of its steps began at its octet of 1.
+use Rattle.std.proofs.Common.{arith}
+use Rattle.walk.proofs.Steps.{field_goes}
+use Rattle.walk.proofs.Keeps.{field_keeps}
+use Rattle.fields.specs.Fields.{part}
 use Rattle.fields.proofs.read_part.Goals as goal
 
-pub returns : goal.returns
-unfolding part marked_text
-returns c =
-    simp (
-      c.field_from-end.ensures,
-      c.read_text-t.ensures,
-      c.check.ensures,
-      c.octets.ensures,
-      c.octet-mark.ensures,
-    )
+pub returns-in-Ok : goal.returns-in-Ok
+unfolding part
+returns-in-Ok c = grind (arith, field_goes)
+
+pub returns-in-Err : goal.returns-in-Err
+unfolding part
+returns-in-Err c = field_keeps _ _ c.in-Err.ensures c.began.ensures

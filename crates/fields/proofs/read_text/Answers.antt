@@ -1,16 +1,18 @@
--- `fields::read_text` meets its contract: a text is read as a blob, and then tested; after a refusal nothing is tested.
-use Rattle.fields.proofs.Judged.{text_refused, text_held, text_fails}
+-- `fields::read_text` meets its contract: a text is read as a blob, and then tested.
+use Rattle.std.proofs.Common.{arith}
+use Rattle.walk.proofs.Steps.{check_ok}
+use Rattle.walk.proofs.Keeps.{check_keeps, check_stops}
+use Rattle.fields.specs.Fields.{text}
 use Rattle.fields.proofs.read_text.Goals as goal
 
-pub returns-then-end-ne0 : goal.returns-then-end-ne0
-returns-then-end-ne0 c =
-    text_refused _ _ _ _ c.read_blob-t.ensures c.if-end-ne0.true
+pub returns-in_err-place : goal.returns-in_err-place
+unfolding text
+returns-in_err-place c = grind (arith, check_keeps)
 
-pub returns-then-is_text_at : goal.returns-then-is_text_at
-returns-then-is_text_at c =
-    text_held _ _ _ _ c.read_blob-t.ensures c.is_text_at.ensures c.if-is_text_at.true
+pub returns-in_err-ensure : goal.returns-in_err-ensure
+unfolding text
+returns-in_err-ensure c = grind (arith, check_stops)
 
 pub returns : goal.returns
-returns c =
-    text_fails _ _ _ _ c.read_blob-t.ensures c.is_text_at.ensures c.if-is_text_at.false c.if-end-ne0.false
-    c.refused-tested.ensures
+unfolding text
+returns c = grind (arith, check_ok)

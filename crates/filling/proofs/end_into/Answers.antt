@@ -9,8 +9,14 @@ use Rattle.filling.proofs.end_into.Goals as goal
 pub returns : goal.returns
 unfolding flags_of
 returns c =
-    λ h.
     record {
-      walk = body_there c.args.p.now c.args.at (λ q. c.has_body.ensures h (c.requires.seg_value ∙ q));
-      same = simp (c.less-h.ensures, c.less.ensures, c.counter_size.ensures, c.requires.seg_value, bit_of (c.args.f / 8));
+      walk = body_there c.args.p.now c.args.at (λ q. c.has_body.ensures c.if-not-has_body.false (c.requires.seg_value ∙ q));
+      same =
+          simp (
+            c.saturating_sub-h.ensures,
+            c.saturating_sub.ensures,
+            c.counter_size.ensures,
+            c.requires.seg_value,
+            bit_of (c.args.f / 8),
+          );
     }

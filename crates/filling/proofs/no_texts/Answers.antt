@@ -1,32 +1,15 @@
 -- `filling::no_texts` meets its contract.
-use Rattle.filling.proofs.Parts.{zeroed_none, zeroed_next, zeroed_all}
+use mathlib.Core.Path.{refl}
 use native.Mathlib.Omega.{arith}
+use lib.ListN.{replicate}
+use Rattle.flat.specs.Told.{places_to}
+use Rattle.flat.proofs.Placing.{put_is}
+use Rattle.filling.proofs.Parts.{texts_long}
 use Rattle.filling.proofs.no_texts.Goals as goal
 
-pub loop-k-init : goal.loop-k-init
-loop-k-init c =
-    zeroed_none c.args.answer.now
-
-pub offset_bounds-answer-k : goal.offset_bounds-answer-k
-offset_bounds-answer-k c =
-    omega arith
-
-pub bounds-answer-k : goal.bounds-answer-k
-bounds-answer-k c =
-    omega arith
-
-pub overflow_add-k : goal.overflow_add-k
-overflow_add-k c =
-    omega arith
-
-pub loop-k-smaller : goal.loop-k-smaller
-loop-k-smaller c =
-    omega arith
-
-pub loop-k-preserved : goal.loop-k-preserved
-loop-k-preserved c =
-    zeroed_next c.loop-k.invariant c.loop-k-test.true
-
 pub returns : goal.returns
+unfolding places_to
 returns c =
-    zeroed_all c.loop-k.invariant c.loop-k-test.false
+    let l = c.args.answer.now in
+    let e = texts_long l c.told-answer in
+    put_is 28 41 l _ (replicate 41 0) (rw e at (c.fill.ensures.after (λ y f. f))) refl (omega (arith, c.told-answer))

@@ -6,7 +6,7 @@ use Rattle.filling.proofs.single_to.Goals as goal
 
 pub loop-to-init : goal.loop-to-init
 loop-to-init c =
-    single_none c.args.p.now c.requires.from_nonzero c.requires.within.here (omega arith)
+    single_none c.args.p.now c.requires.here (omega arith)
 
 pub overflow_sub-lim : goal.overflow_sub-lim
 overflow_sub-lim c =
@@ -14,7 +14,7 @@ overflow_sub-lim c =
 
 pub overflow_add-to : goal.overflow_add-to
 overflow_add-to c =
-    omega (arith, c.loop-to.invariant.top, c.requires.within.limit)
+    omega (arith, c.loop-to.invariant.top, c.requires.limit)
 
 pub slice_bounds-all_single-count : goal.slice_bounds-all_single-count
 slice_bounds-all_single-count c =
@@ -26,11 +26,11 @@ slice_bounds-all_single-start c =
 
 pub slice_bounds-all_single-end : goal.slice_bounds-all_single-end
 slice_bounds-all_single-end c =
-    omega (arith, c.loop-to.invariant.top, c.loop-to-test.true, c.requires.within.inside)
+    omega (arith, c.loop-to.invariant.top, c.loop-to-test.true, c.requires.inside)
 
 pub overflow_add-to-then-all_single : goal.overflow_add-to-then-all_single
 overflow_add-to-then-all_single c =
-    omega (arith, c.loop-to.invariant.top, c.requires.within.limit)
+    omega (arith, c.loop-to.invariant.top, c.requires.limit)
 
 pub loop-to-smaller : goal.loop-to-smaller
 loop-to-smaller c =
@@ -38,7 +38,7 @@ loop-to-smaller c =
 
 pub loop-to-preserved : goal.loop-to-preserved
 loop-to-preserved c =
-    let i = c.loop-to.invariant in single_more c.args.p.now i (omega arith) (omega (arith, i.top, c.loop-to-test.true)) c.requires.within.inside
+    let i = c.loop-to.invariant in single_more c.args.p.now i (omega arith) (omega (arith, i.top, c.loop-to-test.true)) c.requires.inside
     (sym c.all_single.ensures ∙ c.if-all_single.true)
 
 pub returns-else-all_single : goal.returns-else-all_single

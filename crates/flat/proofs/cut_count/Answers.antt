@@ -1,27 +1,18 @@
 -- `flat::cut_count` meets its contract: numbers that fit go to the call, any other is 15 or 22.
-use Rattle.flat.proofs.Choosing.{together, first_held, second_held, count_refused, count_told}
+use Rattle.flat.proofs.Choosing.{count_refused, count_told, header_uncut, sender_uncut}
 use Rattle.flat.proofs.cut_count.Goals as goal
 
-pub returns-then-not-ok : goal.returns-then-not-ok
-returns-then-not-ok c =
-    let e = together _ _ _ _ _ c.header_fits.ensures c.sender_fits.ensures
-    c.both-ok.ensures in
-    count_refused _ _ _ _ _ _ e c.if-not-ok.true _ c.cut_too_wide.ensures _
+pub returns-in_default : goal.returns-in_default
+returns-in_default c =
+    count_refused _ _ _ _ _ (header_uncut _ _ c.in_default.ensures) _ (rw c.settings-s.ensures at c.cut_too_wide.ensures) _
 
-pub header_of-requires : goal.header_of-requires
-header_of-requires c =
-    first_held _ _ _ _ _ c.header_fits.ensures c.sender_fits.ensures c.both-ok.ensures
-    c.if-not-ok.false
-
-pub sender_of-requires : goal.sender_of-requires
-sender_of-requires c =
-    second_held _ _ _ _ _ c.header_fits.ensures c.sender_fits.ensures
-    c.both-ok.ensures c.if-not-ok.false
+pub returns-in_default-sender_of : goal.returns-in_default-sender_of
+returns-in_default-sender_of c =
+    count_refused _ _ _ _ _ (sender_uncut _ _ c.in-Ok.ensures.0 c.in_default-sender_of.ensures) _
+    (rw c.settings-s.ensures at c.cut_too_wide-in_default-sender_of.ensures) _
 
 pub returns : goal.returns
 returns c =
-    let e = together _ _ _ _ _ c.header_fits.ensures c.sender_fits.ensures
-    c.both-ok.ensures in
-    let f = c.if-not-ok.false in
-    count_told _ _ _ _ _ _ e f _ _ c.header_of.ensures c.sender_of.ensures _ _ _
-    c.count.ensures c.counted_numbers.ensures
+    let h = c.in-Ok.ensures in
+    let d = c.in-Ok-sender_of.ensures in
+    count_told _ _ _ _ _ h.0 d.0 _ _ h.1 d.1 _ _ _ (rw c.settings-s.ensures at c.count.ensures) c.counted_numbers.ensures

@@ -1,82 +1,139 @@
--- `flat::header_of_lem` meets its contract: every number fits its field.
+-- `flat::header_of` meets its contract: each number fits, or one does not.
 use native.Mathlib.Omega.{arith}
-use Rattle.flat.proofs.Fitting.{fits_at}
-use Rattle.flat.specs.Given.{header_widths, header_of}
+use Rattle.std.proofs.lemmas.Bool.{false_from_ne_true}
+use Rattle.flat.proofs.Fitting.{fits_at, fits_none, fits_next, fits_not, passed_on}
+use Rattle.flat.specs.Given.{header_widths, header_of, present_of}
 use Rattle.flat.proofs.header_of.Goals as goal
 
-pub overflow_cast-result : goal.overflow_cast-result
-overflow_cast-result c =
-    omega (arith, fits_at 24 _ header_widths c.requires 0 (omega arith))
+pub returns-in_err-try_from : goal.returns-in_err-try_from
+returns-in_err-try_from c =
+    passed_on _ _ _ c.from_residual.result c.from_residual.ensures.1
+    (fits_not 24 c.args.h.now header_widths 0 (omega arith) (omega (arith, c.in_err-try_from.ensures)))
 
-pub overflow_cast-result-2 : goal.overflow_cast-result-2
-overflow_cast-result-2 c =
-    omega (arith, fits_at 24 _ header_widths c.requires 1 (omega arith))
+pub returns-in_err-try_from-2 : goal.returns-in_err-try_from-2
+returns-in_err-try_from-2 c =
+    passed_on _ _ _ c.from_residual-in_err-try_from-2.result c.from_residual-in_err-try_from-2.ensures.1
+    (fits_not 24 c.args.h.now header_widths 1 (omega arith) (omega (arith, c.in_err-try_from-2.ensures)))
 
-pub overflow_cast-result-3 : goal.overflow_cast-result-3
-overflow_cast-result-3 c =
-    omega (arith, fits_at 24 _ header_widths c.requires 2 (omega arith))
+pub returns-in_err-try_from-3 : goal.returns-in_err-try_from-3
+returns-in_err-try_from-3 c =
+    passed_on _ _ _ c.from_residual-in_err-try_from-3.result c.from_residual-in_err-try_from-3.ensures.1
+    (fits_not 24 c.args.h.now header_widths 2 (omega arith) (omega (arith, c.in_err-try_from-3.ensures)))
 
-pub overflow_cast-result-4 : goal.overflow_cast-result-4
-overflow_cast-result-4 c =
-    omega (arith, fits_at 24 _ header_widths c.requires 3 (omega arith))
+pub returns-in_err-try_from-4 : goal.returns-in_err-try_from-4
+returns-in_err-try_from-4 c =
+    passed_on _ _ _ c.from_residual-in_err-try_from-4.result c.from_residual-in_err-try_from-4.ensures.1
+    (fits_not 24 c.args.h.now header_widths 3 (omega arith) (omega (arith, c.in_err-try_from-4.ensures)))
 
-pub overflow_cast-result-5 : goal.overflow_cast-result-5
-overflow_cast-result-5 c =
-    omega (arith, fits_at 24 _ header_widths c.requires 4 (omega arith))
+pub returns-in_err-try_from-5 : goal.returns-in_err-try_from-5
+returns-in_err-try_from-5 c =
+    passed_on _ _ _ c.from_residual-in_err-try_from-5.result c.from_residual-in_err-try_from-5.ensures.1
+    (fits_not 24 c.args.h.now header_widths 4 (omega arith) (omega (arith, c.in_err-try_from-5.ensures)))
 
-pub overflow_cast-result-6 : goal.overflow_cast-result-6
-overflow_cast-result-6 c =
-    omega (arith, fits_at 24 _ header_widths c.requires 5 (omega arith))
+pub returns-in_err-try_from-6 : goal.returns-in_err-try_from-6
+returns-in_err-try_from-6 c =
+    passed_on _ _ _ c.from_residual-in_err-try_from-6.result c.from_residual-in_err-try_from-6.ensures.1
+    (fits_not 24 c.args.h.now header_widths 5 (omega arith) (omega (arith, c.in_err-try_from-6.ensures)))
 
-pub overflow_cast-result-7 : goal.overflow_cast-result-7
-overflow_cast-result-7 c =
-    omega (arith, fits_at 24 _ header_widths c.requires 6 (omega arith))
+pub returns-in_err-try_from-7 : goal.returns-in_err-try_from-7
+returns-in_err-try_from-7 c =
+    passed_on _ _ _ c.from_residual-in_err-try_from-7.result c.from_residual-in_err-try_from-7.ensures.1
+    (fits_not 24 c.args.h.now header_widths 6 (omega arith) (omega (arith, c.in_err-try_from-7.ensures)))
 
-pub overflow_cast-result-8 : goal.overflow_cast-result-8
-overflow_cast-result-8 c =
-    omega (arith, fits_at 24 _ header_widths c.requires 7 (omega arith))
+pub returns-in_err-try_from-8 : goal.returns-in_err-try_from-8
+returns-in_err-try_from-8 c =
+    passed_on _ _ _ c.from_residual-in_err-try_from-8.result c.from_residual-in_err-try_from-8.ensures.1
+    (fits_not 24 c.args.h.now header_widths 7 (omega arith) (omega (arith, c.in_err-try_from-8.ensures)))
 
-pub overflow_cast-result-9 : goal.overflow_cast-result-9
-overflow_cast-result-9 c =
-    omega (arith, fits_at 24 _ header_widths c.requires 8 (omega arith))
+pub returns-in_err-try_from-9 : goal.returns-in_err-try_from-9
+returns-in_err-try_from-9 c =
+    passed_on _ _ _ c.from_residual-in_err-try_from-9.result c.from_residual-in_err-try_from-9.ensures.1
+    (fits_not 24 c.args.h.now header_widths 8 (omega arith) (omega (arith, c.in_err-try_from-9.ensures)))
 
-pub overflow_cast-result-10 : goal.overflow_cast-result-10
-overflow_cast-result-10 c =
-    omega (arith, fits_at 24 _ header_widths c.requires 9 (omega arith))
+pub returns-in_err-try_from-10 : goal.returns-in_err-try_from-10
+returns-in_err-try_from-10 c =
+    passed_on _ _ _ c.from_residual-in_err-try_from-10.result c.from_residual-in_err-try_from-10.ensures.1
+    (fits_not 24 c.args.h.now header_widths 9 (omega arith) (omega (arith, c.in_err-try_from-10.ensures)))
 
-pub overflow_cast-result-11 : goal.overflow_cast-result-11
-overflow_cast-result-11 c =
-    omega (
-      arith,
-      fits_at 24 _ header_widths c.requires 10 (omega arith),
-    )
+pub returns-in_err-try_from-11 : goal.returns-in_err-try_from-11
+returns-in_err-try_from-11 c =
+    passed_on _ _ _ c.from_residual-in_err-try_from-11.result c.from_residual-in_err-try_from-11.ensures.1
+    (fits_not 24 c.args.h.now header_widths 10 (omega arith) (omega (arith, c.in_err-try_from-11.ensures)))
 
-pub overflow_cast-result-12 : goal.overflow_cast-result-12
-overflow_cast-result-12 c =
-    omega (
-      arith,
-      fits_at 24 _ header_widths c.requires 11
-          (omega arith),
-    )
+pub returns-in_err-try_from-12 : goal.returns-in_err-try_from-12
+returns-in_err-try_from-12 c =
+    passed_on _ _ _ c.from_residual-in_err-try_from-12.result c.from_residual-in_err-try_from-12.ensures.1
+    (fits_not 24 c.args.h.now header_widths 11 (omega arith) (omega (arith, c.in_err-try_from-12.ensures)))
 
-pub overflow_cast-result-13 : goal.overflow_cast-result-13
-overflow_cast-result-13 c =
-    omega (
-      arith,
-      fits_at 24 _ header_widths
-          c.requires 21 (omega arith),
-    )
+pub returns-in_err-try_from-13 : goal.returns-in_err-try_from-13
+returns-in_err-try_from-13 c =
+    passed_on _ _ _ c.from_residual-in_err-try_from-13.result c.from_residual-in_err-try_from-13.ensures.1
+    (fits_not 24 c.args.h.now header_widths 21 (omega arith) (omega (arith, c.in_err-try_from-13.ensures)))
 
-pub overflow_cast-result-14 : goal.overflow_cast-result-14
-overflow_cast-result-14 c =
-    omega (
-      arith,
-      fits_at 24 _ header_widths
-          c.requires 22
-          (omega arith),
-    )
+pub returns-in_err-try_from-14 : goal.returns-in_err-try_from-14
+returns-in_err-try_from-14 c =
+    passed_on _ _ _ c.from_residual-in_err-try_from-14.result c.from_residual-in_err-try_from-14.ensures.1
+    (fits_not 24 c.args.h.now header_widths 22 (omega arith) (omega (arith, c.in_err-try_from-14.ensures)))
+
+pub returns-in_err-present_of : goal.returns-in_err-present_of
+returns-in_err-present_of c =
+    passed_on _ _ _ c.from_residual-in_err-present_of.result c.from_residual-in_err-present_of.ensures.1
+    (false_from_ne_true _ (λ e.
+    let f = fits_at 24 c.args.h.now header_widths e in
+    absurd (c.in_err-present_of.ensures (record {
+      source = f 13 (omega arith);
+      destination = f 14 (omega arith);
+      priority = f 15 (omega arith);
+      timestamp = f 16 (omega arith);
+      zone = f 17 (omega arith);
+      session_name = f 18 (omega arith);
+      domain = f 19 (omega arith);
+      authentication = f 20 (omega arith);
+    }))))
 
 pub returns : goal.returns
-unfolding header_of
-returns c =
-    rw c.present_of-has.ensures
+unfolding header_of present_of
+returns c = (
+  fits_next 23 c.args.h.now header_widths (omega (arith, c.fits-h 23))
+      (fits_next 22 c.args.h.now header_widths (omega (arith, c.in_ok-try_from-14.ensures))
+      (fits_next 21 c.args.h.now header_widths (omega (arith, c.in_ok-try_from-13.ensures))
+      (fits_next 20 c.args.h.now header_widths (omega (arith, c.in_ok-present_of.ensures.0))
+      (fits_next 19 c.args.h.now header_widths (omega (arith, c.in_ok-present_of.ensures.0))
+      (fits_next 18 c.args.h.now header_widths (omega (arith, c.in_ok-present_of.ensures.0))
+      (fits_next 17 c.args.h.now header_widths (omega (arith, c.in_ok-present_of.ensures.0))
+      (fits_next 16 c.args.h.now header_widths (omega (arith, c.in_ok-present_of.ensures.0))
+      (fits_next 15 c.args.h.now header_widths (omega (arith, c.in_ok-present_of.ensures.0))
+      (fits_next 14 c.args.h.now header_widths (omega (arith, c.in_ok-present_of.ensures.0))
+      (fits_next 13 c.args.h.now header_widths (omega (arith, c.in_ok-present_of.ensures.0))
+      (fits_next 12 c.args.h.now header_widths (omega (arith, c.fits-h 12))
+      (fits_next 11 c.args.h.now header_widths (omega (arith, c.in_ok-try_from-12.ensures))
+      (fits_next 10 c.args.h.now header_widths (omega (arith, c.in_ok-try_from-11.ensures))
+      (fits_next 9 c.args.h.now header_widths (omega (arith, c.in_ok-try_from-10.ensures))
+      (fits_next 8 c.args.h.now header_widths (omega (arith, c.in_ok-try_from-9.ensures))
+      (fits_next 7 c.args.h.now header_widths (omega (arith, c.in_ok-try_from-8.ensures))
+      (fits_next 6 c.args.h.now header_widths (omega (arith, c.in_ok-try_from-7.ensures))
+      (fits_next 5 c.args.h.now header_widths (omega (arith, c.in_ok-try_from-6.ensures))
+      (fits_next 4 c.args.h.now header_widths (omega (arith, c.in_ok-try_from-5.ensures))
+      (fits_next 3 c.args.h.now header_widths (omega (arith, c.in_ok-try_from-4.ensures))
+      (fits_next 2 c.args.h.now header_widths (omega (arith, c.in_ok-try_from-3.ensures))
+      (fits_next 1 c.args.h.now header_widths (omega (arith, c.in_ok-try_from-2.ensures))
+      (fits_next 0 c.args.h.now header_widths (omega (arith, c.in_ok-try_from.ensures))
+      (fits_none c.args.h.now header_widths)))))))))))))))))))))))),
+  simp (
+    c.in_ok-try_from.ensures.1,
+    c.in_ok-try_from-2.ensures.1,
+    c.in_ok-try_from-3.ensures.1,
+    c.in_ok-try_from-4.ensures.1,
+    c.in_ok-try_from-5.ensures.1,
+    c.in_ok-try_from-6.ensures.1,
+    c.in_ok-try_from-7.ensures.1,
+    c.in_ok-try_from-8.ensures.1,
+    c.in_ok-try_from-9.ensures.1,
+    c.in_ok-try_from-10.ensures.1,
+    c.in_ok-try_from-11.ensures.1,
+    c.in_ok-try_from-12.ensures.1,
+    c.in_ok-present_of.ensures.1,
+    c.in_ok-try_from-13.ensures.1,
+    c.in_ok-try_from-14.ensures.1,
+  ),
+)

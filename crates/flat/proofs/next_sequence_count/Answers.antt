@@ -5,12 +5,13 @@ use Rattle.octets.specs.Octets.{most16}
 use Rattle.flat.specs.Answers.{next_numbers}
 use Rattle.flat.proofs.next_sequence_count.Goals as goal
 
-pub returns-then-sequence_count-gt-MOST_16 : goal.returns-then-sequence_count-gt-MOST_16
+pub returns-in-Ok : goal.returns-in-Ok
 unfolding next_numbers
-returns-then-sequence_count-gt-MOST_16 c =
-    rw (lt-leb c.args.sequence_count most16 (omega arith))
+returns-in-Ok c =
+    let h = c.in-Ok.ensures in
+    rw (le-leb c.args.sequence_count most16 (omega (arith, h.0)), c.next_sequence_count-next.ensures, h.1)
 
-pub returns : goal.returns
+pub returns-in-Err : goal.returns-in-Err
 unfolding next_numbers
-returns c =
-    rw (le-leb c.args.sequence_count most16 (omega arith), c.next_sequence_count-next.ensures)
+returns-in-Err c =
+    rw (lt-leb c.args.sequence_count most16 (omega (arith, c.in-Err.ensures)))

@@ -1,13 +1,26 @@
--- `flat::sender_of` meets its contract: the numbers fit.
+-- `flat::sender_of` meets its contract: each number fits, or one does not.
 use native.Mathlib.Omega.{arith}
-use Rattle.flat.proofs.Fitting.{fits_at}
+use Rattle.flat.proofs.Fitting.{fits_none, fits_next, fits_not, passed_on}
 use Rattle.flat.specs.Given.{sender_widths}
 use Rattle.flat.proofs.sender_of.Goals as goal
 
-pub overflow_cast-result : goal.overflow_cast-result
-overflow_cast-result c =
-    omega (arith, fits_at 2 _ sender_widths c.requires 0 (omega arith))
+pub returns-in_err-try_from : goal.returns-in_err-try_from
+returns-in_err-try_from c =
+    passed_on _ _ _ c.from_residual.result c.from_residual.ensures.1
+    (fits_not 2 c.args.d.now sender_widths 0 (omega arith) (omega (arith, c.in_err-try_from.ensures)))
 
-pub overflow_cast-result-2 : goal.overflow_cast-result-2
-overflow_cast-result-2 c =
-    omega (arith, fits_at 2 _ sender_widths c.requires 1 (omega arith))
+pub returns-in_err-try_from-2 : goal.returns-in_err-try_from-2
+returns-in_err-try_from-2 c =
+    passed_on _ _ _ c.from_residual-in_err-try_from-2.result c.from_residual-in_err-try_from-2.ensures.1
+    (fits_not 2 c.args.d.now sender_widths 1 (omega arith) (omega (arith, c.in_err-try_from-2.ensures)))
+
+pub returns : goal.returns
+returns c = (
+  fits_next 1 c.args.d.now sender_widths (omega (arith, c.in_ok-try_from-2.ensures))
+      (fits_next 0 c.args.d.now sender_widths (omega (arith, c.in_ok-try_from.ensures))
+      (fits_none c.args.d.now sender_widths)),
+  simp (
+    c.in_ok-try_from.ensures.1,
+    c.in_ok-try_from-2.ensures.1,
+  ),
+)

@@ -1,30 +1,23 @@
 -- `flat::write` meets its contract: numbers that fit go to the call, any other is 15 or 22.
-use Rattle.flat.proofs.Choosing.{together, first_held, second_held, write_refused_lem, write_kept, write_told, write_laid}
+use Rattle.flat.proofs.Choosing.{write_refused_lem, write_kept, write_told, write_laid, header_unfit, packet_unfit}
 use Rattle.flat.proofs.write.Goals as goal
 
-pub returns-then-not-ok : goal.returns-then-not-ok
-returns-then-not-ok c =
-    let e = together _ _ _ _ _ c.header_fits.ensures c.packet_fits.ensures
-    c.both-ok.ensures in
-    let f = c.if-not-ok.true in
-    (write_refused_lem _ _ _ _ _ _ _ _ e f _ _ c.write_too_wide.ensures, write_kept _ _ _ _ _ _ _ _ e f _)
+pub returns-in_default : goal.returns-in_default
+returns-in_default c =
+    let f = header_unfit _ _ _ _ c.in_default.ensures in
+    (write_refused_lem _ _ _ _ _ _ _ f _ _ (rw c.settings-s.ensures at c.write_too_wide.ensures), write_kept _ _ _ _ _ _ _ f _)
 
-pub header_of-requires : goal.header_of-requires
-header_of-requires c =
-    first_held _ _ _ _ _ c.header_fits.ensures c.packet_fits.ensures c.both-ok.ensures
-    c.if-not-ok.false
-
-pub packet_of-requires : goal.packet_of-requires
-packet_of-requires c =
-    second_held _ _ _ _ _ c.header_fits.ensures c.packet_fits.ensures
-    c.both-ok.ensures c.if-not-ok.false
+pub returns-in_default-packet_of : goal.returns-in_default-packet_of
+returns-in_default-packet_of c =
+    let f = packet_unfit _ _ _ _ c.in-Ok.ensures.0 c.in_default-packet_of.ensures in
+    let r = rw c.settings-s.ensures at c.write_too_wide-in_default-packet_of.ensures in
+    (write_refused_lem _ _ _ _ _ _ _ f _ _ r, write_kept _ _ _ _ _ _ _ f _)
 
 pub returns : goal.returns
 returns c =
-    let e = together _ _ _ _ _ c.header_fits.ensures c.packet_fits.ensures
-    c.both-ok.ensures in
-    let f = c.if-not-ok.false in
-    let v = c.header_of.ensures in let o = c.packet_of.ensures in let w = c.write.ensures in (
-      write_told _ _ _ _ _ _ _ _ e f _ _ v o _ _ _ w.0 c.written_numbers.ensures,
-      write_laid _ _ _ _ _ _ _ _ e f _ _ v o _ _ w.1,
+    let h = c.in-Ok.ensures in
+    let o = c.in-Ok-packet_of.ensures in
+    let w = rw c.settings-s.ensures at c.write.ensures in (
+      write_told _ _ _ _ _ _ _ h.0 o.0 _ _ h.1 o.1 _ _ _ w.0 c.written_numbers.ensures,
+      write_laid _ _ _ _ _ _ _ h.0 o.0 _ _ h.1 o.1 _ _ w.1,
     )

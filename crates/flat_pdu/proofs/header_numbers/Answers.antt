@@ -8,9 +8,9 @@ use Rattle.flat_pdu.proofs.header_numbers.Goals as goal
 pub returns : goal.returns
 returns c =
     header_laid _ (replicate 70 0) _ _ _ _ _ _ (length-replicate {A = ℕ} 70 0)
-    c.put_fixed.ensures
-    c.put_present.ensures
-    c.put_ids.ensures
-    c.put_texts.ensures
-    c.put_place.ensures
+    (rw c.fixed_numbers.ensures at c.put.ensures)
+    (rw c.present_numbers.ensures at c.put-2.ensures)
+    (rw c.ids_numbers.ensures at c.put-3.ensures)
+    (rw c.text_numbers.ensures at c.put-4.ensures)
+    (rw c.place_numbers.ensures at c.put-5.ensures)
     refl

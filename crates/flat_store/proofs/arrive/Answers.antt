@@ -1,6 +1,6 @@
 -- `flat_store::arrive` meets its contract.
 use mathlib.Core.Path.{ap, ◌∙◌}
-use Rattle.arrival.specs.declared.Arrival.{Arrival}
+use Rattle.arrival.specs.Answer.{Arrival}
 use Rattle.flat_store.specs.Numbers.{arrival_numbers}
 use Rattle.flat_store.proofs.arrive.Goals as goal
 

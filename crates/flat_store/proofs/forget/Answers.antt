@@ -4,6 +4,10 @@ use Rattle.walk.specs.declared.Refusal.{Refusal}
 use Rattle.flat_store.specs.Numbers.{forget_numbers}
 use Rattle.flat_store.proofs.forget.Goals as goal
 
-pub returns : goal.returns
-returns c =
-    record { value = ap (λ (r : Refusal). forget_numbers r.number) c.forget-refusal.ensures.value; store_after = c.forget-refusal.ensures.store_after }
+pub returns-in-Ok : goal.returns-in-Ok
+returns-in-Ok c =
+    record { value = ap (λ (r : Refusal). forget_numbers r.number) c.in-Ok.ensures.value; store_after = c.in-Ok.ensures.store_after }
+
+pub returns-in-Err : goal.returns-in-Err
+returns-in-Err c =
+    record { value = rw c.number.ensures (ap (λ (r : Refusal). forget_numbers r.number) c.in-Err.ensures.value); store_after = c.in-Err.ensures.store_after }

@@ -1,6 +1,6 @@
 -- `flat_store::join` meets its contract.
 use mathlib.Core.Path.{ap, ◌∙◌}
-use Rattle.join.specs.declared.Joined.{Joined}
+use Rattle.join.specs.Answer.{Joined}
 use Rattle.flat_store.specs.Numbers.{joined_numbers}
 use Rattle.flat_store.proofs.join.Goals as goal
 

@@ -1,6 +1,6 @@
 -- `flat_store::take` meets its contract.
 use mathlib.Core.Path.{ap, ◌∙◌}
-use Rattle.taking.specs.declared.Taken.{Taken}
+use Rattle.taking.specs.Answer.{Taken}
 use Rattle.flat_store.specs.Numbers.{taken_numbers}
 use Rattle.flat_store.proofs.take.Goals as goal
 

@@ -1,5 +1,7 @@
 -- `join_recording::turn` meets its contract: a step keeps the store in order, and what it answers lies inside the buffers.
 use native.Mathlib.Omega.{arith}
+use mathlib.Core.Path.{◌∙◌}
+use Rattle.steps.proofs.Steps.{as_seen}
 use Rattle.join_recording.proofs.Turns.{step_after}
 use Rattle.join_recording.proofs.turn.Goals as goal
 
@@ -17,7 +19,7 @@ wait-requires c = record { from_le_till = c.requires.from_le_till; till_in_bound
 pub returns-in-More : goal.returns-in-More
 returns-in-More c =
     let k = step_after _ _ c.args.n _ c.args.buf.now (λ i. (c.slice_known-1.given i).fits) (λ i. (c.slice_known-2-1.given i).fits) c.args.ends c.args.from c.args.till
-    c.step_there-d.ensures.value c.step_there-d.ensures.store_after c.requires.store_value c.requires.n_value in record {
+    (as_seen c.used-used.ensures c.written-written.ensures ∙ c.step_there-d.ensures.value) c.step_there-d.ensures.store_after c.requires.store_value c.requires.n_value in record {
       store_after = k.order;
       n_value_2 = k.cells;
       from_le_till_2 = c.wait.ensures.from_le_till_2;
@@ -29,7 +31,7 @@ returns-in-More c =
 pub returns-then-used-eq0 : goal.returns-then-used-eq0
 returns-then-used-eq0 c =
     let k = step_after _ _ c.args.n _ c.args.buf.now (λ i. (c.slice_known-1.given i).fits) (λ i. (c.slice_known-2-1.given i).fits) c.args.ends c.args.from c.args.till
-    c.step_there-d.ensures.value c.step_there-d.ensures.store_after c.requires.store_value c.requires.n_value in named ((
+    (as_seen c.used-used.ensures c.written-written.ensures ∙ c.step_there-d.ensures.value) c.step_there-d.ensures.store_after c.requires.store_value c.requires.n_value in named ((
       k.order,
       (
         k.cells,
@@ -43,25 +45,25 @@ returns-then-used-eq0 c =
 pub overflow_add-from : goal.overflow_add-from
 overflow_add-from c =
     let k = step_after _ _ c.args.n _ _ (λ i. (c.slice_known-1.given i).fits) (λ i. (c.slice_known-2-1.given i).fits) _ _ c.args.till
-    c.step_there-d.ensures.value c.step_there-d.ensures.store_after c.requires.store_value c.requires.n_value in
+    (as_seen c.used-used.ensures c.written-written.ensures ∙ c.step_there-d.ensures.value) c.step_there-d.ensures.store_after c.requires.store_value c.requires.n_value in
     omega (arith, k.used_few, c.requires.from_le_till, c.requires.till_in_bounds)
 
 pub overflow_add-at : goal.overflow_add-at
 overflow_add-at c =
     let k = step_after _ _ c.args.n _ c.args.buf.now (λ i. (c.slice_known-1.given i).fits) (λ i. (c.slice_known-2-1.given i).fits) c.args.ends c.args.from c.args.till
-    c.step_there-d.ensures.value c.step_there-d.ensures.store_after c.requires.store_value c.requires.n_value in
+    (as_seen c.used-used.ensures c.written-written.ensures ∙ c.step_there-d.ensures.value) c.step_there-d.ensures.store_after c.requires.store_value c.requires.n_value in
     omega (arith, k.written_few, c.requires.room_in_bounds, c.well_formed.1.1.1.1.1.1.1.1.1.1.0.0)
 
 pub gather-requires : goal.gather-requires
 gather-requires c =
     let k = step_after _ _ c.args.n _ c.args.buf.now (λ i. (c.slice_known-1.given i).fits) (λ i. (c.slice_known-2-1.given i).fits) c.args.ends c.args.from c.args.till
-    c.step_there-d.ensures.value c.step_there-d.ensures.store_after c.requires.store_value c.requires.n_value in
+    (as_seen c.used-used.ensures c.written-written.ensures ∙ c.step_there-d.ensures.value) c.step_there-d.ensures.store_after c.requires.store_value c.requires.n_value in
     let l = c.step_there-d.auto.out in record { at_in_bounds = omega (arith, l, k.written_few, c.requires.room_in_bounds); room_in_bounds = omega (arith, l, c.requires.room_in_bounds) }
 
 pub returns : goal.returns
 returns c =
     let k = step_after _ _ c.args.n _ _ (λ i. (c.slice_known-1.given i).fits) (λ i. (c.slice_known-2-1.given i).fits) _ _ c.args.till
-    c.step_there-d.ensures.value c.step_there-d.ensures.store_after c.requires.store_value c.requires.n_value in
+    (as_seen c.used-used.ensures c.written-written.ensures ∙ c.step_there-d.ensures.value) c.step_there-d.ensures.store_after c.requires.store_value c.requires.n_value in
     let l = c.step_there-d.auto.out in named ((
       k.order,
       (

@@ -19,8 +19,8 @@ overflow_add-at c =
     c.has_room.ensures ∙ c.if-has_room.true) in
     omega (arith, h)
 
-pub fill-requires : goal.fill-requires
-fill-requires c =
+pub put-requires : goal.put-requires
+put-requires c =
     let h : c.args.at + (length c.args.x.now + 1) ≤ length c.args.out.now = leb-true _ _ (sym
     c.has_room.ensures ∙ c.if-has_room.true) in
     simp length-set (omega (arith, h))
@@ -37,11 +37,11 @@ overflow_add-result-then-has_room c =
 
 pub shape_of-out-then-has_room : goal.shape_of-out-then-has_room
 shape_of-out-then-has_room c =
-    simp length-set at c.fill.auto.out
+    simp length-set at c.put.auto.out
 
 pub returns-then-has_room : goal.returns-then-has_room
 returns-then-has_room c =
-    rw (c.if-there.true, c.fill.ensures) (blob_laid c.args.s _ _ _ c.requires.profile_value
+    rw (c.if-there.true, c.put.ensures) (blob_laid c.args.s _ _ _ c.requires.profile_value
     c.requires.x_len_bound (leb-true _ _ (sym c.has_room.ensures ∙ c.if-has_room.true)))
 
 pub returns-then-there : goal.returns-then-there

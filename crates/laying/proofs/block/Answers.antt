@@ -7,8 +7,8 @@ use mathlib.Core.Path.{sym, ◌∙◌}
 use native.Mathlib.Omega.{arith}
 use Rattle.laying.proofs.block.Goals as goal
 
-pub fill-requires : goal.fill-requires
-fill-requires c =
+pub put-requires : goal.put-requires
+put-requires c =
     leb-true _ _ (sym c.has_room.ensures ∙ c.if-has_room.true)
 
 pub overflow_add-result : goal.overflow_add-result
@@ -19,7 +19,7 @@ overflow_add-result c =
 
 pub returns-then-has_room : goal.returns-then-has_room
 returns-then-has_room c =
-    rw c.fill.ensures (one_laid _ _ _ (leb-true _ _ (sym c.has_room.ensures ∙ c.if-has_room.true)))
+    rw c.put.ensures (one_laid _ _ _ (leb-true _ _ (sym c.has_room.ensures ∙ c.if-has_room.true)))
 
 pub returns : goal.returns
 returns c =

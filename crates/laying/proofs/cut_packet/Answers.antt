@@ -4,7 +4,7 @@ use Rattle.laying.proofs.cut_packet.Goals as goal
 
 pub returns-then-size-ne0 : goal.returns-then-size-ne0
 returns-then-size-ne0 c =
-    c.cut_short-size.ensures.done (omega (arith, c.if-size-ne0.true))
+    rw (← c.settings-s.ensures) (c.cut_short-size.ensures.done (omega (arith, c.if-size-ne0.true)))
 
 pub returns : goal.returns
 returns c =

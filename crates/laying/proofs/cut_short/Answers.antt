@@ -1,9 +1,9 @@
 -- `laying::cut_short` meets its contract: the plan and the packet are the long way's.
 use Rattle.cut.proofs.Packets.{part_inside, made_packet, made_output_lem, done}
 use Rattle.flat.specs.Given.{header_of}
-use Rattle.laying.proofs.Cuts.{sender_fits_lem, none_failed_lem, told, laid_out, cap_small, own_numbers, sender_count}
+use Rattle.laying.proofs.Cuts.{none_failed_lem, told, laid_out, cap_small, own_numbers, sender_count}
 use Rattle.laying.proofs.Whole.{plain_lays}
-use Rattle.write.specs.Given.{lent}
+use Rattle.write.specs.Given.{lent_of}
 use borrow.Author.Rules.{rules}
 use lib.ListN.{length}
 use mathlib.Core.Bool.{false}
@@ -23,17 +23,13 @@ named_2 p = record { done = p.0; kept = p.1 }
 named_3 : {A B C D : Type 0} → A × (B × (C × D)) → record { in_bounds : A; ready : B; own : C; present_value : D }
 named_3 p = record { in_bounds = p.0; ready = p.1.0; own = p.1.1.0; present_value = p.1.1.1 }
 
-pub returns-then-not-cut_ready : goal.returns-then-not-cut_ready
-returns-then-not-cut_ready c =
+pub returns-in_default : goal.returns-in_default
+returns-in_default c =
     record { done = λ h. absurd (omega arith); kept = λ h. refl }
 
 pub header_size-h-requires : goal.header_size-h-requires
 header_size-h-requires c =
-    (c.cut_ready.ensures c.if-not-cut_ready.false).ready
-
-pub sender_of-d-requires : goal.sender_of-d-requires
-sender_of-d-requires c =
-    sender_fits_lem (c.cut_ready.ensures c.if-not-cut_ready.false)
+    c.in-Some.ensures.0.ready
 
 pub slice_bounds-part-count : goal.slice_bounds-part-count
 slice_bounds-part-count c =
@@ -56,8 +52,8 @@ returns-then-r-ne0 c =
 
 pub overflow_sub-n : goal.overflow_sub-n
 overflow_sub-n c =
-    let g = c.args in let r = c.cut_ready.ensures c.if-not-cut_ready.false in
-    let k = c.sender_of-d.ensures in let e = done false g.s g.p (header_of g.header.now) _ _ _ g.i (none_failed_lem r k) (cap_small c.header_size-h.ensures.size c.header_size-h.ensures.small)
+    let g = c.args in let r = c.in-Some.ensures.0 in
+    let k = c.in-Some.ensures.1 in let e = done false g.s g.p (header_of g.header.now) _ _ _ g.i (none_failed_lem r k) (cap_small c.header_size-h.ensures.size c.header_size-h.ensures.small)
     c.plan_of-plan.ensures c.values_at-o.ensures c.from_of-from.ensures c.to_of-to.ensures
     c.secondary_size.ensures
     c.packet_size-size.ensures _ c.unless-a.ensures c.unless-r.ensures c.if-r-ne0.false in
@@ -65,12 +61,12 @@ overflow_sub-n c =
 
 pub present_octet-present-requires : goal.present_octet-present-requires
 present_octet-present-requires c =
-    (c.cut_ready.ensures c.if-not-cut_ready.false).ready.numbers.limited
+    c.in-Some.ensures.0.ready.numbers.limited
 
 pub put_plain-requires : goal.put_plain-requires
 put_plain-requires c =
-    let g = c.args in let r = c.cut_ready.ensures c.if-not-cut_ready.false in
-    let k = c.sender_of-d.ensures in let e = done false g.s g.p (header_of g.header.now) _ _ _ g.i (none_failed_lem r k) (cap_small c.header_size-h.ensures.size c.header_size-h.ensures.small)
+    let g = c.args in let r = c.in-Some.ensures.0 in
+    let k = c.in-Some.ensures.1 in let e = done false g.s g.p (header_of g.header.now) _ _ _ g.i (none_failed_lem r k) (cap_small c.header_size-h.ensures.size c.header_size-h.ensures.small)
     c.plan_of-plan.ensures c.values_at-o.ensures c.from_of-from.ensures c.to_of-to.ensures
     c.secondary_size.ensures
     c.packet_size-size.ensures _ c.unless-a.ensures c.unless-r.ensures c.if-r-ne0.false in
@@ -88,12 +84,12 @@ put_plain-requires c =
 
 pub returns-then-present-eq0 : goal.returns-then-present-eq0
 returns-then-present-eq0 c =
-    let g = c.args in let r = c.cut_ready.ensures c.if-not-cut_ready.false in
-    let k = c.sender_of-d.ensures in let e = done false g.s g.p (header_of g.header.now) _ _ _ g.i (none_failed_lem r k) (cap_small c.header_size-h.ensures.size c.header_size-h.ensures.small)
+    let g = c.args in let r = c.in-Some.ensures.0 in
+    let k = c.in-Some.ensures.1 in let e = done false g.s g.p (header_of g.header.now) _ _ _ g.i (none_failed_lem r k) (cap_small c.header_size-h.ensures.size c.header_size-h.ensures.small)
     c.plan_of-plan.ensures c.values_at-o.ensures c.from_of-from.ensures c.to_of-to.ensures
     c.secondary_size.ensures
     c.packet_size-size.ensures _ c.unless-a.ensures c.unless-r.ensures c.if-r-ne0.false in
-    let o = c.values_at-o.result in let w = plain_lays g.s g.header.now (lent g.timestamp.now g.zone.now g.name.now g.domain.now g.lengths.now g.authentication.now)
+    let o = c.values_at-o.result in let w = plain_lays g.s g.header.now (lent_of g.texts)
     o.flags o.sequence_count.0 o.counter.0 _ _ r.ready.numbers.limited (sym c.if-present-eq0.true ∙ c.present_octet-present.ensures)
     c.put_plain.ensures in named_2 ((
       (λ z. (
@@ -112,8 +108,8 @@ returns-then-present-eq0 c =
 
 pub put_full-requires : goal.put_full-requires
 put_full-requires c =
-    let g = c.args in let r = c.cut_ready.ensures c.if-not-cut_ready.false in
-    let k = c.sender_of-d.ensures in let e = done false g.s g.p (header_of g.header.now) _ _ _ g.i (none_failed_lem r k) (cap_small c.header_size-h.ensures.size c.header_size-h.ensures.small)
+    let g = c.args in let r = c.in-Some.ensures.0 in
+    let k = c.in-Some.ensures.1 in let e = done false g.s g.p (header_of g.header.now) _ _ _ g.i (none_failed_lem r k) (cap_small c.header_size-h.ensures.size c.header_size-h.ensures.small)
     c.plan_of-plan.ensures c.values_at-o.ensures c.from_of-from.ensures c.to_of-to.ensures
     c.secondary_size.ensures
     c.packet_size-size.ensures _ c.unless-a.ensures c.unless-r.ensures c.if-r-ne0.false in
@@ -124,8 +120,8 @@ put_full-requires c =
 
 pub returns : goal.returns
 returns c =
-    let g = c.args in let r = c.cut_ready.ensures c.if-not-cut_ready.false in
-    let k = c.sender_of-d.ensures in let e = done false g.s g.p (header_of g.header.now) _ _ _ g.i (none_failed_lem r k) (cap_small c.header_size-h.ensures.size c.header_size-h.ensures.small)
+    let g = c.args in let r = c.in-Some.ensures.0 in
+    let k = c.in-Some.ensures.1 in let e = done false g.s g.p (header_of g.header.now) _ _ _ g.i (none_failed_lem r k) (cap_small c.header_size-h.ensures.size c.header_size-h.ensures.small)
     c.plan_of-plan.ensures c.values_at-o.ensures c.from_of-from.ensures c.to_of-to.ensures
     c.secondary_size.ensures
     c.packet_size-size.ensures _ c.unless-a.ensures c.unless-r.ensures c.if-r-ne0.false in

@@ -1,7 +1,7 @@
 -- `laying::put_full` meets its contract.
 use Rattle.laying.proofs.Whole.{full_pieces}
 use Rattle.octets.proofs.Laying.{lays_both}
-use Rattle.write.specs.Given.{lent}
+use Rattle.write.specs.Given.{lent_of}
 use mathlib.Core.Path.{◌∙◌}
 use Rattle.laying.proofs.put_full.Goals as goal
 
@@ -35,7 +35,7 @@ shape_of-out c =
 pub returns : goal.returns
 returns c =
     let g = c.args in let p = full_pieces g.s g.h.now
-    (lent g.time.now g.zone.now g.name.now g.domain.now g.lengths.now g.id.now) g.flags g.count g.counter g.n
+    (lent_of g.texts) g.flags g.count g.counter g.n
     g.body.now c.requires.ready.numbers.limited.has_zone in
     rw (← p)
     (lays_both c.put_fixed.ensures

@@ -1,6 +1,6 @@
 -- `laying::put_packet` meets its contract.
 use Rattle.laying.proofs.Whole.{plain_pieces_lem}
-use Rattle.write.specs.Given.{lent}
+use Rattle.write.specs.Given.{lent_of}
 use mathlib.Core.Path.{sym, ◌∙◌}
 use Rattle.laying.proofs.put_packet.Goals as goal
 
@@ -14,7 +14,7 @@ put_plain-requires c =
 
 pub returns-then-present-eq0 : goal.returns-then-present-eq0
 returns-then-present-eq0 c =
-    let g = c.args in rw (← plain_pieces_lem g.s g.h.now (lent g.time.now g.zone.now g.name.now g.domain.now g.lengths.now g.id.now)
+    let g = c.args in rw (← plain_pieces_lem g.s g.h.now (lent_of g.texts)
     g.flags g.count g.counter g.n g.body.now c.requires.ready.numbers.limited (sym c.if-present-eq0.true ∙ c.present_octet-present.ensures))
     c.put_plain.ensures
 

@@ -18,4 +18,4 @@ put_packet-requires c =
 pub returns : goal.returns
 returns c =
     let w = c.packet_size-size.ensures (omega (arith, c.if-size-eq0.false)) in
-    (told w, put w c.put_packet.ensures)
+    rw (← c.settings-s.ensures) (told w, put w c.put_packet.ensures)

@@ -1,22 +1,24 @@
 -- `moving::move_by` meets its contract: a move that is refused leaves the target as it was, and one that is not lays all rows over it.
-use native.Mathlib.Omega.{arith}
+use mathlib.Core.Path.{refl}
 use lib.ListN.{length}
+use Rattle.walk.proofs.Refuses.{has_number}
 use Rattle.moving.proofs.Answers.{refused_kept, target_long, accepted_made}
 use Rattle.moving.proofs.move_by.Goals as goal
 
-pub returns-then-refusal-ne0 : goal.returns-then-refusal-ne0
-returns-then-refusal-ne0 c =
-    let a = c.args in let e = c.answer-r.ensures in let w = c.if-refusal-ne0.true in record { value = e; target_after = refused_kept _ _ (length a.to.now) _ a.target.now e (λ z. omega (arith, w, z)) }
+pub returns-in-Err : goal.returns-in-Err
+returns-in-Err c =
+    let a = c.args in let e = c.in-Err.ensures.value in
+    record { value = e; target_after = refused_kept _ _ (length a.to.now) _ a.target.now e (has_number _) }
 
 pub put_rows-requires : goal.put_rows-requires
 put_rows-requires c =
-    record { zero_value = c.requires.to_value; target_len = target_long _ _ (length c.args.to.now) _ c.args.target.now c.answer-r.ensures c.if-refusal-ne0.false c.count-n.ensures }
+    record { zero_value = c.requires.to_value; target_len = target_long _ _ (length c.args.to.now) _ c.args.target.now c.in-Ok.ensures.value refl c.in-Ok.ensures.cells }
 
-pub returns : goal.returns
-returns c =
+pub returns-in-Ok : goal.returns-in-Ok
+returns-in-Ok c =
     let a = c.args in
-    let e = c.answer-r.ensures in
+    let e = c.in-Ok.ensures.value in
     record {
       value = e;
-      target_after = accepted_made _ _ (length a.to.now) _ a.target.now e c.if-refusal-ne0.false c.count-n.ensures c.put_rows.ensures;
+      target_after = accepted_made _ _ (length a.to.now) _ a.target.now e refl c.in-Ok.ensures.cells c.put_rows.ensures;
     }

@@ -1,17 +1,27 @@
 -- `packet::read_fixed` meets its contract: its steps are the definition's.
-use Rattle.packet.specs.Inner.{fixed_step, names_of, routing_of}
-use Rattle.packet.specs.FixedPart.{fixed_of, present_of, after_presence, after_transaction}
+use Rattle.std.proofs.Common.{arith}
+use Rattle.walk.specs.Walk.{octet_field, wide_field}
+use Rattle.walk.proofs.Keeps.{octets_keeps}
+use Rattle.packet.specs.FixedPart.{fixed_of, present_of, after_transaction, after_presence}
+use Rattle.packet.proofs.Keeping.{qualifier_keeps}
 use Rattle.packet.proofs.read_fixed.Goals as goal
 
+pub returns-in_err-names : goal.returns-in_err-names
+unfolding octet_field wide_field fixed_of present_of after_transaction after_presence
+returns-in_err-names c = grind (arith, octets_keeps, qualifier_keeps)
+
+pub returns-in_err-routing : goal.returns-in_err-routing
+unfolding octet_field wide_field fixed_of present_of after_transaction after_presence
+returns-in_err-routing c = grind (arith, octets_keeps, qualifier_keeps)
+
+pub returns-in_err-transaction : goal.returns-in_err-transaction
+unfolding octet_field wide_field fixed_of present_of after_transaction after_presence
+returns-in_err-transaction c = grind (arith, octets_keeps, qualifier_keeps)
+
+pub returns-in_err-octet : goal.returns-in_err-octet
+unfolding octet_field wide_field fixed_of present_of after_transaction after_presence
+returns-in_err-octet c = grind (arith, octets_keeps, qualifier_keeps)
+
 pub returns : goal.returns
-unfolding fixed_step fixed_of present_of names_of routing_of after_presence after_transaction
-returns c =
-    simp (
-      c.octets-end.ensures,
-      c.flags_of-has.ensures,
-      c.octet.ensures,
-      c.octets-t.ensures,
-      c.be64-transaction.ensures,
-      c.read_routing-r.ensures,
-      c.read_names-n.ensures,
-    )
+unfolding octet_field wide_field fixed_of present_of after_transaction after_presence
+returns c = grind (arith, octets_keeps, qualifier_keeps)

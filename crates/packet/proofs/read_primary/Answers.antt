@@ -5,4 +5,4 @@ use Rattle.packet.proofs.read_primary.Goals as goal
 pub returns : goal.returns
 unfolding primary_of
 returns c =
-    simp (c.be16-2.ensures, c.be16.ensures, c.octet-third.ensures, c.octet-first.ensures)
+    simp (c.read-2.ensures, c.read.ensures, c.octet-third.ensures, c.octet-first.ensures)

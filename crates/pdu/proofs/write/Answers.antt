@@ -1,6 +1,7 @@
 -- `pdu::write` meets its contract: the tests on sizes are the definition's, and the pieces laid are the PDU.
+use borrow.Author.Rules.{rules}
 use native.Mathlib.Omega.{arith}
-use Rattle.write.specs.Given.{lent}
+use Rattle.write.specs.Given.{lent_of}
 use Rattle.pdu.proofs.Pieces.{variable_small}
 use Rattle.pdu.proofs.Answers.{refused_answer, refused_output, written_answer, written_output}
 use Rattle.pdu.proofs.write.Goals as goal
@@ -16,22 +17,14 @@ returns-then-r-ne0 c =
       record {
         source_octets = λ j. (c.type_inv.source j).fits;
         destination_octets = λ j. (c.type_inv.destination j).fits;
-        octets =
-            record {
-              timestamp = λ j. (c.type_inv.time j).fits;
-              zone = λ j. (c.type_inv.zone j).fits;
-              session_name = λ j. (c.type_inv.name j).fits;
-              domain = λ j. (c.type_inv.domain j).fits;
-              authentication = λ j. (c.type_inv.id j).fits;
-              body = λ j. (c.type_inv.body j).fits;
-            };
-        transaction = c.well_formed.0.1.1.1.1.1.1.1.1.1.1.0.1;
+        octets = c.lent_in_octets.ensures;
+        transaction = search rules;
       },
     )
 
 pub overflow_add-result-2 : goal.overflow_add-result-2
 overflow_add-result-2 c =
-    let a = c.args in let t = lent a.time.now a.zone.now a.name.now a.domain.now a.lengths.now a.id.now in
+    let a = c.args in let t = lent_of a.texts in
     omega (arith, variable_small a.v a.source.now a.destination.now t c.variable_size-variable.ensures)
 
 pub returns : goal.returns
@@ -45,15 +38,7 @@ returns c =
       record {
         source_octets = λ j. (c.type_inv.source j).fits;
         destination_octets = λ j. (c.type_inv.destination j).fits;
-        octets =
-            record {
-              timestamp = λ j. (c.type_inv.time j).fits;
-              zone = λ j. (c.type_inv.zone j).fits;
-              session_name = λ j. (c.type_inv.name j).fits;
-              domain = λ j. (c.type_inv.domain j).fits;
-              authentication = λ j. (c.type_inv.id j).fits;
-              body = λ j. (c.type_inv.body j).fits;
-            };
-        transaction = c.well_formed.0.1.1.1.1.1.1.1.1.1.1.0.1;
+        octets = c.lent_in_octets.ensures;
+        transaction = search rules;
       },
     )

@@ -1,7 +1,8 @@
 -- `recording::along` meets its contract. The loop's invariant: so many octets are used up and so many written, and the rest comes to
 -- the rest.
 use native.Mathlib.Omega.{arith}
-use mathlib.Core.Path.{refl}
+use mathlib.Core.Path.{refl, ◌∙◌}
+use Rattle.steps.proofs.Steps.{as_seen}
 use Rattle.recording.proofs.Reaching.{going_first, zero_own, rest_lent, going_long, going_room, going_more, going_done}
 use borrow.Author.Rules.{rules}
 use Rattle.recording.proofs.along.Goals as goal
@@ -11,8 +12,8 @@ named : {A B C D E : Type 0} → A × (B × (C × (D × E))) → record { zero_v
 named p = record { zero_value = p.0; store_value = p.1.0; n_value = p.1.1.0; room_in_bounds = p.1.1.1.0; at_in_bounds = p.1.1.1.1 }
 
 -- a pair with the names of the clauses
-named_2 : {A B C : Type 0} → A × (B × C) → record { place_value : A; written_value : B; out_after : C }
-named_2 p = record { place_value = p.0; written_value = p.1.0; out_after = p.1.1 }
+named_2 : {A B C D : Type 0} → A × (B × (C × D)) → record { place_value : A; stop_value : B; written_value : C; out_after : D }
+named_2 p = record { place_value = p.0; stop_value = p.1.0; written_value = p.1.1.0; out_after = p.1.1.1 }
 
 pub loop-s-init : goal.loop-s-init
 loop-s-init c =
@@ -41,7 +42,7 @@ step_at-d-requires c =
 
 pub returns-then-used-eq0 : goal.returns-then-used-eq0
 returns-then-used-eq0 c =
-    named_2 (going_done c.loop-s.invariant.0 (rest_lent c.args.x.now c.loop-s.place) c.step_at-d.ensures.value
+    named_2 (going_done c.loop-s.invariant.0 (rest_lent c.args.x.now c.loop-s.place) (as_seen c.used-used.ensures c.written-more.ensures ∙ c.step_at-d.ensures.value)
     c.step_at-d.ensures.store_after c.step_at-d.ensures.out_after c.if-used-eq0.true)
 
 pub overflow_add-place : goal.overflow_add-place
@@ -49,7 +50,7 @@ overflow_add-place c =
     omega (
       arith,
       (going_more c.loop-s.invariant.0 (rest_lent c.args.x.now c.loop-s.place)
-          c.step_at-d.ensures.value
+          (as_seen c.used-used.ensures c.written-more.ensures ∙ c.step_at-d.ensures.value)
           c.step_at-d.ensures.store_after
           c.step_at-d.ensures.out_after c.if-used-eq0.false).within,
     )
@@ -59,7 +60,7 @@ overflow_add-written c =
     let k = going_more c.loop-s.invariant.0
     (rest_lent
     c.args.x.now c.loop-s.place)
-    c.step_at-d.ensures.value
+    (as_seen c.used-used.ensures c.written-more.ensures ∙ c.step_at-d.ensures.value)
     c.step_at-d.ensures.store_after
     c.step_at-d.ensures.out_after c.if-used-eq0.false in
     omega (
@@ -74,13 +75,13 @@ loop-s-smaller c =
     omega (
       arith,
       (going_more c.loop-s.invariant.0 (rest_lent c.args.x.now c.loop-s.place)
-          c.step_at-d.ensures.value c.step_at-d.ensures.store_after c.step_at-d.ensures.out_after c.if-used-eq0.false).within,
+          (as_seen c.used-used.ensures c.written-more.ensures ∙ c.step_at-d.ensures.value) c.step_at-d.ensures.store_after c.step_at-d.ensures.out_after c.if-used-eq0.false).within,
       c.if-used-eq0.false,
     )
 
 pub loop-s-preserved : goal.loop-s-preserved
 loop-s-preserved c = (
-  going_more c.loop-s.invariant.0 (rest_lent c.args.x.now c.loop-s.place) c.step_at-d.ensures.value
+  going_more c.loop-s.invariant.0 (rest_lent c.args.x.now c.loop-s.place) (as_seen c.used-used.ensures c.written-more.ensures ∙ c.step_at-d.ensures.value)
       c.step_at-d.ensures.store_after c.step_at-d.ensures.out_after c.if-used-eq0.false,
   (search rules, (search rules, search rules)),
 )

@@ -17,4 +17,4 @@ returns-in-Cut c =
 
 pub returns-in-Whole : goal.returns-in-Whole
 returns-in-Whole c =
-    why_whole (found_in _) c.look.ensures c.in-Whole.is
+    why_whole (found_in _) c.look.ensures c.in-Whole.is c.requires

@@ -2,6 +2,7 @@
 -- whole call, and the place lies in the part.
 use mathlib.Core.Path.{refl}
 use native.Mathlib.Omega.{arith}
+use Rattle.salvage.proofs.Testing.{is_wide}
 use Rattle.salvage.proofs.Going.{going_long, going_room, going_space}
 use Rattle.salvage.proofs.Holding.{held_first, held_end, held_passed, held_kept, held_done}
 use Rattle.salvage.proofs.along.Goals as goal
@@ -10,17 +11,17 @@ use Rattle.salvage.proofs.along.Goals as goal
 named : {A B : Type 0} → A × B → record { value : A; list_after : B }
 named p = record { value = p.0; list_after = p.1 }
 
-pub length_in-n-requires : goal.length_in-n-requires
-length_in-n-requires c =
+pub length-n-requires : goal.length-n-requires
+length-n-requires c =
     c.requires.most
 
-pub till_in-till-requires : goal.till_in-till-requires
-till_in-till-requires c =
+pub till-till-requires : goal.till-till-requires
+till-till-requires c =
     c.requires.most
 
 pub loop-at-init : goal.loop-at-init
 loop-at-init c =
-    (held_first _ _ _ _ _ _ (λ i. (c.type_inv.part i).fits) c.requires c.length_in-n.ensures c.till_in-till.ensures, refl)
+    (held_first _ _ _ _ _ _ c.length-n.ensures.are_octets c.requires c.length-n.ensures.value c.till-till.ensures, refl)
 
 pub overflow_sub-grant : goal.overflow_sub-grant
 overflow_sub-grant c =
@@ -42,16 +43,16 @@ pub overflow_sub-at : goal.overflow_sub-at
 overflow_sub-at c =
     c.loop-at.invariant.0.low
 
-pub width-wide-requires : goal.width-wide-requires
-width-wide-requires c =
+pub width-requires : goal.width-requires
+width-requires c =
     omega (arith, c.loop-at.invariant.0.low, c.loop-at.invariant.0.top)
 
 pub overflow_add-at : goal.overflow_add-at
 overflow_add-at c =
     omega (arith, held_end c.loop-at.invariant.0 c.end_at-end.ensures c.if-end-at.false, c.loop-at.invariant.0.most)
 
-pub overflow_sub-at-then-wide-eq0 : goal.overflow_sub-at-then-wide-eq0
-overflow_sub-at-then-wide-eq0 c =
+pub overflow_sub-at-in-None : goal.overflow_sub-at-in-None
+overflow_sub-at-in-None c =
     omega (arith, c.loop-at.invariant.0.low)
 
 pub overflow_sub-end : goal.overflow_sub-end
@@ -72,20 +73,17 @@ overflow_sub-tested c =
 
 pub overflow_add-tested : goal.overflow_add-tested
 overflow_add-tested c =
-    let k = held_passed c.loop-at.invariant.0 c.end_at-end.ensures c.if-end-at.false c.width-wide.ensures c.if-wide-eq0.true
-    c.pass.ensures in
+    let k = held_passed c.loop-at.invariant.0 c.end_at-end.ensures c.if-end-at.false c.in-None.ensures refl c.pass.ensures in
     omega (arith, k.going.spent)
 
-pub loop-at-smaller-then-wide-eq0 : goal.loop-at-smaller-then-wide-eq0
-loop-at-smaller-then-wide-eq0 c =
-    let k = held_passed c.loop-at.invariant.0 c.end_at-end.ensures c.if-end-at.false c.width-wide.ensures c.if-wide-eq0.true
-    c.pass.ensures in
+pub loop-at-smaller-in-None : goal.loop-at-smaller-in-None
+loop-at-smaller-in-None c =
+    let k = held_passed c.loop-at.invariant.0 c.end_at-end.ensures c.if-end-at.false c.in-None.ensures refl c.pass.ensures in
     omega (arith, k.top, c.pass.ensures.low)
 
-pub loop-at-preserved-then-wide-eq0 : goal.loop-at-preserved-then-wide-eq0
-loop-at-preserved-then-wide-eq0 c = (
-  held_passed c.loop-at.invariant.0 c.end_at-end.ensures c.if-end-at.false c.width-wide.ensures c.if-wide-eq0.true
-      c.pass.ensures,
+pub loop-at-preserved-in-None : goal.loop-at-preserved-in-None
+loop-at-preserved-in-None c = (
+  held_passed c.loop-at.invariant.0 c.end_at-end.ensures c.if-end-at.false c.in-None.ensures refl c.pass.ensures,
   c.loop-at.invariant.1,
 )
 
@@ -93,26 +91,22 @@ pub put_kept-entries-requires : goal.put_kept-entries-requires
 put_kept-entries-requires c =
     going_space c.loop-at.invariant.0.going c.end_at-end.ensures c.if-end-at.false
 
-pub overflow_add-tested-else-wide-eq0 : goal.overflow_add-tested-else-wide-eq0
-overflow_add-tested-else-wide-eq0 c =
-    let k = held_kept c.loop-at.invariant.0 c.end_at-end.ensures c.if-end-at.false
-    c.width-wide.ensures c.if-wide-eq0.false c.put_kept-entries.ensures in
+pub overflow_add-tested-in-Some : goal.overflow_add-tested-in-Some
+overflow_add-tested-in-Some c =
+    let k = held_kept c.loop-at.invariant.0 c.end_at-end.ensures c.if-end-at.false c.in-Some.ensures refl c.put_kept-entries.ensures in
     omega (arith, k.going.spent)
 
-pub overflow_add-at-else-wide-eq0 : goal.overflow_add-at-else-wide-eq0
-overflow_add-at-else-wide-eq0 c =
-    let k = held_kept c.loop-at.invariant.0 c.end_at-end.ensures c.if-end-at.false
-    c.width-wide.ensures c.if-wide-eq0.false c.put_kept-entries.ensures in
+pub overflow_add-at-in-Some : goal.overflow_add-at-in-Some
+overflow_add-at-in-Some c =
+    let k = held_kept c.loop-at.invariant.0 c.end_at-end.ensures c.if-end-at.false c.in-Some.ensures refl c.put_kept-entries.ensures in
     omega (arith, k.top, k.most)
 
 pub loop-at-smaller : goal.loop-at-smaller
 loop-at-smaller c =
-    let k = held_kept c.loop-at.invariant.0 c.end_at-end.ensures c.if-end-at.false
-    c.width-wide.ensures c.if-wide-eq0.false c.put_kept-entries.ensures in
-    omega (arith, k.top, c.if-wide-eq0.false)
+    let k = held_kept c.loop-at.invariant.0 c.end_at-end.ensures c.if-end-at.false c.in-Some.ensures refl c.put_kept-entries.ensures in
+    omega (arith, k.top, is_wide _ _ _ c.in-Some.ensures)
 
 pub loop-at-preserved : goal.loop-at-preserved
 loop-at-preserved c =
-    let k = held_kept c.loop-at.invariant.0 c.end_at-end.ensures c.if-end-at.false
-    c.width-wide.ensures c.if-wide-eq0.false c.put_kept-entries.ensures in
+    let k = held_kept c.loop-at.invariant.0 c.end_at-end.ensures c.if-end-at.false c.in-Some.ensures refl c.put_kept-entries.ensures in
     (k, going_long k.going)

@@ -2,14 +2,6 @@
 use Rattle.salvage.proofs.Passing.{passed_one}
 use Rattle.salvage.proofs.pass.Goals as goal
 
-pub loop-at-init : goal.loop-at-init
-loop-at-init c =
-    c.pass_blocks-at.ensures
-
 pub loop-at-preserved : goal.loop-at-preserved
 loop-at-preserved c =
     passed_one c.loop-at.invariant c.loop-at-test.true c.octet_after.ensures c.marked.ensures c.if-marked.false
-
-pub returns : goal.returns
-returns c =
-    c.loop-at.invariant

@@ -3,8 +3,8 @@ use native.Mathlib.Omega.{arith}
 use Rattle.salvage.proofs.Numbering.{puts_after, puts_kept, puts_long, puts_room}
 use Rattle.salvage.proofs.put_kept.Goals as goal
 
-pub put_entry-requires : goal.put_entry-requires
-put_entry-requires c =
+pub put-requires : goal.put-requires
+put-requires c =
     puts_room _ c.put_stretch-k.ensures c.requires
 
 pub overflow_add-result : goal.overflow_add-result
@@ -13,4 +13,4 @@ overflow_add-result c =
 
 pub returns : goal.returns
 returns c =
-    puts_after c.put_stretch-k.ensures (puts_kept c.put_entry.ensures)
+    puts_after c.put_stretch-k.ensures (puts_kept c.put.ensures)

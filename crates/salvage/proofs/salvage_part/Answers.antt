@@ -1,30 +1,26 @@
 -- `salvage::salvage_part` meets its contract: the settings first, then the state, then the places from it on.
-use native.Mathlib.Omega.{arith}
 use mathlib.Core.Path.{sym, ◌∙◌}
-use Rattle.salvage.proofs.Answering.{part_first, part_not, part_is, part_refused, part_done, lies}
+use Rattle.std.proofs.lemmas.Result.{err_from_is_err_and}
+use Rattle.salvage.proofs.Answering.{part_settings, part_state, part_goes, lies}
 use Rattle.salvage.proofs.salvage_part.Goals as goal
 
 -- a pair with the names of the clauses
 named : {A B : Type 0} → A × B → record { answer : A; list : B }
 named p = record { answer = p.0; list = p.1 }
 
-pub returns-then-w-ne0 : goal.returns-then-w-ne0
-returns-then-w-ne0 c =
-    named (part_refused _ _ _ _ _ _ _ (part_first _ c.begin-w.result c.begin-w.ensures _ _ _ c.if-w-ne0.true) c.if-w-ne0.true
-    c.refused.ensures)
+pub returns-in_err-check : goal.returns-in_err-check
+returns-in_err-check c =
+    let p = err_from_is_err_and c.from_residual.result c.from_residual.ensures.1 in
+    rw (p.1, p.2) (named (part_settings _ _ _ _ _ _ _ _ c.in_err-check.ensures))
 
-pub returns-then-not-part_has : goal.returns-then-not-part_has
-returns-then-not-part_has c =
-    named (part_refused _ _ _ _ _ _ _
-    (part_not _ c.begin-w.result c.begin-w.ensures _ _ _ c.if-w-ne0.false c.part_has.ensures c.if-not-part_has.true)
-    (omega arith) c.refused-then-not-part_has.ensures)
+pub returns-then-not-has : goal.returns-then-not-has
+returns-then-not-has c =
+    named (part_state _ _ _ _ _ _ _ c.in_ok-check.ensures c.has.ensures c.if-not-has.true)
 
 pub along-requires : goal.along-requires
 along-requires c =
-    lies _ _ _ (sym c.part_has.ensures ∙ c.if-not-part_has.false)
+    lies _ _ _ (sym c.has.ensures ∙ c.if-not-has.false)
 
 pub returns : goal.returns
 returns c =
-    named (part_done _ _ _ _ _ _ _
-    (part_is _ c.begin-w.result c.begin-w.ensures _ _ _ c.if-w-ne0.false c.part_has.ensures c.if-not-part_has.false)
-    c.along.ensures.value c.along.ensures.list_after)
+    named (part_goes _ _ _ _ _ _ _ c.in_ok-check.ensures c.has.ensures c.if-not-has.false c.along.ensures.value c.along.ensures.list_after)

@@ -1,75 +1,54 @@
 -- `steps::join_roomed` meets its contract: once, or after the lowest record is forgotten.
-use Rattle.steps.proofs.Roomed.{meets_once, left_gate, left_count, again_gate, again_count, again_out, meets_none, meets_again}
+use mathlib.Core.Path.{ap, sym, ◌∙◌}
+use borrow.Author.Tests.{eqb-true, eqb-false, not-true, not-false}
+use Rattle.std.specs.Prelude.{Err}
+use Rattle.walk.specs.declared.Refusal.{Refusal}
+use Rattle.steps.proofs.Roomed.{meets_once, left_gate, left_count, again_gate, again_count, again_out, meets_none, meets_again, said_err}
 use Rattle.steps.proofs.join_roomed.Goals as goal
 
--- a pair with the names of the clauses
-named : {A B C D : Type 0} → A × (B × (C × D)) → record { joined_value : A; late_value : B; store_after : C; out_after : D }
-named p = record { joined_value = p.0; late_value = p.1.0; store_after = p.1.1.0; out_after = p.1.1.1 }
-
--- a pair with the names of the clauses
-named_2 : {A B C D : Type 0} → A × (B × (C × D)) → record { zero_value : A; store_value : B; n_value : C; room_in_bounds : D }
-named_2 p = record { zero_value = p.0; store_value = p.1.0; n_value = p.1.1.0; room_in_bounds = p.1.1.1 }
-
-pub returns-then-refusal-ne-REFUSED_FULL : goal.returns-then-refusal-ne-REFUSED_FULL
-returns-then-refusal-ne-REFUSED_FULL c =
-    named (meets_once _ _ _ _ _ (
-      c.join_after-came.ensures.joined_value,
-      (c.join_after-came.ensures.late_value, (c.join_after-came.ensures.store_after, c.join_after-came.ensures.out_after)),
-    ) c.if-refusal-ne-REFUSED_FULL.true)
+pub returns-then-not-is_full : goal.returns-then-not-is_full
+returns-then-not-is_full c =
+    let k = meets_once _ _ _ _ _ c.join_after-came.result
+    (c.join_after-came.ensures.joined_value, (c.join_after-came.ensures.late_value, (c.join_after-came.ensures.store_after, c.join_after-came.ensures.out_after))) (eqb-false _ 19 (sym c.is_full.ensures ∙ c.if-not-is_full.true)) in
+    record { joined_value = k.0; late_value = k.1.0; store_after = k.1.1.0; out_after = k.1.1.1 }
 
 pub forget_lowest-requires : goal.forget_lowest-requires
 forget_lowest-requires c =
+    let e = eqb-true _ 19 (sym c.is_full.ensures ∙ c.if-not-is_full.false) in
     record {
       zero_value = c.requires.zero_value;
-      store_value = left_gate _ _ _ _ _ (
-        c.join_after-came.ensures.joined_value,
-        (c.join_after-came.ensures.late_value, (c.join_after-came.ensures.store_after, c.join_after-came.ensures.out_after)),
-      )
-          c.if-refusal-ne-REFUSED_FULL.false c.requires.store_value;
-      n_value = left_count _ _ _ _ _ (
-        c.join_after-came.ensures.joined_value,
-        (c.join_after-came.ensures.late_value, (c.join_after-came.ensures.store_after, c.join_after-came.ensures.out_after)),
-      )
-          c.if-refusal-ne-REFUSED_FULL.false c.requires.n_value;
+      store_value = left_gate _ _ _ _ _ c.join_after-came.result
+          (c.join_after-came.ensures.joined_value, (c.join_after-came.ensures.late_value, (c.join_after-came.ensures.store_after, c.join_after-came.ensures.out_after))) e c.requires.store_value;
+      n_value = left_count _ _ _ _ _ c.join_after-came.result
+          (c.join_after-came.ensures.joined_value, (c.join_after-came.ensures.late_value, (c.join_after-came.ensures.store_after, c.join_after-came.ensures.out_after))) e c.requires.n_value;
     }
 
-pub returns-then-forget_lowest-ne0 : goal.returns-then-forget_lowest-ne0
-returns-then-forget_lowest-ne0 c =
-    named (meets_none _ _ _ _ _ (
-      c.join_after-came.ensures.joined_value,
-      (c.join_after-came.ensures.late_value, (c.join_after-came.ensures.store_after, c.join_after-came.ensures.out_after)),
-    )
-    c.if-refusal-ne-REFUSED_FULL.false c.forget_lowest.ensures.store_after c.forget_lowest.ensures.value c.if-forget_lowest-ne0.true)
+pub returns-then-is_err : goal.returns-then-is_err
+returns-then-is_err c =
+    let e = eqb-true _ 19 (sym c.is_full.ensures ∙ c.if-not-is_full.false) in
+    let k = meets_none _ _ _ _ _ c.join_after-came.result
+    (c.join_after-came.ensures.joined_value, (c.join_after-came.ensures.late_value, (c.join_after-came.ensures.store_after, c.join_after-came.ensures.out_after))) e c.forget_lowest.ensures.store_after (ap (λ (q : Refusal). q.number) c.forget_lowest.ensures.value)
+    (said_err c.forget_lowest.result (sym c.is_err.ensures.value ∙ c.if-is_err.true)) in
+    record { joined_value = k.0; late_value = k.1.0; store_after = k.1.1.0; out_after = k.1.1.1 }
 
 pub join_after-requires : goal.join_after-requires
 join_after-requires c =
-    let e = c.if-refusal-ne-REFUSED_FULL.false in let v = c.forget_lowest.ensures.store_after in named_2 ((
-      c.requires.zero_value,
-      (
-        again_gate _ _ _ _ _ (
-          c.join_after-came.ensures.joined_value,
-          (c.join_after-came.ensures.late_value, (c.join_after-came.ensures.store_after, c.join_after-came.ensures.out_after)),
-        ) e v
-            c.requires.store_value,
-        (
-          again_count _ _ _ _ _ (
-            c.join_after-came.ensures.joined_value,
-            (c.join_after-came.ensures.late_value, (c.join_after-came.ensures.store_after, c.join_after-came.ensures.out_after)),
-          ) e v
-              c.requires.n_value,
-          again_out _ _ _ _ _ (
-            c.join_after-came.ensures.joined_value,
-            (c.join_after-came.ensures.late_value, (c.join_after-came.ensures.store_after, c.join_after-came.ensures.out_after)),
-          ) e v c.requires.room_in_bounds,
-        ),
-      ),
-    ))
+    let e = eqb-true _ 19 (sym c.is_full.ensures ∙ c.if-not-is_full.false) in
+    let v = c.forget_lowest.ensures.store_after in
+    record {
+      zero_value = c.requires.zero_value;
+      store_value = again_gate _ _ _ _ _ c.join_after-came.result
+          (c.join_after-came.ensures.joined_value, (c.join_after-came.ensures.late_value, (c.join_after-came.ensures.store_after, c.join_after-came.ensures.out_after))) e v c.requires.store_value;
+      n_value = again_count _ _ _ _ _ c.join_after-came.result
+          (c.join_after-came.ensures.joined_value, (c.join_after-came.ensures.late_value, (c.join_after-came.ensures.store_after, c.join_after-came.ensures.out_after))) e v c.requires.n_value;
+      room_in_bounds = again_out _ _ _ _ _ c.join_after-came.result
+          (c.join_after-came.ensures.joined_value, (c.join_after-came.ensures.late_value, (c.join_after-came.ensures.store_after, c.join_after-came.ensures.out_after))) e v c.requires.room_in_bounds;
+    }
 
 pub returns : goal.returns
 returns c =
-    named (meets_again _ _ _ _ _ (
-      c.join_after-came.ensures.joined_value,
-      (c.join_after-came.ensures.late_value, (c.join_after-came.ensures.store_after, c.join_after-came.ensures.out_after)),
-    )
-    c.if-refusal-ne-REFUSED_FULL.false c.forget_lowest.ensures.store_after
-    (c.join_after.ensures.joined_value, (c.join_after.ensures.late_value, (c.join_after.ensures.store_after, c.join_after.ensures.out_after))))
+    let e = eqb-true _ 19 (sym c.is_full.ensures ∙ c.if-not-is_full.false) in
+    let k = meets_again _ _ _ _ _ c.join_after-came.result
+    (c.join_after-came.ensures.joined_value, (c.join_after-came.ensures.late_value, (c.join_after-came.ensures.store_after, c.join_after-came.ensures.out_after))) e c.forget_lowest.ensures.store_after c.join_after.result
+    (c.join_after.ensures.joined_value, (c.join_after.ensures.late_value, (c.join_after.ensures.store_after, c.join_after.ensures.out_after))) in
+    record { joined_value = k.0; late_value = k.1.0; store_after = k.1.1.0; out_after = k.1.1.1 }

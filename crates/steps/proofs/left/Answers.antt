@@ -6,14 +6,14 @@ use Rattle.steps.proofs.left.Goals as goal
 pub returns-then-refusal-ne-REFUSED_INCOMPLETE : goal.returns-then-refusal-ne-REFUSED_INCOMPLETE
 unfolding left_as
 returns-then-refusal-ne-REFUSED_INCOMPLETE c =
-    simp (ne_eqb _ 20 c.if-refusal-ne-REFUSED_INCOMPLETE.true)
+    λ n. simp (ne_eqb _ 20 c.if-refusal-ne-REFUSED_INCOMPLETE.true)
 
 pub returns-then-late : goal.returns-then-late
 unfolding left_as
 returns-then-late c =
-    simp (c.numbered.ensures, eq-eqb _ 20 c.if-refusal-ne-REFUSED_INCOMPLETE.false, c.if-late.true)
+    λ n. simp (eq-eqb _ 20 c.if-refusal-ne-REFUSED_INCOMPLETE.false, c.if-late.true)
 
 pub returns : goal.returns
 unfolding left_as
 returns c =
-    simp (c.numbered-2.ensures, eq-eqb _ 20 c.if-refusal-ne-REFUSED_INCOMPLETE.false, c.if-late.false)
+    λ n. simp (eq-eqb _ 20 c.if-refusal-ne-REFUSED_INCOMPLETE.false, c.if-late.false)

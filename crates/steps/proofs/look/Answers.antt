@@ -12,12 +12,12 @@ pub returns-then-not-marked : goal.returns-then-not-marked
 returns-then-not-marked c =
     sym (ap stands_of (found_other _ c.if-x-eq0.false (sym c.marked.ensures ∙ c.if-not-marked.true)))
 
-pub returns-then-x-be16 : goal.returns-then-x-be16
-returns-then-x-be16 c =
+pub returns-then-x-read : goal.returns-then-x-read
+returns-then-x-read c =
     sym (ap stands_of (found_cut _ c.if-x-eq0.false
-    (sym c.marked.ensures ∙ c.if-not-marked.false) (rw c.be16.ensures at c.if-x-be16.true)))
+    (sym c.marked.ensures ∙ c.if-not-marked.false) (rw c.read.ensures at c.if-x-read.true)))
 
 pub returns : goal.returns
 returns c =
     sym (ap stands_of (found_whole _ c.if-x-eq0.false
-    (sym c.marked.ensures ∙ c.if-not-marked.false) (rw c.be16.ensures at c.if-x-be16.false)))
+    (sym c.marked.ensures ∙ c.if-not-marked.false) (rw c.read.ensures at c.if-x-read.false)))

@@ -9,6 +9,6 @@ use Rattle.steps.proofs.put_frame.Goals as goal
 pub returns : goal.returns
 unfolding wide
 returns c =
-    c.put_number.ensures ∙ ap (λ (x : List ℕ). sets x 2
+    c.put_number-2.ensures ∙ ap (λ (x : List ℕ). sets x 2
     (wide 4 c.args.n))
-    c.put16.ensures
+    c.put_number.ensures

@@ -1,5 +1,5 @@
 -- `steps::step` meets its contract: by what stands at the place reached.
-use mathlib.Core.Path.{ap}
+use mathlib.Core.Path.{refl, ap}
 use mathlib.Core.List.{List}
 use Prim.Native.Nat.{ℕ}
 use native.Mathlib.Omega.{arith}
@@ -42,7 +42,7 @@ returns-in-Nothing c =
 
 pub returns-in-Other : goal.returns-in-Other
 returns-in-Other c =
-    named_2 (step_other _ _ _ _ _ _ c.look.ensures c.in-Other.is c.still.ensures)
+    named_2 (step_other _ _ _ _ _ _ c.look.ensures c.in-Other.is refl)
 
 pub returns-in-Cut : goal.returns-in-Cut
 returns-in-Cut c =

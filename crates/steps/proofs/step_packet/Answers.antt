@@ -8,7 +8,7 @@ named p = record { value = p.0; store_after = p.1.0; out_after = p.1.1 }
 
 pub returns-then-p-gt-LONGEST : goal.returns-then-p-gt-LONGEST
 returns-then-p-gt-LONGEST c =
-    named (rw c.numbered.ensures (passes_over _ _ _ _ _ c.if-p-gt-LONGEST.true))
+    named (passes_over _ _ _ _ _ c.if-p-gt-LONGEST.true)
 
 pub join_packet-requires : goal.join_packet-requires
 join_packet-requires c =

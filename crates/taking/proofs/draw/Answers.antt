@@ -4,10 +4,6 @@ use Rattle.taking.proofs.Drawn.{draw_cell, draw_opens, draw_header, draw_told, d
 use Rattle.taking.proofs.draw.Goals as goal
 
 -- a pair with the names of the clauses
-named : {A B C : Type 0} → A × (B × C) → record { lent : A; i_value : B; opens : C }
-named p = record { lent = p.0; i_value = p.1.0; opens = p.1.1 }
-
--- a pair with the names of the clauses
 named_2 : {A B : Type 0} → A × B → record { zero_value : A; counter_width_in_bounds : B }
 named_2 p = record { zero_value = p.0; counter_width_in_bounds = p.1 }
 
@@ -17,13 +13,12 @@ named_3 p = record { value = p.0; out_after = p.1.0; store_after = p.1.1 }
 
 pub copy_message-t-requires : goal.copy_message-t-requires
 copy_message-t-requires c =
-    named ((
-      c.requires.lent,
-      (
-        draw_cell _ _ _ c.args.out.now _ _ _ c.requires.i_value c.requires.i_lt_n.0 c.requires.i_lt_n.1 c.requires.b_in_bounds,
-        draw_opens _ _ _ _ _ _ _ c.requires.i_value c.requires.i_lt_n.0 c.requires.i_lt_n.1 c.requires.b_in_bounds,
-      ),
-    ))
+    record {
+      lent = c.requires.lent;
+      h_value = c.requires.h_value;
+      i_value = draw_cell _ _ _ c.args.out.now _ _ _ c.requires.i_value c.requires.i_lt_n.0 c.requires.i_lt_n.1 c.requires.b_in_bounds;
+      opens = draw_opens _ _ _ _ _ _ _ c.requires.i_value c.requires.i_lt_n.0 c.requires.i_lt_n.1 c.requires.b_in_bounds;
+    }
 
 pub overflow_add-t : goal.overflow_add-t
 overflow_add-t c =
@@ -45,7 +40,7 @@ clear-requires c =
 pub returns : goal.returns
 returns c =
     named_3 ((
-      rw c.numbered.ensures (draw_told _ _ _ c.args.out.now _ _ _ c.requires.i_value c.requires.i_lt_n.0 c.requires.i_lt_n.1 c.requires.b_in_bounds c.copy_message-t.ensures.value),
+      draw_told _ _ _ c.args.out.now _ _ _ c.requires.i_value c.requires.i_lt_n.0 c.requires.i_lt_n.1 c.requires.b_in_bounds c.copy_message-t.ensures.value,
       (
         draw_out _ _ _ _ _ _ _ c.requires.i_value c.requires.i_lt_n.0 c.requires.i_lt_n.1 c.requires.b_in_bounds c.copy_message-t.ensures.out_after,
         draw_store _ _ _ _ _ _ _ c.requires.i_value c.requires.i_lt_n.0 c.requires.i_lt_n.1 c.requires.b_in_bounds

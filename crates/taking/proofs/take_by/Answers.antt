@@ -9,8 +9,8 @@ pub returns-then-n-lowest_last : goal.returns-then-n-lowest_last
 unfolding out_with store_less
 returns-then-n-lowest_last c =
     let e = took_nothing _ _ _ _ _ c.lowest_last.ensures c.if-n-lowest_last.true in
-    record { value = c.not_taken.ensures ∙ ap taken_of (sym e); out_after = ap (out_with _) (sym e); store_after = ap (store_less _ _ _ _) (sym e) }
+    record { value = ap taken_of (sym e); out_after = ap (out_with _) (sym e); store_after = ap (store_less _ _ _ _) (sym e) }
 
 pub take_lowest-requires : goal.take_lowest-requires
 take_lowest-requires c =
-    ((λ e. c.requires.chained), c.requires.zero_value)
+    (c.requires.chained, c.requires.zero_value)

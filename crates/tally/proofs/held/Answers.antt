@@ -7,4 +7,4 @@ use Rattle.tally.proofs.held.Goals as goal
 
 pub returns : goal.returns
 returns c =
-    c.is_held.ensures ∙ held_told (body_in _ _) (cell_of _ _ _) c.judge-t.ensures
+    c.is_held.ensures ∙ held_told (body_in _ _) (cell_of _ _ _) c.judge.ensures

@@ -1,13 +1,8 @@
 -- `tally::records` meets its contract: the count goes over the cells that the length gives.
 use Prim.Native.Nat.{ℕ}
-use mathlib.Core.Path.{refl, ap, ◌∙◌}
+use mathlib.Core.Path.{ap, ◌∙◌}
 use Rattle.tally.specs.Counting.{records_to}
-use Rattle.tally.proofs.Passing.{cells_few}
 use Rattle.tally.proofs.records.Goals as goal
-
-pub records_to-requires : goal.records_to-requires
-records_to-requires c =
-    record { zero_value = refl; n_le_cells_most = cells_few c.args.s 1024 c.args.store.now _ c.count-n.ensures }
 
 pub returns : goal.returns
 returns c =

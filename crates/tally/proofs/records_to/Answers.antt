@@ -1,33 +1,13 @@
--- `tally::records_to` meets its contract. The loop's invariant: how many of the cells passed have a record.
-use Prim.Native.Nat.{ℕ}
-use lib.ListN.{length}
-use mathlib.Core.List.{List}
-use mathlib.Core.Path.{ap, ◌∙◌}
-use Rattle.cells.specs.Rows.{cell_of}
+-- `tally::records_to` meets its contract: the cells that pass are counted.
+use Rattle.std.proofs.Common.{length, rules, tests}
+use Rattle.cells.specs.Order.{cell_at}
 use Rattle.taking.specs.Forgetting.{is_record}
 use Rattle.tally.specs.Counting.{records_to}
-use Rattle.tally.proofs.Passing.{counted_first, counted_low, counted_turn, counted_done}
+use Rattle.tally.proofs.Passing.{count_in_range}
 use Rattle.tally.proofs.records_to.Goals as goal
-
-pub loop-i-init : goal.loop-i-init
-loop-i-init c =
-    counted_first _ _
-
-pub taken-requires : goal.taken-requires
-taken-requires c =
-    c.requires.zero_value
-
-pub more-count-requires : goal.more-count-requires
-more-count-requires c =
-    counted_low c.loop-i.invariant c.loop-i-test.true c.requires.n_le_cells_most
-
-pub loop-i-preserved : goal.loop-i-preserved
-loop-i-preserved c =
-    counted_turn c.loop-i.invariant c.loop-i-test.true (c.taken.ensures ∙ ap
-    (λ (r : List ℕ). is_record (cell_of c.args.s (length c.args.zero.now) r))
-    c.row.ensures) c.more-count.ensures
 
 pub returns : goal.returns
 unfolding records_to
 returns c =
-    counted_done c.loop-i.invariant c.loop-i-test.false
+    let a = c.args in
+    count_in_range (λ i. is_record (cell_at a.s (length a.zero.now) a.store.now i)) a.n c.filter.ensures.source c.filter.ensures.closure c.count.ensures.ran (λ x b q k. search (rules, tests))

@@ -4,4 +4,4 @@ use Rattle.tally.proofs.taken.Goals as goal
 
 pub returns : goal.returns
 returns c =
-    record_judged _ _ _ c.judge-t.ensures c.is_taken.ensures
+    record_judged _ _ _ c.judge.ensures c.is_taken.ensures

@@ -1,15 +1,17 @@
--- `utf8::first_follow` meets its contract. The loop's invariant: the flag tells whether the octets passed may stand where they do.
-use Rattle.utf8.proofs.Passing.{passing_first, passing_turn, passing_done}
+-- `utf8::first_follow` meets its contract. The loop's invariant: the flag tells whether the octets passed do.
+use Prim.Native.Nat.{◌+◌}
+use native.Mathlib.Omega.{arith}
+use Rattle.utf8.specs.Places.{follows_at}
+use Rattle.utf8.proofs.Passing.{all_none, all_turn}
 use Rattle.utf8.proofs.first_follow.Goals as goal
 
 pub loop-i-init : goal.loop-i-init
 loop-i-init c =
-    passing_first _ _ _
+    let a = c.args in
+    all_none (follows_at a.x.now) a.at 0 (omega arith)
 
 pub loop-i-preserved : goal.loop-i-preserved
 loop-i-preserved c =
-    rw (c.both-so_far.ensures, c.follows_at.ensures) (passing_turn c.loop-i.invariant c.loop-i-test.true)
-
-pub returns : goal.returns
-returns c =
-    passing_done c.loop-i.invariant c.loop-i-test.false
+    let a = c.args in
+    let l = c.loop-i in
+    all_turn (follows_at a.x.now) a.at l.i (l.i + 1) (a.at + l.i) l.so_far _ (omega arith) (omega arith) l.invariant c.follows_at-so_far.ensures

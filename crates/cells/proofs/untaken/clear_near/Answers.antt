@@ -18,14 +18,6 @@ pub returns-then-not-clear_at : goal.returns-then-not-clear_at
 returns-then-not-clear_at c =
     clear_not _ _ _ _ _ _ _ _ _ _ c.clear_at.ensures c.if-not-clear_at.true
 
-pub overflow_add-level : goal.overflow_add-level
-overflow_add-level c =
-    record { fits = omega (arith, c.loop-level-test.true) }
-
-pub loop-level-smaller : goal.loop-level-smaller
-loop-level-smaller c =
-    omega (arith, c.loop-level-test.true)
-
 pub loop-level-preserved : goal.loop-level-preserved
 loop-level-preserved c =
     nearing_turn c.loop-level.invariant c.loop-level-test.true c.clear_at.ensures c.if-not-clear_at.false

@@ -1,6 +1,6 @@
 -- `flat_store::recordings::join_recording` meets its contract.
 use mathlib.Core.Path.{ap, ◌∙◌}
-use Rattle.recording.specs.declared.Recorded.{Recorded}
+use Rattle.recording.specs.Answer.{Recorded}
 use Rattle.flat_store.specs.Recordings.{recorded_numbers}
 use Rattle.flat_store.proofs.recordings.join_recording.Goals as goal
 

@@ -7,7 +7,7 @@ use Rattle.packet.specs.declared.SegmentCounter.{SegmentCounter}
 use Rattle.cells.specs.Rows.{cell_of}
 use Rattle.cells.specs.Order.{cell_at}
 use Rattle.taking.specs.Cleared.{laid_at, left_within}
-use Rattle.taking.proofs.Clears.{clearing_first, clearing_long, clearing_done, clearing_row, clearing_on}
+use Rattle.taking.proofs.Clears.{clearing_first, clearing_row, clearing_on}
 use Rattle.taking.proofs.Leaves.{left_long}
 use Rattle.taking.proofs.clearing.clear.Goals as goal
 
@@ -26,11 +26,3 @@ loop-i-preserved c =
     clearing_on k c.loop-i-test.true
     (c.leave.ensures
     ∙ ap (λ (r : List ℕ). laid_at Z c.loop-i.i (left_within Z a.key.now a.first.0 a.steps (cell_of a.s Z r)) c.loop-i.store) (clearing_row w k))
-
-pub shape_of-store : goal.shape_of-store
-shape_of-store c =
-    clearing_long c.loop-i.invariant
-
-pub returns : goal.returns
-returns c =
-    clearing_done c.loop-i.invariant c.loop-i-test.false

@@ -15,4 +15,4 @@ returns-then-ok c =
 
 pub returns : goal.returns
 returns c =
-    c.refused.ensures ∙ ap as_walk (sym (check_fails _ _ _ (eq-eqb _ _ c.if-self-ne0.false) c.if-ok.false))
+    c.stopped.ensures ∙ ap as_walk (sym (check_fails _ _ _ (eq-eqb _ _ c.if-self-ne0.false) c.if-ok.false))

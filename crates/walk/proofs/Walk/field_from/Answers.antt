@@ -7,7 +7,7 @@ use Rattle.walk.proofs.Walk.field_from.Goals as goal
 
 pub returns-then-self-ne0 : goal.returns-then-self-ne0
 returns-then-self-ne0 c =
-    c.refused.ensures ∙ ap as_walk (sym (field_refused _ _ (ne_eqb _ _ c.if-self-ne0.true)))
+    c.stopped.ensures ∙ ap as_walk (sym (field_refused _ _ (ne_eqb _ _ c.if-self-ne0.true)))
 
 pub returns : goal.returns
 returns c =

@@ -12,17 +12,17 @@ returns-then-self-ne0 c =
 
 pub returns-then-b-at : goal.returns-then-b-at
 returns-then-b-at c =
-    simp (c.refused.ensures, c.past-past.ensures)
+    simp (c.stopped.ensures, c.past-past.ensures)
     (ap as_walk (sym (octets_past _ _ _ _ (eq-eqb _ _ c.if-self-ne0.false) (omega (arith, c.if-b-at.true)))))
 
 pub returns-then-b-at-2 : goal.returns-then-b-at-2
 returns-then-b-at-2 c =
-    simp (c.refused-then-b-at-2.ensures, c.past-past.ensures)
+    simp (c.stopped-then-b-at-2.ensures, c.past-past.ensures)
     (ap as_walk (sym (octets_past _ _ _ _ (eq-eqb _ _ c.if-self-ne0.false) (omega (arith, c.if-b-at-2.true)))))
 
 pub returns-then-p-at : goal.returns-then-p-at
 returns-then-p-at c =
-    c.refused-then-p-at.ensures
+    c.stopped-then-p-at.ensures
     ∙ ap as_walk
     (sym (octets_ends _ _ _ _ (eq-eqb _ _ c.if-self-ne0.false) (omega (arith, c.if-b-at.false, c.if-b-at-2.false))
     (omega arith)))

@@ -1,0 +1,20 @@
+-- `fields::read_marked_text` meets its contract: its steps are the definition's.
+use Rattle.std.proofs.Common.{arith}
+use Rattle.walk.specs.Walk.{octet_field}
+use Rattle.walk.proofs.Steps.{check_ok}
+use Rattle.walk.proofs.Keeps.{check_keeps, check_stops}
+use Rattle.fields.specs.Fields.{marked_text}
+use Rattle.fields.proofs.Steps.{text_keeps}
+use Rattle.fields.proofs.read_marked_text.Goals as goal
+
+pub returns-in_err-mark : goal.returns-in_err-mark
+unfolding marked_text octet_field
+returns-in_err-mark c = grind (arith, check_keeps, text_keeps)
+
+pub returns-in_err-ensure : goal.returns-in_err-ensure
+unfolding marked_text octet_field
+returns-in_err-ensure c = grind (arith, check_stops, text_keeps)
+
+pub returns : goal.returns
+unfolding marked_text octet_field
+returns c = grind (arith, check_ok)

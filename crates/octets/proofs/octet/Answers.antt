@@ -1,8 +1,0 @@
--- `octets::octet` meets its contract: past the end the list has its default.
-use lib.ListN.{get_or-eq_default}
-use mathlib.Core.Path.{sym}
-use Rattle.octets.proofs.octet.Goals as goal
-
-pub returns : goal.returns
-returns c =
-    sym (get_or-eq_default c.args.s.now 0 c.if-at-s.false)

@@ -1,6 +1,0 @@
--- `pdu::test_sizes` meets its contract.
-use Rattle.pdu.proofs.test_sizes.Goals as goal
-
-pub returns : goal.returns
-returns c =
-    simp (c.unless.ensures, c.fits_in.ensures, c.unless-a.ensures)
