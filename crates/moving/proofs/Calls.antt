@@ -18,8 +18,8 @@ use Rattle.cells.specs.Order.{cell_size, wide_size, count_in, in_order, gate}
 use Rattle.moving.specs.declared.Unmoved.{Unmoved}
 use Rattle.std.specs.Prelude.{Result, Ok, Err}
 use Rattle.walk.specs.declared.Refused.{Refused}
-use Rattle.walk.specs.Told.{told}
 use Rattle.walk.proofs.Refuses.{has_number}
+use Rattle.walk.proofs.Apart.{told_one}
 use Rattle.moving.specs.Answer.{Moved, moved}
 use Rattle.moving.specs.Moving.{first_too_long, moved_in, moved_by, target_by}
 use Rattle.moving.specs.Told.{moved_of}
@@ -118,21 +118,19 @@ back_numbered κs a r x k =
 
 -- ---- the same arguments, the same answer and target
 
--- told apart by the record of the definitions, where its refusals are
-module _ (one : (r q : Refused) → told r ≡ told q → r ≡ q) where
-  moved_one : (x y : Result (Unit {0}) Unmoved) → moved x ≡ moved y → x ≡ y
-  moved_one (Ok u) (Ok v) e = refl
-  moved_one (Ok u) (Err v) e = absurd (has_number v.refused (sym (ap (λ (x : Moved). x.refusal.number) e)))
-  moved_one (Err u) (Ok v) e = absurd (has_number u.refused (ap (λ (x : Moved). x.refusal.number) e))
-  moved_one (Err u) (Err v) e =
-      ap₂ (λ (x : Refused) (n : ℕ). Err (record { refused = x; cell = n })) (one u.refused v.refused (ap (λ (x : Moved). x.refusal) e))
-      (ap (λ (x : Moved). x.cell) e)
+moved_one : (x y : Result (Unit {0}) Unmoved) → moved x ≡ moved y → x ≡ y
+moved_one (Ok u) (Ok v) e = refl
+moved_one (Ok u) (Err v) e = absurd (has_number v.refused (sym (ap (λ (x : Moved). x.refusal.number) e)))
+moved_one (Err u) (Ok v) e = absurd (has_number u.refused (ap (λ (x : Moved). x.refusal.number) e))
+moved_one (Err u) (Err v) e =
+    ap₂ (λ (x : Refused) (n : ℕ). Err (record { refused = x; cell = n })) (told_one (ap (λ (x : Moved). x.refusal) e))
+    (ap (λ (x : Moved). x.cell) e)
 
-  pub there_same_answer : (κs : L.Lfts 2) (a : _) (r q : _) (s t : _) → theres.Post κs a r s → theres.Post κs a q t → r ≡ q
-  there_same_answer κs a r q s t k j = moved_one r q (k.0 ∙ sym j.0)
+pub there_same_answer : (κs : L.Lfts 2) (a : _) (r q : _) (s t : _) → theres.Post κs a r s → theres.Post κs a q t → r ≡ q
+there_same_answer κs a r q s t k j = moved_one r q (k.0 ∙ sym j.0)
 
-  pub back_same_answer : (κs : L.Lfts 2) (a : _) (r q : _) (s t : _) → backs.Post κs a r s → backs.Post κs a q t → r ≡ q
-  back_same_answer κs a r q s t k j = moved_one r q (k.0 ∙ sym j.0)
+pub back_same_answer : (κs : L.Lfts 2) (a : _) (r q : _) (s t : _) → backs.Post κs a r s → backs.Post κs a q t → r ≡ q
+back_same_answer κs a r q s t k j = moved_one r q (k.0 ∙ sym j.0)
 
 pub there_same_lent : (κs : L.Lfts 2) (a : _) (r q : _) (s t : _) → theres.Post κs a r s → theres.Post κs a q t → s.1.1.0.now ≡ t.1.1.0.now
 there_same_lent κs a r q s t k j = k.1.0 ∙ sym j.1.0

@@ -3,7 +3,7 @@
 -- over a file ends for no other reason than it may.
 -- Assumes nothing.
 use Prim.Native.Nat.{ℕ, ◌+◌, ◌/◌, ◌≤◌, ◌<◌}
-use mathlib.Core.Path.{◌≡◌, refl, sym, ◌∙◌, subst}
+use mathlib.Core.Path.{◌≡◌, refl, ap, sym, ◌∙◌, subst}
 use mathlib.Core.Logic.{◌⊎◌, ⊎_elim}
 use mathlib.Core.Bool.{Bool, true, false}
 use mathlib.Core.List.{List}
@@ -17,6 +17,11 @@ use Rattle.octets.proofs.Lists.{bool}
 use Rattle.walk.specs.declared.Settings.{Settings}
 use Rattle.walk.specs.Walk.{going, begun}
 use Rattle.format.proofs.Refusals.{picked}
+use Rattle.std.specs.Prelude.{Result, Ok, Err}
+use Rattle.walk.specs.declared.Refused.{Refused}
+use Rattle.walk.proofs.Refuses.{has_number}
+use Rattle.walk.proofs.Apart.{told_one}
+use Rattle.salvage.specs.declared.Salvaged.{Salvaged as Tells}
 use Rattle.salvage.specs.Answer.{Salvaged, answered}
 use Rattle.salvage.specs.Listing.{Stop, stop}
 use Rattle.salvage.specs.Calling.{entry_size, refusal_of, told_of, call_of, salvaged}
@@ -27,9 +32,21 @@ use Rattle.salvage.proofs.Arguments.{salvage_call, salvage_list, part_call, part
 use Rattle.salvage.proofs.Bounds.{call_bounded, call_ends, call_left}
 use Rattle.salvage.proofs.Running.{State}
 
+-- an answer is known by its record
+part_of : Salvaged → Tells
+part_of r =
+    record { tested = r.tested; entries = r.entries; stop = record { begin = r.begin; place = r.place }; done = r.done }
+
+answered_one : (x y : Result Tells Refused) → answered x ≡ answered y → x ≡ y
+unfolding part_of
+answered_one (Ok r) (Ok q) e = ap (λ (x : Salvaged). Ok (part_of x)) e
+answered_one (Ok r) (Err q) e = absurd (has_number q (sym (ap (λ (x : Salvaged). x.refusal.number) e)))
+answered_one (Err r) (Ok q) e = absurd (has_number r (ap (λ (x : Salvaged). x.refusal.number) e))
+answered_one (Err r) (Err q) e = ap (λ (x : Refused). Err x) (told_one (ap (λ (x : Salvaged). x.refusal) e))
+
 pub salvage_same_answer :
-    (κs : L.Lfts 2) (a : _) (r q : _) (s t : _) → reads.Post κs a r s → reads.Post κs a q t → answered r ≡ answered q
-salvage_same_answer κs a r q s t k j = k.0 ∙ sym j.0
+    (κs : L.Lfts 2) (a : _) (r q : _) (s t : _) → reads.Post κs a r s → reads.Post κs a q t → r ≡ q
+salvage_same_answer κs a r q s t k j = answered_one r q (k.0 ∙ sym j.0)
 
 -- the list
 pub salvage_same_list :
@@ -37,8 +54,8 @@ pub salvage_same_list :
 salvage_same_list κs a r q s t k j = k.1 ∙ sym j.1
 
 pub part_same_answer :
-    (κs : L.Lfts 2) (a : _) (r q : _) (s t : _) → part-reads.Post κs a r s → part-reads.Post κs a q t → answered r ≡ answered q
-part_same_answer κs a r q s t k j = k.0 ∙ sym j.0
+    (κs : L.Lfts 2) (a : _) (r q : _) (s t : _) → part-reads.Post κs a r s → part-reads.Post κs a q t → r ≡ q
+part_same_answer κs a r q s t k j = answered_one r q (k.0 ∙ sym j.0)
 
 pub part_same_list :
     (κs : L.Lfts 2) (a : _) (r q : _) (s t : _) → part-reads.Post κs a r s → part-reads.Post κs a q t → part_list κs s ≡ part_list κs t
