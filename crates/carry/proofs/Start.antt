@@ -19,7 +19,7 @@ use Rattle.walk.specs.Told.{told, Holds}
 use Rattle.walk.specs.Walk.{Reading, goes, refused, refusal, no_refusal, none_failed, failed, check, unless, begun}
 use Rattle.walk.specs.Read.{Refuses, Tests}
 use Rattle.walk.proofs.Refuses.{has_number}
-use Rattle.walk.proofs.Keeps.{refused_as, check_keeps}
+use Rattle.walk.proofs.Keeps.{kept, refuses_on, refused_as, check_keeps}
 use Rattle.write.specs.Writing.{settings_test}
 use Rattle.carry.specs.Message.{encoding_test, message_tests, start_at}
 
@@ -43,7 +43,7 @@ settings_are s = go (leb 1 s.t) (leb s.t 16) (leb s.profile 1)
 
 tests_keep : (m : List ℕ) {e : Refused} {w : Reading} → Refuses e w → Refuses e (message_tests m w)
 unfolding message_tests
-tests_keep m h = check_keeps _ 4 (check_keeps _ 3 (check_keeps _ 2 (check_keeps _ 1 h)))
+tests_keep m h = refuses_on (check_keeps _ 4 (check_keeps _ 3 (check_keeps _ 2 (check_keeps _ 1 (kept h))))) h
 
 pub settings_held : (s : Settings) → no_refusal ≡ refusal (begun s).refused → settings_test s none_failed ≡ none_failed
 settings_held s e =

@@ -16,7 +16,7 @@ use Rattle.walk.specs.declared.Refused.TheVariants.{Timestamp}
 use Rattle.walk.specs.declared.Refusal.{Refusal}
 use Rattle.walk.specs.Told.{told}
 use Rattle.walk.specs.Walk.{Reading, Step, goes, going, check}
-use Rattle.walk.specs.Read.{Refuses, Went, Answers, Tests, tells}
+use Rattle.walk.specs.Read.{Refuses, Stopped, Went, Answers, Tests, tells}
 use Rattle.fields.specs.Fields.{place}
 use Rattle.packet.specs.declared.Primary.{Primary}
 use Rattle.packet.specs.declared.Fixed.{Fixed}
@@ -29,8 +29,8 @@ use Rattle.packet.specs.Reading.{ids_of, texts_of, refused_header}
 use Rattle.packet.specs.Inner.{fixed_part}
 use Rattle.packet.specs.Decoded.{decoded, whole}
 use Rattle.walk.proofs.Steps.{check_ok}
-use Rattle.walk.proofs.Keeps.{check_keeps, check_stops}
-use Rattle.packet.proofs.Chain.{then_went, then_refuses}
+use Rattle.walk.proofs.Keeps.{kept, refuses_on, check_keeps, check_stops}
+use Rattle.packet.proofs.Chain.{then_went, then_stopped}
 use Rattle.packet.proofs.Keeping.{fixed_keeps, ids_keep, texts_keep}
 use Rattle.carry.specs.Message.{message_bound, start_at, timestamp_fits, ended, refusal_of, primary_of, accepted_message, read_message}
 use Rattle.carry.specs.Inner.{has_from, ids_from, texts_from, ended_from, message_from}
@@ -56,10 +56,10 @@ module _ (r : Reader) (eb : r.bound ≡ message_bound) where
   abbrev texts_in : Bound → Present → Step Texts
   texts_in b h = texts_of r.settings b h P (ids_in b h).walk
 
-  pub fixed_refused : {e : Refused} → Refuses e (fixed_end r.bound P W) → Refuses e (ended_from r.settings P W)
+  pub fixed_refused : {e : Refused} {q : Reader} → Stopped e (fixed_end r.bound P W) r q → Refuses e (ended_from r.settings P W)
   fixed_refused {e} h =
-      let k = subst (λ (b : Bound). Refuses e (fixed_end b P W)) eb h in
-      check_keeps _ 34 (texts_keep r.settings message_bound P _ (ids_keep r.settings message_bound P _ false k))
+      let k = subst (λ (b : Bound). Refuses e (fixed_end b P W)) eb h.refuses in
+      refuses_on (check_keeps _ 34 (texts_keep r.settings message_bound P _ (ids_keep r.settings message_bound P _ false (kept k)))) k
 
   module _ {q : Reader} {f : Fixed} {has : Present} (x : Went (fixed_part r.bound P W) r q (f, has)) where
     has_is : has ≡ has_from P W
@@ -71,18 +71,21 @@ module _ (r : Reader) (eb : r.bound ≡ message_bound) where
     abbrev texts_at : Settings → Bound → List ℕ → Reading → Step Texts
     texts_at s b p = texts_of s b has p
 
-    pub ids_refused : {e : Refused} → Refuses e (ids_at q.settings q.bound q.octets.now (goes q.at)).walk → Refuses e (ended_from r.settings P W)
+    pub ids_refused :
+        {e : Refused} {t : Reader} → Stopped e (ids_at q.settings q.bound q.octets.now (goes q.at)).walk q t → Refuses e (ended_from r.settings P W)
     ids_refused {e} h =
-        let k : Refuses e (ids_in r.bound has).walk = then_refuses ids_at x h in
+        let k : Refuses e (ids_in r.bound has).walk = (then_stopped ids_at x h).refuses in
         let m : Refuses e (ids_from r.settings P W).walk = subst (Refuses e) (λ j. (ids_in (eb j) (has_is j)).walk) k in
-        check_keeps _ 34 (texts_keep r.settings message_bound P _ m)
+        refuses_on (check_keeps _ 34 (texts_keep r.settings message_bound P _ (kept m))) m
 
     module _ {t : Reader} {i : Ids} (y : Went (ids_at q.settings q.bound q.octets.now (goes q.at)) q t i) where
       pub texts_refused :
-          {e : Refused} → Refuses e (texts_at t.settings t.bound t.octets.now (goes t.at)).walk → Refuses e (ended_from r.settings P W)
+          {e : Refused} {u : Reader} → Stopped e (texts_at t.settings t.bound t.octets.now (goes t.at)).walk t u →
+          Refuses e (ended_from r.settings P W)
       texts_refused {e} h =
-          let k : Refuses e (texts_in r.bound has).walk = then_refuses texts_at (then_went ids_at x y) h in
-          check_keeps _ 34 (subst (Refuses e) (λ j. (texts_in (eb j) (has_is j)).walk) k)
+          let k : Refuses e (texts_in r.bound has).walk = (then_stopped texts_at (then_went ids_at x y) h).refuses in
+          let m : Refuses e (texts_from r.settings P W).walk = subst (Refuses e) (λ j. (texts_in (eb j) (has_is j)).walk) k in
+          refuses_on (check_keeps _ 34 (kept m)) m
 
       module _
           {u : Reader}
@@ -143,7 +146,8 @@ module _ (s : Settings) (e : ℕ) (m : List ℕ) where
 
   -- refused before the header
   pub start_refused : {d : Refused} → Refuses d (start_at s e m) → Refuses d (ended_from s m (start_at s e m))
-  start_refused h = check_keeps _ 34 (texts_keep s message_bound m _ (ids_keep s message_bound m _ false (fixed_keeps message_bound m h)))
+  start_refused h =
+      refuses_on (check_keeps _ 34 (texts_keep s message_bound m _ (ids_keep s message_bound m _ false (fixed_keeps message_bound m (kept h))))) h
 
   -- or begun after the identification
   pub begins : (x : Result Decoded Refused) → start_at s e m ≡ goes 2 → Answers (message_from s m (goes 2)) x → Answers (message_from s m (start_at s e m)) x

@@ -42,7 +42,7 @@ pub const CELL_WIDE: usize = 2048;
 pub const CELLS_MOST: usize = 4096;
 
 // How many chains lead through a store, and what the mixing of a key begins with.
-const CHAINS_MOST: usize = 4096;
+pub const CHAINS: usize = 4096;
 
 const MIX_START: u32 = 2166136261;
 
@@ -596,7 +596,7 @@ fn chain(m: u32, c: SegmentCounter) -> usize
     ensures { result ≡ chain_in (mix_in m c.0) }
 {
     let x = mix_in(m, c.0) as usize;
-    (x / MIX_HALF + x) % CHAINS_MOST
+    (x / MIX_HALF + x) % CHAINS
 }
 
 // The key of a segment mixed, told where its body begins.
@@ -626,7 +626,7 @@ pub fn bucket(q: &[u8], body_at: usize, c: SegmentCounter) -> usize
 // The chains through a store's cells: the highest cell of each chain, and of each cell the next lower one. 0 is none, and cell i is i + 1.
 #[derive(Drop)]
 pub struct Chains {
-    heads: [u16; CHAINS_MOST],
+    heads: [u16; CHAINS],
     links: [u16; CELLS_MOST],
 }
 
@@ -636,7 +636,7 @@ impl Chains {
         ensures { (b : ℕ → ℕ) → Chained b result 0 }
     {
         Chains {
-            heads: [0; CHAINS_MOST],
+            heads: [0; CHAINS],
             links: [0; CELLS_MOST],
         }
     }

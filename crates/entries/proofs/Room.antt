@@ -15,10 +15,7 @@ use Rattle.octets.proofs.Laying.{lay_fits, lay_not, lay_length, together_append,
 use Rattle.octets.proofs.Lists.{below_or}
 use Rattle.packet.specs.Format.{flags_whole}
 use Rattle.entries.specs.declared.Identity.{Identity}
-use Rattle.salvage.specs.declared.Kind.{Kind}
-use Rattle.salvage.specs.declared.Kind.TheVariants.{Skipped, Kept}
-use Rattle.salvage.specs.declared.Entry.{Entry}
-use Rattle.entries.specs.Lines.{by_kind, decimal_in, decimal, comma, newline, kept_word, skipped_word, flags_word}
+use Rattle.entries.specs.Lines.{kept_kind, decimal_in, decimal, comma, newline, kept_word, skipped_word, flags_word}
 use Rattle.entries.specs.Lines.{next_pieces, counter_pieces, flags_pieces, entry_pieces, kept_pieces, skipped_pieces, line_pieces}
 
 -- ---- how long a line is
@@ -114,18 +111,15 @@ skipped_most at n =
     let e : List ℕ = 0x2c ∷ 0x2c ∷ 0x2c ∷ 0x2c ∷ 0x0a ∷ [] in
     omega (arith, both_long (entry_pieces skipped_word at n) (e ∷ []), cons_long e [], none_long, entry_most skipped_word at n (omega arith))
 
-kinds : (k : Kind) (x y : List (List ℕ)) → long x ≤ 126 → long y ≤ 126 → long (by_kind k x y) ≤ 126
-kinds Kept x y h k = h
-kinds Skipped x y h k = k
-
-pub line_most : (y : List ℕ) (off : ℕ) (e : Entry) → long (line_pieces y off e) ≤ 126
-line_most y off e = kinds e.kind _ _ (kept_most e.place e.long _) (skipped_most e.place e.long)
+pub line_most : (y : List ℕ) (off kind at n : ℕ) → long (line_pieces y off kind at n) ≤ 126
+unfolding line_pieces
+line_most y off kind at n = either long 126 (eqb kind kept_kind) _ _ (kept_most at n _) (skipped_most at n)
 
 -- with the room of a line it is laid whole
 pub line_whole :
-    {l k : List ℕ} {at r : ℕ} (y : List ℕ) (off : ℕ) (e : Entry) → Lays (laid l at) (line_pieces y off e) k r → at + 128 ≤ length l →
-    (r ≡ at + long (line_pieces y off e)) × (k ≡ sets l at (together (line_pieces y off e)))
-line_whole y off e a h = lays_all a (omega (arith, line_most y off e))
+    {l k : List ℕ} {at r : ℕ} (y : List ℕ) (off kind place n : ℕ) → Lays (laid l at) (line_pieces y off kind place n) k r → at + 128 ≤ length l →
+    (r ≡ at + long (line_pieces y off kind place n)) × (k ≡ sets l at (together (line_pieces y off kind place n)))
+line_whole y off kind place n a h = lays_all a (omega (arith, line_most y off kind place n))
 
 -- ---- nothing is laid past the end
 

@@ -6,10 +6,11 @@ use Rattle.octets.specs.Octets.{pick, octet_at, number, part}
 use Rattle.packet.specs.Answer.{Header}
 use Rattle.packet.specs.Format.{flags_whole}
 use Rattle.cells.specs.Inner.{counter_in}
-use Rattle.salvage.specs.declared.Kind.{Kind}
-use Rattle.salvage.specs.declared.Kind.TheVariants.{Skipped, Kept}
-use Rattle.salvage.specs.declared.Entry.{Entry}
 use Rattle.entries.specs.declared.Identity.{Identity}
+
+-- the kind of a kept entry; every other number is a stretch's
+abbrev pub kept_kind : ℕ
+kept_kind = 1
 
 -- the octets of the mark before a kept packet
 abbrev pub mark_size : ℕ
@@ -102,15 +103,11 @@ skipped_pieces at n = entry_pieces skipped_word at n ++ ((0x2c ∷ 0x2c ∷ 0x2c
 
 -- ---- an entry, with the part of the file in hand from `off` on
 
-abbrev pub by_kind : {A : Type 0} → Kind → A → A → A
-by_kind Kept a b = a
-by_kind Skipped a b = b
-
 -- the octets of an entry: of a kept one mark and packet as they stand in the part, of a stretch none
-abbrev pub kept_octets : List ℕ → ℕ → Entry → List ℕ
-kept_octets y off e = by_kind e.kind (part y (e.place - off) e.long) []
+unfoldable pub kept_octets : List ℕ → ℕ → ℕ → ℕ → ℕ → List ℕ
+kept_octets y off kind at n = pick (eqb kind kept_kind) (part y (at - off) n) []
 
 -- the packet is what stands after the mark
-abbrev pub line_pieces : List ℕ → ℕ → Entry → List (List ℕ)
-line_pieces y off e =
-    by_kind e.kind (kept_pieces e.place e.long (identity_in (part (kept_octets y off e) mark_size e.long))) (skipped_pieces e.place e.long)
+unfoldable pub line_pieces : List ℕ → ℕ → ℕ → ℕ → ℕ → List (List ℕ)
+line_pieces y off kind at n =
+    pick (eqb kind kept_kind) (kept_pieces at n (identity_in (part (kept_octets y off kind at n) mark_size n))) (skipped_pieces at n)

@@ -15,7 +15,7 @@ ghost use Rattle.cells.specs.Inner.{counter_in};
 ghost use Rattle.entries.specs.Lines.{identity_in, decimal, flags_word, kept_octets};
 ghost use Rattle.entries.specs.Lines.{next_pieces, counter_pieces, flags_pieces, entry_pieces, kept_pieces, skipped_pieces, line_pieces};
 
-use salvage::{Entry, Kind, Part};
+use salvage::{KEPT, Part};
 
 // The room of the longest line.
 pub const LINE: usize = 128;
@@ -90,12 +90,12 @@ fn put_next(out: &mut [u8], at: usize, n: u64) -> usize
 }
 
 // A word, a place and a length.
-fn put_entry(out: &mut [u8], at: usize, word: &[u8], entry: Entry) -> usize
-    ensures { Lays (laid out.old at) (entry_pieces word.now entry.place entry.long) out.new result }
+fn put_entry(out: &mut [u8], at: usize, word: &[u8], place: usize, long: usize) -> usize
+    ensures { Lays (laid out.old at) (entry_pieces word.now place long) out.new result }
 {
     let a = octets::lay(out, at, word);
-    let b = put_next(out, a, entry.place as u64);
-    put_next(out, b, entry.long as u64)
+    let b = put_next(out, a, place as u64);
+    put_next(out, b, long as u64)
 }
 
 // The sequence flags in a word.
@@ -131,11 +131,11 @@ fn put_flags(out: &mut [u8], at: usize, flags: u8, number: u32) -> usize
 }
 
 // The line of a kept entry, from a place on; the place after it.
-fn put_kept(out: &mut [u8], at: usize, entry: Entry, id: Identity) -> usize
-    ensures { Lays (laid out.old at) (kept_pieces entry.place entry.long id) out.new result }
+fn put_kept(out: &mut [u8], at: usize, place: usize, long: usize, id: Identity) -> usize
+    ensures { Lays (laid out.old at) (kept_pieces place long id) out.new result }
 {
     let apid = id.apid as u64;
-    let a = put_entry(out, at, b"kept", entry);
+    let a = put_entry(out, at, b"kept", place, long);
     let b = put_next(out, a, apid);
     let c = put_next(out, b, id.transaction);
     let d = put_flags(out, c, id.flags, id.counter);
@@ -143,39 +143,42 @@ fn put_kept(out: &mut [u8], at: usize, entry: Entry, id: Identity) -> usize
 }
 
 // The line of a skipped stretch.
-fn put_skipped(out: &mut [u8], at: usize, entry: Entry) -> usize
-    ensures { Lays (laid out.old at) (skipped_pieces entry.place entry.long) out.new result }
+fn put_skipped(out: &mut [u8], at: usize, place: usize, long: usize) -> usize
+    ensures { Lays (laid out.old at) (skipped_pieces place long) out.new result }
 {
-    let a = put_entry(out, at, b"skipped", entry);
+    let a = put_entry(out, at, b"skipped", place, long);
     octets::lay(out, a, b",,,,\n")
 }
 
 // ---- an entry, with a part of the file in hand
 
+// The kind of an entry is any number of a list: one of no kind is a stretch.
+
 // What is written of an entry: of a kept one mark and packet as they stand in the part, of a stretch nothing.
-pub fn kept_in<'a>(part: Part<'a>, entry: Entry) -> &'a [u8]
-    ensures { result.now ≡ kept_octets part.entry.octets.now part.entry.off entry }
+pub fn kept_in(part: Part<'_>, kind: u64, place: usize, long: usize) -> &[u8]
+    ensures { result.now ≡ kept_octets part.entry.octets.now part.entry.off kind place long }
 {
-    match entry.kind {
-        Kind::Kept => cells::span(
-            part.octets,
-            entry.place.saturating_sub(part.off),
-            entry.long,
-        ),
-        Kind::Skipped => &[],
+    if kind != KEPT {
+        return &[];
     }
+    cells::span(part.octets, place.saturating_sub(part.off), long)
 }
 
 // The line of an entry, from a place on; the place after it.
-pub fn put_line(out: &mut [u8], at: usize, part: Part, entry: Entry) -> usize
-    ensures { Lays (laid out.old at) (line_pieces part.entry.octets.now part.entry.off entry) out.new result }
+pub fn put_line(
+    out: &mut [u8],
+    at: usize,
+    part: Part,
+    kind: u64,
+    place: usize,
+    long: usize,
+) -> usize
+    ensures { Lays (laid out.old at) (line_pieces part.entry.octets.now part.entry.off kind place long) out.new result }
 {
-    match entry.kind {
-        Kind::Kept => {
-            let x = kept_in(part, entry);
-            let id = whose(cells::span(x, MARK, entry.long));
-            put_kept(out, at, entry, id)
-        }
-        Kind::Skipped => put_skipped(out, at, entry),
+    if kind != KEPT {
+        return put_skipped(out, at, place, long);
     }
+    let x = kept_in(part, kind, place, long);
+    let id = whose(cells::span(x, MARK, long));
+    put_kept(out, at, place, long, id)
 }

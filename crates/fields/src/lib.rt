@@ -4,7 +4,8 @@
 //   domain:                   count  | 1 | length | octets | 1 | length | octets ..
 //
 // A length and a count are UIntegers, Varints or four octets, as the settings have them.
-// A step of reading takes a reader, and answers where the field's content stands. A writing takes any buffer and any place: piece by
+// A step of reading takes a reader, and answers where the field's content stands; refused, it leaves the reader where it was refused: a
+// field of several steps where it began. A writing takes any buffer and any place: piece by
 // piece, each whole or not at all, and answers the place after it. A `blob` is octets of any value; a `text` is written the same, and its
 // octets are well-formed UTF-8, by crate `utf8`. Reading tests that; who writes has tested it before.
 #![tactic(auto)]
@@ -58,7 +59,7 @@ pub fn read_block(reader: &mut Reader, n: usize) -> Result<Place, Refused>
     Ok(Place { at, length: n })
 }
 
-// A length and as many octets: one field.
+// A length and as many octets: one field. Refused, the reader stands at its length.
 pub fn read_blob(reader: &mut Reader) -> Result<Place, Refused>
     ensures reads { Reads (blob reader.old.settings reader.old.bound reader.old.octets.now) reader.old reader.new result }
     ensures inside { IfOk result (λ x. x.at + x.length ≤ length reader.old.octets.now) }
@@ -68,7 +69,10 @@ pub fn read_blob(reader: &mut Reader) -> Result<Place, Refused>
     let at = reader.at;
     match reader.skip(length) {
         Ok(()) => Ok(Place { at, length }),
-        Err(refused) => Err(refused.began(start)),
+        Err(refused) => {
+            reader.at = start;
+            Err(refused.began(start))
+        }
     }
 }
 
@@ -91,14 +95,17 @@ fn read_marked_text(reader: &mut Reader) -> Result<Place, Refused>
     read_text(reader)
 }
 
-// A domain part: one field.
+// A domain part: one field. Refused, the reader stands at its octet of 1.
 fn read_part(reader: &mut Reader) -> Result<Place, Refused>
     ensures { Reads (part reader.old.settings reader.old.bound reader.old.octets.now) reader.old reader.new result }
 {
-    let start = reader.at;
+    let first = reader.at;
     match read_marked_text(reader) {
         Ok(place) => Ok(place),
-        Err(refused) => Err(refused.began(start)),
+        Err(refused) => {
+            reader.at = first;
+            Err(refused.began(first))
+        }
     }
 }
 

@@ -293,7 +293,7 @@ fn block(out: &mut [u8], at: usize, x: &[u8]) -> usize
     ensures { Lays (laid out.old at) (x.now ∷ []) out.new result }
 {
     if has_room(out.len(), at, x.len()) {
-        flat::put(out, at, x);
+        octets::copy(out, at, x);
         return at + x.len();
     }
     at
@@ -317,7 +317,7 @@ fn blob_if(there: bool, s: Settings, out: &mut [u8], at: usize, x: &[u8]) -> usi
     if there {
         if has_room(out.len(), at, x.len() + 1) {
             out[at] = x.len() as u8;
-            flat::put(out, at + 1, x);
+            octets::copy(out, at + 1, x);
             return at + (x.len() + 1);
         }
         return fields::put_blob(s, out, at, x);
@@ -335,7 +335,7 @@ fn put_part(s: Settings, out: &mut [u8], at: usize, x: &[u8]) -> usize
 {
     out[at] = 1;
     out[at + 1] = x.len() as u8;
-    flat::put(out, at + 2, x);
+    octets::copy(out, at + 2, x);
     at + (x.len() + 2)
 }
 
@@ -586,11 +586,11 @@ fn cut_ready(
     if write::PACKET_MOST < p {
         return None;
     }
-    if !ready(s, h, texts) {
-        return None;
-    }
     let d = flat::sender_of(sender).ok()?;
     if packet::COUNT_MOST < d.sequence_count.0 {
+        return None;
+    }
+    if !ready(s, h, texts) {
         return None;
     }
     Some(d)

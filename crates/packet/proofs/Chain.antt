@@ -12,7 +12,8 @@ use Rattle.walk.specs.declared.Bound.{Bound}
 use Rattle.walk.specs.declared.Reader.{Reader}
 use Rattle.walk.specs.declared.Refused.{Refused}
 use Rattle.walk.specs.Walk.{Reading, Step, goes}
-use Rattle.walk.specs.Read.{Reads, Refuses, Went}
+use Rattle.walk.specs.Read.{Reads, Stopped, Went}
+use Rattle.walk.proofs.Keeps.{then_stops}
 use Rattle.fields.specs.Fields.{opt}
 
 -- a definition's step, for any reader's settings, bound and octets
@@ -34,8 +35,8 @@ module _ {A B : Type 0} (g : Settings → Bound → List ℕ → Reading → Ste
         bound = k.bound ∙ h.bound;
       }
 
-  pub then_refuses : {e : Refused} → Refuses e (at_reader g q (goes q.at)).walk → Refuses e (at_reader g r w.walk).walk
-  then_refuses {e} k = subst (λ (s : Step B). Refuses e s.walk) next k
+  pub then_stopped : {t : Reader} {e : Refused} → Stopped e (at_reader g q (goes q.at)).walk q t → Stopped e (at_reader g r w.walk).walk r t
+  then_stopped {t} {e} k = subst (λ (s : Step B). Stopped e s.walk r t) next (then_stops h k)
 
 -- a step that may be absent, by what `optional` says of it
 module _ {A : Type 0} (f : Settings → Bound → List ℕ → Reading → Step A) (there : Bool) (none : A) (r q : Reader) (x : Result A Refused) where

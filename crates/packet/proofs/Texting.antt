@@ -9,8 +9,8 @@ use Rattle.walk.specs.declared.Bound.{Bound}
 use Rattle.walk.specs.declared.Reader.{Reader}
 use Rattle.walk.specs.declared.Refused.{Refused}
 use Rattle.walk.specs.Walk.{Reading, Step, goes}
-use Rattle.walk.specs.Read.{Refuses, Went}
-use Rattle.walk.proofs.Keeps.{optional_keeps}
+use Rattle.walk.specs.Read.{Stopped, Went}
+use Rattle.walk.proofs.Keeps.{kept, stopped_on, optional_keeps}
 use Rattle.fields.specs.declared.Place.{Place}
 use Rattle.fields.specs.declared.Domain.{Domain}
 use Rattle.fields.specs.Inner.{domain_step}
@@ -79,22 +79,33 @@ module _ (has : Present) (r : Reader) where
   unfolding texts_of
   texts_walk = ap (λ (w : Reading). (at_reader (id_step has) r w).walk) (parts_walk has.domain r.settings r.bound r.octets.now N.walk)
 
-  module _ {e : Refused} where
+  module _ {e : Refused} {q : Reader} where
     -- refused in one of them, and passed by in those after it
-    pub id_refused : Refuses e I.walk → Refuses e (texts_of r.settings r.bound has r.octets.now (goes r.at)).walk
-    id_refused h = subst (Refuses e) (sym texts_walk) h
+    pub id_refused : Stopped e I.walk r q → Stopped e (texts_of r.settings r.bound has r.octets.now (goes r.at)).walk r q
+    id_refused h = subst (λ (w : Reading). Stopped e w r q) (sym texts_walk) h
 
-    pub parts_refused : Refuses e D.walk → Refuses e (texts_of r.settings r.bound has r.octets.now (goes r.at)).walk
-    parts_refused h = id_refused (optional_keeps has.authentication _ _ h (blob_keeps r.settings r.bound r.octets.now h))
+    pub parts_refused : Stopped e D.walk r q → Stopped e (texts_of r.settings r.bound has r.octets.now (goes r.at)).walk r q
+    parts_refused h =
+        let k = kept h.refuses in
+        id_refused (stopped_on (optional_keeps has.authentication _ _ k (blob_keeps r.settings r.bound r.octets.now k)) h)
 
-    pub name_refused : Refuses e N.walk → Refuses e (texts_of r.settings r.bound has r.octets.now (goes r.at)).walk
-    name_refused h = parts_refused (optional_keeps has.domain no_domain (domain_step r.settings r.bound r.octets.now N.walk) h (domain_keeps r.settings r.bound r.octets.now h))
+    pub name_refused : Stopped e N.walk r q → Stopped e (texts_of r.settings r.bound has r.octets.now (goes r.at)).walk r q
+    name_refused h =
+        let k = kept h.refuses in
+        parts_refused
+        (stopped_on
+        (optional_keeps has.domain no_domain (domain_step r.settings r.bound r.octets.now N.walk) k (domain_keeps r.settings r.bound r.octets.now k))
+        h)
 
-    pub zone_refused : Refuses e Z.walk → Refuses e (texts_of r.settings r.bound has r.octets.now (goes r.at)).walk
-    zone_refused h = name_refused (optional_keeps has.session_name _ _ h (text_keeps r.settings r.bound r.octets.now h))
+    pub zone_refused : Stopped e Z.walk r q → Stopped e (texts_of r.settings r.bound has r.octets.now (goes r.at)).walk r q
+    zone_refused h =
+        let k = kept h.refuses in
+        name_refused (stopped_on (optional_keeps has.session_name _ _ k (text_keeps r.settings r.bound r.octets.now k)) h)
 
-    pub timestamp_refused : Refuses e W.walk → Refuses e (texts_of r.settings r.bound has r.octets.now (goes r.at)).walk
-    timestamp_refused h = zone_refused (optional_keeps has.zone _ _ h (text_keeps r.settings r.bound r.octets.now h))
+    pub timestamp_refused : Stopped e W.walk r q → Stopped e (texts_of r.settings r.bound has r.octets.now (goes r.at)).walk r q
+    timestamp_refused h =
+        let k = kept h.refuses in
+        zone_refused (stopped_on (optional_keeps has.zone _ _ k (text_keeps r.settings r.bound r.octets.now k)) h)
 
   -- and where all went on, what each found
   pub texts_whole :

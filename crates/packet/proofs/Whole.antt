@@ -17,7 +17,7 @@ use Rattle.walk.specs.declared.Refused.{Refused}
 use Rattle.walk.specs.declared.Refusal.{Refusal}
 use Rattle.walk.specs.Told.{told}
 use Rattle.walk.specs.Walk.{Reading, Step, goes, refused, refusal, no_refusal, check, going, header_bound, begun}
-use Rattle.walk.specs.Read.{Refuses, Went, Answers, tells}
+use Rattle.walk.specs.Read.{Refuses, Stopped, Went, Answers, tells}
 use Rattle.fields.specs.Fields.{place}
 use Rattle.packet.specs.declared.Primary.{Primary}
 use Rattle.packet.specs.declared.Fixed.{Fixed}
@@ -31,8 +31,8 @@ use Rattle.packet.specs.Reading.{refused_header, accepted_header, read_packet}
 use Rattle.packet.specs.Inner.{fixed_part, has_from, ids_from, texts_from, ended_from, secondary, Judges}
 use Rattle.packet.specs.Decoded.{decoded, whole}
 use Rattle.walk.proofs.Refuses.{has_number}
-use Rattle.walk.proofs.Keeps.{refused_as}
-use Rattle.packet.proofs.Chain.{then_went, then_refuses}
+use Rattle.walk.proofs.Keeps.{Kept, kept, refuses_on, refused_as}
+use Rattle.packet.proofs.Chain.{then_went, then_stopped}
 use Rattle.packet.proofs.Keeping.{fixed_keeps, primary_keeps, ids_keep, texts_keep, body_keeps}
 
 -- ---- the secondary header
@@ -51,10 +51,10 @@ module _ (r : Reader) (eb : r.bound ≡ header_bound) where
   abbrev texts_in : Bound → Bool → Present → Step Texts
   texts_in b g h = texts_of r.settings b h P (ids_in b g h).walk
 
-  pub fixed_refused : {e : Refused} → Refuses e (fixed_end r.bound P W) → Refuses e (ended_from r.settings P W)
+  pub fixed_refused : {e : Refused} {q : Reader} → Stopped e (fixed_end r.bound P W) r q → Refuses e (ended_from r.settings P W)
   fixed_refused {e} h =
-      let k = subst (λ (b : Bound). Refuses e (fixed_end b P W)) eb h in
-      body_keeps P (texts_keep r.settings header_bound P _ (ids_keep r.settings header_bound P _ _ k))
+      let k = subst (λ (b : Bound). Refuses e (fixed_end b P W)) eb h.refuses in
+      refuses_on (body_keeps P (texts_keep r.settings header_bound P _ (ids_keep r.settings header_bound P _ _ (kept k)))) k
 
   module _ {q : Reader} {f : Fixed} {has : Present} {g : Bool} (eg : g ≡ segmented P) (x : Went (fixed_part r.bound P W) r q (f, has)) where
     has_is : has ≡ has_from P W
@@ -66,18 +66,21 @@ module _ (r : Reader) (eb : r.bound ≡ header_bound) where
     abbrev texts_at : Settings → Bound → List ℕ → Reading → Step Texts
     texts_at s b p = texts_of s b has p
 
-    pub ids_refused : {e : Refused} → Refuses e (ids_at q.settings q.bound q.octets.now (goes q.at)).walk → Refuses e (ended_from r.settings P W)
+    pub ids_refused :
+        {e : Refused} {t : Reader} → Stopped e (ids_at q.settings q.bound q.octets.now (goes q.at)).walk q t → Refuses e (ended_from r.settings P W)
     ids_refused {e} h =
-        let k : Refuses e (ids_in r.bound g has).walk = then_refuses ids_at x h in
+        let k : Refuses e (ids_in r.bound g has).walk = (then_stopped ids_at x h).refuses in
         let m : Refuses e (ids_from r.settings P W).walk = subst (Refuses e) (λ j. (ids_in (eb j) (eg j) (has_is j)).walk) k in
-        body_keeps P (texts_keep r.settings header_bound P _ m)
+        refuses_on (body_keeps P (texts_keep r.settings header_bound P _ (kept m))) m
 
     module _ {t : Reader} {i : Ids} (y : Went (ids_at q.settings q.bound q.octets.now (goes q.at)) q t i) where
       pub texts_refused :
-          {e : Refused} → Refuses e (texts_at t.settings t.bound t.octets.now (goes t.at)).walk → Refuses e (ended_from r.settings P W)
+          {e : Refused} {u : Reader} → Stopped e (texts_at t.settings t.bound t.octets.now (goes t.at)).walk t u →
+          Refuses e (ended_from r.settings P W)
       texts_refused {e} h =
-          let k : Refuses e (texts_in r.bound g has).walk = then_refuses texts_at (then_went ids_at x y) h in
-          body_keeps P (subst (Refuses e) (λ j. (texts_in (eb j) (eg j) (has_is j)).walk) k)
+          let k : Refuses e (texts_in r.bound g has).walk = (then_stopped texts_at (then_went ids_at x y) h).refuses in
+          let m : Refuses e (texts_from r.settings P W).walk = subst (Refuses e) (λ j. (texts_in (eb j) (eg j) (has_is j)).walk) k in
+          refuses_on (body_keeps P (kept m)) m
 
       module _ {u : Reader} {c : Texts} (z : Went (texts_at t.settings t.bound t.octets.now (goes t.at)) t u c) where
         abbrev all : Went (texts_in r.bound g has) r u c
@@ -166,7 +169,7 @@ settings_held s e =
 
 module _ (s : Settings) (p : List ℕ) where
   -- a walk that was refused before the secondary header
-  ended_keeps : {e : Refused} → Refuses e (start_at s p) → Refuses e (ended s p)
+  ended_keeps : {u : Reading} → Kept u (start_at s p) → Kept u (ended s p)
   ended_keeps h = body_keeps p (texts_keep s header_bound p _ (ids_keep s header_bound p _ _ (fixed_keeps header_bound p h)))
 
   refuses_whole : (e : Refused) → going (ended s p) ≡ false → told e ≡ refusal_of p (ended s p) → decoded (Err e) ≡ read_packet s p
@@ -184,14 +187,16 @@ module _ (s : Settings) (p : List ℕ) where
       out : begun s ≡ refused 6 15 → decoded (Err e) ≡ read_packet s p
       out b =
           let f : told e ≡ refusal 15 = t ∙ ap (λ (w : Reading). refusal w.refused) b in
-          let k = ended_keeps (primary_keeps p (refused_as {e = e} (begun s) b f refl)) in
+          let d = refused_as {e = e} (begun s) b f refl in
+          let k = refuses_on (ended_keeps (primary_keeps p (kept d))) d in
           refuses_whole e k.stops (f ∙ ap (told_in p) (sym f ∙ k.tells) ∙ sym (refusal_is p (ended s p)))
 
   module _ (b : begun s ≡ goes 6) where
     pub primary_refused : (e : Refused) → Judges p (Err e) → decoded (Err e) ≡ read_packet s p
     primary_refused e h =
         let d = h.1.1 in
-        let k = ended_keeps (subst (λ (w : Reading). Refuses h.1.0 (primary_tests p w)) (sym b) d) in
+        let x : Refuses h.1.0 (start_at s p) = subst (λ (w : Reading). Refuses h.1.0 (primary_tests p w)) (sym b) d in
+        let k = refuses_on (ended_keeps (kept x)) x in
         refuses_whole e k.stops
         (h.0 ∙ refusal_is p (primary_tests p (goes 6)) ∙ ap (told_in p) (sym d.tells ∙ k.tells) ∙ sym (refusal_is p (ended s p)))
 

@@ -262,16 +262,23 @@ fn read_names(reader: &mut Reader) -> Result<Names, Refused>
     })
 }
 
-// Error, QoS level, session (9), secondary APID, qualifier. The secondary APID began in the octet of the session.
+// Error, QoS level, session (9), secondary APID, qualifier. The secondary APID began in the octet of the session: refused by 9 or in its
+// second octet, the reader stands there.
 fn read_routing(reader: &mut Reader) -> Result<Routing, Refused>
     ensures { Reads (routing_of reader.old.bound reader.old.octets.now) reader.old reader.new result }
 {
     let start = reader.at;
     let high = reader.octet()?;
-    ensure(high / 8 % 4 < 3, Refused::Session)?;
+    if 3 <= high / 8 % 4 {
+        reader.at = start;
+        return Err(Refused::Session);
+    }
     let low = match reader.octet() {
         Ok(low) => low,
-        Err(refused) => return Err(refused.began(start)),
+        Err(refused) => {
+            reader.at = start;
+            return Err(refused.began(start));
+        }
     };
     let secondary_apid = SecondaryApid((high % 8) as u16 * 256 + low as u16);
     Ok(Routing {

@@ -18,15 +18,15 @@ use Rattle.walk.specs.declared.Refused.TheVariants.{FewOctets, Binding, SduType,
 use Rattle.walk.specs.declared.Refusal.{Refusal}
 use Rattle.walk.specs.Told.{told}
 use Rattle.walk.specs.Walk.{Reading, Step, goes, refused, going, check}
-use Rattle.walk.specs.Read.{tells, Refuses, Went}
-use Rattle.walk.proofs.Keeps.{refused_as, uinteger_keeps, optional_keeps}
+use Rattle.walk.specs.Read.{tells, Refuses, Stopped, Went}
+use Rattle.walk.proofs.Keeps.{Kept, kept, refuses_on, refused_as, uinteger_keeps, optional_keeps}
 use Rattle.fields.specs.Fields.{place}
 use Rattle.fields.proofs.Steps.{text_keeps}
 use Rattle.packet.specs.declared.Present.{Present}
 use Rattle.packet.specs.declared.Texts.{Texts}
 use Rattle.packet.specs.FixedPart.{flags_of}
 use Rattle.packet.specs.Reading.{texts_of}
-use Rattle.packet.proofs.Chain.{then_went, then_refuses}
+use Rattle.packet.proofs.Chain.{then_went, then_stopped}
 use Rattle.packet.proofs.Keeping.{texts_keep}
 use Rattle.pdu.specs.declared.Fixed.{Fixed}
 use Rattle.pdu.specs.declared.Ids.{Ids}
@@ -108,7 +108,7 @@ no_octets false true w l h = omega arith
 no_octets false false w l h = refl
 
 ids_keep :
-    (s : Settings) (b : Bound) (p : List ℕ) (has : Present) {e : Refused} {w : Reading} → Refuses e w → Refuses e (ids_step s b has p w).walk
+    (s : Settings) (b : Bound) (p : List ℕ) (has : Present) {u w : Reading} → Kept u w → Kept u (ids_step s b has p w).walk
 ids_keep s b p has h =
     let x = optional_keeps has.source _ _ h (text_keeps s b p h) in
     let y = optional_keeps has.destination _ _ x (text_keeps s b p x) in
@@ -127,7 +127,7 @@ module _ (p : List ℕ) where
   unfolding ids_of
   fixed_refused e h =
       let d = h.1.1 in
-      let k = texts_keep pdu_settings (bound_of p) p (has_of p) (ids_keep pdu_settings (bound_of p) p (has_of p) d) in
+      let k = refuses_on (texts_keep pdu_settings (bound_of p) p (has_of p) (ids_keep pdu_settings (bound_of p) p (has_of p) (kept d))) d in
       refuses_whole e k.stops (h.0 ∙ refusal_is p (fixed_tests p) ∙ ap (told_in p) (sym d.tells ∙ k.tells) ∙ sym (refusal_is p (ended p)))
 
   -- a field that was refused
@@ -161,15 +161,16 @@ module _ (p : List ℕ) where
       texts_is : T ≡ texts_at p
       texts_is = λ i. texts_of (es i) (eb i) (eh i) (ep i) (ids_is i).walk
 
-      pub ids_refused : (e : Refused) → Refuses e I.walk → decoded (Err e) ≡ read_pdu p
+      pub ids_refused : (e : Refused) {q : Reader} → Stopped e I.walk r q → decoded (Err e) ≡ read_pdu p
       ids_refused e h =
-          let k : Refuses e (ids_at p).walk = subst (λ (x : Step Ids). Refuses e x.walk) ids_is h in
-          field_refused e (texts_keep pdu_settings (bound_of p) p (has_of p) k)
+          let k : Refuses e (ids_at p).walk = subst (λ (x : Step Ids). Refuses e x.walk) ids_is h.refuses in
+          field_refused e (refuses_on (texts_keep pdu_settings (bound_of p) p (has_of p) (kept k)) k)
 
       module _ {q : Reader} {i : Ids} (x : Went I r q i) where
-        pub texts_refused : (e : Refused) → Refuses e (texts_in q.settings q.bound q.octets.now (goes q.at)).walk → decoded (Err e) ≡ read_pdu p
+        pub texts_refused :
+            (e : Refused) {t : Reader} → Stopped e (texts_in q.settings q.bound q.octets.now (goes q.at)).walk q t → decoded (Err e) ≡ read_pdu p
         texts_refused e h =
-            field_refused e (subst (λ (y : Step Texts). Refuses e y.walk) texts_is (then_refuses texts_in x h))
+            field_refused e (subst (λ (y : Step Texts). Refuses e y.walk) texts_is (then_stopped texts_in x h).refuses)
 
         pub header_whole :
             {u : Reader} {t : Texts} {f : Fixed} {n l : ℕ} → Went (texts_in q.settings q.bound q.octets.now (goes q.at)) q u t → f ≡ fixed_of p →

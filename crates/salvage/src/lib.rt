@@ -24,7 +24,12 @@ ghost use Rattle.salvage.specs.Inner.{Unmarked, Passed, end_at, Puts, told_after
 use packet::{MARK_FIRST, MARK_SECOND};
 use walk::{Refused, Settings};
 
-// The numbers of an entry in a list: kind (0 skipped, 1 kept), place, length.
+// The kinds of an entry, as numbers of a list.
+pub const SKIPPED: u64 = 0;
+
+pub const KEPT: u64 = 1;
+
+// The numbers of an entry in a list: kind, place, length.
 pub const NUMBERS: usize = 3;
 
 // A mark and the shortest packet that a length field tells of; a mark and the longest.
@@ -168,8 +173,8 @@ impl Kind {
         ensures { result ≡ kind_number self }
     {
         match self {
-            Kind::Skipped => 0,
-            Kind::Kept => 1,
+            Kind::Skipped => SKIPPED,
+            Kind::Kept => KEPT,
         }
     }
 }
@@ -183,7 +188,7 @@ impl Entry {
         ensures long { result.long ≡ slice_index list.now (n * entry_size + 2) }
     {
         let at = n * NUMBERS;
-        let kind = if list[at] == Kind::Kept.number() {
+        let kind = if list[at] == KEPT {
             Kind::Kept
         } else {
             Kind::Skipped

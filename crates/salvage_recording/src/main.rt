@@ -190,7 +190,14 @@ fn add_line(
     requires { at ≤ length lines.old }
     ensures { result.at ≤ length lines.old }
 {
-    let next = entries::put_line(lines, at, part, entry);
+    let next = entries::put_line(
+        lines,
+        at,
+        part,
+        entry.kind.number(),
+        entry.place,
+        entry.long,
+    );
     if lines.len() - next < LINE {
         let stop = flush_list(to, &lines[0..next], counts);
         return gathered_to(0, stop);
@@ -256,7 +263,8 @@ fn write_packets(
     let mut at: usize = 0;
     let mut i: usize = 0;
     while i < n {
-        let x = entries::kept_in(part, Entry::at(list, i));
+        let entry = Entry::at(list, i);
+        let x = entries::kept_in(part, entry.kind.number(), entry.place, entry.long);
         let g = add_packet(output, pipe, packets, at, x, counts);
         at = g.at;
         if g.stop != 0 {

@@ -1,6 +1,6 @@
 -- Counting along the cells, on plain values.
 -- Assumes nothing.
-use Rattle.std.proofs.Common.{◌≡◌, ℕ, zero, suc, ◌+◌, ◌-◌, Bool, true, false, cond, List, [], ◌∷◌, length, filter, refl, ap, ap₂, ◌∙◌, arith}
+use Rattle.std.proofs.Common.{◌≡◌, ℕ, zero, suc, ◌+◌, ◌-◌, ◌≤◌, Bool, true, false, cond, List, [], ◌∷◌, length, filter, refl, ap, ap₂, ◌∙◌, arith}
 use denote.Param.Members.{Mut}
 use denote.Ref.{Bor}
 use Rattle.std.proofs.iter.Yields.{nat_range_steps}
@@ -13,9 +13,16 @@ use Rattle.std.specs.List.{range_with_len}
 use Rattle.std.specs.declared.ops.Range.{Range}
 use Rattle.std.specs.declared.iter.Filter.{Filter}
 use Rattle.octets.specs.Octets.{pick}
+use Rattle.octets.proofs.Lists.{bit_top}
 use Rattle.walk.specs.declared.Settings.{Settings}
 use Rattle.tally.specs.declared.Tallied.{Tallied}
 use Rattle.tally.specs.Counting.{count_to, segments_in, keys_in, cells_in, left_in}
+
+-- no more are counted than there are
+pub count_most_lem : (f : ℕ → Bool) (n : ℕ) → count_to f n ≤ n
+unfolding count_to
+count_most_lem f zero = omega arith
+count_most_lem f (suc n) = omega (arith, count_most_lem f n, bit_top (f n))
 
 -- ---- the numbers of a range of which a test holds
 

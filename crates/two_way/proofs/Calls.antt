@@ -26,6 +26,7 @@ use Rattle.write.specs.Given.{Lent}
 use Rattle.write.specs.Writing.{zone_fits, write_refusal, write_answer, write_output}
 use Rattle.write.proofs.write.Reads as writes
 use Rattle.write.proofs.write_by.Reads as bys
+use Rattle.write.proofs.Apart.{written_one}
 use Rattle.write.proofs.Arguments.{WriteCall, write_call, write_output_lem, by_old, by_call, by_output}
 use Rattle.format.proofs.Calls.{read_accepted}
 use Rattle.two_way.specs.Again.{again_header, again_packet, again_texts, again_body}
@@ -166,8 +167,8 @@ read_exactly κs a h x k =
 
 -- ---- the same arguments, the same answer and the same output
 
-pub write_same_answer : (κs : L.Lfts 3) (a : _) (r q : _) (s t : _) → writes.Post κs a r s → writes.Post κs a q t → answered r ≡ answered q
-write_same_answer κs a r q s t k j = k.0 ∙ sym j.0
+pub write_same_answer : (κs : L.Lfts 3) (a : _) (r q : _) (s t : _) → writes.Post κs a r s → writes.Post κs a q t → r ≡ q
+write_same_answer κs a r q s t k j = written_one r q (k.0 ∙ sym j.0)
 
 pub write_same_lent :
     (κs : L.Lfts 3) (a : _) (r q : _) (s t : _) → writes.Post κs a r s → writes.Post κs a q t → write_output_lem κs s ≡ write_output_lem κs t

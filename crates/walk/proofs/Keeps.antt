@@ -16,7 +16,7 @@ use Rattle.walk.specs.declared.Refusal.{Refusal}
 use Rattle.walk.specs.Told.{told}
 use Rattle.walk.specs.Walk.{Reading, Step, past, going, goes, refused, octets, check, field_from, octet_field, wide_field, varint_field, uinteger}
 use Rattle.walk.specs.declared.Reader.{Reader}
-use Rattle.walk.specs.Read.{tells, Refuses, Reads}
+use Rattle.walk.specs.Read.{tells, Refuses, Went, Stopped, Reads}
 use Rattle.walk.proofs.Steps.{octets_refused, check_refused, check_fails, number_refused, field_refused}
 
 -- of a walk that is the same
@@ -26,6 +26,26 @@ same v h r = record { tells = r.tells ∙ ap tells (sym h); stops = ap going h �
 pub refused_as : {e : Refused} {w : Reading} (v : Reading) → v ≡ w → told e ≡ tells w → going w ≡ false → Refuses e v
 refused_as v h t g = same v h (record { tells = t; stops = g })
 
+-- a step that was refused where its reader stands
+pub stopped_as : {e : Refused} {k : ℕ} {r : Reader} (v : Reading) → v ≡ refused r.at k → told e ≡ tells (refused r.at k) → eqb k 0 ≡ false → Stopped e v r r
+stopped_as v h t g =
+    record { refuses = refused_as v h t g; stands = ap (λ (x : Reading). x.at) (sym h); octets = refl; settings = refl; bound = refl }
+
+-- a walk that is one that was refused
+pub record Kept (w v : Reading) : Type 0 where
+  pub stops : going w ≡ false
+  pub is : v ≡ w
+
+pub kept : {e : Refused} {w : Reading} → Refuses e w → Kept w w
+kept h = record { stops = h.stops; is = refl }
+
+pub refuses_on : {e : Refused} {w v : Reading} → Kept w v → Refuses e w → Refuses e v
+refuses_on {v = v} k h = same v k.is h
+
+pub stopped_on : {e : Refused} {w v : Reading} {r q : Reader} → Kept w v → Stopped e w r q → Stopped e v r q
+stopped_on k h =
+    record { refuses = refuses_on k h.refuses; stands = h.stands ∙ ap (λ (x : Reading). x.at) (sym k.is); octets = h.octets; settings = h.settings; bound = h.bound }
+
 -- to go past a bound is a refusal
 pub past_stops : (b : Bound) → eqb (past b) 0 ≡ false
 past_stops b = go b.limit
@@ -34,36 +54,40 @@ past_stops b = go b.limit
     go true = refl
     go false = refl
 
-module _ {e : Refused} {w : Reading} where
-  pub octets_keeps : (b : Bound) (p : List ℕ) (n : ℕ) → Refuses e w → Refuses e (octets b p n w)
-  octets_keeps b p n h = same _ (octets_refused b p n w h.stops) h
+module _ {u w : Reading} where
+  -- the same as a walk that is it
+  as_before : {v : Reading} → Kept u w → (going w ≡ false → v ≡ w) → Kept u v
+  as_before h f = record { stops = h.stops; is = f (ap going h.is ∙ h.stops) ∙ h.is }
 
-  pub check_keeps : (ok : Bool) (k : ℕ) → Refuses e w → Refuses e (check ok k w)
-  check_keeps ok k h = same _ (check_refused ok k w h.stops) h
+  pub octets_keeps : (b : Bound) (p : List ℕ) (n : ℕ) → Kept u w → Kept u (octets b p n w)
+  octets_keeps b p n h = as_before h (octets_refused b p n w)
 
-  pub octet_keeps : (b : Bound) (p : List ℕ) → Refuses e w → Refuses e (octet_field b p w).walk
+  pub check_keeps : (ok : Bool) (k : ℕ) → Kept u w → Kept u (check ok k w)
+  check_keeps ok k h = as_before h (check_refused ok k w)
+
+  pub octet_keeps : (b : Bound) (p : List ℕ) → Kept u w → Kept u (octet_field b p w).walk
   unfolding octet_field
   octet_keeps b p h = octets_keeps b p 1 h
 
-  pub wide_keeps : (n : ℕ) (b : Bound) (p : List ℕ) → Refuses e w → Refuses e (wide_field n b p w).walk
+  pub wide_keeps : (n : ℕ) (b : Bound) (p : List ℕ) → Kept u w → Kept u (wide_field n b p w).walk
   unfolding wide_field
   wide_keeps n b p h = octets_keeps b p n h
 
-  pub varint_keeps : (b : Bound) (p : List ℕ) → Refuses e w → Refuses e (varint_field b p w).walk
-  varint_keeps b p h = same _ (ap (λ (s : Step ℕ). s.walk) (number_refused b p w h.stops)) h
+  pub varint_keeps : (b : Bound) (p : List ℕ) → Kept u w → Kept u (varint_field b p w).walk
+  varint_keeps b p h = as_before h (λ g. ap (λ (s : Step ℕ). s.walk) (number_refused b p w g))
 
-  pub uinteger_keeps : (s : Settings) (b : Bound) (p : List ℕ) → Refuses e w → Refuses e (uinteger s b p w).walk
+  pub uinteger_keeps : (s : Settings) (b : Bound) (p : List ℕ) → Kept u w → Kept u (uinteger s b p w).walk
   unfolding uinteger
   uinteger_keeps s b p h = go (eqb s.profile 1)
     where
-      go : (k : Bool) → Refuses e (pick {A = List ℕ → Reading → Step ℕ} k (wide_field 4 b) (varint_field b) p w).walk
+      go : (k : Bool) → Kept u (pick {A = List ℕ → Reading → Step ℕ} k (wide_field 4 b) (varint_field b) p w).walk
       go true = wide_keeps 4 b p h
       go false = varint_keeps b p h
 
   -- a field that may be absent
   pub optional_keeps :
-      {A : Type 0} (there : Bool) (none : A) (x : Step A) → Refuses e w → Refuses e x.walk →
-      Refuses e (pick {A = Step A} there x (record { walk = w; value = none })).walk
+      {A : Type 0} (there : Bool) (none : A) (x : Step A) → Kept u w → Kept u x.walk →
+      Kept u (pick {A = Step A} there x (record { walk = w; value = none })).walk
   optional_keeps true none x h k = k
   optional_keeps false none x h k = h
 
@@ -74,13 +98,45 @@ pub check_stops :
 check_stops ok k w g f t z = refused_as _ (check_fails ok k w g f) t z
 
 -- a field of several steps, refused in one of them, which began here
-pub field_keeps :
+field_refuses :
     {e d : Refused} (w : Reading) (r : Reading) → Refuses e r →
     told d ≡ record (told e) { place = pick (eqb (told e).number 6) w.at 0 } → Refuses d (field_from w r)
-field_keeps {e} {d} w r h t = record {
+field_refuses {e} {d} w r h t = record {
   tells = t ∙ ap (λ (x : Refusal). record x { place = pick (eqb x.number 6) w.at 0 }) h.tells ∙ ap tells (sym (field_refused w r h.stops));
   stops = ap going (field_refused w r h.stops) ∙ h.stops;
 }
+
+-- and its reader, put back to where it began
+pub field_stops :
+    {e d : Refused} {r q : Reader} (x : Reading) → Stopped e x r q → told d ≡ record (told e) { place = pick (eqb (told e).number 6) r.at 0 } →
+    Stopped d (field_from (goes r.at) x) r (record q { at = r.at })
+field_stops {r = r} x h t =
+    record {
+      refuses = field_refuses (goes r.at) x h.refuses t;
+      stands = ap (λ (v : Reading). v.at) (sym (field_refused (goes r.at) x h.refuses.stops));
+      octets = h.octets;
+      settings = h.settings;
+      bound = h.bound;
+    }
+
+-- a step that went on, and one that was refused after it
+pub then_stops :
+    {A : Type 0} {s : Step A} {r q t : Reader} {x : A} {e : Refused} {v : Reading} → Went s r q x → Stopped e v q t → Stopped e v r t
+then_stops h k =
+    record {
+      refuses = k.refuses;
+      stands = k.stands;
+      octets = k.octets ∙ h.octets;
+      settings = k.settings ∙ h.settings;
+      bound = k.bound ∙ h.bound;
+    }
+
+-- and a test after it that fails
+pub test_stops :
+    {A : Type 0} {s : Step A} {r q : Reader} {x : A} {e : Refused} (ok : Bool) (k : ℕ) → Went s r q x → ok ≡ false →
+    told e ≡ tells (refused q.at k) → eqb k 0 ≡ false → Stopped e (check ok k s.walk) r q
+test_stops {s = s} ok k h f t z =
+    then_stops h (stopped_as _ (check_fails ok k s.walk (ap going h.walk) f ∙ ap (λ (w : Reading). refused w.at k) h.walk) t z)
 
 -- a number, as the profile has it
 module _ (s : Settings) (b : Bound) (p : List ℕ) where
@@ -101,12 +157,16 @@ pub reads_as :
 reads_as {A} r q x e h = subst (λ (f : Reading → Step A). Reads f r q x) (sym e) h
 
 -- a field that was refused where it began, in its first step or before
-pub field_same : {e : Refused} {u : Reading} (w r : Reading) → u.at ≡ w.at → Refuses e u → Refuses e r → Refuses e (field_from w r)
-field_same {e} {u} w r a h k =
-    let place : (told e).place ≡ pick (eqb (told e).number 6) w.at 0 =
-    ap (λ (x : Refusal). x.place) h.tells
-    ∙ (λ i. pick (eqb (ap (λ (x : Refusal). x.number) (sym h.tells) i) 6) (a i) 0) in
-    field_keeps w r k (λ i. record (told e) { place = place i })
+pub field_same : {u : Reading} (w r : Reading) → u.at ≡ w.at → Kept u r → Kept u (field_from w r)
+field_same {u} w r a k =
+    record {
+      stops = k.stops;
+      is = field_refused w r (ap going k.is ∙ k.stops) ∙ (λ i. refused (sym a i) (k.is i).refused);
+    }
+
+-- and one that was refused before
+pub field_keeps : {u w r : Reading} → Kept u w → Kept u r → Kept u (field_from w r)
+field_keeps h k = field_same _ _ (ap (λ (x : Reading). x.at) (sym h.is)) k
 
 -- a step that was refused stands where it began
 pub octets_stand : (b : Bound) (p : List ℕ) (n at : ℕ) → going (octets b p n (goes at)) ≡ false → (octets b p n (goes at)).at ≡ at

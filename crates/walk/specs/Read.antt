@@ -26,10 +26,18 @@ pub record Went {A : Type 0} (step : Step A) (r q : Reader) (x : A) : Type 0 whe
   pub settings : q.settings ≡ r.settings
   pub bound : q.bound ≡ r.bound
 
+-- the step was refused, and the reader stands where it was: over the same octets, settings and bound
+pub record Stopped (e : Refused) (w : Reading) (r q : Reader) : Type 0 where
+  pub refuses : Refuses e w
+  pub stands : q.at ≡ w.at
+  pub octets : q.octets ≡ r.octets
+  pub settings : q.settings ≡ r.settings
+  pub bound : q.bound ≡ r.bound
+
 -- a step from a reader's place on: the reader before it and after it, and its answer
 abbrev pub Reads : {A : Type 0} → (Reading → Step A) → Reader → Reader → Result A Refused → Type 0
 Reads step r q (Ok x) = Went (step (goes r.at)) r q x
-Reads step r q (Err e) = Refuses e (step (goes r.at)).walk
+Reads step r q (Err e) = Stopped e (step (goes r.at)).walk r q
 
 -- a step that finds nothing: it goes past n octets
 abbrev pub skipped : Bound → List ℕ → ℕ → Reading → Step (Unit {0})

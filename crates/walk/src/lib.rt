@@ -1,10 +1,10 @@
 // A reading's place and refusal, and the steps that make every refusal of reading.
 //
-// A `Walk` goes by value through every step; a refused one passes through unchanged, so the code above is straight-line. Two
-// steps test octets (`octets` and `read_uinteger`: first what would go past the bound, then 6, then 10), one tests a value (`check`). A
-// `Bound` is where the fields end at the latest: a packet's header has a limit, and past it is 12. `Settings` is what both sides agreed on.
-// Lengths, counts and the priority are read by `read_uinteger`, and nothing else asks how they are written: each is a Varint, or under the
-// first pods' profile four octets.
+// A `Reader` goes by `&mut` through every step, and `?` hands on the first refusal, so the code above is straight-line. Two steps test
+// octets (`skip` and `uinteger`: first what would go past the bound, then 6, then 10), one tests a value (`ensure`). A `Bound` is where
+// the fields end at the latest: a packet's header has a limit, and past it is 12. `Settings` is what both sides agreed on. Lengths, counts
+// and the priority are read by `uinteger`, and nothing else asks how they are written: each is a Varint, or under the first pods' profile
+// four octets. A `Walk` makes the same steps by value; a refused one passes through unchanged.
 #![tactic(auto)]
 
 ghost use Rattle.std.specs.Prelude.{◌≡◌, ◌-◌, min, length, true, false, eqb};
@@ -126,6 +126,12 @@ pub const REFUSED_MANY_SEGMENTS: u8 = 29;
 
 // A network zone to write: it is withdrawn.
 pub const REFUSED_WITHDRAWN: u8 = 30;
+
+// The number names no cell with a taken record.
+pub const REFUSED_NO_RECORD: u8 = 31;
+
+// A packet that the other cells are too short for.
+pub const REFUSED_PACKET_LONG: u8 = 32;
 
 // An id of a PDU that is not the decimal digits, without leading zeros, of 0 to 255.
 pub const REFUSED_ID: u8 = 33;
@@ -264,41 +270,41 @@ impl Refused {
         ensures { result ≡ (told self).number }
     {
         match self {
-            Refused::FewOctets => 1,
-            Refused::Version => 2,
-            Refused::NoSecondary => 3,
-            Refused::Idle => 4,
-            Refused::Short { .. } => 5,
-            Refused::HeaderEnds { .. } => 6,
-            Refused::Binding => 7,
-            Refused::SduType => 8,
-            Refused::Session => 9,
-            Refused::Varint => 10,
-            Refused::DomainPart => 11,
-            Refused::HeaderLong => 12,
-            Refused::ManyParts => 13,
-            Refused::EmptySegment => 14,
-            Refused::Settings => 15,
-            Refused::Order => 16,
-            Refused::Cell => 17,
-            Refused::Contradicts => 18,
-            Refused::Full => 19,
-            Refused::Incomplete => 20,
-            Refused::Output => 21,
-            Refused::Value => 22,
-            Refused::Large => 23,
-            Refused::NoRoom => 24,
-            Refused::Number => 26,
-            Refused::Long { .. } => 27,
-            Refused::Text => 28,
-            Refused::ManySegments => 29,
-            Refused::Withdrawn => 30,
-            Refused::NoRecord => 31,
-            Refused::PacketLong => 32,
-            Refused::Id => 33,
-            Refused::Timestamp => 34,
-            Refused::Range => 35,
-            Refused::State => 40,
+            Refused::FewOctets => REFUSED_FEW_OCTETS,
+            Refused::Version => REFUSED_VERSION,
+            Refused::NoSecondary => REFUSED_NO_SECONDARY,
+            Refused::Idle => REFUSED_IDLE,
+            Refused::Short { .. } => REFUSED_SHORT,
+            Refused::HeaderEnds { .. } => REFUSED_HEADER_ENDS,
+            Refused::Binding => REFUSED_BINDING,
+            Refused::SduType => REFUSED_SDU_TYPE,
+            Refused::Session => REFUSED_SESSION,
+            Refused::Varint => REFUSED_VARINT,
+            Refused::DomainPart => REFUSED_DOMAIN_PART,
+            Refused::HeaderLong => REFUSED_HEADER_LONG,
+            Refused::ManyParts => REFUSED_MANY_PARTS,
+            Refused::EmptySegment => REFUSED_EMPTY_SEGMENT,
+            Refused::Settings => REFUSED_SETTINGS,
+            Refused::Order => REFUSED_ORDER,
+            Refused::Cell => REFUSED_CELL,
+            Refused::Contradicts => REFUSED_CONTRADICTS,
+            Refused::Full => REFUSED_FULL,
+            Refused::Incomplete => REFUSED_INCOMPLETE,
+            Refused::Output => REFUSED_OUTPUT,
+            Refused::Value => REFUSED_VALUE,
+            Refused::Large => REFUSED_LARGE,
+            Refused::NoRoom => REFUSED_NO_ROOM,
+            Refused::Number => REFUSED_NUMBER,
+            Refused::Long { .. } => REFUSED_LONG,
+            Refused::Text => REFUSED_TEXT,
+            Refused::ManySegments => REFUSED_MANY_SEGMENTS,
+            Refused::Withdrawn => REFUSED_WITHDRAWN,
+            Refused::NoRecord => REFUSED_NO_RECORD,
+            Refused::PacketLong => REFUSED_PACKET_LONG,
+            Refused::Id => REFUSED_ID,
+            Refused::Timestamp => REFUSED_TIMESTAMP,
+            Refused::Range => REFUSED_RANGE,
+            Refused::State => REFUSED_STATE,
         }
     }
 
@@ -343,7 +349,7 @@ pub fn ensure(ok: bool, refused: Refused) -> Result<(), Refused>
     if ok { Ok(()) } else { Err(refused) }
 }
 
-// The one place where a refusal is made.
+// The one place where a refusal of the definitions' record is made.
 pub fn telling(k: u8, octets: usize, place: usize) -> Refusal
     ensures { result ≡ record { number = k; octets = octets; place = place } }
 {
@@ -380,7 +386,7 @@ pub fn goes(at: usize) -> Walk
     Walk { at: at, refused: 0 }
 }
 
-// The one place where a reading is refused.
+// The one place where a walk is refused.
 pub fn stopped(at: usize, k: u8) -> Walk
     ensures { result ≡ as_walk (refused_by at k) }
 {
@@ -545,7 +551,8 @@ pub fn begin(s: Settings) -> Walk
 
 // ---- the reader
 
-// What is read: octets, what both sides agreed on, where the fields end at the latest, and the place where the next one begins.
+// What is read: octets, what both sides agreed on, where the fields end at the latest, and the place where the next one begins. A step that
+// is refused leaves it at the place where it was refused, and the rest as it was.
 #[derive(Clone, Copy)]
 pub struct Reader<'a> {
     pub octets: &'a [u8],

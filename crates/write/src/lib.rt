@@ -597,11 +597,14 @@ pub fn test_parts(count: usize, r: Tested) -> Tested
     walk::unless(r, count <= fields::PARTS, REFUSED_MANY_PARTS)
 }
 
-// 28.
+// 28. After a refusal nothing is looked through.
 pub fn test_utf8(texts: LentTexts, r: Tested) -> Tested
     ensures { let t = lent_of texts.entry in
         result ≡ unless_all (utf8_checks t.zone t.session_name (split t.lengths t.domain)) 28 r }
 {
+    if r.number != 0 {
+        return r;
+    }
     walk::unless(r, are_text(texts), REFUSED_TEXT)
 }
 

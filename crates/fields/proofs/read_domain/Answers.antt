@@ -1,12 +1,13 @@
 -- `fields::read_domain` meets its contract: its steps are the definition's.
-use Rattle.std.proofs.Common.{arith}
 use native.Mathlib.Omega.{arith as order}
 use Rattle.std.proofs.lemmas.Result.{err_from_is_err_and}
-use Rattle.fields.proofs.Steps.{domain_count, domain_many, domain_stops, domain_ends, came_none, came_more}
+use Rattle.fields.proofs.Steps.{domain_length, domain_many, domain_stops, domain_ends, came_none, came_more}
 use Rattle.fields.proofs.read_domain.Goals as goal
 
 pub returns-in_err-count : goal.returns-in_err-count
-returns-in_err-count c = grind (arith, domain_count)
+returns-in_err-count c =
+    let h = domain_length _ _ _ _ c.in_err-count.ensures in
+    let p = err_from_is_err_and c.from_residual.result c.from_residual.ensures.1 in rw (p.1, p.2) h
 
 pub returns-in_err-ensure : goal.returns-in_err-ensure
 returns-in_err-ensure c =

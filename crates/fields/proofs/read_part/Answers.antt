@@ -1,7 +1,7 @@
 -- `fields::read_part` meets its contract: what was refused in any of its steps began at its octet of 1.
 use Rattle.std.proofs.Common.{arith}
 use Rattle.walk.proofs.Steps.{field_goes}
-use Rattle.walk.proofs.Keeps.{field_keeps}
+use Rattle.walk.proofs.Keeps.{field_stops}
 use Rattle.fields.specs.Fields.{part}
 use Rattle.fields.proofs.read_part.Goals as goal
 
@@ -11,4 +11,4 @@ returns-in-Ok c = grind (arith, field_goes)
 
 pub returns-in-Err : goal.returns-in-Err
 unfolding part
-returns-in-Err c = field_keeps _ _ c.in-Err.ensures c.began.ensures
+returns-in-Err c = field_stops _ c.in-Err.ensures c.began.ensures

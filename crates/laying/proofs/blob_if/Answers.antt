@@ -19,12 +19,6 @@ overflow_add-at c =
     c.has_room.ensures ∙ c.if-has_room.true) in
     omega (arith, h)
 
-pub put-requires : goal.put-requires
-put-requires c =
-    let h : c.args.at + (length c.args.x.now + 1) ≤ length c.args.out.now = leb-true _ _ (sym
-    c.has_room.ensures ∙ c.if-has_room.true) in
-    simp length-set (omega (arith, h))
-
 pub overflow_add-result : goal.overflow_add-result
 overflow_add-result c =
     let h : c.args.at + (length c.args.x.now + 1) ≤ length c.args.out.now = leb-true _ _ (sym c.has_room.ensures ∙ c.if-has_room.true) in
@@ -37,11 +31,11 @@ overflow_add-result-then-has_room c =
 
 pub shape_of-out-then-has_room : goal.shape_of-out-then-has_room
 shape_of-out-then-has_room c =
-    simp length-set at c.put.auto.out
+    simp length-set at c.copy.auto.out
 
 pub returns-then-has_room : goal.returns-then-has_room
 returns-then-has_room c =
-    rw (c.if-there.true, c.put.ensures) (blob_laid c.args.s _ _ _ c.requires.profile_value
+    rw (c.if-there.true, c.copy.ensures) (blob_laid c.args.s _ _ _ c.requires.profile_value
     c.requires.x_len_bound (leb-true _ _ (sym c.has_room.ensures ∙ c.if-has_room.true)))
 
 pub returns-then-there : goal.returns-then-there

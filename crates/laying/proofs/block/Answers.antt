@@ -7,10 +7,6 @@ use mathlib.Core.Path.{sym, ◌∙◌}
 use native.Mathlib.Omega.{arith}
 use Rattle.laying.proofs.block.Goals as goal
 
-pub put-requires : goal.put-requires
-put-requires c =
-    leb-true _ _ (sym c.has_room.ensures ∙ c.if-has_room.true)
-
 pub overflow_add-result : goal.overflow_add-result
 overflow_add-result c =
     let h : c.args.at + length c.args.x.now ≤ length c.args.out.now = leb-true _ _ (sym
@@ -19,7 +15,7 @@ overflow_add-result c =
 
 pub returns-then-has_room : goal.returns-then-has_room
 returns-then-has_room c =
-    rw c.put.ensures (one_laid _ _ _ (leb-true _ _ (sym c.has_room.ensures ∙ c.if-has_room.true)))
+    rw c.copy.ensures (one_laid _ _ _ (leb-true _ _ (sym c.has_room.ensures ∙ c.if-has_room.true)))
 
 pub returns : goal.returns
 returns c =

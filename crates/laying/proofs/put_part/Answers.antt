@@ -9,14 +9,10 @@ pub bounds-out-at-2 : goal.bounds-out-at-2
 bounds-out-at-2 c =
     simp length-set (omega arith)
 
-pub put-requires : goal.put-requires
-put-requires c =
-    simp length-set (omega (arith, c.requires.x_in_bounds))
-
 pub shape_of-out : goal.shape_of-out
 shape_of-out c =
-    simp length-set at c.put.auto.out
+    simp length-set at c.copy.auto.out
 
 pub returns : goal.returns
 returns c =
-    record { lays = rw c.put.ensures (part_laid c.args.s _ _ _ c.requires.profile_value c.requires.x_len_bound c.requires.x_in_bounds); place = refl }
+    record { lays = rw c.copy.ensures (part_laid c.args.s _ _ _ c.requires.profile_value c.requires.x_len_bound c.requires.x_in_bounds); place = refl }

@@ -7,7 +7,7 @@ use native.Mathlib.Omega.{arith}
 use mathlib.Core.Bool.{Bool}
 use Rattle.octets.specs.Octets.{pick}
 use Rattle.walk.specs.Walk.{varint_step, Step, past, refused}
-use Rattle.walk.proofs.Keeps.{refused_as, past_stops}
+use Rattle.walk.proofs.Keeps.{stopped_as, past_stops}
 use Rattle.walk.proofs.Steps.{varint_told}
 use Rattle.walk.proofs.Reader.varint.Goals as goal
 
@@ -15,7 +15,7 @@ pub returns-then-end-self : goal.returns-then-end-self
 unfolding varint_step
 returns-then-end-self c =
     let t = varint_told c.args.self.now.bound _ _ c.min-end.ensures c.varint_at.ensures (c.in-Err-Ends.is ∙ ap Err c.in-Err-Ends.field-0-is) in
-    refused_as _ (ap (λ (x : Step ℕ). x.walk) t ∙ ap (λ (k : Bool). refused c.args.self.now.at (pick k (past c.args.self.now.bound) 6)) (lt-leb _ _ (omega arith))) refl refl
+    stopped_as _ (ap (λ (x : Step ℕ). x.walk) t ∙ ap (λ (k : Bool). refused c.args.self.now.at (pick k (past c.args.self.now.bound) 6)) (lt-leb _ _ (omega arith))) refl refl
 
 pub returns-in-Ok : goal.returns-in-Ok
 unfolding varint_step
@@ -27,11 +27,11 @@ pub returns-else-end-self : goal.returns-else-end-self
 unfolding varint_step
 returns-else-end-self c =
     let t = varint_told c.args.self.now.bound _ _ c.min-end.ensures c.varint_at.ensures (c.in-Err-Ends.is ∙ ap Err c.in-Err-Ends.field-0-is) in
-    refused_as _ (ap (λ (x : Step ℕ). x.walk) t ∙ ap (λ (k : Bool). refused c.args.self.now.at (pick k (past c.args.self.now.bound) 6)) (le-leb _ _ (omega arith)))
+    stopped_as _ (ap (λ (x : Step ℕ). x.walk) t ∙ ap (λ (k : Bool). refused c.args.self.now.at (pick k (past c.args.self.now.bound) 6)) (le-leb _ _ (omega arith)))
     c.passed.ensures (past_stops c.args.self.now.bound)
 
 pub returns-in-Err-Bad : goal.returns-in-Err-Bad
 unfolding varint_step
 returns-in-Err-Bad c =
     let t = varint_told c.args.self.now.bound _ _ c.min-end.ensures c.varint_at.ensures (c.in-Err-Bad.is ∙ ap Err c.in-Err-Bad.field-0-is) in
-    refused_as _ (ap (λ (x : Step ℕ). x.walk) t) refl refl
+    stopped_as _ (ap (λ (x : Step ℕ). x.walk) t) refl refl
