@@ -74,6 +74,12 @@ seeking_none {f} {n} {i} p h =
     let z : n - i ≡ 0 = omega arith in
     sym e ∙ ap (λ (k : ℕ). lowest f k i) (sym z) ∙ p.same
 
+-- the lowest free cell is the lowest row of zeros
+pub row_free :
+    (st z : List ℕ) (i : ℕ) {r : List ℕ} {b c : Bool} → r ≡ row_at (length z) st i → b ≡ alike r z → b ≡ c →
+    alike (row_at (length z) st i) z ≡ c
+row_free st z i er eb ec = ap (λ (x : List ℕ). alike x z) (sym er) ∙ sym eb ∙ ec
+
 -- ---- the lowest of a range
 
 picked : (b : Bool) (r : Option ℕ) (a n m : ℕ) → unwrap_or r n ≡ m → unwrap_or (cond b (Some a) r) n ≡ pick b a m

@@ -326,6 +326,8 @@ fn judge_record(s: Settings, row: &[u8], zero: &[u8]) -> Judged
 }
 
 // What a row is, beside a zero cell, by one reading of its packet. A row of another length is broken.
+// Whoever calls it for one cell after another does so in a loop: in a closure the length of `zero` would not be known when this is
+// compiled, and looking at free cells would take a third more instructions. (`moving`, which no program or export calls, has a chain.)
 pub fn judge(s: Settings, row: &[u8], zero: &[u8]) -> Judged
     requires { zero.now ≡ zero_row (length zero.now) }
     ensures { result ≡ judged_of (body_in s row.now) (cell_of s (length zero.now) row.now) }
@@ -356,9 +358,12 @@ pub fn lowest_free(store: &[u8], n: usize, zero: &[u8]) -> usize
     ensures { result ≡ lowest (λ j. alike (row_at (length zero.now) store.now j) zero.now) n 0 }
 {
     let z = zero.len();
-    (0..n)
-        .find(|i| is_free(row(store, z, *i), zero))
-        .unwrap_or(n)
+    for i in 0..n {
+        if is_free(row(store, z, i), zero) {
+            return i;
+        }
+    }
+    n
 }
 
 // How many cells a store of this length has, 0 if its length does not fit.
@@ -488,9 +493,12 @@ pub fn find(
     ensures { result ≡ found_in s (length zero.now) store.now n (key_of q.now (read_packet s q.now)) c.0 }
 {
     let z = zero.len();
-    (0..n)
-        .find(|j| carries_at(s, row(store, z, *j), zero, q, body_at, c))
-        .unwrap_or(n)
+    for j in 0..n {
+        if carries_at(s, row(store, z, j), zero, q, body_at, c) {
+            return j;
+        }
+    }
+    n
 }
 
 // Whether a cell is a record that covers the key of the one that is looked for, and the counter. The cheap tests come first: the row is
@@ -545,7 +553,12 @@ pub fn is_untaken(
     ensures { result ≡ untaken_to s (length zero.now) store.now n (key_of q.now (read_packet s q.now)) c.0 }
 {
     let z = zero.len();
-    (0..n).all(|j| !covers_at(s, row(store, z, j), zero, q, body_at, c))
+    for j in 0..n {
+        if covers_at(s, row(store, z, j), zero, q, body_at, c) {
+            return false;
+        }
+    }
+    true
 }
 
 // Whether the packets of two segments, with what reading answered of them, have the same flags and body.

@@ -244,7 +244,12 @@ fn untaken_all(
     requires chained { Chained (taken_at s (length zero.now) store.now) chains.now n }
     ensures { result ≡ untaken s (length zero.now) store.now n }
 {
-    (0..n).all(|i| untaken_at(s, store, n, zero, i, usize::from(bodies[i]), chains))
+    for i in 0..n {
+        if !untaken_at(s, store, n, zero, i, usize::from(bodies[i]), chains) {
+            return false;
+        }
+    }
+    true
 }
 
 // The same by chains of its own: each record goes onto the chain of its key and of the block of counters in which it begins, and each segment is

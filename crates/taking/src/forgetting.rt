@@ -22,9 +22,13 @@ pub fn lowest_record(s: Settings, store: &[u8], n: usize, zero: &[u8]) -> usize
     requires { zero.now ≡ zero_row (length zero.now) }
     ensures { result ≡ lowest_record s (length zero.now) store.now n }
 {
-    (0..n)
-        .find(|i| is_record(s, cells::row(store, zero.len(), *i), zero))
-        .unwrap_or(n)
+    let z = zero.len();
+    for i in 0..n {
+        if is_record(s, cells::row(store, z, i), zero) {
+            return i;
+        }
+    }
+    n
 }
 
 // The record in one of the first n cells is forgotten.

@@ -1,17 +1,12 @@
 -- Counting along the cells, on plain values.
 -- Assumes nothing.
-use Rattle.std.proofs.Common.{◌≡◌, ℕ, zero, suc, ◌+◌, ◌-◌, ◌≤◌, Bool, true, false, cond, List, [], ◌∷◌, length, filter, refl, ap, ap₂, ◌∙◌, arith}
-use denote.Param.Members.{Mut}
-use denote.Ref.{Bor}
-use Rattle.std.proofs.iter.Yields.{nat_range_steps}
-use Rattle.std.proofs.lemmas.Iterator.{YieldsList-from_range}
-use Rattle.std.proofs.lemmas.Iterator.Consumers.{YieldsList-from_filter, count_from_yields_List}
-use Rattle.std.specs.Fn.{CalledAt}
-use Rattle.std.specs.Iterator.{Drains}
-use Rattle.std.specs.Iterator.Adapters.{filter_source, filter_callee, filter_steps}
-use Rattle.std.specs.List.{range_with_len}
-use Rattle.std.specs.declared.ops.Range.{Range}
-use Rattle.std.specs.declared.iter.Filter.{Filter}
+use Prim.Native.Nat.{ℕ, zero, suc, ◌+◌, ◌≤◌, ◌<◌}
+use mathlib.Core.Path.{◌≡◌, refl, ap, ap₂, ◌∙◌}
+use mathlib.Core.Bool.{Bool, true, false}
+use mathlib.Core.List.{List}
+use native.Mathlib.Numerals.{add-one}
+use native.Mathlib.Omega.{arith}
+use mir.Val.{bool_byte}
 use Rattle.octets.specs.Octets.{pick}
 use Rattle.octets.proofs.Lists.{bit_top}
 use Rattle.walk.specs.declared.Settings.{Settings}
@@ -24,46 +19,41 @@ unfolding count_to
 count_most_lem f zero = omega arith
 count_most_lem f (suc n) = omega (arith, count_most_lem f n, bit_top (f n))
 
--- ---- the numbers of a range of which a test holds
+-- ---- a test as a number
 
-abbrev one : (ℕ → Bool) → ℕ → ℕ
-one f x = pick (f x) 1 0
+byte_is : (b : Bool) → bool_byte b ≡ pick b 1 0
+byte_is true = refl
+byte_is false = refl
 
-one_more : (f : ℕ → Bool) (x : ℕ) (xs : List ℕ) → length (filter f (x ∷ xs)) ≡ pick (f x) 1 0 + length (filter f xs)
-one_more f x xs = by (f x)
-  where
-    by : (b : Bool) → length (cond b (x ∷ filter f xs) (filter f xs)) ≡ pick b 1 0 + length (filter f xs)
-    by true = omega arith
-    by false = omega arith
+pub byte_top : {k : ℕ} (b : Bool) → k ≡ bool_byte b → k ≤ 1
+byte_top {k} b e = omega (arith, e ∙ byte_is b, bit_top b)
 
-range_more : (f : ℕ → Bool) (a n : ℕ) → length (filter f (range_with_len a (suc n))) ≡ length (filter f (range_with_len a n)) + pick (f (a + n)) 1 0
-range_more f a zero = let e : a ≡ a + 0 = omega arith in omega (arith, one_more f a [], ap (one f) e)
-range_more f a (suc n) =
-    let e : (a + 1) + n ≡ a + suc n = omega arith in
-    omega (
-      arith,
-      one_more f a (range_with_len (a + 1) (suc n)),
-      one_more f a (range_with_len (a + 1) n),
-      range_more f (a + 1) n,
-      ap (one f) e,
-    )
+pub byte_more : (m : ℕ) {k : ℕ} (b : Bool) → k ≡ bool_byte b → m + k ≡ m + pick b 1 0
+byte_more m b e = ap (λ (x : ℕ). m + x) (e ∙ byte_is b)
 
-filter_range : (f : ℕ → Bool) (n : ℕ) → length (filter f (range_with_len 0 n)) ≡ count_to f n
+-- ---- the loop that counts: i cells are passed, and m of them counted
+
+pub record Counted (f : ℕ → Bool) (n m i : ℕ) : Type 0 where
+  pub most : i ≤ n
+  pub same : m ≡ count_to f i
+
+pub counted_first : (f : ℕ → Bool) (n : ℕ) → Counted f n 0 0
 unfolding count_to
-filter_range f zero = refl
-filter_range f (suc n) =
-    let e : 0 + n ≡ n = omega arith in
-    omega (arith, range_more f 0 n, filter_range f n, ap (one f) e)
+counted_first f n = record { most = omega arith; same = refl }
 
--- what `count` answers of those that a closure lets pass, where it computes the test f
-pub count_in_range :
-    {F : Type 0} {g : Mut F (Bor ℕ × Unit {0}) Bool} {m : Filter (Range ℕ) F} {h : F} {r : ℕ} (f : ℕ → Bool) (n : ℕ) →
-    filter_source m ≡ record { start = 0; end = n } → filter_callee m ≡ h →
-    (xs : List ℕ) × Drains (filter_steps nat_range_steps g) m xs × (r ≡ length xs) →
-    ((x : ℕ) (b : Bool) (q : F) → CalledAt g h x b q → (q ≡ h) × (b ≡ f x)) → r ≡ count_to f n
-count_in_range {g} {m} {r} f n es eh ran k =
-    let d : n - 0 ≡ n = omega arith in
-    count_from_yields_List m r ran (YieldsList-from_filter g f (YieldsList-from_range 0 n n es d) eh k) ∙ filter_range f n
+pub counted_low : {f : ℕ → Bool} {n m i k : ℕ} → Counted f n m i → i < n → n ≤ k → m < k
+counted_low {f} {n} {m} {i} p h l = omega (arith, p.same, count_most_lem f i)
+
+pub counted_turn : {f : ℕ → Bool} {n m i r : ℕ} {b : Bool} → Counted f n m i → i < n → b ≡ f i → r ≡ m + pick b 1 0 → Counted f n r (i + 1)
+unfolding count_to
+counted_turn {f} {n} {m} {i} {r} {b} p h eb er =
+    record {
+      most = omega arith;
+      same = rw (add-one i) (er ∙ ap₂ (λ (x : ℕ) (y : Bool). x + pick y 1 0) p.same eb);
+    }
+
+pub counted_done : {f : ℕ → Bool} {n m i : ℕ} → Counted f n m i → n ≤ i → m ≡ count_to f n
+counted_done {f} {n} {m} {i} p h = let e : i ≡ n = omega (arith, p.most) in p.same ∙ ap (count_to f) e
 
 abbrev tallied : ℕ → ℕ → Tallied
 tallied a b = record { segments = a; keys = b }

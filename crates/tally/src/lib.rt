@@ -55,7 +55,12 @@ fn new_key(s: Settings, store: &[u8], n: usize, zero: &[u8], q: &[u8], body_at: 
     ensures { result ≡ new_key_to s (length zero.now) store.now n (key_of q.now (read_packet s q.now)) }
 {
     let z = zero.len();
-    (0..n).all(|j| !keyed(s, cells::row(store, z, j), zero, q, body_at))
+    for j in 0..n {
+        if keyed(s, cells::row(store, z, j), zero, q, body_at) {
+            return false;
+        }
+    }
+    true
 }
 
 // Whether cell i is held, and no cell below it has its key.
@@ -76,9 +81,11 @@ fn segments(s: Settings, store: &[u8], n: usize, zero: &[u8]) -> usize
     ensures { result ≡ segments_in s (length zero.now) store.now n }
 {
     let z = zero.len();
-    (0..n)
-        .filter(|i| held(s, cells::row(store, z, *i), zero))
-        .count()
+    let mut count: usize = 0;
+    for i in 0..n {
+        count += usize::from(held(s, cells::row(store, z, i), zero));
+    }
+    count
 }
 
 // How many different keys the first n cells have.
@@ -86,7 +93,11 @@ fn keys(s: Settings, store: &[u8], n: usize, zero: &[u8]) -> usize
     requires { zero.now ≡ zero_row (length zero.now) }
     ensures { result ≡ keys_in s (length zero.now) store.now n }
 {
-    (0..n).filter(|i| first(s, store, *i, zero)).count()
+    let mut count: usize = 0;
+    for i in 0..n {
+        count += usize::from(first(s, store, i, zero));
+    }
+    count
 }
 
 // The segments left in a store, and their keys.
@@ -117,9 +128,11 @@ fn records_to(s: Settings, store: &[u8], n: usize, zero: &[u8]) -> usize
     ensures { result ≡ records_to s (length zero.now) store.now n }
 {
     let z = zero.len();
-    (0..n)
-        .filter(|i| taken(s, cells::row(store, z, *i), zero))
-        .count()
+    let mut count: usize = 0;
+    for i in 0..n {
+        count += usize::from(taken(s, cells::row(store, z, i), zero));
+    }
+    count
 }
 
 // The taken records in a store.
@@ -151,9 +164,12 @@ fn key_at(s: Settings, store: &[u8], n: usize, zero: &[u8], q: &[u8], body_at: u
     ensures { result ≡ key_at s (length zero.now) store.now n (key_of q.now (read_packet s q.now)) }
 {
     let z = zero.len();
-    (0..n)
-        .find(|j| keyed(s, cells::row(store, z, *j), zero, q, body_at))
-        .unwrap_or(n)
+    for j in 0..n {
+        if keyed(s, cells::row(store, z, j), zero, q, body_at) {
+            return j;
+        }
+    }
+    n
 }
 
 // What a segment in cell i tells.

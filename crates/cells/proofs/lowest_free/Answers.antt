@@ -1,13 +1,21 @@
--- `cells::lowest_free` meets its contract: the lowest of the cells that is free.
-use Rattle.std.proofs.Common.{ℕ, length, ◌∙◌, rules, tests}
-use Rattle.octets.specs.Octets.{alike}
-use Rattle.cells.specs.Rows.{row_at}
-use Rattle.cells.proofs.Scans.{first_in_range}
+-- `cells::lowest_free` meets its contract. The loop's invariant: none of the cells passed is free.
+use Rattle.cells.proofs.Scans.{seeking_first, seeking_turn, seeking_found, seeking_none, row_free}
 use Rattle.cells.proofs.lowest_free.Goals as goal
+
+pub loop-i-init : goal.loop-i-init
+loop-i-init c =
+    seeking_first _ _
+
+pub returns-then-is_free : goal.returns-then-is_free
+returns-then-is_free c =
+    seeking_found c.loop-i.invariant c.loop-i-test.true
+    (row_free _ _ _ c.row.ensures c.is_free.ensures c.if-is_free.true)
+
+pub loop-i-preserved : goal.loop-i-preserved
+loop-i-preserved c =
+    seeking_turn c.loop-i.invariant c.loop-i-test.true
+    (row_free _ _ _ c.row.ensures c.is_free.ensures c.if-is_free.false)
 
 pub returns : goal.returns
 returns c =
-    let a = c.args in
-    c.unwrap_or.ensures
-    ∙ first_in_range (λ (k : ℕ). alike (row_at (length a.zero.now) a.store.now k) a.zero.now) a.n _ _ c.find.result c.find.ensures.ran (search rules)
-    (λ x b q k. search (rules, tests))
+    seeking_none c.loop-i.invariant c.loop-i-test.false

@@ -1,17 +1,34 @@
--- `tally::key_at` meets its contract: the lowest of the cells that has the key.
-use Rattle.std.proofs.Common.{length, ◌∙◌, rules, tests}
+-- `tally::key_at` meets its contract. The loop's invariant: none of the cells passed has the key.
+use Prim.Native.Nat.{ℕ}
+use lib.ListN.{length}
+use mathlib.Core.List.{List}
+use mathlib.Core.Path.{ap, sym, ◌∙◌}
 use Rattle.packet.specs.Reading.{read_packet}
 use Rattle.packet.specs.Key.{key_of}
-use Rattle.cells.specs.Order.{cell_at}
-use Rattle.cells.proofs.Scans.{first_in_range}
+use Rattle.cells.specs.Rows.{cell_of}
+use Rattle.cells.proofs.Scans.{seeking_first, seeking_turn, seeking_found, seeking_none}
 use Rattle.tally.specs.Counting.{keyed}
 use Rattle.tally.specs.Telling.{key_at}
 use Rattle.tally.proofs.key_at.Goals as goal
 
+pub loop-j-init : goal.loop-j-init
+loop-j-init c =
+    seeking_first _ _
+
+pub returns-then-keyed : goal.returns-then-keyed
+unfolding key_at
+returns-then-keyed c =
+    let g = c.args in seeking_found c.loop-j.invariant c.loop-j-test.true
+    (sym (c.keyed.ensures ∙ ap (λ (r : List ℕ). keyed (key_of g.q.now (read_packet g.s g.q.now))
+    (cell_of g.s (length g.zero.now) r)) c.row.ensures) ∙ c.if-keyed.true)
+
+pub loop-j-preserved : goal.loop-j-preserved
+loop-j-preserved c =
+    let g = c.args in seeking_turn c.loop-j.invariant c.loop-j-test.true
+    (sym (c.keyed.ensures ∙ ap (λ (r : List ℕ). keyed (key_of g.q.now (read_packet g.s g.q.now))
+    (cell_of g.s (length g.zero.now) r)) c.row.ensures) ∙ c.if-keyed.false)
+
 pub returns : goal.returns
 unfolding key_at
 returns c =
-    let a = c.args in
-    c.unwrap_or.ensures
-    ∙ first_in_range (λ j. keyed (key_of a.q.now (read_packet a.s a.q.now)) (cell_at a.s (length a.zero.now) a.store.now j)) a.n _ _ c.find.result
-    c.find.ensures.ran (search rules) (λ x b q k. search (rules, tests))
+    seeking_none c.loop-j.invariant c.loop-j-test.false

@@ -1,12 +1,22 @@
--- `tally::keys` meets its contract: the cells that pass are counted.
-use Rattle.std.proofs.Common.{length, rules, tests}
-use Rattle.cells.specs.Order.{cell_at}
-use Rattle.tally.specs.Counting.{new_key_in, keys_in}
-use Rattle.tally.proofs.Passing.{count_in_range}
+-- `tally::keys` meets its contract. The loop's invariant: how many of the cells passed are the first of their key.
+use native.Mathlib.Omega.{arith}
+use Rattle.tally.specs.Counting.{keys_in}
+use Rattle.tally.proofs.Passing.{byte_top, byte_more, counted_first, counted_low, counted_turn, counted_done}
 use Rattle.tally.proofs.keys.Goals as goal
+
+pub loop-i-init : goal.loop-i-init
+loop-i-init c =
+    counted_first _ _
+
+pub overflow_add-count : goal.overflow_add-count
+overflow_add-count c =
+    omega (arith, counted_low {k = c.args.n} c.loop-i.invariant c.loop-i-test.true (omega arith), byte_top _ c.from-count.ensures, c.ranges.n.fits)
+
+pub loop-i-preserved : goal.loop-i-preserved
+loop-i-preserved c =
+    counted_turn c.loop-i.invariant c.loop-i-test.true c.first.ensures (byte_more _ _ c.from-count.ensures)
 
 pub returns : goal.returns
 unfolding keys_in
 returns c =
-    let a = c.args in
-    count_in_range (λ i. new_key_in a.s (length a.zero.now) a.store.now i (cell_at a.s (length a.zero.now) a.store.now i)) a.n c.filter.ensures.source c.filter.ensures.closure c.count.ensures.ran (λ x b q k. search (rules, tests))
+    counted_done c.loop-i.invariant c.loop-i-test.false

@@ -1,12 +1,28 @@
--- `tally::segments` meets its contract: the cells that pass are counted.
-use Rattle.std.proofs.Common.{length, rules, tests}
-use Rattle.cells.specs.Order.{cell_at}
+-- `tally::segments` meets its contract. The loop's invariant: how many of the cells passed are held.
+use Prim.Native.Nat.{ℕ}
+use lib.ListN.{length}
+use mathlib.Core.List.{List}
+use mathlib.Core.Path.{ap, ◌∙◌}
+use native.Mathlib.Omega.{arith}
+use Rattle.cells.specs.Rows.{cell_of}
 use Rattle.tally.specs.Counting.{is_held, segments_in}
-use Rattle.tally.proofs.Passing.{count_in_range}
+use Rattle.tally.proofs.Passing.{byte_top, byte_more, counted_first, counted_low, counted_turn, counted_done}
 use Rattle.tally.proofs.segments.Goals as goal
+
+pub loop-i-init : goal.loop-i-init
+loop-i-init c =
+    counted_first _ _
+
+pub overflow_add-count : goal.overflow_add-count
+overflow_add-count c =
+    omega (arith, counted_low {k = c.args.n} c.loop-i.invariant c.loop-i-test.true (omega arith), byte_top _ c.from-count.ensures, c.ranges.n.fits)
+
+pub loop-i-preserved : goal.loop-i-preserved
+loop-i-preserved c =
+    let a = c.args in counted_turn c.loop-i.invariant c.loop-i-test.true
+    (c.held.ensures ∙ ap (λ (r : List ℕ). is_held (cell_of a.s (length a.zero.now) r)) c.row.ensures) (byte_more _ _ c.from-count.ensures)
 
 pub returns : goal.returns
 unfolding segments_in
 returns c =
-    let a = c.args in
-    count_in_range (λ i. is_held (cell_at a.s (length a.zero.now) a.store.now i)) a.n c.filter.ensures.source c.filter.ensures.closure c.count.ensures.ran (λ x b q k. search (rules, tests))
+    counted_done c.loop-i.invariant c.loop-i-test.false

@@ -1,14 +1,26 @@
--- `forgetting::lowest_record` meets its contract.
-use Rattle.std.proofs.Common.{length, ◌∙◌, rules, tests}
-use Rattle.cells.specs.Order.{cell_at}
-use Rattle.cells.proofs.Scans.{first_in_range}
-use Rattle.taking.specs.Forgetting.{is_record, lowest_record}
+-- `forgetting::lowest_record` meets its contract. The loop's invariant: none of the cells passed has a record.
+use lib.ListN.{length}
+use Rattle.cells.proofs.Scans.{seeking_first, seeking_turn, seeking_found, seeking_none}
+use Rattle.taking.specs.Forgetting.{lowest_record}
+use Rattle.taking.proofs.Forgets.{record_here}
 use Rattle.taking.proofs.forgetting.lowest_record.Goals as goal
+
+pub loop-i-init : goal.loop-i-init
+loop-i-init c =
+    seeking_first _ _
+
+pub returns-then-is_record : goal.returns-then-is_record
+unfolding lowest_record
+returns-then-is_record c =
+    let a = c.args in seeking_found c.loop-i.invariant c.loop-i-test.true
+    (record_here a.s (length a.zero.now) a.store.now c.loop-i.i c.row.ensures c.is_record.ensures c.if-is_record.true)
+
+pub loop-i-preserved : goal.loop-i-preserved
+loop-i-preserved c =
+    let a = c.args in seeking_turn c.loop-i.invariant c.loop-i-test.true
+    (record_here a.s (length a.zero.now) a.store.now c.loop-i.i c.row.ensures c.is_record.ensures c.if-is_record.false)
 
 pub returns : goal.returns
 unfolding lowest_record
 returns c =
-    let a = c.args in
-    c.unwrap_or.ensures
-    ∙ first_in_range (λ i. is_record (cell_at a.s (length a.zero.now) a.store.now i)) a.n _ _ c.find.result c.find.ensures.ran (search rules)
-    (λ x b q k. search (rules, tests))
+    seeking_none c.loop-i.invariant c.loop-i-test.false
