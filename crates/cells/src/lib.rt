@@ -326,8 +326,9 @@ fn judge_record(s: Settings, row: &[u8], zero: &[u8]) -> Judged
 }
 
 // What a row is, beside a zero cell, by one reading of its packet. A row of another length is broken.
-// Whoever calls it for one cell after another does so in a loop: in a closure the length of `zero` would not be known when this is
-// compiled, and looking at free cells would take a third more instructions. (`moving`, which no program or export calls, has a chain.)
+// Whoever calls it for one cell after another does so in a loop, and by no closure: what a closure holds is not known when this is
+// compiled, and without the length of `zero` looking at free cells would take a third more instructions. (`moving`, which no program or
+// export calls, has such a closure.)
 pub fn judge(s: Settings, row: &[u8], zero: &[u8]) -> Judged
     requires { zero.now ≡ zero_row (length zero.now) }
     ensures { result ≡ judged_of (body_in s row.now) (cell_of s (length zero.now) row.now) }
