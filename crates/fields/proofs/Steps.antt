@@ -22,7 +22,7 @@ use Rattle.walk.specs.Told.{told}
 use Rattle.walk.specs.Walk.{Reading, Step, goes, going, octets, wide_field, varint_step, varint_field, check, octet_field, uinteger}
 use Rattle.walk.specs.Read.{Went, Stopped, skipped}
 use Rattle.walk.proofs.Steps.{octets_there}
-use Rattle.walk.proofs.Keeps.{Kept, kept, stopped_as, stopped_on, octets_keeps, octets_stand, check_keeps, uinteger_keeps, field_stops, field_same, field_keeps, then_stops, test_stops}
+use Rattle.walk.proofs.Keeps.{Kept, kept, stopped_as, stopped_on, octets_keeps, octets_stand, check_keeps, uinteger_keeps, field_stops, field_kept_at, field_kept, then_stops, test_stops}
 use Rattle.fields.specs.declared.Place.{Place}
 use Rattle.fields.specs.Inner.{domain_step}
 use Rattle.fields.specs.Fields.{Parts, nowhere, content_at, block, blob, text, marked_text, part, part_at, parts_most, no_parts, parts_to, domain}
@@ -36,7 +36,7 @@ module _ (s : Settings) (b : Bound) (p : List ℕ) {u w : Reading} where
 
   pub blob_keeps : Kept u w → Kept u (blob s b p w).walk
   unfolding blob
-  blob_keeps h = field_keeps h (octets_keeps b p _ (uinteger_keeps s b p h))
+  blob_keeps h = field_kept h (octets_keeps b p _ (uinteger_keeps s b p h))
 
   pub text_keeps : Kept u w → Kept u (text s b p w).walk
   unfolding text
@@ -49,7 +49,7 @@ module _ (s : Settings) (b : Bound) (p : List ℕ) {u : Reading} where
 
   pub part_keeps : {w : Reading} → Kept u w → Kept u (part s b p w).walk
   unfolding part
-  part_keeps h = field_keeps h (marked_keeps h)
+  part_keeps h = field_kept h (marked_keeps h)
 
   -- the parts after one that was refused
   pub parts_keep : (d : Step Parts) (n k : ℕ) → k ≤ n → Kept u (parts_to s b p k d).walk → Kept u (parts_to s b p n d).walk
@@ -114,7 +114,7 @@ pub blob_length :
 unfolding blob
 blob_length s b p at h =
     let k = kept h.refuses in
-    stopped_on (field_same _ _ (uinteger_stands s b p at k.stops) (octets_keeps b p (uinteger s b p (goes at)).value k)) h
+    stopped_on (field_kept_at _ _ (uinteger_stands s b p at k.stops) (octets_keeps b p (uinteger s b p (goes at)).value k)) h
 
 -- and one whose octets were, too; octets that a reader went past are there
 module _ {r q : Reader} {n : ℕ} (h : Went (uinteger r.settings r.bound r.octets.now (goes r.at)) r q n) where

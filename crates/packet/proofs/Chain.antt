@@ -38,21 +38,32 @@ module _ {A B : Type 0} (g : Settings → Bound → List ℕ → Reading → Ste
   pub then_stopped : {t : Reader} {e : Refused} → Stopped e (at_reader g q (goes q.at)).walk q t → Stopped e (at_reader g r w.walk).walk r t
   then_stopped {t} {e} k = subst (λ (s : Step B). Stopped e s.walk r t) next (then_stops h k)
 
--- a step that may be absent, by what `optional` says of it
+-- a step that may be absent, by what `optional` says of it: what is said of the step, of the reader before it and the one after it
 module _ {A : Type 0} (f : Settings → Bound → List ℕ → Reading → Step A) (there : Bool) (none : A) (r q : Reader) (x : Result A Refused) where
+  pub opted_by :
+      (R : (Reading → Step A) → Reader → Reader → Type 0) {F : Type 0}
+      (g : Once F (MutBor Reader × Unit {0}) (Result A Refused × (MutBor Reader × Unit {0}))) (c : F) →
+      ((s l : MutBor Reader) → g.post c (s, tt) (x, (l, tt)) → R (at_reader f s.now) s.now l.now) →
+      (there ≡ true → FnOnceReturnsAtMut g c r x q) → (there ≡ false → R (opt false none (at_reader f r)) r q) →
+      R (opt there none (at_reader f r)) r q
+  opted_by R g c met there_met absent = go there refl
+    where
+      go : (b : Bool) → there ≡ b → R (opt b none (at_reader f r)) r q
+      go true e =
+          let k = there_met e in
+          subst (λ (s : Reader). R (at_reader f s) s q) k.shows
+          (subst (λ (l : Reader). R (at_reader f k.shown.now) k.shown.now l) k.leaves (met k.shown k.left k.met))
+      go false e = absent e
+
   pub opted :
       {F : Type 0} (g : Once F (MutBor Reader × Unit {0}) (Result A Refused × (MutBor Reader × Unit {0}))) (c : F) →
       ((s l : MutBor Reader) → g.post c (s, tt) (x, (l, tt)) → Reads (at_reader f s.now) s.now l.now x) →
       (there ≡ true → FnOnceReturnsAtMut g c r x q) → (there ≡ false → (x ≡ Ok none) × (q ≡ r)) →
       Reads (opt there none (at_reader f r)) r q x
-  opted g c met there_met absent = go there refl
+  opted g c met there_met absent = opted_by (λ (h : Reading → Step A) (s l : Reader). Reads h s l x) g c met there_met out
     where
-      go : (b : Bool) → there ≡ b → Reads (opt b none (at_reader f r)) r q x
-      go true e =
-          let k = there_met e in
-          subst (λ (s : Reader). Reads (at_reader f s) s q x) k.shows
-          (subst (λ (l : Reader). Reads (at_reader f k.shown.now) k.shown.now l x) k.leaves (met k.shown k.left k.met))
-      go false e =
+      out : there ≡ false → Reads (opt false none (at_reader f r)) r q x
+      out e =
           let k = absent e in
           subst (λ (s : Reader). Reads (opt false none (at_reader f r)) r s x) (sym k.1)
           (subst (Reads (opt false none (at_reader f r)) r r) (sym k.0)

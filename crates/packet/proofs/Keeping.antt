@@ -14,13 +14,13 @@ use Rattle.walk.specs.declared.Refused.{Refused}
 use Rattle.walk.specs.declared.Refused.TheVariants.{Binding, SduType, Session, EmptySegment}
 use Rattle.std.specs.Prelude.{Result, Ok, Err}
 use Rattle.walk.specs.Told.{told, Holds}
-use Rattle.walk.specs.Walk.{Reading, goes, octets, check}
+use Rattle.walk.specs.Walk.{Reading, goes, going, octets, check}
 use Rattle.walk.specs.declared.Reader.{Reader}
 use Rattle.walk.specs.Walk.{octet_field}
 use Rattle.walk.specs.Read.{Refuses, Stopped, Went, Tests}
 use Rattle.walk.proofs.Steps.{check_ok}
-use Rattle.walk.proofs.Keeps.{Kept, kept, stopped_on, octets_keeps, octets_stand, check_keeps, check_stops, octet_keeps, wide_keeps, uinteger_keeps, optional_keeps}
-use Rattle.walk.proofs.Keeps.{field_stops, field_same, field_keeps, then_stops, test_stops}
+use Rattle.walk.proofs.Keeps.{Kept, kept, refuses_on, stopped_on, octets_keeps, octets_stand, check_keeps, check_stops, octet_keeps, wide_keeps, uinteger_keeps, optional_kept}
+use Rattle.walk.proofs.Keeps.{field_stops, field_same, field_keeps, field_kept_at, field_kept, then_stops, test_stops}
 use Rattle.fields.proofs.Steps.{block_keeps, text_keeps, blob_keeps, domain_keeps}
 use Rattle.packet.specs.declared.Present.{Present}
 use Rattle.packet.specs.FixedPart.{after_sdu, after_area, after_service, after_operation, after_version, fixed_end}
@@ -34,7 +34,7 @@ module _ (b : Bound) (p : List ℕ) {u w : Reading} where
 
   pub qualifier_keeps : Kept u w → Kept u (after_qualifier b p w)
   unfolding after_qualifier after_secondary
-  qualifier_keeps h = octets_keeps b p 2 (field_keeps h (octets_keeps b p 1 (session_keeps h)))
+  qualifier_keeps h = octets_keeps b p 2 (field_kept h (octets_keeps b p 1 (session_keeps h)))
 
   pub transaction_keeps : Kept u w → Kept u (after_transaction b p w)
   unfolding after_transaction
@@ -74,14 +74,35 @@ module _ {r q : Reader} {first : ℕ} {e : Refused} (w : Went (octet_field r.bou
       let p = check_ok (ltb (octet_at r.octets.now r.at) 32) 7 (octets r.bound r.octets.now 1 (goes r.at)) (ap (λ (x : ℕ). ltb x 32) w.value ∙ m) in
       subst (λ (v : Reading). Stopped e (check (ltb (octet_at r.octets.now r.at % 32) 22) 8 v) r q) (sym p) k
 
--- error to secondary APID, one field, as a reader has it: refused in its first octet, by its session, in its second octet
+-- error to secondary APID, one field: refused in its first octet, by its session, in its second octet
+module _ (b : Bound) (p : List ℕ) (at : ℕ) where
+  pub secondary_high : {e : Refused} → Refuses e (octets b p 1 (goes at)) → Refuses e (after_secondary b p (goes at))
+  unfolding after_secondary after_session
+  secondary_high h = field_same _ _ (octets_stand b p 1 at h.stops) h (refuses_on (octets_keeps b p 1 (check_keeps _ 9 (kept h))) h)
+
+  pub secondary_session :
+      {e : Refused} → going (octets b p 1 (goes at)) ≡ true → (ltb (octet_at p at / 8 % 4) 3 ≡ false) × (e ≡ Session) →
+      Refuses e (after_secondary b p (goes at))
+  unfolding after_secondary after_session
+  secondary_session {e} g h =
+      let k = check_stops {e = e} _ 9 (octets b p 1 (goes at)) g h.0 (ap told h.1) refl in
+      field_keeps _ _ (refuses_on (octets_keeps b p 1 (kept k)) k)
+      (subst (λ (x : Refused). told x ≡ record (told x) { place = pick (eqb (told x).number 6) at 0 }) (sym h.1) refl)
+
+  pub secondary_low :
+      {e d : Refused} (next : ℕ) → after_session b p (goes at) ≡ goes next → Refuses e (octets b p 1 (goes next)) →
+      told d ≡ record (told e) { place = pick (eqb (told e).number 6) at 0 } → Refuses d (after_secondary b p (goes at))
+  unfolding after_secondary
+  secondary_low {e} next g h t = field_keeps _ _ (subst (λ (x : Reading). Refuses e (octets b p 1 x)) (sym g) h) t
+
+-- as a reader has it: refused in its first octet, by its session, in its second octet
 module _ {r q : Reader} where
   pub high_refused :
       {e : Refused} → Stopped e (octet_field r.bound r.octets.now (goes r.at)).walk r q → Stopped e (after_qualifier r.bound r.octets.now (goes r.at)) r q
   unfolding octet_field after_qualifier after_secondary after_session
   high_refused h =
       let k = octets_keeps r.bound r.octets.now 1 (check_keeps _ 9 (kept h.refuses)) in
-      stopped_on (octets_keeps r.bound r.octets.now 2 (field_same _ _ (octets_stand r.bound r.octets.now 1 r.at h.refuses.stops) k)) h
+      stopped_on (octets_keeps r.bound r.octets.now 2 (field_kept_at _ _ (octets_stand r.bound r.octets.now 1 r.at h.refuses.stops) k)) h
 
   module _ {high : ℕ} (w : Went (octet_field r.bound r.octets.now (goes r.at)) r q high) where
     pub session_refused : 3 ≤ high / 8 % 4 → Stopped Session (after_qualifier r.bound r.octets.now (goes r.at)) r (record q { at = r.at })
@@ -110,19 +131,19 @@ module _ (s : Settings) (b : Bound) (p : List ℕ) (has : Present) {u w : Readin
   pub ids_keep : (segment : Bool) → Kept u w → Kept u (ids_of s b segment has p w).walk
   unfolding ids_of
   ids_keep segment h =
-      let x = optional_keeps has.source 0 _ h (octet_keeps b p h) in
-      let y = optional_keeps has.destination 0 _ x (octet_keeps b p x) in
-      let c = optional_keeps segment 0 _ y (wide_keeps 4 b p y) in
-      optional_keeps has.priority 0 _ c (uinteger_keeps s b p c)
+      let x = optional_kept has.source 0 _ h (octet_keeps b p h) in
+      let y = optional_kept has.destination 0 _ x (octet_keeps b p x) in
+      let c = optional_kept segment 0 _ y (wide_keeps 4 b p y) in
+      optional_kept has.priority 0 _ c (uinteger_keeps s b p c)
 
   pub texts_keep : Kept u w → Kept u (texts_of s b has p w).walk
   unfolding texts_of
   texts_keep h =
-      let t = optional_keeps has.timestamp _ _ h (block_keeps s b p s.t h) in
-      let z = optional_keeps has.zone _ _ t (text_keeps s b p t) in
-      let n = optional_keeps has.session_name _ _ z (text_keeps s b p z) in
-      let d = optional_keeps has.domain _ _ n (domain_keeps s b p n) in
-      optional_keeps has.authentication _ _ d (blob_keeps s b p d)
+      let t = optional_kept has.timestamp _ _ h (block_keeps s b p s.t h) in
+      let z = optional_kept has.zone _ _ t (text_keeps s b p t) in
+      let n = optional_kept has.session_name _ _ z (text_keeps s b p z) in
+      let d = optional_kept has.domain _ _ n (domain_keeps s b p n) in
+      optional_kept has.authentication _ _ d (blob_keeps s b p d)
 
 pub body_keeps : (p : List ℕ) {u w : Reading} → Kept u w → Kept u (body_test p w)
 unfolding body_test

@@ -10,7 +10,7 @@ use Rattle.walk.specs.declared.Reader.{Reader}
 use Rattle.walk.specs.declared.Refused.{Refused}
 use Rattle.walk.specs.Walk.{Reading, Step, goes}
 use Rattle.walk.specs.Read.{Stopped, Went}
-use Rattle.walk.proofs.Keeps.{kept, stopped_on, optional_keeps}
+use Rattle.walk.proofs.Keeps.{kept, stopped_on, optional_kept}
 use Rattle.fields.specs.declared.Place.{Place}
 use Rattle.fields.specs.declared.Domain.{Domain}
 use Rattle.fields.specs.Inner.{domain_step}
@@ -87,25 +87,25 @@ module _ (has : Present) (r : Reader) where
     pub parts_refused : Stopped e D.walk r q → Stopped e (texts_of r.settings r.bound has r.octets.now (goes r.at)).walk r q
     parts_refused h =
         let k = kept h.refuses in
-        id_refused (stopped_on (optional_keeps has.authentication _ _ k (blob_keeps r.settings r.bound r.octets.now k)) h)
+        id_refused (stopped_on (optional_kept has.authentication _ _ k (blob_keeps r.settings r.bound r.octets.now k)) h)
 
     pub name_refused : Stopped e N.walk r q → Stopped e (texts_of r.settings r.bound has r.octets.now (goes r.at)).walk r q
     name_refused h =
         let k = kept h.refuses in
         parts_refused
         (stopped_on
-        (optional_keeps has.domain no_domain (domain_step r.settings r.bound r.octets.now N.walk) k (domain_keeps r.settings r.bound r.octets.now k))
+        (optional_kept has.domain no_domain (domain_step r.settings r.bound r.octets.now N.walk) k (domain_keeps r.settings r.bound r.octets.now k))
         h)
 
     pub zone_refused : Stopped e Z.walk r q → Stopped e (texts_of r.settings r.bound has r.octets.now (goes r.at)).walk r q
     zone_refused h =
         let k = kept h.refuses in
-        name_refused (stopped_on (optional_keeps has.session_name _ _ k (text_keeps r.settings r.bound r.octets.now k)) h)
+        name_refused (stopped_on (optional_kept has.session_name _ _ k (text_keeps r.settings r.bound r.octets.now k)) h)
 
     pub timestamp_refused : Stopped e W.walk r q → Stopped e (texts_of r.settings r.bound has r.octets.now (goes r.at)).walk r q
     timestamp_refused h =
         let k = kept h.refuses in
-        zone_refused (stopped_on (optional_keeps has.zone _ _ k (text_keeps r.settings r.bound r.octets.now k)) h)
+        zone_refused (stopped_on (optional_kept has.zone _ _ k (text_keeps r.settings r.bound r.octets.now k)) h)
 
   -- and where all went on, what each found
   pub texts_whole :

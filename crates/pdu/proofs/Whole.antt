@@ -19,7 +19,7 @@ use Rattle.walk.specs.declared.Refusal.{Refusal}
 use Rattle.walk.specs.Told.{told}
 use Rattle.walk.specs.Walk.{Reading, Step, goes, refused, going, check}
 use Rattle.walk.specs.Read.{tells, Refuses, Stopped, Went}
-use Rattle.walk.proofs.Keeps.{Kept, kept, refuses_on, refused_as, uinteger_keeps, optional_keeps}
+use Rattle.walk.proofs.Keeps.{Kept, kept, refuses_on, refused_as, uinteger_keeps, optional_kept}
 use Rattle.fields.specs.Fields.{place}
 use Rattle.fields.proofs.Steps.{text_keeps}
 use Rattle.packet.specs.declared.Present.{Present}
@@ -110,9 +110,9 @@ no_octets false false w l h = refl
 ids_keep :
     (s : Settings) (b : Bound) (p : List ℕ) (has : Present) {u w : Reading} → Kept u w → Kept u (ids_step s b has p w).walk
 ids_keep s b p has h =
-    let x = optional_keeps has.source _ _ h (text_keeps s b p h) in
-    let y = optional_keeps has.destination _ _ x (text_keeps s b p x) in
-    optional_keeps has.priority 0 _ y (uinteger_keeps s b p y)
+    let x = optional_kept has.source _ _ h (text_keeps s b p h) in
+    let y = optional_kept has.destination _ _ x (text_keeps s b p x) in
+    optional_kept has.priority 0 _ y (uinteger_keeps s b p y)
 
 module _ (p : List ℕ) where
   ids_same : (has : Present) (w : Reading) → ids_of has p w ≡ ids_step pdu_settings (bound_of p) has p w

@@ -209,7 +209,7 @@ fn read_fixed(p: &[u8]) -> Fixed
 }
 
 // Source id, destination id, priority.
-#[tactic(auto, using(walk::proofs::Keeps::optional_keeps, walk::proofs::Keeps::uinteger_keeps, fields::proofs::Steps::text_keeps))]
+#[tactic(auto, using(walk::proofs::Keeps::optional_kept, walk::proofs::Keeps::uinteger_keeps, fields::proofs::Steps::text_keeps))]
 fn read_ids(reader: &mut Reader, has: Present) -> Result<Ids, Refused>
     ensures { Reads (ids_step reader.old.settings reader.old.bound has reader.old.octets.now) reader.old reader.new result }
 {

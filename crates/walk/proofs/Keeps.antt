@@ -85,11 +85,18 @@ module _ {u w : Reading} where
       go false = varint_keeps b p h
 
   -- a field that may be absent
-  pub optional_keeps :
+  pub optional_kept :
       {A : Type 0} (there : Bool) (none : A) (x : Step A) → Kept u w → Kept u x.walk →
       Kept u (pick {A = Step A} there x (record { walk = w; value = none })).walk
-  optional_keeps true none x h k = k
-  optional_keeps false none x h k = h
+  optional_kept true none x h k = k
+  optional_kept false none x h k = h
+
+-- and by what is told of it, where its step may have been refused elsewhere
+pub optional_keeps :
+    {e : Refused} {w : Reading} {A : Type 0} (there : Bool) (none : A) (x : Step A) → Refuses e w → Refuses e x.walk →
+    Refuses e (pick {A = Step A} there x (record { walk = w; value = none })).walk
+optional_keeps true none x h k = k
+optional_keeps false none x h k = h
 
 -- a test that fails, where the reading goes on
 pub check_stops :
@@ -98,10 +105,10 @@ pub check_stops :
 check_stops ok k w g f t z = refused_as _ (check_fails ok k w g f) t z
 
 -- a field of several steps, refused in one of them, which began here
-field_refuses :
+pub field_keeps :
     {e d : Refused} (w : Reading) (r : Reading) → Refuses e r →
     told d ≡ record (told e) { place = pick (eqb (told e).number 6) w.at 0 } → Refuses d (field_from w r)
-field_refuses {e} {d} w r h t = record {
+field_keeps {e} {d} w r h t = record {
   tells = t ∙ ap (λ (x : Refusal). record x { place = pick (eqb x.number 6) w.at 0 }) h.tells ∙ ap tells (sym (field_refused w r h.stops));
   stops = ap going (field_refused w r h.stops) ∙ h.stops;
 }
@@ -112,7 +119,7 @@ pub field_stops :
     Stopped d (field_from (goes r.at) x) r (record q { at = r.at })
 field_stops {r = r} x h t =
     record {
-      refuses = field_refuses (goes r.at) x h.refuses t;
+      refuses = field_keeps (goes r.at) x h.refuses t;
       stands = ap (λ (v : Reading). v.at) (sym (field_refused (goes r.at) x h.refuses.stops));
       octets = h.octets;
       settings = h.settings;
@@ -156,17 +163,24 @@ pub reads_as :
     {A : Type 0} {f g : Reading → Step A} (r q : Reader) (x : Result A Refused) → f ≡ g → Reads g r q x → Reads f r q x
 reads_as {A} r q x e h = subst (λ (f : Reading → Step A). Reads f r q x) (sym e) h
 
--- a field that was refused where it began, in its first step or before
-pub field_same : {u : Reading} (w r : Reading) → u.at ≡ w.at → Kept u r → Kept u (field_from w r)
-field_same {u} w r a k =
+-- a field that was refused where it began, in its first step or before: by what is told of it, and as a walk
+pub field_same : {e : Refused} {u : Reading} (w r : Reading) → u.at ≡ w.at → Refuses e u → Refuses e r → Refuses e (field_from w r)
+field_same {e} {u} w r a h k =
+    let place : (told e).place ≡ pick (eqb (told e).number 6) w.at 0 =
+    ap (λ (x : Refusal). x.place) h.tells
+    ∙ (λ i. pick (eqb (ap (λ (x : Refusal). x.number) (sym h.tells) i) 6) (a i) 0) in
+    field_keeps w r k (λ i. record (told e) { place = place i })
+
+pub field_kept_at : {u : Reading} (w r : Reading) → u.at ≡ w.at → Kept u r → Kept u (field_from w r)
+field_kept_at {u} w r a k =
     record {
       stops = k.stops;
       is = field_refused w r (ap going k.is ∙ k.stops) ∙ (λ i. refused (sym a i) (k.is i).refused);
     }
 
 -- and one that was refused before
-pub field_keeps : {u w r : Reading} → Kept u w → Kept u r → Kept u (field_from w r)
-field_keeps h k = field_same _ _ (ap (λ (x : Reading). x.at) (sym h.is)) k
+pub field_kept : {u w r : Reading} → Kept u w → Kept u r → Kept u (field_from w r)
+field_kept h k = field_kept_at _ _ (ap (λ (x : Reading). x.at) (sym h.is)) k
 
 -- a step that was refused stands where it began
 pub octets_stand : (b : Bound) (p : List ℕ) (n at : ℕ) → going (octets b p n (goes at)) ≡ false → (octets b p n (goes at)).at ≡ at

@@ -1,7 +1,7 @@
 -- `packet::read_ids` meets its contract: its steps are the definition's.
 use Rattle.std.proofs.Common.{arith}
 use Rattle.packet.specs.Reading.{ids_of}
-use Rattle.walk.proofs.Keeps.{octet_keeps, wide_keeps, uinteger_keeps, optional_keeps}
+use Rattle.walk.proofs.Keeps.{octet_keeps, wide_keeps, uinteger_keeps, optional_kept}
 use Rattle.std.proofs.lemmas.Result.{err_from_is_err_and}
 use Prim.Native.Nat.{ℕ}
 use mathlib.Core.List.{List}
@@ -21,15 +21,15 @@ counter_at s b p = wide_field 4 b p
 
 pub returns-in_err-optional : goal.returns-in_err-optional
 unfolding ids_of
-returns-in_err-optional c = grind (arith, octet_keeps, wide_keeps, uinteger_keeps, optional_keeps)
+returns-in_err-optional c = grind (arith, octet_keeps, wide_keeps, uinteger_keeps, optional_kept)
 
 pub returns-in_err-optional-2 : goal.returns-in_err-optional-2
 unfolding ids_of
-returns-in_err-optional-2 c = grind (arith, octet_keeps, wide_keeps, uinteger_keeps, optional_keeps)
+returns-in_err-optional-2 c = grind (arith, octet_keeps, wide_keeps, uinteger_keeps, optional_kept)
 
 pub returns-in_err-optional-3 : goal.returns-in_err-optional-3
 unfolding ids_of
-returns-in_err-optional-3 c = grind (arith, octet_keeps, wide_keeps, uinteger_keeps, optional_keeps)
+returns-in_err-optional-3 c = grind (arith, octet_keeps, wide_keeps, uinteger_keeps, optional_kept)
 
 pub returns-in_err-optional-4 : goal.returns-in_err-optional-4
 unfolding ids_of
@@ -45,4 +45,4 @@ returns-in_err-optional-4 c =
 
 pub returns : goal.returns
 unfolding ids_of
-returns c = grind (arith, octet_keeps, wide_keeps, uinteger_keeps, optional_keeps)
+returns c = grind (arith, octet_keeps, wide_keeps, uinteger_keeps, optional_kept)
